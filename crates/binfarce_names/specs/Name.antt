@@ -1,0 +1,17 @@
+-- What clauses see of a symbol's name: its texts as bytes.
+use Rattle.std.specs.Prelude.{ℕ, List, Option}
+use Rattle.std.specs.Option.{option_map}
+use Rattle.std.specs.String.{string_bytes}
+use Rattle.binfarce_names.specs.declared.demangle.Kind.{Kind}
+use Rattle.binfarce_names.specs.declared.demangle.SymbolName.{SymbolName}
+
+-- the answer for one name
+pub record Name : Type 0 where
+  pub complete : List ℕ
+  pub trimmed : List ℕ
+  pub crate_name : Option (List ℕ)
+  pub kind : Kind
+
+-- a `SymbolName`, its texts as their bytes
+abbrev pub name_seen : SymbolName → Name
+name_seen s = record { complete = string_bytes s.complete; trimmed = string_bytes s.trimmed; crate_name = option_map string_bytes s.crate_name; kind = s.kind }

@@ -1,0 +1,4 @@
+//! Readable names of Rust symbols.
+#![tactic(auto)]
+
+pub mod demangle;

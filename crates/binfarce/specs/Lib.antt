@@ -1,0 +1,4 @@
+pub mod Number
+pub mod Text
+pub mod Format
+pub mod Refusal

@@ -1,0 +1,18 @@
+-- The number that bytes hold, and the bytes at a place (gABI, "Data Representation").
+use Rattle.std.specs.Prelude.{ℕ, ◌+◌, ◌*◌, List, [], ◌∷◌, take, drop, reverse}
+use Rattle.binfarce.specs.declared.ByteOrder.{ByteOrder}
+use Rattle.binfarce.specs.declared.ByteOrder.TheVariants.{LittleEndian, BigEndian}
+
+-- byte k weighs 256^k
+unfoldable pub little_endian : List ℕ → ℕ
+little_endian [] = 0
+little_endian (byte ∷ bytes) = byte + 256 * little_endian bytes
+
+-- big endian reads the mirror
+unfoldable pub number : ByteOrder → List ℕ → ℕ
+number LittleEndian bytes = little_endian bytes
+number BigEndian bytes = little_endian (reverse bytes)
+
+-- the bytes of a field: as many as its width, from its place on
+abbrev pub bytes_at : List ℕ → ℕ → ℕ → List ℕ
+bytes_at file place width = take width (drop place file)

@@ -1,0 +1,31 @@
+-- Why a file can't be read, as data, and the words that are printed.
+use Rattle.std.specs.Prelude.{ℕ, List, ◌++◌, codes}
+use Rattle.std.specs.Fmt.{decimal}
+use Rattle.binfarce.specs.declared.error.ParseError.{ParseError}
+use Rattle.binfarce.specs.declared.error.ParseError.TheVariants.{SymbolsSectionIsMissing, SectionIsMissing, UnexpectedSectionType, MalformedInput, UnexpectedEof, OutOfMemory}
+
+pub data Refusal : Type 0 where
+  symbols_section_is_missing : Refusal
+  section_is_missing : List ℕ → Refusal
+  unexpected_section_type : ℕ → ℕ → Refusal
+  malformed_input : Refusal
+  unexpected_eof : Refusal
+  out_of_memory : Refusal
+
+-- the refusal that a `ParseError` is
+abbrev pub refusal_of : ParseError → Refusal
+refusal_of SymbolsSectionIsMissing = symbols_section_is_missing
+refusal_of (SectionIsMissing name) = section_is_missing name.now
+refusal_of (UnexpectedSectionType expected actual) = unexpected_section_type expected actual
+refusal_of MalformedInput = malformed_input
+refusal_of UnexpectedEof = unexpected_eof
+refusal_of OutOfMemory = out_of_memory
+
+-- what is printed
+abbrev pub words : Refusal → List ℕ
+words symbols_section_is_missing = codes "symbols section is missing"
+words (section_is_missing name) = codes "section " ++ (name ++ codes " is missing")
+words (unexpected_section_type expected actual) = codes "expected section type " ++ (decimal expected ++ (codes " but found " ++ decimal actual))
+words malformed_input = codes "malformed input file"
+words unexpected_eof = codes "unexpected end of file"
+words out_of_memory = codes "out of memory"

@@ -1,0 +1,23 @@
+-- The text in a string table at a place: what stands there up to the first NUL (gABI, "String Table").
+use Rattle.std.specs.Prelude.{ℕ, ◌≡◌, ◌≢◌, [], ◌∷◌, ◌++◌, Bool, ◌&&◌, List, length, take, drop, All, Option, Some, None, nat_lt, nat_eq, if◌then◌else◌, position}
+use Rattle.std.specs.Option.{option_and_then}
+use Rattle.std.specs.Str.{IsUtf8, is_utf8}
+
+-- where the first NUL stands
+abbrev pub nul_at : List ℕ → Option ℕ
+nul_at bytes = position (λ b. nat_eq b 0) bytes
+
+-- the first n bytes, where they are a text: not empty, and UTF-8
+abbrev pub text_of : List ℕ → ℕ → Option (List ℕ)
+text_of bytes n = if nat_lt 0 n && is_utf8 (take n bytes) then Some (take n bytes) else None
+
+-- what stands at the place up to the first NUL, where it is a text
+unfoldable pub text_at : List ℕ → ℕ → Option (List ℕ)
+text_at bytes start = option_and_then (text_of (drop start bytes)) (nul_at (drop start bytes))
+
+-- text stands at the place: a non-empty UTF-8 text without NUL, and a NUL behind it
+pub record IsTextAt (bytes : List ℕ) (start : ℕ) (text : List ℕ) : Type 0 where
+  pub stands : (rest : List ℕ) × (drop start bytes ≡ text ++ 0 ∷ rest)
+  pub no_nul : All (λ b. b ≢ 0) text
+  pub utf8 : IsUtf8 text
+  pub some : text ≢ []

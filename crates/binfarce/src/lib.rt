@@ -1,0 +1,79 @@
+//! A small reader of executables: the header, the sections and the function symbols of ELF files.
+#![tactic(auto)]
+
+ghost use Rattle.std.specs.Prelude.{◌≡◌};
+ghost use Rattle.binfarce.specs.Format.{format_of, elf_format_of, begins_macho};
+
+mod error;
+mod parser;
+
+pub use crate::error::ParseError;
+pub use crate::parser::UnexpectedEof;
+pub use binfarce_names::demangle;
+
+/// The order of a number's bytes in a file.
+#[derive(Clone, Copy, PartialEq, Debug)]
+pub enum ByteOrder {
+    /// The first byte has the least weight.
+    LittleEndian,
+    /// The first byte has the greatest weight.
+    BigEndian,
+}
+
+/// What a file's first bytes say that it is.
+#[derive(PartialEq, Debug)]
+pub enum Format {
+    Elf32 { byte_order: ByteOrder },
+    Elf64 { byte_order: ByteOrder },
+    Macho,
+    PE,
+    Unknown,
+}
+
+/// Names the format of a file by its first 8 bytes, without memory. Fewer are `Unknown`.
+///
+/// The readers themselves never look at a magic number.
+#[tactic(auto, unfolding(crate::specs::Format::format_of))]
+pub fn detect_format(data: &[u8]) -> Format
+    ensures { result ≡ format_of data.now }
+{
+    if data.len() < 8 {
+        return Format::Unknown;
+    }
+    if data.starts_with(b"\x7FELF") {
+        return elf_format(data[4], data[5]);
+    }
+    if data.starts_with(b"MZ") {
+        return Format::PE;
+    }
+    if begins_macho(data) {
+        return Format::Macho;
+    }
+    Format::Unknown
+}
+
+fn begins_macho(data: &[u8]) -> bool
+    ensures { result ≡ begins_macho data.now }
+{
+    data.starts_with(b"\xCA\xFE\xBA\xBE")
+        || data.starts_with(b"\xFE\xED\xFA\xCE")
+        || data.starts_with(b"\xFE\xED\xFA\xCF")
+        || data.starts_with(b"\xCE\xFA\xED\xFE")
+        || data.starts_with(b"\xCF\xFA\xED\xFE")
+}
+
+// By the bytes `EI_CLASS` and `EI_DATA`.
+fn elf_format(class: u8, order: u8) -> Format
+    ensures { result ≡ elf_format_of class order }
+{
+    let byte_order = match order {
+        1 => ByteOrder::LittleEndian,
+        2 => ByteOrder::BigEndian,
+        _ => return Format::Unknown,
+    };
+    match class {
+        1 => Format::Elf32 { byte_order },
+        2 => Format::Elf64 { byte_order },
+        _ => Format::Unknown,
+    }
+}

@@ -1,1 +1,5 @@
 pub mod Texts
+pub mod Headers
+pub mod Walks
+pub mod Firsts
+pub mod Rows

@@ -1,4 +1,11 @@
 pub mod Number
+pub mod Steps
 pub mod Text
 pub mod Format
 pub mod Refusal
+pub mod Walk
+pub mod Elf
+pub mod Symbol
+pub mod ElfSymbols
+pub mod RawElf
+pub mod Elf64

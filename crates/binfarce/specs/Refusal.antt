@@ -1,5 +1,5 @@
 -- Why a file can't be read, as data, and the words that are printed.
-use Rattle.std.specs.Prelude.{ℕ, List, ◌++◌, codes}
+use Rattle.std.specs.Prelude.{◌≡◌, ℕ, List, ◌++◌, codes, Option, Some, None, Result, Ok, Err}
 use Rattle.std.specs.Fmt.{decimal}
 use Rattle.binfarce.specs.declared.error.ParseError.{ParseError}
 use Rattle.binfarce.specs.declared.error.ParseError.TheVariants.{SymbolsSectionIsMissing, SectionIsMissing, UnexpectedSectionType, MalformedInput, UnexpectedEof, OutOfMemory}
@@ -29,3 +29,19 @@ words (unexpected_section_type expected actual) = codes "expected section type "
 words malformed_input = codes "malformed input file"
 words unexpected_eof = codes "unexpected end of file"
 words out_of_memory = codes "out of memory"
+
+-- steps of which the first refusal is the answer, for `do`
+infixl 10 ◌>>=◌
+abbrev pub ◌>>=◌ : {A B : Type 0} → Result A Refusal → (A → Result B Refusal) → Result B Refusal
+(Ok x) >>= f = f x
+(Err r) >>= f = Err r
+
+-- what was looked for, or else the refusal
+abbrev pub required : {A : Type 0} → Refusal → Option A → Result A Refusal
+required refusal None = Err refusal
+required refusal (Some x) = Ok x
+
+-- what a call returned is this answer: its value seen by view, its error by why
+abbrev pub Gives : {X Y E : Type 0} → (E → Refusal) → (X → Y) → Result X E → Result Y Refusal → Type 0
+Gives why view (Ok x) answer = answer ≡ Ok (view x)
+Gives why view (Err e) answer = answer ≡ Err (why e)

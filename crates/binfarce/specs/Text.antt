@@ -1,5 +1,5 @@
 -- The text in a string table at a place: what stands there up to the first NUL (gABI, "String Table").
-use Rattle.std.specs.Prelude.{ℕ, ◌≡◌, ◌≢◌, [], ◌∷◌, ◌++◌, Bool, ◌&&◌, List, length, take, drop, All, Option, Some, None, nat_lt, nat_eq, if◌then◌else◌, position}
+use Rattle.std.specs.Prelude.{ℕ, ◌≡◌, ◌≢◌, [], ◌∷◌, ◌++◌, ◌&&◌, List, take, drop, All, Option, Some, None, nat_lt, nat_eq, if◌then◌else◌, position}
 use Rattle.std.specs.Option.{option_and_then}
 use Rattle.std.specs.Str.{IsUtf8, is_utf8}
 

@@ -27,6 +27,7 @@ pub enum ParseError {
 
 impl fmt::Display for ParseError {
     ghost use Rattle.binfarce.specs.Refusal.{refusal_of, words};
+
     ghost output = { λ e. Some (words (refusal_of e)) };
 
     fn fmt<W: fmt::Write>(&self, f: &mut fmt::Formatter<W>) -> fmt::Result {
@@ -47,6 +48,7 @@ impl Error for ParseError {}
 
 impl From<TryFromIntError> for ParseError {
     ghost use Rattle.binfarce.specs.declared.error.ParseError.TheVariants.{MalformedInput};
+
     ghost from_gives = { λ _ e. e ≡ MalformedInput };
 
     fn from(_: TryFromIntError) -> Self {
@@ -56,6 +58,7 @@ impl From<TryFromIntError> for ParseError {
 
 impl From<UnexpectedEof> for ParseError {
     ghost use Rattle.binfarce.specs.declared.error.ParseError.TheVariants as errors;
+
     ghost from_gives = { λ _ e. e ≡ errors.UnexpectedEof };
 
     fn from(_: UnexpectedEof) -> Self {
@@ -65,6 +68,7 @@ impl From<UnexpectedEof> for ParseError {
 
 impl From<AllocError> for ParseError {
     ghost use Rattle.binfarce.specs.declared.error.ParseError.TheVariants.{OutOfMemory};
+
     ghost from_gives = { λ _ e. e ≡ OutOfMemory };
 
     fn from(_: AllocError) -> Self {

@@ -4,6 +4,8 @@
 ghost use Rattle.std.specs.Prelude.{◌≡◌};
 ghost use Rattle.binfarce.specs.Format.{format_of, elf_format_of, begins_macho};
 
+mod elf;
+pub mod elf64;
 mod error;
 mod parser;
 

@@ -16,6 +16,7 @@ pub struct UnexpectedEof {}
 
 impl fmt::Display for UnexpectedEof {
     ghost use Rattle.std.specs.Prelude.{Some, codes};
+
     ghost output = { λ _. Some (codes "Unexpected end of file") };
 
     fn fmt<W: fmt::Write>(&self, f: &mut fmt::Formatter<W>) -> fmt::Result {
@@ -28,6 +29,7 @@ impl Error for UnexpectedEof {}
 /// A number of `SIZE` bytes, read in a stream's byte order.
 pub trait RawNumber: Sized {
     ghost SIZE: { ℕ };
+
     ghost value: { ByteOrder → List ℕ → Self };
 
     /// How many bytes the number has.
@@ -43,6 +45,7 @@ pub trait RawNumber: Sized {
 
 impl RawNumber for u8 {
     ghost SIZE = { 1 };
+
     ghost value = { number };
 
     const SIZE: usize = 1;
@@ -56,6 +59,7 @@ impl RawNumber for u8 {
 
 impl RawNumber for u16 {
     ghost SIZE = { 2 };
+
     ghost value = { number };
 
     const SIZE: usize = 2;
@@ -75,6 +79,7 @@ impl RawNumber for u16 {
 
 impl RawNumber for u32 {
     ghost SIZE = { 4 };
+
     ghost value = { number };
 
     const SIZE: usize = 4;
@@ -94,6 +99,7 @@ impl RawNumber for u32 {
 
 impl RawNumber for u64 {
     ghost SIZE = { 8 };
+
     ghost value = { number };
 
     const SIZE: usize = 8;
@@ -216,14 +222,26 @@ impl<'a> Stream<'a> {
             (λ _. self.new ≡ record self.old { offset = self.old.offset + T.SIZE })
             (λ _. self.new ≡ self.old) }
     {
-        let offset = self
-            .offset
-            .checked_add(T::SIZE)
-            .ok_or(UnexpectedEof {})?;
+        let offset = self.offset.checked_add(T::SIZE).ok_or(UnexpectedEof {})?;
         let number = T::parse(self).ok_or(UnexpectedEof {})?;
         self.offset = offset;
         Ok(number)
     }
+}
+
+/// The number at `place`; refused where a byte is missing.
+#[inline]
+pub fn number_at<T: RawNumber>(
+    bytes: &[u8],
+    place: usize,
+    byte_order: ByteOrder,
+) -> Result<T, UnexpectedEof>
+    requires { 0 < T.SIZE }
+    ensures { MatchResult result
+        (λ v. (place + T.SIZE ≤ length bytes.now) × (v ≡ T.value byte_order (bytes_at bytes.now place T.SIZE)))
+        (λ _. length bytes.now < place + T.SIZE) }
+{
+    Stream::new_at(bytes, place, byte_order)?.read()
 }
 
 /// The text from `start` to the first NUL, which is a part of `bytes`.

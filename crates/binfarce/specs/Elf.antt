@@ -182,8 +182,8 @@ pub record Section : Type 0 where
   pub entry_size : ℕ
 
 -- how many entries of a size there are; none where that size is 0
-abbrev pub entries_of : ℕ → ℕ → ℕ
-entries_of size entry_size = if nat_eq entry_size 0 then 0 else size / entry_size
+abbrev pub entry_count : ℕ → ℕ → ℕ
+entry_count size entry_size = if nat_eq entry_size 0 then 0 else size / entry_size
 
 -- the section of this index, whose header begins at start
 unfoldable pub section_at : ElfClass → ByteOrder → List ℕ → ℕ → ℕ → Section

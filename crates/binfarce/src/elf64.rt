@@ -4,7 +4,7 @@ ghost use Rattle.std.specs.Prelude.{◌≡◌, ◌+◌, ◌/◌, ◌<◌, ◌≤
 ghost use Rattle.std.specs.Option.{option_map};
 ghost use Rattle.binfarce.specs.Refusal.{Gives, refusal_of, malformed_input, unexpected_eof};
 ghost use Rattle.binfarce.specs.Walk.{MayBeAsked, FirstAccepted, first};
-ghost use Rattle.binfarce.specs.Elf.{elf64, header_at, section_table, walk, name_of, entries_of};
+ghost use Rattle.binfarce.specs.Elf.{elf64, header_at, section_table, walk, name_of, entry_count};
 ghost use Rattle.binfarce.specs.ElfSymbols.{is_name, elf_answer};
 ghost use Rattle.binfarce.specs.Symbol.{Answers};
 ghost use Rattle.binfarce.specs.Elf64.{header_seen, section_seen};
@@ -66,7 +66,7 @@ impl Section {
 
     /// How many entries of its entry size the section has; 0 where that size is 0.
     pub fn entries(&self) -> u64
-        ensures { let s = section_seen self.now in result ≡ entries_of s.size s.entry_size }
+        ensures { let s = section_seen self.now in result ≡ entry_count s.size s.entry_size }
     {
         self.size.checked_div(self.entry_size).unwrap_or(0)
     }

@@ -8,4 +8,5 @@ pub mod Elf
 pub mod Symbol
 pub mod ElfSymbols
 pub mod RawElf
+pub mod Elf32
 pub mod Elf64

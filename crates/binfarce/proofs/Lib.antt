@@ -3,3 +3,4 @@ pub mod Headers
 pub mod Walks
 pub mod Firsts
 pub mod Rows
+pub mod Signed

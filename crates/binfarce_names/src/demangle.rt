@@ -94,3 +94,6 @@ pub fn demangle(name: &str) -> Demangled<'_>
         },
     }
 }
+
+#[cfg(test)]
+mod tests;

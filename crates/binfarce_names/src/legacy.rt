@@ -297,3 +297,6 @@ pub fn trimmed(alloc: Global, complete: &str) -> Result<String, AllocError>
         }
     }
 }
+
+#[cfg(test)]
+mod tests;

@@ -38,3 +38,7 @@ IsNamed text name =
     ((part : List ℕ) × (elements : List Element) × (rest : List ℕ)
     × IsLegacy (without_llvm text) part elements rest × (name ≡ legacy elements))
     ⊎ (IsNotLegacy text × (name ≡ unknown text))
+
+-- text has one answer
+abbrev pub HasOneAnswer : List ℕ → Type 0
+HasOneAnswer text = (first second : Name) → IsNamed text first → IsNamed text second → first ≡ second

@@ -2,7 +2,7 @@
 
 ghost use Rattle.std.specs.Prelude.{IfOk};
 ghost use Rattle.binfarce_names.specs.Name.{mangled_seen};
-ghost use Rattle.binfarce_names.specs.Named.{IsMangled};
+ghost use Rattle.binfarce_names.specs.Named.{HasOneAnswer, IsMangled};
 
 use crate::endings::without_llvm;
 use crate::legacy;
@@ -39,7 +39,7 @@ pub struct SymbolName {
 }
 
 /// A mangled name, whose mangling is a part of the text that was given: nothing is copied.
-#[derive(Clone, Copy)]
+#[derive(Drop)]
 pub struct Demangled<'a> {
     kind: Kind,
     part: &'a str,
@@ -93,6 +93,14 @@ pub fn demangle(name: &str) -> Demangled<'_>
             part: name,
         },
     }
+}
+
+/// A name has one answer.
+#[tactic(auto, unfolding(crate::specs::Named::IsNamed))]
+fn has_one_answer(name: &str)
+    ensures { HasOneAnswer name.now }
+{
+    let _ = name;
 }
 
 #[cfg(test)]

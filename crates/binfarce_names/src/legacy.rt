@@ -39,9 +39,8 @@ fn count(text: &[u8]) -> (usize, usize)
     let mut digits = 0;
     let mut number: usize = 0;
     while digits < text.len() && text[digits].is_ascii_digit() {
-        number = number
-            .saturating_mul(10)
-            .saturating_add((text[digits] - b'0') as usize);
+        let digit = usize::from(text[digits] - b'0');
+        number = number.saturating_mul(10).saturating_add(digit);
         digits += 1;
     }
     (digits, number)

@@ -1,2 +1,10 @@
+pub mod Base62
+pub mod Forms
+pub mod Identifier
+pub mod machine
 pub mod Name
 pub mod Named
+pub mod Punycode
+pub mod Reading
+pub mod Tree
+pub mod Unfolding

@@ -1,0 +1,5 @@
+//! Rust's v0 mangling (RFC 2603).
+
+mod forms;
+mod leaves;
+mod numbers;

@@ -3,3 +3,4 @@
 mod forms;
 mod leaves;
 mod numbers;
+mod text;

@@ -1,2 +1,4 @@
 pub mod Name
 pub mod Named
+pub mod Punycode
+pub mod PunycodeText

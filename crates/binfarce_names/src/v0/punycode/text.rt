@@ -1,6 +1,6 @@
 //! A text of a bounded number of characters.
 
-ghost use Rattle.std.specs.Prelude.{◌≡◌, ◌≤◌, take};
+ghost use Rattle.std.specs.Prelude.{◌≡◌, ◌≤◌, length, take};
 ghost use Rattle.binfarce_names.specs.declared.v0.punycode.text.TheConstants.{MOST_CHARACTERS};
 
 /// The most characters of a decoded text, so that it needs no memory.
@@ -27,7 +27,8 @@ impl Decoded {
 
     /// The text's characters.
     pub(crate) fn characters(&self) -> &[char]
-        ensures { result.now ≡ characters_of self.now }
+        ensures value { result.now ≡ characters_of self.now }
+        ensures bound { length result.now ≤ MOST_CHARACTERS }
     {
         &self.characters[..self.count]
     }

@@ -1,3 +1,1 @@
-pub mod Cuts
-pub mod Numbers
-pub mod Texts
+mod PunycodeLemmas

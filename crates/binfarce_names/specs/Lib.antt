@@ -5,6 +5,4 @@ pub mod machine
 pub mod Name
 pub mod Named
 pub mod Punycode
-pub mod Reading
-pub mod Tree
-pub mod Unfolding
+pub mod PunycodeText

@@ -2,6 +2,7 @@
 use Rattle.std.proofs.Common.{◌≡◌, ℕ, ◌-◌, ◌<◌, ◌≤◌, List, [], ◌∷◌, length, take, drop, Option, Some, None, Bool, true, false, not, cond, ◌==◌, slice_range, refl, ap, sym, ◌∙◌, subst, arith}
 use Rattle.std.specs.List.{suffix_len}
 use Rattle.std.proofs.lemmas.Grind.{common_steps}
+use Rattle.std.proofs.lemmas.Bool.Decides.{nat_tests}
 use Rattle.std.proofs.lemmas.List.Sums.{suffix_len-le-length}
 use Rattle.std.proofs.lemmas.Str.{IsCharBoundary-from_ascii, IsAscii-take, IsAscii-drop}
 use Rattle.binfarce_names.specs.Identifier.{Identifier, identifier_of, is_empty}
@@ -12,12 +13,10 @@ abbrev code_at : List ℕ → ℕ
 code_at text = length text - suffix_len (λ x. not (x == 95)) text
 
 is_empty_none : (l : List ℕ) → length l ≡ 0 → is_empty l ≡ true
-is_empty_none [] h = refl
-is_empty_none (c ∷ l) h = absurd (omega arith)
+is_empty_none l h = grind (arith, nat_tests)
 
 is_empty_some : (l : List ℕ) → 0 < length l → is_empty l ≡ false
-is_empty_some [] h = absurd (omega arith)
-is_empty_some (c ∷ l) h = refl
+is_empty_some l h = grind (arith, nat_tests)
 
 pub identifier_unsplit : (text : List ℕ) (n : ℕ) → n ≡ code_at text → n ≡ length text → identifier_of true text ≡ None
 unfolding identifier_of

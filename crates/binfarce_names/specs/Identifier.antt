@@ -6,8 +6,7 @@ use Rattle.binfarce_names.specs.Base62.{◌>>=◌, limited, tagged}
 use Rattle.binfarce_names.specs.Punycode.{punycode_decoded}
 
 abbrev pub is_empty : List ℕ → Bool
-is_empty [] = true
-is_empty (c ∷ rest) = false
+is_empty text = length text == 0
 
 -- an identifier's plain characters, and its Punycode, which is empty where it has none
 pub record Identifier : Type 0 where
@@ -65,8 +64,8 @@ is_unnamed i = is_empty i.plain && is_empty i.code
 
 -- Punycode that can't be decoded is shown as it stands
 abbrev pub undecoded : List ℕ → List ℕ → List ℕ
-undecoded [] code = codes "punycode{" ++ (code ++ codes "}")
-undecoded (c ∷ plain) code = codes "punycode{" ++ (c ∷ plain ++ (codes "-" ++ (code ++ codes "}")))
+undecoded plain code =
+    codes "punycode{" ++ ((if is_empty plain then [] else plain ++ codes "-") ++ (code ++ codes "}"))
 
 abbrev pub decoded_or : List ℕ → List ℕ → Option (List ℕ) → List ℕ
 decoded_or plain code None = undecoded plain code
@@ -74,8 +73,5 @@ decoded_or plain code (Some chars) = encode_utf8_all chars
 
 -- the text of an identifier: its plain characters, or its decoded Punycode
 unfoldable pub identifier_text : Identifier → List ℕ
-identifier_text i = text_of i.plain i.code
-  where
-    text_of : List ℕ → List ℕ → List ℕ
-    text_of plain [] = plain
-    text_of plain (c ∷ code) = decoded_or plain (c ∷ code) (punycode_decoded plain (c ∷ code))
+identifier_text i =
+    if is_empty i.code then i.plain else decoded_or i.plain i.code (punycode_decoded i.plain i.code)

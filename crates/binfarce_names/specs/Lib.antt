@@ -6,3 +6,6 @@ pub mod Name
 pub mod Named
 pub mod Punycode
 pub mod PunycodeText
+pub mod Reading
+pub mod Tree
+pub mod Unfolding

@@ -268,17 +268,19 @@ binder_text depth (suc n) =
 
 -- the lifetime of a reference, of an argument, and of a dyn type
 abbrev pub reference_lifetime : ℕ → Lifetime → List ℕ
-reference_lifetime depth (IndexedLifetime (suc k)) = lifetime_text depth (suc k) ++ codes " "
-reference_lifetime depth _ = []
+reference_lifetime depth NoLifetime = []
+reference_lifetime depth UnreadLifetime = []
+reference_lifetime depth (IndexedLifetime k) = if k == 0 then [] else lifetime_text depth k ++ codes " "
 
 abbrev pub argument_lifetime : ℕ → Lifetime → List ℕ
+argument_lifetime depth NoLifetime = codes "?"
+argument_lifetime depth UnreadLifetime = codes "?"
 argument_lifetime depth (IndexedLifetime k) = lifetime_text depth k
-argument_lifetime depth _ = codes "?"
 
 abbrev pub dyn_lifetime : ℕ → Lifetime → List ℕ
-dyn_lifetime depth (IndexedLifetime zero) = []
-dyn_lifetime depth (IndexedLifetime (suc k)) = codes " + " ++ lifetime_text depth (suc k)
-dyn_lifetime depth _ = codes "?"
+dyn_lifetime depth NoLifetime = codes "?"
+dyn_lifetime depth UnreadLifetime = codes "?"
+dyn_lifetime depth (IndexedLifetime k) = if k == 0 then [] else codes " + " ++ lifetime_text depth k
 
 -- a crate's name, and its disambiguator in lower-case hexadecimal where that is asked for
 abbrev pub disambiguator_text : Bool → ℕ → List ℕ
@@ -338,11 +340,16 @@ closing InValue = codes ">"
 closing InType = codes ">"
 closing OpenTrait = []
 
--- a path that an open trait leaves open
-abbrev pub is_left_open : Position → PathTree → Bool
-is_left_open OpenTrait (Generic p items) = true
-is_left_open OpenTrait (BackPath p) = is_left_open OpenTrait p
-is_left_open _ _ = false
+abbrev pub is_open_trait : Position → Bool
+is_open_trait InValue = false
+is_open_trait InType = false
+is_open_trait OpenTrait = true
+
+-- a path with arguments that a position leaves open
+abbrev pub is_left_open : PathTree → Position → Bool
+is_left_open (Generic p items) position = is_open_trait position
+is_left_open (BackPath p) position = is_left_open p position
+is_left_open _ position = false
 
 -- between two items
 abbrev pub separator : Bool → List ℕ → List ℕ
@@ -412,7 +419,7 @@ unfoldable mutual
   item_text full (TypeItem t) depth = type_text full t depth
   item_text full (ConstItem c) depth = const_text c
   item_text full (TraitItem p bindings) depth =
-      path_text full p OpenTrait depth ++ bindings_text full bindings (is_left_open OpenTrait p) depth
+      path_text full p OpenTrait depth ++ bindings_text full bindings (is_left_open p OpenTrait) depth
 
   pub items_text : Bool → Items → List ℕ → Bool → ℕ → List ℕ
   items_text full NoItems between is_first depth = []

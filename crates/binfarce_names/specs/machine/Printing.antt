@@ -140,7 +140,7 @@ trait_item p r = (TraitItem p r.0, r.1)
 
 abbrev pub trait_rule : List ℕ → Readers → ℕ → PathTree × State → Item × State
 trait_rule name R depth r =
-    trait_item r.0 (bindings_rule name R depth (suc r.1.room) (is_left_open OpenTrait r.0) r.1)
+    trait_item r.0 (bindings_rule name R depth (suc r.1.room) (is_left_open r.0 OpenTrait) r.1)
 
 unfoldable pub item_rule : List ℕ → Readers → ℕ → Listed → State → Item × State
 item_rule name R depth Arguments s = argument_rule name R depth s (stands name 76 s.at) (stands name 75 s.at)
@@ -162,6 +162,10 @@ unfoldable pub items_rule : List ℕ → Readers → ℕ → Listed → List ℕ
 items_rule name R depth listed between zero is_first s = (NoItems, stopped s)
 items_rule name R depth listed between (suc n) is_first s =
     list_rule name R depth listed between (items_rule name R depth listed between n false) is_first s (list_goes_on name s.at)
+
+abbrev pub items_count : Items → ℕ
+items_count NoItems = 0
+items_count (ItemThen i items) = suc (items_count items)
 
 -- a list, of no more items than there are steps left
 abbrev pub items_from : List ℕ → Readers → ℕ → Listed → List ℕ → State → Items × State
@@ -306,6 +310,10 @@ path_rule name R position depth s (WithArguments q) =
 path_rule name R position depth s (BackToPath target q) =
     back_path q s.outside (R.path position depth (into target s))
 
+-- a type and the trait behind its " as "
+abbrev pub qualified : Readers → ℕ → State → PathTree × State
+qualified R depth s = as_trait R depth OfTrait (R.ty depth (say (codes "<") s))
+
 -- Levels
 
 -- a level and a step
@@ -317,3 +325,8 @@ readers name zero =
     record { path = λ position depth s. (NoPath, stopped s); ty = λ depth s. (NoType, stopped s); constant = λ s. (NoConst, stopped s) }
 readers name (suc left) =
     record { path = λ position depth s. entering left NoPath s (λ e. path_rule name (readers name left) position depth e (path_form name s.at)); ty = λ depth s. entering left NoType s (λ e. type_rule name (readers name left) depth e (type_form name s.at)); constant = λ s. entering left NoConst s (λ e. const_rule (readers name left) e (const_form name s.at)) }
+
+-- a printing at its beginning
+abbrev pub first_state : Bool → State
+first_state full =
+    record { at = Some 0; room = 65536; least = 500; over = false; text = []; muted = false; full = full; outside = true; root = None }

@@ -6,6 +6,12 @@ use Rattle.binfarce_names.specs.Identifier
 use Rattle.binfarce_names.specs.Identifier.{Label}
 use Rattle.binfarce_names.specs.Forms.{Signature, NoLifetime, UnreadLifetime, IndexedLifetime, NoPathForm, NestedIn, InherentImpl, TraitImpl, TraitDefinition, WithArguments, BackToPath, NoTypeForm, BasicType, ReferenceTo, UnreadReference, PointerTo, SliceOf, ArrayOf, TupleOf, FunctionOf, UnreadAbi, DynOf, UnreadDyn, BackToType, PathType, NoConstForm, PlaceholderConst, DigitsConst, UnreadConst, BackToConst}
 use Rattle.binfarce_names.specs.Forms as forms
+use Rattle.binfarce_names.specs.Tree as tree
+use Rattle.binfarce_names.specs.Unfolding as lists_of
+use Rattle.binfarce_names.specs.declared.v0.forms.Position as position
+use Rattle.binfarce_names.specs.declared.v0.forms.Position.TheVariants as positions
+use Rattle.binfarce_names.specs.declared.v0.forms.Listed as listed
+use Rattle.binfarce_names.specs.declared.v0.forms.Listed.TheVariants as lists
 use Rattle.binfarce_names.specs.declared.v0.forms.Identifier as identifier
 use Rattle.binfarce_names.specs.declared.v0.forms.Label as label
 use Rattle.binfarce_names.specs.declared.v0.forms.Signature as signature
@@ -64,3 +70,13 @@ const_seen (consts.Placeholder text q) = PlaceholderConst text.now q
 const_seen (consts.Digits text hex q) = DigitsConst text.now hex.now q
 const_seen (consts.Unread text) = UnreadConst text.now
 const_seen (consts.Back target q) = BackToConst target q
+
+abbrev pub position_seen : position.Position → tree.Position
+position_seen positions.InValue = tree.InValue
+position_seen positions.InType = tree.InType
+position_seen positions.OpenTrait = tree.OpenTrait
+
+abbrev pub listed_seen : listed.Listed → lists_of.Listed
+listed_seen lists.Arguments = lists_of.Arguments
+listed_seen lists.Types = lists_of.Types
+listed_seen lists.Traits = lists_of.Traits

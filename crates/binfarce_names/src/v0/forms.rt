@@ -1,5 +1,8 @@
 //! The forms of the grammar that may stand at a place of a v0 name.
 
+ghost use Rattle.std.specs.Option.{ForSome};
+ghost use Rattle.std.specs.Str.{IsAscii};
+
 /// The plain characters of an identifier, and its Punycode, empty where it has none.
 #[derive(Clone, Copy)]
 pub struct Identifier<'a> {
@@ -41,6 +44,7 @@ pub struct Signature<'a> {
     pub binder: u64,
     pub is_unsafe: bool,
     pub abi: Option<&'a str>,
+    ghost ascii: { ForSome abi (λ a. IsAscii a.now) },
 }
 
 /// `<type>`, up to where it asks for a path, a type or a list.
@@ -70,4 +74,20 @@ pub enum ConstForm<'a> {
     Digits(&'static str, &'a str, usize),
     Unread(&'static str),
     Back(usize, usize),
+}
+
+/// Where a tree is shown.
+#[derive(Clone, Copy)]
+pub enum Position {
+    InValue,
+    InType,
+    OpenTrait,
+}
+
+/// The items of a list.
+#[derive(Clone, Copy)]
+pub enum Listed {
+    Arguments,
+    Types,
+    Traits,
 }

@@ -1,7 +1,7 @@
 //! The front of each row of the grammar, up to where it asks for a path, a type or a const.
 
 ghost use Rattle.std.specs.Prelude.{◌≡◌, ◌+◌, ◌-◌, ◌<◌, ◌≤◌, ◌==◌, IfSome, Some, not, length, slice_range};
-ghost use Rattle.std.specs.Option.{option_map};
+ghost use Rattle.std.specs.Option.{ForSome, option_map};
 ghost use Rattle.std.specs.Str.{IsAscii};
 ghost use Rattle.std.specs.List.{suffix_len};
 ghost use Rattle.binfarce_names.specs.Base62.{hex_digits};
@@ -47,7 +47,8 @@ fn part(text: &str, start: usize, end: usize) -> &str
 #[tactic(auto, using(crate::proofs::Cuts::identifier_split, crate::proofs::Cuts::identifier_unsplit), unfolding(crate::specs::Identifier::identifier_of))]
 fn identifier_of<'a>(is_punycode: bool, text: &'a str) -> Option<Identifier<'a>>
     requires { IsAscii text.now }
-    ensures { option_map identifier_seen result ≡ identifier_of is_punycode text.now }
+    ensures value { option_map identifier_seen result ≡ identifier_of is_punycode text.now }
+    ensures ascii { IfSome result (λ i. IsAscii i.plain.now) }
 {
     if !is_punycode {
         return Some(Identifier {
@@ -68,7 +69,8 @@ fn identifier_of<'a>(is_punycode: bool, text: &'a str) -> Option<Identifier<'a>>
 #[tactic(auto, unfolding(crate::specs::Identifier::identifier_bytes))]
 fn identifier_bytes<'a>(name: &'a str, is_punycode: bool, start: usize, size: u64) -> Option<(Identifier<'a>, usize)>
     requires ascii { IsAscii name.now }
-    ensures { option_map (λ i. (identifier_seen i.0, i.1)) result ≡ identifier_bytes name.now is_punycode start size }
+    ensures value { option_map (λ i. (identifier_seen i.0, i.1)) result ≡ identifier_bytes name.now is_punycode start size }
+    ensures ascii { IfSome result (λ i. IsAscii i.0.plain.now) }
 {
     let end = start.checked_add(size as usize)?;
     if end > name.len() {
@@ -82,7 +84,8 @@ fn identifier_bytes<'a>(name: &'a str, is_punycode: bool, start: usize, size: u6
 #[tactic(auto, unfolding(crate::specs::Identifier::identifier))]
 pub fn identifier<'a>(name: &'a str, at: usize) -> Option<(Identifier<'a>, usize)>
     requires ascii { IsAscii name.now }
-    ensures { option_map (λ i. (identifier_seen i.0, i.1)) result ≡ identifier name.now at }
+    ensures value { option_map (λ i. (identifier_seen i.0, i.1)) result ≡ identifier name.now at }
+    ensures ascii { IfSome result (λ i. IsAscii i.0.plain.now) }
 {
     let bytes = name.as_bytes();
     let is_punycode = byte_at(bytes, at) == b'u';
@@ -214,7 +217,8 @@ fn basic_type(letter: u8) -> Option<&'static str>
 #[tactic(auto, unfolding(crate::specs::Forms::abi))]
 fn abi<'a>(name: &'a str, at: usize) -> Option<(Option<&'a str>, usize)>
     requires ascii { IsAscii name.now }
-    ensures { option_map (λ a. (option_map (λ t. t.now) a.0, a.1)) result ≡ abi name.now at }
+    ensures value { option_map (λ a. (option_map (λ t. t.now) a.0, a.1)) result ≡ abi name.now at }
+    ensures ascii { IfSome result (λ a. ForSome a.0 (λ t. IsAscii t.now)) }
 {
     let bytes = name.as_bytes();
     if byte_at(bytes, at) != b'K' {

@@ -1,6 +1,6 @@
 //! The texts of the leaves of a v0 name.
 
-ghost use Rattle.std.specs.Prelude.{◌≡◌, ◌+◌, ◌≤◌, ◌^◌, ◌<◌, ◌++◌, OnOk, Some, length};
+ghost use Rattle.std.specs.Prelude.{◌≡◌, ◌+◌, ◌≤◌, ◌^◌, ◌<◌, ◌++◌, OnOk, encode_utf8_all, Some, true, length};
 ghost use Rattle.std.specs.String.{string_bytes};
 ghost use Rattle.std.specs.Fmt.{decimal};
 ghost use Rattle.std.specs.Str.{IsAscii};
@@ -15,6 +15,7 @@ use std::alloc::AllocError;
 use std::fmt::Write;
 
 use crate::v0::forms::{Identifier, Label, Signature};
+use crate::v0::punycode::decode;
 
 /// A number in decimal.
 pub fn push_decimal(text: &mut String, n: u64) -> Result<(), AllocError>
@@ -71,7 +72,7 @@ pub fn push_disambiguator(text: &mut String, n: u64) -> Result<(), AllocError>
 
 // A name behind a mark, or nothing for an empty name.
 fn push_after_mark(text: &mut String, mark: &str, name: Identifier<'_>) -> Result<(), AllocError>
-    ensures { OnOk result (string_bytes text.new ≡ string_bytes text.old ++ after_mark mark.now (identifier_seen name)) }
+    ensures { OnOk result (string_bytes text.new ≡ string_bytes text.old ++ after_mark mark.now (identifier_seen name.entry)) }
 {
     if name.plain.is_empty() && name.code.is_empty() {
         return Ok(());
@@ -95,7 +96,7 @@ fn push_namespace(text: &mut String, namespace: u8) -> Result<(), AllocError>
 /// What a nested path adds to its parent.
 #[tactic(auto, unfolding(crate::specs::Tree::nested_text))]
 pub fn push_nested(text: &mut String, namespace: u8, label: Label<'_>) -> Result<(), AllocError>
-    ensures { OnOk result (string_bytes text.new ≡ string_bytes text.old ++ nested_text namespace (label_seen label)) }
+    ensures { OnOk result (string_bytes text.new ≡ string_bytes text.old ++ nested_text namespace (label_seen label.entry)) }
 {
     if !namespace.is_ascii_uppercase() {
         return push_after_mark(text, "::", label.name);
@@ -151,7 +152,7 @@ fn push_abi(text: &mut String, name: &str) -> Result<(), AllocError>
 /// `"unsafe "`, the ABI and `"fn("`.
 #[tactic(auto, unfolding(crate::specs::Tree::signature_text))]
 pub fn push_signature(text: &mut String, signature: Signature<'_>) -> Result<(), AllocError>
-    ensures { OnOk result (string_bytes text.new ≡ string_bytes text.old ++ signature_text (signature_seen signature)) }
+    ensures { OnOk result (string_bytes text.new ≡ string_bytes text.old ++ signature_text (signature_seen signature.entry)) }
 {
     if signature.is_unsafe {
         text.push_str("unsafe ")?;
@@ -164,7 +165,7 @@ pub fn push_signature(text: &mut String, signature: Signature<'_>) -> Result<(),
 
 // Punycode that can't be decoded, as it stands.
 fn push_undecoded(text: &mut String, name: Identifier<'_>) -> Result<(), AllocError>
-    ensures { OnOk result (string_bytes text.new ≡ string_bytes text.old ++ undecoded name.plain.now name.code.now) }
+    ensures { OnOk result (string_bytes text.new ≡ string_bytes text.old ++ undecoded name.entry.plain.now name.entry.code.now) }
 {
     text.push_str("punycode{")?;
     if !name.plain.is_empty() {
@@ -176,11 +177,26 @@ fn push_undecoded(text: &mut String, name: Identifier<'_>) -> Result<(), AllocEr
 }
 
 /// The text of an identifier.
+#[tactic(auto, unfolding(crate::specs::Identifier::identifier_text))]
 pub fn push_identifier(text: &mut String, name: Identifier<'_>) -> Result<(), AllocError>
-    ensures { OnOk result (string_bytes text.new ≡ string_bytes text.old ++ identifier_text (identifier_seen name)) }
+    ensures { OnOk result (string_bytes text.new ≡ string_bytes text.old ++ identifier_text (identifier_seen name.entry)) }
 {
     if name.code.is_empty() {
         return text.push_str(name.plain);
     }
-    push_undecoded(text, name)
+    match decode(name.plain.as_bytes(), name.code.as_bytes()) {
+        Some(decoded) => push_characters(text, decoded.characters()),
+        None => push_undecoded(text, name),
+    }
+}
+
+// Characters, one after the other.
+#[tactic(auto, using(crate::proofs::Texts::encodes_more))]
+fn push_characters(text: &mut String, characters: &[char]) -> Result<(), AllocError>
+    ensures { OnOk result (string_bytes text.new ≡ string_bytes text.old ++ encode_utf8_all characters.now) }
+{
+    for c in characters {
+        text.push(*c)?;
+    }
+    Ok(())
 }

@@ -1,6 +1,8 @@
 pub mod Cuts
 pub mod Levels
+pub mod Lists
 pub mod Numbers
 mod PunycodeLemmas
 pub mod Says
+pub mod Sound
 pub mod Texts

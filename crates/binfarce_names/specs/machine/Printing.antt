@@ -254,12 +254,17 @@ type_rule name R depth s PathType = named_type (R.path InType depth s)
 
 -- Paths
 
-abbrev pub named_path : ℕ → PathTree × State → Option (Label × ℕ) → PathTree × State
-named_path namespace r None = (UnreadNested r.0, faulted r.1)
-named_path namespace r (Some l) = (Nested namespace r.0 l.0, say (nested_text namespace l.0) (go (Some l.1) r.1))
+abbrev pub named_tree : ℕ → PathTree → Option (Label × ℕ) → PathTree
+named_tree namespace p None = UnreadNested p
+named_tree namespace p (Some l) = Nested namespace p l.0
+
+abbrev pub named_state : ℕ → State → Option (Label × ℕ) → State
+named_state namespace s None = faulted s
+named_state namespace s (Some l) = say (nested_text namespace l.0) (go (Some l.1) s)
 
 abbrev pub nested_rule : List ℕ → ℕ → PathTree × State → PathTree × State
-nested_rule name namespace r = named_path namespace r (label_at name r.1.at)
+nested_rule name namespace r =
+    (named_tree namespace r.0 (label_at name r.1.at), named_state namespace r.1 (label_at name r.1.at))
 
 -- the path of an impl is read and not written
 abbrev pub unmuted : Bool → PathTree × State → PathTree × State

@@ -1,3 +1,4 @@
+pub mod Complete
 pub mod Cuts
 pub mod Levels
 pub mod Lists
@@ -5,4 +6,6 @@ pub mod Numbers
 mod PunycodeLemmas
 pub mod Says
 pub mod Sound
+pub mod SoundForms
+pub mod States
 pub mod Texts

@@ -51,11 +51,11 @@ pub record Sound (name : List ℕ) (left : ℕ) (R : Readers) : Type 0 where
   pub ty : (depth : ℕ) (s : State) → (R.ty depth s).1.over ≡ false → TypeFound name depth left s.room s.at s.over (R.ty depth s)
   pub constant : (s : State) → (R.constant s).1.over ≡ false → ConstFound name left s.room s.at s.over (R.constant s)
 
-true_not_false : {A : Type 0} → true ≡ false → A
+pub true_not_false : {A : Type 0} → true ≡ false → A
 true_not_false h = cc
 
 -- what takes steps had them
-taken : {T : Type 0} (P : T × State → Type 0) (n : ℕ) (none : T) (s : State) (f : State → T × State) → (n ≤ s.room → (f (take n s)).1.over ≡ false → P (f (take n s))) → (taking n none s f).1.over ≡ false → P (taking n none s f)
+pub taken : {T : Type 0} (P : T × State → Type 0) (n : ℕ) (none : T) (s : State) (f : State → T × State) → (n ≤ s.room → (f (take n s)).1.over ≡ false → P (f (take n s))) → (taking n none s f).1.over ≡ false → P (taking n none s f)
 taken {T} P n none s f h o = by (nat_le n s.room) refl o
   where
     by : (b : Bool) → nat_le n s.room ≡ b → (cond b (f (take n s)) (none, stopped s)).1.over ≡ false → P (cond b (f (take n s)) (none, stopped s))
@@ -63,10 +63,10 @@ taken {T} P n none s f h o = by (nat_le n s.room) refl o
     by false e o = true_not_false o
 
 -- behind a back reference
-back_place : (over : Bool) (q : ℕ) → over ≡ false → (if over then None else Some q) ≡ Some q
+pub back_place : (over : Bool) (q : ℕ) → over ≡ false → (if over then None else Some q) ≡ Some q
 back_place over q h = rw h refl
 
-const_sound : (name : List ℕ) (left : ℕ) (R : Readers) → Sound name left R → (s : State) (form : ConstForm) → const_form name s.at ≡ form → (const_rule R s form).1.over ≡ false → ConstFound name (suc left) (suc s.room) s.at s.over (const_rule R s form)
+pub const_sound : (name : List ℕ) (left : ℕ) (R : Readers) → Sound name left R → (s : State) (form : ConstForm) → const_form name s.at ≡ form → (const_rule R s form).1.over ≡ false → ConstFound name (suc left) (suc s.room) s.at s.over (const_rule R s form)
 unfolding const_rule IsConst
 const_sound name left R H s NoConstForm e o =
     record { is = (e, refl); height = omega arith; steps = omega arith; before = o }
@@ -88,10 +88,10 @@ const_sound name left R H s (BackToConst target q) e o =
 -- Lists
 
 -- an "L" that stands there is a step
-lifetime_there : (name : List ℕ) (at : Option ℕ) → stands name 76 at ≡ true → lifetime_steps (lifetime name at).0 ≡ 1
+pub lifetime_step : (name : List ℕ) (at : Option ℕ) → stands name 76 at ≡ true → lifetime_steps (lifetime name at).0 ≡ 1
 unfolding lifetime
-lifetime_there name None e = cc
-lifetime_there name (Some at) e = rw e (read (number name (at + 1)))
+lifetime_step name None e = cc
+lifetime_step name (Some at) e = rw e (read (number name (at + 1)))
   where
     read : (n : Option (ℕ × ℕ)) → lifetime_steps (indexed_lifetime n).0 ≡ 1
     read None = refl
@@ -103,7 +103,7 @@ lifetime_sound name left depth s e n o =
     record {
       is = ((lifetime name s.at).1, e, refl, refl);
       height = omega arith;
-      steps = omega (arith, lifetime_there name s.at e);
+      steps = omega (arith, lifetime_step name s.at e);
       before = o;
     }
 
@@ -149,7 +149,7 @@ item_sound name left R H depth Traits s o =
     let f = H.path OpenTrait depth s m.before in
     record { is = (_, f.is, m.is); height = omega arith; steps = omega arith; before = f.before }
 
-items_sound : (name : List ℕ) (left : ℕ) (R : Readers) → Sound name left R → (depth : ℕ) (listed : Listed) (between : List ℕ) (n : ℕ) (is_first : Bool) (s : State) → (items_rule name R depth listed between n is_first s).1.over ≡ false → ItemsFound name listed depth left s.room s.at s.over (items_rule name R depth listed between n is_first s)
+pub items_sound : (name : List ℕ) (left : ℕ) (R : Readers) → Sound name left R → (depth : ℕ) (listed : Listed) (between : List ℕ) (n : ℕ) (is_first : Bool) (s : State) → (items_rule name R depth listed between n is_first s).1.over ≡ false → ItemsFound name listed depth left s.room s.at s.over (items_rule name R depth listed between n is_first s)
 unfolding items_rule AreItems items_height items_steps
 items_sound name left R H depth listed between zero is_first s o = true_not_false o
 items_sound name left R H depth listed between (suc n) is_first s o =

@@ -51,12 +51,13 @@ take n s = record s { room = s.room - n }
 abbrev pub entered : ℕ → State → State
 entered left s = record s { room = s.room - 1; least = min s.least left }
 
-abbrev pub rooted_in : Bool → Option Identifier → Identifier → Option Identifier
-rooted_in true root name = first_of root (Some name)
-rooted_in false root name = root
+-- the first crate root outside back references
+abbrev pub kept_root : Bool → Option Identifier → Option Identifier → Option Identifier
+kept_root true root other = first_of root other
+kept_root false root other = root
 
 abbrev pub rooted : Identifier → State → State
-rooted name s = record s { root = rooted_in s.outside s.root name }
+rooted name s = record s { root = kept_root s.outside s.root (Some name) }
 
 -- what is read in a back reference's target
 abbrev pub into : ℕ → State → State

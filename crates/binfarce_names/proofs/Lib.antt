@@ -4,6 +4,7 @@ pub mod Levels
 pub mod Lists
 pub mod Numbers
 mod PunycodeLemmas
+pub mod ReadingComplete
 pub mod ReadingSound
 pub mod Says
 pub mod Sound

@@ -141,3 +141,105 @@ items_read name left R H listed (suc n) at after e =
           reads = (b.mid, t, f.reads, on.0, subst (λ x. ReadsItems name listed m.tree x after) (sym on.1) m.reads);
           height = omega arith;
         }
+
+type_read : (name : List ℕ) (left : ℕ) (R : Places) → ReadsTrees name left R → (at after : ℕ) (form : TypeForm) → type_form name (Some at) ≡ form → type_place name R at form ≡ Some after → TypeRead name (suc left) at after
+unfolding type_place ReadsType type_height
+type_read name left R H at after NoTypeForm e p = cc
+type_read name left R H at after (BasicType text q) e p =
+    let q_is : q ≡ after = cc in record { tree = Basic text; reads = rw (← q_is) e; height = omega arith }
+type_read name left R H at after (ReferenceTo mutable life q) e p =
+    let f = H.ty q after p in
+    record { tree = Reference mutable life f.tree; reads = (q, e, f.reads); height = omega arith }
+type_read name left R H at after UnreadReference e p = cc
+type_read name left R H at after (PointerTo mutable q) e p =
+    let f = H.ty q after p in
+    record { tree = Pointer mutable f.tree; reads = (q, e, f.reads); height = omega arith }
+type_read name left R H at after (SliceOf q) e p =
+    let f = H.ty q after p in
+    record { tree = Slice f.tree; reads = (q, e, f.reads); height = omega arith }
+type_read name left R H at after (ArrayOf q) e p =
+    let b = between (R.ty q) R.constant after p in
+    let f = H.ty q b.mid b.first in
+    let c = H.constant b.mid after b.second in
+    record { tree = Array f.tree c.tree; reads = (q, b.mid, e, f.reads, c.reads); height = omega arith }
+type_read name left R H at after (TupleOf q) e p =
+    let f = items_read name left R H Types (suc (length name)) q after p in
+    record { tree = Tuple f.tree; reads = (q, e, f.reads); height = omega arith }
+type_read name left R H at after (FunctionOf signature q) e p =
+    let b = between (list_place name R Types q) (return_place name R) after p in
+    let f = items_read name left R H Types (suc (length name)) q b.mid b.first in
+    by b.mid f (stands name 117 (Some b.mid)) refl b.second
+  where
+    by : (mid : ℕ) → ItemsRead name Types left q mid → (b : Bool) → stands name 117 (Some mid) ≡ b → cond b (Some (mid + 1)) (R.ty mid) ≡ Some after → TypeRead name (suc left) at after
+    by mid f true t s =
+        let here : after ≡ mid + 1 = cc in
+        record { tree = Function signature f.tree; reads = (q, mid, e, f.reads, t, here); height = omega arith }
+    by mid f false t s =
+        let g = H.ty mid after s in
+        record { tree = FunctionTo signature f.tree g.tree; reads = (q, mid, e, f.reads, t, g.reads); height = omega arith }
+type_read name left R H at after (UnreadAbi binder) e p = cc
+type_read name left R H at after (DynOf binder q) e p =
+    let b = between (list_place name R Traits q) (lifetime_place name) after p in
+    let f = items_read name left R H Traits (suc (length name)) q b.mid b.first in
+    by b.mid f (stands name 76 (Some b.mid)) refl b.second
+  where
+    by : (mid : ℕ) → ItemsRead name Traits left q mid → (b : Bool) → stands name 76 (Some mid) ≡ b → cond b (lifetime name (Some mid)).1 None ≡ Some after → TypeRead name (suc left) at after
+    by mid f true t s =
+        let g : Option ℕ → Lifetime × Option ℕ = λ x. ((lifetime name (Some mid)).0, x) in
+        record { tree = Dyn binder f.tree (lifetime name (Some mid)).0; reads = (q, mid, e, f.reads, t, ap g s); height = omega arith }
+    by mid f false t s = cc
+type_read name left R H at after UnreadDyn e p = cc
+type_read name left R H at after (BackToType target q) e p =
+    let q_is : q ≡ after = cc in record { tree = TypePlace target; reads = rw (← q_is) e; height = omega arith }
+type_read name left R H at after PathType e p =
+    let f = H.path at after p in record { tree = Named f.tree; reads = (e, f.reads); height = omega arith }
+
+label_read : (l : Option (Label × ℕ)) (after : ℕ) → label_place l ≡ Some after → (i : Label) × (l ≡ Some (i, after))
+label_read None after e = cc
+label_read (Some l) after e = let e' : l.1 ≡ after = cc in (l.0, rw (← e') refl)
+
+path_read : (name : List ℕ) (left : ℕ) (R : Places) → ReadsTrees name left R → (at after : ℕ) (form : PathForm) → path_form name (Some at) ≡ form → path_place name R form ≡ Some after → PathRead name (suc left) at after
+unfolding path_place ReadsPath path_height
+path_read name left R H at after NoPathForm e p = cc
+path_read name left R H at after (CrateRoot root q) e p =
+    let q_is : q ≡ after = cc in record { tree = Crate root; reads = rw (← q_is) e; height = omega arith }
+path_read name left R H at after (NestedIn namespace q) e p =
+    let b = between (R.path q) (λ mid. label_place (label name mid)) after p in
+    let f = H.path q b.mid b.first in
+    let l = label_read (label name b.mid) after b.second in
+    record { tree = Nested namespace f.tree l.0; reads = (q, b.mid, e, f.reads, l.1); height = omega arith }
+path_read name left R H at after (InherentImpl q) e p =
+    let b = between (R.path q) R.ty after p in
+    let f = H.path q b.mid b.first in
+    let t = H.ty b.mid after b.second in
+    record { tree = OfType f.tree t.tree; reads = (q, b.mid, e, f.reads, t.reads); height = omega arith }
+path_read name left R H at after (TraitImpl q) e p =
+    let b = between (R.path q) (λ mid. R.ty mid >>= R.path) after p in
+    let c = between (R.ty b.mid) R.path after b.second in
+    let f = H.path q b.mid b.first in
+    let t = H.ty b.mid c.mid c.first in
+    let u = H.path c.mid after c.second in
+    record { tree = OfImpl f.tree t.tree u.tree; reads = (q, b.mid, c.mid, e, f.reads, t.reads, u.reads); height = omega arith }
+path_read name left R H at after (TraitDefinition q) e p =
+    let b = between (R.ty q) R.path after p in
+    let t = H.ty q b.mid b.first in
+    let u = H.path b.mid after b.second in
+    record { tree = OfTrait t.tree u.tree; reads = (q, b.mid, e, t.reads, u.reads); height = omega arith }
+path_read name left R H at after (WithArguments q) e p =
+    let b = between (R.path q) (list_place name R Arguments) after p in
+    let f = H.path q b.mid b.first in
+    let i = items_read name left R H Arguments (suc (length name)) b.mid after b.second in
+    record { tree = Generic f.tree i.tree; reads = (q, b.mid, e, f.reads, i.reads); height = omega arith }
+path_read name left R H at after (BackToPath target q) e p =
+    let q_is : q ≡ after = cc in record { tree = PathPlace target; reads = rw (← q_is) e; height = omega arith }
+
+pub places_read : (name : List ℕ) (left : ℕ) → ReadsTrees name left (places name left)
+unfolding places
+places_read name zero = record { path = λ at after e. cc; ty = λ at after e. cc; constant = λ at after e. cc }
+places_read name (suc left) =
+    let H = places_read name left in
+    record {
+      path = λ at after e. path_read name left (places name left) H at after (path_form name (Some at)) refl e;
+      ty = λ at after e. type_read name left (places name left) H at after (type_form name (Some at)) refl e;
+      constant = λ at after e. const_read name left at after (const_form name (Some at)) refl e;
+    }

@@ -2,9 +2,11 @@ pub mod Complete
 pub mod Cuts
 pub mod Levels
 pub mod Lists
+pub mod Manglings
 pub mod Numbers
 mod PunycodeLemmas
 pub mod ReadingComplete
+pub mod ReadingLists
 pub mod ReadingSound
 pub mod Says
 pub mod Sound

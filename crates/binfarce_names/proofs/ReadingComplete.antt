@@ -28,9 +28,17 @@ unfolding places
 const_place_at name zero at h = absurd (omega arith)
 const_place_at name (suc l) at h = refl
 
-pub no_places : (name : List ℕ) (at : ℕ) → ((places name 0).path at ≡ None) × ((places name 0).ty at ≡ None) × ((places name 0).constant at ≡ None)
+pub path_place_none : (name : List ℕ) (l at : ℕ) → l ≡ 0 → (places name l).path at ≡ None
 unfolding places
-no_places name at = (refl, refl, refl)
+path_place_none name l at h = rw h refl
+
+pub type_place_none : (name : List ℕ) (l at : ℕ) → l ≡ 0 → (places name l).ty at ≡ None
+unfolding places
+type_place_none name l at h = rw h refl
+
+pub const_place_none : (name : List ℕ) (l at : ℕ) → l ≡ 0 → (places name l).constant at ≡ None
+unfolding places
+const_place_none name l at h = rw h refl
 
 onward_is : (at mid : ℕ) → at < mid → onward at mid ≡ Some mid
 onward_is at mid h = let e : nat_lt at mid ≡ true = grind (arith, nat_tests) in rw e refl

@@ -2,6 +2,7 @@ pub mod Base62
 pub mod Forms
 pub mod Identifier
 pub mod machine
+pub mod Mangling
 pub mod Name
 pub mod Named
 pub mod Punycode

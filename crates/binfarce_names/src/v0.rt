@@ -7,4 +7,5 @@ pub(crate) mod punycode;
 mod places;
 mod printer;
 mod printing;
+mod reading;
 mod text;

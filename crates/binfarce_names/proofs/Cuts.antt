@@ -1,11 +1,20 @@
 -- Where an ASCII text may be cut, and where a Punycode identifier is.
-use Rattle.std.proofs.Common.{◌≡◌, ℕ, ◌-◌, ◌<◌, ◌≤◌, List, [], ◌∷◌, length, take, drop, Option, Some, None, Bool, true, false, not, cond, ◌==◌, slice_range, refl, ap, sym, ◌∙◌, subst, arith}
+use Rattle.std.proofs.Common.{◌≡◌, ℕ, ◌+◌, ◌-◌, ◌<◌, ◌≤◌, List, [], ◌∷◌, length, get_or, take, drop, Option, Some, None, Bool, true, false, not, cond, ◌==◌, slice_range, refl, ap, sym, ◌∙◌, subst, arith}
 use Rattle.std.specs.List.{suffix_len}
+use Rattle.std.specs.Str.{IsUtf8, IsCharBoundary}
 use Rattle.std.proofs.lemmas.Grind.{common_steps}
 use Rattle.std.proofs.lemmas.Bool.Decides.{nat_tests}
 use Rattle.std.proofs.lemmas.List.Sums.{suffix_len-le-length}
-use Rattle.std.proofs.lemmas.Str.{IsCharBoundary-from_ascii, IsAscii-take, IsAscii-drop}
+use Rattle.std.proofs.lemmas.Str.{IsCharBoundary-after_ascii, IsCharBoundary-from_ascii, IsAscii-take, IsAscii-drop}
 use Rattle.binfarce_names.specs.Identifier.{Identifier, identifier_of, is_empty}
+
+-- a text may be cut behind an "R"
+pub behind_letter : (text : List ℕ) (n : ℕ) → IsUtf8 text → 0 < n → n ≤ length text → get_or text (n - 1) 0 ≡ 82 → IsCharBoundary text n
+behind_letter text n u p h e =
+    let next : n - 1 + 1 ≡ n = omega arith in
+    subst (λ k. IsCharBoundary text k) next (IsCharBoundary-after_ascii text (n - 1) u (omega arith) (omega arith))
+
+pub ruleset behind_cuts = (behind_letter)
 
 pub ruleset ascii_cuts = (IsCharBoundary-from_ascii, IsAscii-take, IsAscii-drop)
 

@@ -131,10 +131,10 @@ mutual
       if_not _ _ _ r.0 ∙ if_so _ _ _ r.1 ∙ const_placed c name l (at + 1) after r.2 h
   item_placed (ConstItem c) name l Types at after r h = absurd r
   item_placed (ConstItem c) name l Traits at after r h = absurd r
-  item_placed (TraitItem p bindings) name l Arguments at after r h = absurd r
-  item_placed (TraitItem p bindings) name l Types at after r h = absurd r
-  item_placed (TraitItem p bindings) name l Traits at after r h =
-      then_is _ _ r.0 (path_placed p name l at r.0 r.1 (omega arith)) ∙ bindings_placed bindings name l (suc (length name)) r.0 after r.2 (omega arith) (omega arith)
+  item_placed (TraitItem p bound) name l Arguments at after r h = absurd r
+  item_placed (TraitItem p bound) name l Types at after r h = absurd r
+  item_placed (TraitItem p bound) name l Traits at after r h =
+      then_is _ _ r.0 (path_placed p name l at r.0 r.1 (omega arith)) ∙ bindings_placed bound name l (suc (length name)) r.0 after r.2 (omega arith) (omega arith)
 
   pub items_placed : (items : Items) (name : List ℕ) (l : ℕ) (listed : Listed) (n at after : ℕ) → ReadsItems name listed items at after → items_height items ≤ l → length name - at < n → items_place name (places name l) listed n at ≡ Some after
   items_placed NoItems name l listed zero at after r h f = absurd (omega arith)
@@ -147,8 +147,8 @@ mutual
   pub bindings_placed : (bindings : Bindings) (name : List ℕ) (l n at after : ℕ) → ReadsBindings name bindings at after → bindings_height bindings ≤ l → length name - at < n → bindings_place name (places name l) n at ≡ Some after
   bindings_placed NoBindings name l zero at after r h f = absurd (omega arith)
   bindings_placed NoBindings name l (suc n) at after r h f = if_not _ _ _ r.0 ∙ ap Some (sym r.1)
-  bindings_placed (Binding i t bindings) name l zero at after r h f = absurd (omega arith)
-  bindings_placed (Binding i t bindings) name l (suc n) at after r h f =
+  bindings_placed (Binding i t more) name l zero at after r h f = absurd (omega arith)
+  bindings_placed (Binding i t more) name l (suc n) at after r h f =
       let here = within name 111 at r.2 in
-      if_so _ _ _ r.2 ∙ ap (bound_from (places name l) (bindings_place name (places name l) n) at) r.3 ∙ then_is _ _ r.1 (type_placed t name l r.0 r.1 r.4 (omega arith)) ∙ then_is _ _ r.1 (onward_is at r.1 r.5) ∙ bindings_placed bindings name l n r.1 after r.6 (omega arith) (omega arith)
+      if_so _ _ _ r.2 ∙ ap (bound_from (places name l) (bindings_place name (places name l) n) at) r.3 ∙ then_is _ _ r.1 (type_placed t name l r.0 r.1 r.4 (omega arith)) ∙ then_is _ _ r.1 (onward_is at r.1 r.5) ∙ bindings_placed more name l n r.1 after r.6 (omega arith) (omega arith)
   bindings_placed UnreadBinding name l n at after r h f = absurd r

@@ -1,9 +1,11 @@
 -- Rust's v0 manglings (RFC 2603, "Symbol name": <symbol-name> = "_R" <path> [<instantiating-crate>]).
-use Rattle.std.specs.Prelude.{◌≡◌, ℕ, ◌≤◌, List, Option, Some, None, Bool, true, ◌&&◌, if◌then◌else◌, ◌==◌, slice_index, drop}
+use Rattle.std.specs.Prelude.{◌≡◌, ℕ, ◌≤◌, List, Option, Some, None, Bool, true, false, ◌&&◌, if◌then◌else◌, ◌==◌, slice_index, drop}
 use Rattle.std.specs.Str.{IsAscii}
 use Rattle.std.specs.Int.{is_in_range}
 use Rattle.binfarce_names.specs.Base62.{◌>>=◌}
-use Rattle.binfarce_names.specs.Tree.{PathTree, path_height}
+use Rattle.binfarce_names.specs.Identifier.{Identifier}
+use Rattle.binfarce_names.specs.Tree.{PathTree, path_height, path_root, name_text}
+use Rattle.binfarce_names.specs.Unfolding.{UnfoldsTo}
 use Rattle.binfarce_names.specs.Reading.{ReadsPath}
 
 -- "_R", or "R" or "__R" where a platform drops or adds a "_"
@@ -29,13 +31,25 @@ pub record PathStands (name : List ℕ) (at after : ℕ) : Type 0 where
 
 -- the path of the instantiating crate, where an upper-case letter stands
 abbrev pub SecondPath : Bool → List ℕ → ℕ → ℕ → Type 0
-SecondPath b name at after = elim b [ true ↦ PathStands name at after | _ ↦ after ≡ at ]
+SecondPath true name at after = PathStands name at after
+SecondPath false name at after = after ≡ at
 
--- the v0 mangling that a text begins with: its name, and the place behind it
+-- the paths of a name
+pub record ReadsPaths (name : List ℕ) (after : ℕ) : Type 0 where
+  pub mid : ℕ
+  pub path : PathStands name 0 mid
+  pub instantiating_crate : SecondPath (is_upper_at name mid) name mid after
+
+-- the v0 mangling that a text begins with: its name, and the place behind the paths of the name
 pub record IsMangling (text name : List ℕ) (after : ℕ) : Type 0 where
   pub behind : behind_prefix text ≡ Some name
   pub begins : is_upper_at name 0 ≡ true
   pub ascii : IsAscii name
-  pub mid : ℕ
-  pub path : PathStands name 0 mid
-  pub instantiating_crate : SecondPath (is_upper_at name mid) name mid after
+  pub paths : ReadsPaths name after
+
+-- a text and a crate root are those of the tree that a name unfolds to within the limits
+pub record Tells (name : List ℕ) (full : Bool) (text : List ℕ) (root : Option Identifier) : Type 0 where
+  pub tree : PathTree
+  pub unfolds : UnfoldsTo name tree
+  pub text_is : text ≡ name_text full tree
+  pub root_is : root ≡ path_root tree

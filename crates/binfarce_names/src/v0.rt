@@ -1,11 +1,15 @@
-//! Rust's v0 mangling (RFC 2603).
+//! Rust's v0 mangling (RFC 2603): reading a name by the grammar, and printing what it means.
 
 mod forms;
 mod leaves;
+mod mangling;
 mod numbers;
-pub(crate) mod punycode;
 mod places;
 mod printer;
 mod printing;
+pub(crate) mod punycode;
 mod reading;
 mod text;
+
+pub use mangling::{print, read};
+pub use printer::Printed;

@@ -3,6 +3,7 @@ use Rattle.std.specs.Prelude.{ℕ, zero, suc, ◌+◌, List, Option, Some, None,
 use Rattle.binfarce_names.specs.Base62.{◌>>=◌}
 use Rattle.binfarce_names.specs.Identifier.{Identifier, Label, label, identifier}
 use Rattle.binfarce_names.specs.Forms.{stands, lifetime, path_form, type_form, const_form, PathForm, NoPathForm, CrateRoot, NestedIn, InherentImpl, TraitImpl, TraitDefinition, WithArguments, BackToPath, TypeForm, NoTypeForm, BasicType, ReferenceTo, UnreadReference, PointerTo, SliceOf, ArrayOf, TupleOf, FunctionOf, UnreadAbi, DynOf, UnreadDyn, BackToType, PathType, ConstForm, NoConstForm, PlaceholderConst, DigitsConst, UnreadConst, BackToConst}
+use Rattle.binfarce_names.specs.Mangling.{is_upper_at}
 use Rattle.binfarce_names.specs.Unfolding.{Listed, Arguments, Types, Traits}
 
 -- the readers of one level less
@@ -88,3 +89,8 @@ unfoldable pub places : List ℕ → ℕ → Places
 places name zero = record { path = λ at. None; ty = λ at. None; constant = λ at. None }
 places name (suc left) =
     record { path = λ at. path_place name (places name left) (path_form name (Some at)); ty = λ at. type_place name (places name left) at (type_form name (Some at)); constant = λ at. const_place (const_form name (Some at)) }
+
+-- the place behind the paths of a name
+abbrev pub paths_place : List ℕ → Option ℕ
+paths_place name =
+    (places name 500).path 0 >>= λ mid. (if is_upper_at name mid then (places name 500).path mid else Some mid)

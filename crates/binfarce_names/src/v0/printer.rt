@@ -1,6 +1,7 @@
 //! Printing a v0 name: it is read and written in one pass.
 
-ghost use Rattle.std.specs.Prelude.{◌≡◌, ◌+◌, ◌-◌, ◌≤◌, ◌^◌, ◌<◌, ◌↔◌, OnOk, IsTrue, if◌then◌else◌, ◌&&◌, nat_le};
+ghost use Rattle.std.specs.Prelude.{◌≡◌, ◌+◌, ◌-◌, ◌≤◌, ◌^◌, ◌<◌, ◌↔◌, OnOk, IsTrue, MatchOption, option_map, true, false, if◌then◌else◌, ◌&&◌, nat_le};
+ghost use Rattle.std.specs.String.{string_bytes};
 ghost use Rattle.binfarce_names.specs.Identifier.{identifier_text};
 ghost use Rattle.binfarce_names.specs.Tree.{
     lifetime_text, binder_text, argument_lifetime, reference_lifetime, dyn_lifetime,
@@ -24,6 +25,15 @@ use crate::v0::text::{
 
 /// The most steps of a printing.
 pub const MAX_STEPS: usize = 65_536;
+
+/// What a name means, as a text.
+#[derive(Drop)]
+pub struct Printed<'a> {
+    /// The text of the tree.
+    pub text: String,
+    /// The name of the first crate root.
+    pub root: Option<Identifier<'a>>,
+}
 
 /// A printing.
 #[derive(Drop)]
@@ -77,6 +87,27 @@ impl<'a> Printer<'a> {
             outside: true,
             root: None,
         }
+    }
+
+    /// What was printed, or None where a limit was passed.
+    pub fn finish(self) -> Option<Printed<'a>>
+        ensures { MatchOption result (self.entry.over ≡ true) (λ p. (self.entry.over ≡ false) × (string_bytes p.text ≡ self.entry.text) × (option_map identifier_seen p.root ≡ self.entry.root)) }
+    {
+        let Printer {
+            at: _,
+            room: _,
+            least: _,
+            over,
+            text,
+            muted: _,
+            full: _,
+            outside: _,
+            root,
+        } = self;
+        if over {
+            return None;
+        }
+        Some(Printed { text, root })
     }
 
     /// Goes on at a place.

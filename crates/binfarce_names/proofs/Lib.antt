@@ -1,9 +1,15 @@
 pub mod Complete
+pub mod CutLemmas
 pub mod Cuts
+pub mod ElementLemmas
+pub mod JoinLemmas
 pub mod Levels
 pub mod Lists
+pub mod LlvmLemmas
 pub mod Manglings
+pub mod NameLemmas
 pub mod Numbers
+pub mod PieceLemmas
 mod PunycodeLemmas
 pub mod ReadingComplete
 pub mod ReadingLists
@@ -12,4 +18,5 @@ pub mod Says
 pub mod Sound
 pub mod SoundForms
 pub mod States
+pub mod TextLemmas
 pub mod Texts

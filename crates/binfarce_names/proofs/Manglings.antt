@@ -1,11 +1,12 @@
 -- What the reading and the printer do with a whole name.
 use Rattle.std.proofs.Common.{◌≡◌, ℕ, zero, suc, ◌+◌, ◌-◌, ◌≤◌, ◌<◌, Bool, true, false, List, [], ◌++◌, Option, Some, None, cond, refl, ap, sym, ◌∙◌, subst, arith}
 use Rattle.std.specs.Str.{IsAscii}
-use Rattle.binfarce_names.specs.Identifier.{Identifier}
+use Rattle.std.specs.Option.{option_map}
+use Rattle.binfarce_names.specs.Identifier.{Identifier, identifier_text}
 use Rattle.binfarce_names.specs.Tree.{PathTree, path_height, path_steps, path_text, path_root, name_text, InValue}
 use Rattle.binfarce_names.specs.Unfolding.{UnfoldsTo, IsPath}
 use Rattle.binfarce_names.specs.Reading.{ReadsPath}
-use Rattle.binfarce_names.specs.Mangling.{is_upper_at, PathStands, SecondPath, ReadsPaths, IsMangling, behind_prefix, Tells}
+use Rattle.binfarce_names.specs.Mangling.{is_upper_at, PathStands, SecondPath, ReadsPaths, IsMangling, behind_prefix, Tells, TextsTell}
 use Rattle.binfarce_names.specs.machine.Printing.{State, readers, first_state}
 use Rattle.binfarce_names.specs.machine.Places.{places, paths_place}
 use Rattle.binfarce_names.specs.Base62.{◌>>=◌}
@@ -89,4 +90,21 @@ print_tells text root name full s (Some p) e h =
       unfolds = t.unfolds;
       text_is = h.1 ∙ ap (λ (v : State). v.text) e ∙ t.text_is;
       root_is = h.2 ∙ ap (λ (v : State). v.root) e ∙ t.root_is;
+    }
+
+-- a name unfolds to one tree
+pub unfolds_once : (name : List ℕ) (t u : PathTree) → UnfoldsTo name t → UnfoldsTo name u → t ≡ u
+unfolds_once name t u a b =
+    let first = path_complete t name 500 InValue 0 (first_state true) a.after refl a.is_path a.levels a.steps in
+    let second = path_complete u name 500 InValue 0 (first_state true) b.after refl b.is_path b.levels b.steps in
+    ap (λ r. r.0) (sym first ∙ second)
+
+pub texts_tell : (name complete trimmed : List ℕ) (root other : Option Identifier) (crate_name : Option (List ℕ)) → Tells name true complete root → Tells name false trimmed other → crate_name ≡ option_map identifier_text root → TextsTell name complete trimmed crate_name
+texts_tell name complete trimmed root other crate_name c t e =
+    record {
+      tree = c.tree;
+      unfolds = c.unfolds;
+      complete_is = c.text_is;
+      trimmed_is = t.text_is ∙ ap (name_text false) (unfolds_once name t.tree c.tree t.unfolds c.unfolds);
+      crate_is = e ∙ ap (option_map identifier_text) c.root_is;
     }

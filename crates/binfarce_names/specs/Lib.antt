@@ -1,7 +1,8 @@
 pub mod Base62
+pub mod Endings
 pub mod Forms
 pub mod Identifier
-pub mod machine
+pub mod Legacy
 pub mod Mangling
 pub mod Name
 pub mod Named
@@ -10,3 +11,4 @@ pub mod PunycodeText
 pub mod Reading
 pub mod Tree
 pub mod Unfolding
+pub mod machine

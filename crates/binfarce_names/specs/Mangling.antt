@@ -1,9 +1,9 @@
 -- Rust's v0 manglings (RFC 2603, "Symbol name": <symbol-name> = "_R" <path> [<instantiating-crate>]).
-use Rattle.std.specs.Prelude.{◌≡◌, ℕ, ◌≤◌, List, Option, Some, None, Bool, true, false, ◌&&◌, if◌then◌else◌, ◌==◌, slice_index, drop}
+use Rattle.std.specs.Prelude.{◌≡◌, ℕ, ◌≤◌, List, Option, Some, None, Bool, true, false, ◌&&◌, if◌then◌else◌, ◌==◌, slice_index, drop, option_map}
 use Rattle.std.specs.Str.{IsAscii}
 use Rattle.std.specs.Int.{is_in_range}
 use Rattle.binfarce_names.specs.Base62.{◌>>=◌}
-use Rattle.binfarce_names.specs.Identifier.{Identifier}
+use Rattle.binfarce_names.specs.Identifier.{Identifier, identifier_text}
 use Rattle.binfarce_names.specs.Tree.{PathTree, path_height, path_root, name_text}
 use Rattle.binfarce_names.specs.Unfolding.{UnfoldsTo}
 use Rattle.binfarce_names.specs.Reading.{ReadsPath}
@@ -53,3 +53,11 @@ pub record Tells (name : List ℕ) (full : Bool) (text : List ℕ) (root : Optio
   pub unfolds : UnfoldsTo name tree
   pub text_is : text ≡ name_text full tree
   pub root_is : root ≡ path_root tree
+
+-- both texts and the crate are those of one tree that a name unfolds to within the limits
+pub record TextsTell (name complete trimmed : List ℕ) (crate_name : Option (List ℕ)) : Type 0 where
+  pub tree : PathTree
+  pub unfolds : UnfoldsTo name tree
+  pub complete_is : complete ≡ name_text true tree
+  pub trimmed_is : trimmed ≡ name_text false tree
+  pub crate_is : crate_name ≡ option_map identifier_text (path_root tree)

@@ -2,4 +2,6 @@
 #![tactic(auto)]
 
 pub mod demangle;
+mod endings;
+mod legacy;
 mod v0;

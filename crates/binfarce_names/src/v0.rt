@@ -11,5 +11,4 @@ pub(crate) mod punycode;
 mod reading;
 mod text;
 
-pub use mangling::{print, read};
-pub use printer::Printed;
+pub use mangling::{Texts, both_texts, mangle_part};

@@ -1,24 +1,28 @@
 //! A whole v0 mangling.
 
 ghost use Rattle.std.specs.Prelude.{
-    ◌≡◌, ℕ, ◌-◌, ◌<◌, ◌≤◌, List, IfOk, IfSome, MatchOption, length, slice_index, option_map,
+    ◌≡◌, ℕ, ◌-◌, ◌<◌, ◌≤◌, List, IfOk, IfSome, MatchOption, length, slice_index, option_map, drop,
 };
 ghost use Rattle.std.specs.Str.{IsAscii};
 ghost use Rattle.std.specs.String.{string_bytes};
+ghost use Rattle.binfarce_names.specs.Identifier.{identifier_text};
+ghost use Rattle.binfarce_names.specs.Named.{IsV0};
 ghost use Rattle.binfarce_names.specs.Tree.{PathTree};
 ghost use Rattle.binfarce_names.specs.Unfolding.{UnfoldsTo};
 ghost use Rattle.binfarce_names.specs.Mangling.{
-    prefix_length, behind_prefix, is_upper_at, IsMangling, Tells,
+    prefix_length, behind_prefix, is_upper_at, IsMangling, Tells, TextsTell,
 };
 ghost use Rattle.binfarce_names.specs.machine.Places.{paths_place};
 ghost use Rattle.binfarce_names.specs.machine.Seen.{identifier_seen};
 
 use std::alloc::{AllocError, Global};
 
-use crate::v0::forms::Position;
+use crate::endings::is_allowed_rest;
+use crate::v0::forms::{Identifier, Position};
 use crate::v0::numbers::byte_at;
 use crate::v0::printer::{Printed, Printer};
 use crate::v0::reading::read_path;
+use crate::v0::text::push_identifier;
 
 /// The most levels of a reading, and of a printing.
 pub const MAX_LEVELS: usize = 500;
@@ -89,4 +93,61 @@ pub fn print<'a>(alloc: Global, name: &'a str, full: bool) -> Result<Option<Prin
     let mut printer = Printer::new(alloc, full);
     printer.print_path(name, MAX_LEVELS, 0, Position::InValue)?;
     Ok(printer.finish())
+}
+
+/// What stands behind the prefix of a v0 mangling, up to the end of `text`: places of the name may lie in all of it.
+/// None where `text` is no v0 mangling whose reading has at most `MAX_LEVELS` levels. No memory is taken.
+pub fn mangle_part(text: &str) -> Option<&str>
+    ensures { MatchOption result ((part : List ℕ) → IsV0 text.now part → ⊥) (λ p. IsV0 text.now p.now) }
+{
+    let (part, after) = read(text)?;
+    if is_allowed_rest(rest_from(part.as_bytes(), after)) { Some(part) } else { None }
+}
+
+// What stands from a place on.
+fn rest_from(name: &[u8], at: usize) -> &[u8]
+    ensures { result.now ≡ drop at name.now }
+{
+    if at <= name.len() { &name[at..] } else { &[] }
+}
+
+/// Both texts of a name, and its crate.
+#[derive(Drop)]
+pub struct Texts {
+    pub complete: String,
+    pub trimmed: String,
+    pub crate_name: Option<String>,
+}
+
+// The text of a crate's name.
+fn root_text(alloc: Global, root: Option<Identifier<'_>>) -> Result<Option<String>, AllocError>
+    ensures { IfOk result (λ t. option_map string_bytes t ≡ option_map identifier_text (option_map identifier_seen root.entry)) }
+{
+    let Some(name) = root else {
+        return Ok(None);
+    };
+    let mut text = String::new(alloc);
+    push_identifier(&mut text, name)?;
+    Ok(Some(text))
+}
+
+/// Both texts of what `name` unfolds to, and its crate. None where it unfolds to no tree within the limits.
+pub fn both_texts(alloc: Global, name: &str) -> Result<Option<Texts>, AllocError>
+    requires { IsAscii name.now }
+    ensures { IfOk result (λ t. MatchOption t ((tree : PathTree) → UnfoldsTo name.now tree → ⊥) (λ t. TextsTell name.now (string_bytes t.complete) (string_bytes t.trimmed) (option_map string_bytes t.crate_name))) }
+{
+    let Some(complete) = print(alloc, name, true)? else {
+        return Ok(None);
+    };
+    let Some(trimmed) = print(alloc, name, false)? else {
+        return Ok(None);
+    };
+    let Printed { text, root } = complete;
+    let crate_name = root_text(alloc, root)?;
+    let Printed { text: short, root: _ } = trimmed;
+    Ok(Some(Texts {
+        complete: text,
+        trimmed: short,
+        crate_name,
+    }))
 }

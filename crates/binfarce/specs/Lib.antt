@@ -9,3 +9,5 @@ pub mod Symbol
 pub mod ElfSymbols
 pub mod RawElf
 pub mod Elf64
+pub mod Pe
+pub mod PeSeen

@@ -3,3 +3,5 @@ pub mod Headers
 pub mod Walks
 pub mod Firsts
 pub mod Rows
+pub mod Arranging
+pub mod Above

@@ -9,3 +9,4 @@ pub mod Symbol
 pub mod ElfSymbols
 pub mod RawElf
 pub mod Elf64
+pub mod Sizes

@@ -8,6 +8,7 @@ mod elf;
 pub mod elf64;
 mod error;
 mod parser;
+mod sizes;
 
 pub use crate::error::ParseError;
 pub use crate::parser::UnexpectedEof;

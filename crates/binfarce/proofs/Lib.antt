@@ -5,3 +5,5 @@ pub mod Firsts
 pub mod Rows
 pub mod Arranging
 pub mod Above
+pub mod Signed
+pub mod Names

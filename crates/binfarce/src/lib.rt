@@ -5,6 +5,7 @@ ghost use Rattle.std.specs.Prelude.{◌≡◌};
 ghost use Rattle.binfarce.specs.Format.{format_of, elf_format_of, begins_macho};
 
 mod elf;
+pub mod elf32;
 pub mod elf64;
 mod error;
 mod parser;

@@ -3,5 +3,9 @@ pub mod Headers
 pub mod Walks
 pub mod Firsts
 pub mod Rows
+pub mod Arranging
+pub mod Above
+pub mod Signed
+pub mod Names
 pub mod Numbered
 pub mod PeWalks

@@ -8,6 +8,8 @@ pub mod Elf
 pub mod Symbol
 pub mod ElfSymbols
 pub mod RawElf
+pub mod Elf32
 pub mod Elf64
+pub mod Sizes
 pub mod Pe
 pub mod PeSeen

@@ -1,5 +1,5 @@
 -- The number that bytes hold, and the bytes at a place (gABI, "Data Representation").
-use Rattle.std.specs.Prelude.{ℕ, ◌+◌, ◌*◌, List, [], ◌∷◌, take, drop, reverse}
+use Rattle.std.specs.Prelude.{ℕ, ◌+◌, ◌*◌, ◌^◌, List, [], ◌∷◌, take, drop, reverse, nat_lt, if◌then◌else◌, ℤ, pos, ◌-ℤ◌}
 use Rattle.binfarce.specs.declared.ByteOrder.{ByteOrder}
 use Rattle.binfarce.specs.declared.ByteOrder.TheVariants.{LittleEndian, BigEndian}
 
@@ -12,6 +12,10 @@ little_endian (byte ∷ bytes) = byte + 256 * little_endian bytes
 unfoldable pub number : ByteOrder → List ℕ → ℕ
 number LittleEndian bytes = little_endian bytes
 number BigEndian bytes = little_endian (reverse bytes)
+
+-- two's complement: the number less 256^width where the top bit is set
+unfoldable pub signed : ℕ → ℕ → ℤ
+signed width n = if nat_lt (2 * n) (256 ^ width) then pos n else (pos n -ℤ pos (256 ^ width))
 
 -- the bytes of a field: as many as its width, from its place on
 abbrev pub bytes_at : List ℕ → ℕ → ℕ → List ℕ

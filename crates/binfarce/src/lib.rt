@@ -5,10 +5,12 @@ ghost use Rattle.std.specs.Prelude.{◌≡◌};
 ghost use Rattle.binfarce.specs.Format.{format_of, elf_format_of, begins_macho};
 
 mod elf;
+pub mod elf32;
 pub mod elf64;
 mod error;
 mod parser;
 pub mod pe;
+mod sizes;
 
 pub use crate::error::ParseError;
 pub use crate::parser::UnexpectedEof;

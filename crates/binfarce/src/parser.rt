@@ -2,8 +2,8 @@
 
 ghost use Rattle.std.specs.Prelude.{◌≡◌, ℕ, ◌+◌, ◌-◌, ◌<◌, ◌≤◌, ◌^◌, ◌↔◌, List, length, IsTrue, MatchOption, MatchResult};
 ghost use Rattle.binfarce.specs.declared.ByteOrder.{ByteOrder};
-ghost use Rattle.binfarce.specs.Number.{number, bytes_at};
-ghost use Rattle.binfarce.specs.Text.{text_at, nul_at, text_of};
+ghost use Rattle.binfarce.specs.Number.{number, signed, bytes_at};
+ghost use Rattle.binfarce.specs.Text.{text_at, nul_at, text_of, FindsText};
 ghost use Rattle.std.specs.Option.{option_map};
 
 use crate::ByteOrder;
@@ -57,6 +57,22 @@ impl RawNumber for u8 {
     }
 }
 
+impl RawNumber for i8 {
+    ghost SIZE = { 1 };
+    ghost value = { λ order bytes. signed 1 (number order bytes) };
+
+    const SIZE: usize = 1;
+
+    #[inline]
+    #[tactic(auto, using(crate::proofs::Signed::signed_8))]
+    fn parse(s: &mut Stream) -> Option<i8> {
+        match u8::parse(s) {
+            None => None,
+            Some(number) => Some(number.cast_signed()),
+        }
+    }
+}
+
 impl RawNumber for u16 {
     ghost SIZE = { 2 };
 
@@ -73,6 +89,22 @@ impl RawNumber for u16 {
         match s.byte_order {
             ByteOrder::LittleEndian => Some(u16::from_le_bytes(bytes)),
             ByteOrder::BigEndian => Some(u16::from_be_bytes(bytes)),
+        }
+    }
+}
+
+impl RawNumber for i16 {
+    ghost SIZE = { 2 };
+    ghost value = { λ order bytes. signed 2 (number order bytes) };
+
+    const SIZE: usize = 2;
+
+    #[inline]
+    #[tactic(auto, using(crate::proofs::Signed::signed_16))]
+    fn parse(s: &mut Stream) -> Option<i16> {
+        match u16::parse(s) {
+            None => None,
+            Some(number) => Some(number.cast_signed()),
         }
     }
 }
@@ -227,6 +259,24 @@ impl<'a> Stream<'a> {
         self.offset = offset;
         Ok(number)
     }
+
+    /// The `len` bytes at the offset, a part of the bytes; the offset moves behind them.
+    ///
+    /// Refused where the offset plus `len` passes `usize` or the length.
+    #[inline]
+    pub fn read_bytes(&mut self, len: usize) -> Result<&'a [u8], UnexpectedEof>
+        ensures bytes { MatchResult result
+            (λ b. (self.old.offset + len ≤ length self.old.bytes.now) × (b.now ≡ bytes_at self.old.bytes.now self.old.offset len))
+            (λ _. length self.old.bytes.now < self.old.offset + len) }
+        ensures offset { MatchResult result
+            (λ _. self.new ≡ record self.old { offset = self.old.offset + len })
+            (λ _. self.new ≡ self.old) }
+    {
+        let offset = self.offset.checked_add(len).ok_or(UnexpectedEof {})?;
+        let bytes = self.bytes.get(self.offset..offset).ok_or(UnexpectedEof {})?;
+        self.offset = offset;
+        Ok(bytes)
+    }
 }
 
 /// The number at `place`; refused where a byte is missing.
@@ -247,8 +297,16 @@ pub fn number_at<T: RawNumber>(
 /// The text from `start` to the first NUL, which is a part of `bytes`.
 ///
 /// `None` where `start` is past the end, there is no NUL, the text is empty, or it isn't UTF-8.
-#[tactic(auto, unfolding(crate::specs::Text::text_at))]
+#[tactic(auto, using(crate::proofs::Texts::finds_text))]
 pub fn parse_null_string(bytes: &[u8], start: usize) -> Option<&str>
+    ensures text { option_map (λ t. t.now) result ≡ text_at bytes.now start }
+    ensures found { FindsText bytes.now start (option_map (λ t. t.now) result) }
+{
+    text_from(bytes, start)
+}
+
+#[tactic(auto, unfolding(crate::specs::Text::text_at))]
+fn text_from(bytes: &[u8], start: usize) -> Option<&str>
     ensures { option_map (λ t. t.now) result ≡ text_at bytes.now start }
 {
     match bytes.get(start..) {

@@ -9,3 +9,5 @@ pub mod Signed
 pub mod Names
 pub mod Numbered
 pub mod PeWalks
+pub mod PeRows
+pub mod Strictly

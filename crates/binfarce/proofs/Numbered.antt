@@ -19,9 +19,10 @@ not_held f i e = one_more f i ∙ rw e (append-nil (held_below f i))
 behind_by : {S : Type 0} (f : ℕ → Option S) (i : ℕ) (s : S) → f i ≡ Some s → (m n : ℕ) → n ≡ i + 1 + m → (after : List S) × (held_below f n ≡ held_below f i ++ s ∷ after)
 behind_by f i s e zero n at = ([], ap (held_below f) (at ∙ omega arith) ∙ held_too f i s e)
 behind_by f i s e (suc m) n at =
-    let b = behind_by f i s e m (i + 1 + m) refl in
-    (b.0 ++ filter_map f ((i + 1 + m) ∷ []),
-      ap (held_below f) (at ∙ omega arith) ∙ one_more f (i + 1 + m) ∙ ap (λ (xs : List _). xs ++ filter_map f ((i + 1 + m) ∷ [])) b.1 ∙ append_assoc (held_below f i) (s ∷ b.0) (filter_map f ((i + 1 + m) ∷ [])))
+    let b = behind_by f i s e m (i + 1 + m) refl in (
+      b.0 ++ filter_map f ((i + 1 + m) ∷ []),
+      ap (held_below f) (at ∙ omega arith) ∙ one_more f (i + 1 + m) ∙ ap (λ (xs : List _). xs ++ filter_map f ((i + 1 + m) ∷ [])) b.1 ∙ append_assoc (held_below f i) (s ∷ b.0) (filter_map f ((i + 1 + m) ∷ [])),
+    )
 
 -- the list goes on behind what the numbers below i hold with what i holds
 pub behind_held : {S : Type 0} (f : ℕ → Option S) (n i : ℕ) (s : S) → i < n → f i ≡ Some s → (after : List S) × (held_below f n ≡ held_below f i ++ s ∷ after)

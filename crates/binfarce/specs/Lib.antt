@@ -13,3 +13,5 @@ pub mod Elf64
 pub mod Sizes
 pub mod Pe
 pub mod PeSeen
+pub mod PeSymbols
+pub mod RawPe

@@ -98,14 +98,14 @@ short_name bytes = if is_utf8 (up_to_nul bytes) then Some (up_to_nul bytes) else
 unfoldable pub section_at : List ℕ → ℕ → ℕ → Option Section
 section_at file start index =
     option_map
-      (λ name. record {
-        name = name;
-        virtual_size = pe_value file start section_header.virtual_size;
-        size_of_raw_data = pe_value file start section_header.size_of_raw_data;
-        pointer_to_raw_data = pe_value file start section_header.pointer_to_raw_data;
-        index = index;
-      })
-      (short_name (bytes_at file (start + section_header.name.place) section_header.name.width))
+    (λ name. record {
+      name = name;
+      virtual_size = pe_value file start section_header.virtual_size;
+      size_of_raw_data = pe_value file start section_header.size_of_raw_data;
+      pointer_to_raw_data = pe_value file start section_header.pointer_to_raw_data;
+      index = index;
+    })
+    (short_name (bytes_at file (start + section_header.name.place) section_header.name.width))
 
 -- section header i of the table; each has 40 bytes
 abbrev pub section_of : List ℕ → ℕ → Option Section

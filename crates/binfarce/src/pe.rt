@@ -1,16 +1,24 @@
 //! PE files with COFF symbols (Microsoft PE Format), which are little endian.
 
-ghost use Rattle.std.specs.Prelude.{◌≡◌, ◌+◌, ◌<◌, ◌≤◌, length, All, MatchResult, unwrap_or};
+ghost use Rattle.std.specs.Prelude.{◌≡◌, ◌≢◌, ◌+◌, ◌-◌, ◌<◌, ◌≤◌, [], length, map, All, MatchResult, IfOk, OnErr, IfSome, unwrap_or, nat_lt, if◌then◌else◌};
+ghost use Rattle.std.specs.List.{filter_map};
 ghost use Rattle.std.specs.Option.{option_map};
 ghost use Rattle.std.specs.Str.{bytes_eq};
 ghost use Rattle.binfarce.specs.Text.{nul_at};
 ghost use Rattle.binfarce.specs.Refusal.{Gives, refusal_of, unexpected_eof};
 ghost use Rattle.binfarce.specs.Walk.{MayBeAsked, FirstAccepted, first};
 ghost use Rattle.binfarce.specs.Pe.{least_length, signature_place, header_behind, header_of, short_name, section_at, sections_place, walk};
+ghost use Rattle.binfarce.specs.PeSymbols.{record_at, record_of, name_of, function_name, kept_rows, size_members, entry_of, entries_of, text_section, symbol_table, located, pe_answer, ArrangesRows, EqualAddressesEqualSizes};
+ghost use Rattle.binfarce.specs.Sizes.{addresses_of, least_above, least_of};
+ghost use Rattle.binfarce.specs.Symbol.{Answers, AreSymbolsOf, IsNotEmpty};
 ghost use Rattle.binfarce.specs.PeSeen.{header_seen, section_seen};
+ghost use Rattle.binfarce.specs.RawPe.{record_seen, table_seen, Fits, found_seen};
 
-use crate::parser::{Stream, UnexpectedEof, number_at};
+use crate::parser::{Stream, UnexpectedEof, number_at, parse_null_string};
+use crate::sizes::{self, RowAddress};
 use crate::{ByteOrder, ParseError};
+use binfarce_names::demangle::{SymbolData, SymbolName};
+use std::alloc::{AllocError, Global};
 use std::marker::Model;
 use std::ops::Range;
 
@@ -21,6 +29,14 @@ const SIZEOF_PE_MAGIC: usize = 4;
 const SIZEOF_COFF_HEADER: usize = 20;
 
 const SIZEOF_SECTION_HEADER: usize = 40;
+
+const COFF_SYMBOL_SIZE: usize = 18;
+
+const IMAGE_SYM_CLASS_EXTERNAL: u8 = 2;
+
+const IMAGE_SYM_DTYPE_SHIFT: u16 = 4;
+
+const IMAGE_SYM_DTYPE_FUNCTION: u16 = 2;
 
 /// The COFF file header.
 #[derive(Debug, Clone, Copy)]
@@ -41,7 +57,7 @@ pub struct Section<'a> {
     virtual_size: u32,
     size_of_raw_data: u32,
     pointer_to_raw_data: u32,
-    index: usize,
+    index: u16,
 }
 
 impl Section<'_> {
@@ -149,7 +165,12 @@ impl<'a> Pe<'a> {
         requires { All (MayBeAsked section_seen (F.pre callback)) (walk self.now).sections }
         ensures { FirstAccepted refusal_of section_seen (F.post callback) (walk self.now) result }
     {
-        match first_section(self.data, self.sections_place(), self.header.number_of_sections, callback) {
+        match first_section(
+            self.data,
+            self.sections_place(),
+            self.header.number_of_sections,
+            callback,
+        ) {
             Err(_) => Err(ParseError::UnexpectedEof),
             Ok(found) => Ok(found),
         }
@@ -159,17 +180,118 @@ impl<'a> Pe<'a> {
     pub fn section_with_name(&self, name: &str) -> Result<Option<Section<'a>>, ParseError>
         ensures { Gives refusal_of (option_map section_seen) result (first (λ s. bytes_eq s.name name.now) (walk self.now)) }
     {
-        match section_named(self.data, self.sections_place(), self.header.number_of_sections, name) {
+        match section_named(
+            self.data,
+            self.sections_place(),
+            self.header.number_of_sections,
+            name,
+        ) {
             Err(_) => Err(ParseError::UnexpectedEof),
             Ok(found) => Ok(found),
         }
     }
 
+    /// The function symbols of the section `.text`, by address and at equal addresses in table order, and the size that
+    /// the section has in the file.
+    ///
+    /// Kept are rows of external functions that name the section by its number, and whose name reads: the row's own 8
+    /// bytes, or the text in the string table. A symbol's size is the distance to the least greater one among the
+    /// addresses of the kept rows and the section's size, and 0 where none is greater. Refused, in this order: as
+    /// `find_section`; `SymbolsSectionIsMissing`; `UnexpectedEof` where the symbol table doesn't begin in the file, even
+    /// an empty one, or passes its end. `OutOfMemory` stands only in place of a list that isn't empty.
+    #[tactic(auto, unfolding(crate::specs::PeSymbols::pe_answer))]
+    pub fn symbols(&self, alloc: Global) -> Result<(Vec<SymbolData>, u64), ParseError>
+        ensures answer { Answers (pe_answer self.now) result }
+        ensures order { ArrangesRows self.now }
+        ensures sizes { IfOk result (λ answer. EqualAddressesEqualSizes answer.0.items) }
+    {
+        match self.locate() {
+            Err(error) => Err(error),
+            Ok(found) => {
+                let size = found.text.size_of_raw_data;
+                match parse_symbols(alloc, found.table, found.text.index, size) {
+                    Err(_) => Err(ParseError::OutOfMemory),
+                    Ok(symbols) => Ok((symbols, u64::from(size))),
+                }
+            }
+        }
+    }
+
+    #[tactic(auto, unfolding(crate::specs::PeSymbols::located))]
+    fn locate(&self) -> Result<Found<'a>, ParseError>
+        ensures found { Gives refusal_of found_seen result (located self.now) }
+        ensures fits { IfOk result (λ f. Fits f.table) }
+    {
+        let text = self.text_section()?;
+        let table = self.symbol_table()?;
+        Ok(Found { text, table })
+    }
+
+    fn text_section(&self) -> Result<Section<'a>, ParseError>
+        ensures { Gives refusal_of section_seen result (text_section self.now) }
+    {
+        match self.section_with_name(".text") {
+            Err(error) => Err(error),
+            Ok(None) => Err(ParseError::SymbolsSectionIsMissing),
+            Ok(Some(section)) => Ok(section),
+        }
+    }
+
+    #[tactic(auto, unfolding(crate::specs::PeSymbols::symbol_table))]
+    fn symbol_table(&self) -> Result<SymbolTable<'a>, ParseError>
+        ensures table { Gives refusal_of table_seen result (symbol_table self.now) }
+        ensures fits { IfOk result Fits }
+    {
+        let start = self.header.pointer_to_symbol_table as usize;
+        let count = self.header.number_of_symbols;
+        if start >= self.data.len() {
+            return Err(ParseError::UnexpectedEof);
+        }
+        if self.data.len() < start + count as usize * COFF_SYMBOL_SIZE {
+            return Err(ParseError::UnexpectedEof);
+        }
+        Ok(SymbolTable {
+            data: self.data,
+            start,
+            count,
+        })
+    }
+
     fn sections_place(&self) -> usize
         ensures { result ≡ sections_place self.now }
     {
-        self.pe_pointer + SIZEOF_PE_MAGIC + SIZEOF_COFF_HEADER + self.header.size_of_optional_header as usize
+        self.pe_pointer
+            + SIZEOF_PE_MAGIC
+            + SIZEOF_COFF_HEADER
+            + self.header.size_of_optional_header as usize
     }
+}
+
+/// A file, and where its symbol table begins and how many records that has.
+#[derive(Clone, Copy)]
+struct SymbolTable<'a> {
+    data: &'a [u8],
+    start: usize,
+    count: u32,
+}
+
+/// Where the symbols of a file stand.
+#[derive(Clone, Copy)]
+struct Found<'a> {
+    text: Section<'a>,
+    table: SymbolTable<'a>,
+}
+
+/// The numbers of a symbol record. The first two stand where a short name has its bytes.
+#[derive(Clone, Copy)]
+struct SymbolRecord {
+    zeroes: u32,
+    offset: u32,
+    value: u32,
+    section_number: u16,
+    kind: u16,
+    storage_class: u8,
+    number_of_aux_symbols: u8,
 }
 
 // The first section with this name, of the section table that begins at `start`.
@@ -222,29 +344,25 @@ fn is_accepted<'a, F: Fn(Section<'a>) -> bool>(callback: &F, section: Section<'a
 
 // The section whose header begins at `start`, where its name is UTF-8; refused where a field is cut.
 #[tactic(auto, unfolding(crate::specs::Pe::section_header, crate::specs::Pe::section_at))]
-fn section_at(
-    data: &[u8],
-    start: usize,
-    index: u16,
-) -> Result<Option<Section<'_>>, UnexpectedEof>
+fn section_at(data: &[u8], start: usize, index: u16) -> Result<Option<Section<'_>>, UnexpectedEof>
     ensures { MatchResult result
         (λ o. (start + 24 ≤ length data.now) × (option_map section_seen o ≡ section_at data.now start index))
         (λ _. length data.now < start + 24) }
 {
     let mut s = Stream::new_at(data, start, ByteOrder::LittleEndian)?;
-    s.skip_len(8)?; // name
+    let name = s.read_bytes(8)?;
     let virtual_size = s.read()?;
     s.skip::<u32>()?; // virtual address
     let size_of_raw_data = s.read()?;
     let pointer_to_raw_data = s.read()?;
-    match short_name(&data[start..start + 8]) {
+    match short_name(name) {
         None => Ok(None),
         Some(name) => Ok(Some(Section {
             name,
             virtual_size,
             size_of_raw_data,
             pointer_to_raw_data,
-            index: index as usize,
+            index,
         })),
     }
 }
@@ -276,3 +394,177 @@ fn name_length(bytes: &[u8]) -> usize
         None => bytes.len(),
     }
 }
+
+// The symbols of the section with this index and size.
+fn parse_symbols(
+    alloc: Global,
+    table: SymbolTable<'_>,
+    index: u16,
+    text_size: u32,
+) -> Result<Vec<SymbolData>, AllocError>
+    requires { Fits table }
+    ensures kept { IfOk result (λ v. AreSymbolsOf (entries_of (table_seen table.entry) index text_size) v.items) }
+    ensures memory { OnErr result (IsNotEmpty (entries_of (table_seen table.entry) index text_size)) }
+{
+    let mut rows = kept_rows(alloc, table, index)?;
+    if rows.is_empty() {
+        return Ok(Vec::new(alloc));
+    }
+    sizes::arrange(&mut rows);
+    let swept = sizes::sweep(alloc, &rows)?;
+    symbols_of(alloc, table, &rows, &swept.above, u64::from(text_size))
+}
+
+// The rows that are kept, in table order.
+fn kept_rows(
+    alloc: Global,
+    table: SymbolTable<'_>,
+    index: u16,
+) -> Result<Vec<RowAddress>, AllocError>
+    requires { Fits table }
+    ensures kept { IfOk result (λ v. v.items ≡ kept_rows (table_seen table.entry) index) }
+    ensures memory { OnErr result (kept_rows (table_seen table.entry) index ≢ []) }
+{
+    let mut kept = Vec::new(alloc);
+    let mut next = 0;
+    while next < table.count as usize {
+        let number = next as u32;
+        let row = record_of(table, number);
+        next += 1 + row.number_of_aux_symbols as usize;
+        let found = match kept_row(table, index, number, row) {
+            None => continue,
+            Some(found) => found,
+        };
+        kept.push(found)?;
+    }
+    Ok(kept)
+}
+
+fn kept_row(
+    table: SymbolTable<'_>,
+    index: u16,
+    number: u32,
+    row: SymbolRecord,
+) -> Option<RowAddress>
+    requires fits { Fits table }
+    requires within { number < table.count }
+    ensures { result ≡ option_map (λ _. record { address = row.value; row = number }) (function_name (table_seen table.entry) index number (record_seen row)) }
+{
+    match function_name(table, index, number, row) {
+        None => None,
+        Some(_) => Some(RowAddress {
+            address: u64::from(row.value),
+            row: number,
+        }),
+    }
+}
+
+// The symbols of arranged rows, where `above` has the least greater address of each.
+fn symbols_of(
+    alloc: Global,
+    table: SymbolTable<'_>,
+    rows: &[RowAddress],
+    above: &[Option<u64>],
+    text_size: u64,
+) -> Result<Vec<SymbolData>, AllocError>
+    requires fits { Fits table }
+    requires numbers { All (λ r. r.row < table.count) rows.now }
+    requires above { above.now ≡ map (λ r. least_above (addresses_of rows.now) r.address) rows.now }
+    ensures { IfOk result (λ v. AreSymbolsOf
+        (filter_map (entry_of (table_seen table.entry) (size_members text_size rows.now)) rows.now) v.items) }
+{
+    let mut symbols = Vec::new(alloc);
+    for place in 0..rows.len() {
+        let row = rows[place];
+        let name = match name_of(table, row.row, record_of(table, row.row)) {
+            None => continue,
+            Some(name) => name,
+        };
+        symbols.push(SymbolData {
+            name: SymbolName::demangle(alloc, name)?,
+            address: row.address,
+            size: size_up_to(row.address, above[place], text_size),
+        })?;
+    }
+    Ok(symbols)
+}
+
+// The distance to the least greater one among the text's size and `above`; 0 where none is greater.
+fn size_up_to(address: u64, above: Option<u64>, text_size: u64) -> u64
+    requires { IfSome above (λ a. address < a) }
+    ensures { result ≡ unwrap_or (option_map (λ a. a - address) (if nat_lt address text_size then Some (least_of text_size above) else above)) 0 }
+{
+    let end = match above {
+        None => text_size,
+        Some(next) if address < text_size => next.min(text_size),
+        Some(next) => next,
+    };
+    end.saturating_sub(address)
+}
+
+#[tactic(auto, unfolding(crate::specs::PeSymbols::function_name))]
+fn function_name<'a>(
+    table: SymbolTable<'a>,
+    index: u16,
+    number: u32,
+    row: SymbolRecord,
+) -> Option<&'a str>
+    requires fits { Fits table }
+    requires within { number < table.count }
+    ensures { option_map (λ t. t.now) result ≡ function_name (table_seen table.entry) index number (record_seen row) }
+{
+    if row.kind >> IMAGE_SYM_DTYPE_SHIFT == IMAGE_SYM_DTYPE_FUNCTION
+        && row.storage_class == IMAGE_SYM_CLASS_EXTERNAL
+        && u32::from(row.section_number) == u32::from(index) + 1
+    {
+        name_of(table, number, row)
+    } else {
+        None
+    }
+}
+
+// A row's name: its own 8 bytes, or the text in the string table, which begins right behind the records.
+#[tactic(auto, unfolding(crate::specs::PeSymbols::name_of))]
+fn name_of<'a>(table: SymbolTable<'a>, number: u32, row: SymbolRecord) -> Option<&'a str>
+    requires fits { Fits table }
+    requires within { number < table.count }
+    ensures { option_map (λ t. t.now) result ≡ name_of (table_seen table.entry) number (record_seen row) }
+{
+    if row.zeroes == 0 {
+        let strings = table.start + table.count as usize * COFF_SYMBOL_SIZE;
+        parse_null_string(table.data, strings + row.offset as usize)
+    } else {
+        let start = table.start + number as usize * COFF_SYMBOL_SIZE;
+        short_name(&table.data[start..start + 8])
+    }
+}
+
+fn record_of(table: SymbolTable<'_>, number: u32) -> SymbolRecord
+    requires fits { Fits table }
+    requires within { number < table.count }
+    ensures { record_seen result ≡ record_of (table_seen table.entry) number }
+{
+    record_at(table.data, table.start + number as usize * COFF_SYMBOL_SIZE).unwrap()
+}
+
+#[inline]
+#[tactic(auto, unfolding(crate::specs::PeSymbols::symbol_record, crate::specs::PeSymbols::record_at))]
+fn record_at(data: &[u8], start: usize) -> Result<SymbolRecord, UnexpectedEof>
+    ensures { MatchResult result
+        (λ r. (start + 18 ≤ length data.now) × (record_seen r ≡ record_at data.now start))
+        (λ _. length data.now < start + 18) }
+{
+    let mut s = Stream::new_at(data, start, ByteOrder::LittleEndian)?;
+    Ok(SymbolRecord {
+        zeroes: s.read()?,
+        offset: s.read()?,
+        value: s.read()?,
+        section_number: s.read()?,
+        kind: s.read()?,
+        storage_class: s.read()?,
+        number_of_aux_symbols: s.read()?,
+    })
+}
+
+#[cfg(test)]
+mod tests;

@@ -7,3 +7,7 @@ pub mod Arranging
 pub mod Above
 pub mod Signed
 pub mod Names
+pub mod Commands
+pub mod Sections
+pub mod Kept
+pub mod MachoAnswers

@@ -11,3 +11,7 @@ pub mod RawElf
 pub mod Elf32
 pub mod Elf64
 pub mod Sizes
+pub mod Macho
+pub mod MachoSymbols
+pub mod MachoTypes
+pub mod RawMacho

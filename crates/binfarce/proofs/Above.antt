@@ -51,6 +51,9 @@ least_above_is (x ∷ xs) a = by_test (nat_lt a x) refl (least_above_is xs a)
     by_test true e rest = above_too x a xs (least (filter (λ b. nat_lt a b) xs)) (ltb-true a x e) rest
     by_test false e rest = not_above x a xs (least (filter (λ b. nat_lt a b) xs)) (ltb-false a x e) rest
 
+pub above_less : (xs : List ℕ) (a n : ℕ) → least_above xs a ≡ Some n → a < n
+above_less xs a n e = let is : LeastAbove xs a (Some n) = rw e at (least_above_is xs a) in is.above
+
 none_of : (xs : List ℕ) (a b : ℕ) → IsLeastAbove xs a b → All (λ c. c ≤ a) xs → ⊥
 none_of xs a b is none =
     let le : b ≤ a = All-contains (λ c. c ≤ a) xs b none is.member in
@@ -128,3 +131,14 @@ module _ (rows : List RowAddress) (rise : IsNonDecreasingBy (λ r. r.address) ro
   -- where it isn't, the two have the same above
   pub same_above : (k : ℕ) (d : RowAddress) → k + 1 < length rows → (get_or rows (k + 1) d).address ≤ (get_or rows k d).address → least_above (addresses_of rows) (get_or rows (k + 1) d).address ≡ least_above (addresses_of rows) (get_or rows k d).address
   same_above k d lt same = ap (least_above (addresses_of rows)) (let le = rise k (k + 1) d (omega arith) lt in omega arith)
+
+map_same : {X Y : Type 0} (f g : X → Y) (xs : List X) → ((x : X) → f x ≡ g x) → map f xs ≡ map g xs
+map_same f g [] same = refl
+map_same f g (x ∷ xs) same = rw (same x, map_same f g xs same) refl
+
+-- what one walk over the arranged rows finds is what is above in the table
+pub swept_is : (rows in_order : List RowAddress) (found : List (Option ℕ)) → in_order ≡ arranged rows → found ≡ map (λ r. least_above (addresses_of in_order) r.address) in_order
+    → found ≡ map (λ r. least_above (addresses_of rows) r.address) in_order
+swept_is rows in_order found is swept =
+    swept ∙ map_same (λ r. least_above (addresses_of in_order) r.address) (λ r. least_above (addresses_of rows) r.address) in_order
+    (λ r. ap (λ (xs : List RowAddress). least_above (addresses_of xs) r.address) is ∙ arranged_above rows r.address)

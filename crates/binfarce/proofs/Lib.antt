@@ -12,3 +12,7 @@ pub mod Numbered
 pub mod PeWalks
 pub mod PeRows
 pub mod Strictly
+pub mod Commands
+pub mod Sections
+pub mod Kept
+pub mod MachoAnswers

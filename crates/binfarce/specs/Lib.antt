@@ -15,3 +15,7 @@ pub mod Pe
 pub mod PeSeen
 pub mod PeSymbols
 pub mod RawPe
+pub mod Macho
+pub mod MachoSymbols
+pub mod MachoTypes
+pub mod RawMacho

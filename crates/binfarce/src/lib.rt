@@ -8,6 +8,7 @@ mod elf;
 pub mod elf32;
 pub mod elf64;
 mod error;
+pub mod macho;
 mod parser;
 pub mod pe;
 mod sizes;

@@ -10,7 +10,7 @@ use std::alloc::{AllocError, Global};
 #[derive(Clone, Copy, PartialEq, Eq, PartialOrd, Ord)]
 pub(crate) struct RowAddress {
     pub(crate) address: u64,
-    pub(crate) row: u32,
+    pub(crate) row: usize,
 }
 
 /// Puts the rows in the order of (address, row number), without memory.

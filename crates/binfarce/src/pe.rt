@@ -428,7 +428,7 @@ fn kept_rows(
     let mut kept = Vec::new(alloc);
     let mut next = 0;
     while next < table.count as usize {
-        let number = next as u32;
+        let number = next;
         let row = record_of(table, number);
         next += 1 + row.number_of_aux_symbols as usize;
         let found = match kept_row(table, index, number, row) {
@@ -443,7 +443,7 @@ fn kept_rows(
 fn kept_row(
     table: SymbolTable<'_>,
     index: u16,
-    number: u32,
+    number: usize,
     row: SymbolRecord,
 ) -> Option<RowAddress>
     requires fits { Fits table }
@@ -506,7 +506,7 @@ fn size_up_to(address: u64, above: Option<u64>, text_size: u64) -> u64
 fn function_name<'a>(
     table: SymbolTable<'a>,
     index: u16,
-    number: u32,
+    number: usize,
     row: SymbolRecord,
 ) -> Option<&'a str>
     requires fits { Fits table }
@@ -525,7 +525,7 @@ fn function_name<'a>(
 
 // A row's name: its own 8 bytes, or the text in the string table, which begins right behind the records.
 #[tactic(auto, unfolding(crate::specs::PeSymbols::name_of))]
-fn name_of<'a>(table: SymbolTable<'a>, number: u32, row: SymbolRecord) -> Option<&'a str>
+fn name_of<'a>(table: SymbolTable<'a>, number: usize, row: SymbolRecord) -> Option<&'a str>
     requires fits { Fits table }
     requires within { number < table.count }
     ensures { option_map (λ t. t.now) result ≡ name_of (table_seen table.entry) number (record_seen row) }
@@ -534,17 +534,17 @@ fn name_of<'a>(table: SymbolTable<'a>, number: u32, row: SymbolRecord) -> Option
         let strings = table.start + table.count as usize * COFF_SYMBOL_SIZE;
         parse_null_string(table.data, strings + row.offset as usize)
     } else {
-        let start = table.start + number as usize * COFF_SYMBOL_SIZE;
+        let start = table.start + number * COFF_SYMBOL_SIZE;
         short_name(&table.data[start..start + 8])
     }
 }
 
-fn record_of(table: SymbolTable<'_>, number: u32) -> SymbolRecord
+fn record_of(table: SymbolTable<'_>, number: usize) -> SymbolRecord
     requires fits { Fits table }
     requires within { number < table.count }
     ensures { record_seen result ≡ record_of (table_seen table.entry) number }
 {
-    record_at(table.data, table.start + number as usize * COFF_SYMBOL_SIZE).unwrap()
+    record_at(table.data, table.start + number * COFF_SYMBOL_SIZE).unwrap()
 }
 
 #[inline]

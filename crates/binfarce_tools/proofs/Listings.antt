@@ -18,13 +18,13 @@ use Rattle.binfarce_tools.specs.Machine.{Reads, told_as, Writes}
 use Rattle.binfarce_tools.proofs.Told.{is_told, ToldAnswer}
 
 -- want of memory is told as such
-memory : (e : ParseError) → refusal_of e ≡ out_of_memory → told_as e ≡ OutOfMemory
-memory errors.SymbolsSectionIsMissing is = absurd cc
-memory (errors.SectionIsMissing name) is = absurd cc
-memory (errors.UnexpectedSectionType expected actual) is = absurd cc
-memory errors.MalformedInput is = absurd cc
-memory errors.UnexpectedEof is = absurd cc
-memory errors.OutOfMemory is = refl
+as_memory : (e : ParseError) → refusal_of e ≡ out_of_memory → told_as e ≡ OutOfMemory
+as_memory errors.SymbolsSectionIsMissing is = absurd cc
+as_memory (errors.SectionIsMissing name) is = absurd cc
+as_memory (errors.UnexpectedSectionType expected actual) is = absurd cc
+as_memory errors.MalformedInput is = absurd cc
+as_memory errors.UnexpectedEof is = absurd cc
+as_memory errors.OutOfMemory is = refl
 
 -- any other refusal is told with its words
 parse : (e : ParseError) → is_told (refusal_of e) ≡ true → told_as e ≡ Parse e
@@ -35,37 +35,38 @@ parse errors.MalformedInput told = refl
 parse errors.UnexpectedEof told = refl
 parse errors.OutOfMemory told = absurd cc
 
-tells : (answer : Option (Result Listed Refusal)) (e : ParseError) → ToldAnswer answer → Reads answer (Some (Err e)) → Tells answer (Err (told_as e))
-tells None e told reads = absurd reads
-tells (Some (Ok listed)) e told reads = inr (inl (ap Err (memory e reads.0)))
-tells (Some (Err refusal)) e told reads = (e, reads, ap Err (parse e (ap is_told reads ∙ told)))
+tells : (memory : Type 0) (answer : Option (Result Listed Refusal)) (e : ParseError) → ToldAnswer answer → Reads memory answer (Some (Err e)) → Tells memory answer (Err (told_as e))
+tells memory None e told reads = absurd reads
+tells memory (Some (Ok listed)) e told reads = inr (inl (ap Err (as_memory e reads)))
+tells memory (Some (Err refusal)) e told (inl is) = inl (e, is, ap Err (parse e (ap is_told is ∙ told)))
+tells memory (Some (Err refusal)) e told (inr h) = inr (h.1, ap Err (as_memory e h.0))
 
 -- what a reader returned, where it came through a refusal of the format
-pub returned : (answer : Option (Result Listed Refusal)) (from : Option (Result (Vec SymbolData × ℕ) ParseError)) (through : Result (Result (Vec SymbolData × ℕ) ParseError) ListError)
+pub returned : (memory : Type 0) (answer : Option (Result Listed Refusal)) (from : Option (Result (Vec SymbolData × ℕ) ParseError)) (through : Result (Result (Vec SymbolData × ℕ) ParseError) ListError)
     (inner value : Result (Vec SymbolData × ℕ) ParseError)
-    → Reads answer from → from ≡ result_ok through → through ≡ Ok inner → inner ≡ value → Reads answer (Some value)
-returned answer from through inner value reads a b c =
-    let P : Option (Result (Vec SymbolData × ℕ) ParseError) → Type 0 = λ r. Reads answer r in subst P (a ∙ ap result_ok b ∙ ap Some c) reads
+    → Reads memory answer from → from ≡ result_ok through → through ≡ Ok inner → inner ≡ value → Reads memory answer (Some value)
+returned memory answer from through inner value reads a b c =
+    let P : Option (Result (Vec SymbolData × ℕ) ParseError) → Type 0 = λ r. Reads memory answer r in subst P (a ∙ ap result_ok b ∙ ap Some c) reads
 
 -- a reader's refusal is told
-pub refused : (answer : Option (Result Listed Refusal)) (e : ParseError) (result : Result (Unit {0}) ListError)
-    → ToldAnswer answer → Reads answer (Some (Err e)) → IsErrAnd result (λ f. f ≡ told_as e) → Tells answer result
-refused answer e (Ok x) told reads is = absurd is
-refused answer e (Err f) told reads is =
-    let P : ListError → Type 0 = λ f. Tells answer (Err f) in subst P (sym is) (tells answer e told reads)
+pub refused : (memory : Type 0) (answer : Option (Result Listed Refusal)) (e : ParseError) (result : Result (Unit {0}) ListError)
+    → ToldAnswer answer → Reads memory answer (Some (Err e)) → IsErrAnd result (λ f. f ≡ told_as e) → Tells memory answer result
+refused memory answer e (Ok x) told reads is = absurd is
+refused memory answer e (Err f) told reads is =
+    let P : ListError → Type 0 = λ f. Tells memory answer (Err f) in subst P (sym is) (tells memory answer e told reads)
 
 -- what was taken is the listing of what the reader returned, or a beginning of it
-pub takes : (answer : Option (Result Listed Refusal)) (symbols : Vec SymbolData) (size : ℕ) (text : List ℕ) (old new : Option (List ℕ)) (result : Result (Unit {0}) ListError)
-    → Reads answer (Some (Ok (symbols, size))) → text ≡ listing symbols.items size → Writes old new text result → Takes answer old new result
-takes None symbols size text old new result reads is written = absurd reads
-takes (Some (Err refusal)) symbols size text old new result reads is written = absurd reads
-takes (Some (Ok listed)) symbols size text old new (Ok x) reads is written =
+pub takes : (memory : Type 0) (answer : Option (Result Listed Refusal)) (symbols : Vec SymbolData) (size : ℕ) (text : List ℕ) (old new : Option (List ℕ)) (result : Result (Unit {0}) ListError)
+    → Reads memory answer (Some (Ok (symbols, size))) → text ≡ listing symbols.items size → Writes old new text result → Takes answer old new result
+takes memory None symbols size text old new result reads is written = absurd reads
+takes memory (Some (Err refusal)) symbols size text old new result reads is written = absurd reads
+takes memory (Some (Ok listed)) symbols size text old new (Ok x) reads is written =
     (text, (symbols.items, reads.0, is ∙ ap (listing symbols.items) reads.1), written)
-takes (Some (Ok listed)) symbols size text old new (Err Write) reads is written =
+takes memory (Some (Ok listed)) symbols size text old new (Err Write) reads is written =
     (text, (symbols.items, reads.0, is ∙ ap (listing symbols.items) reads.1), written.1)
-takes (Some (Ok listed)) symbols size text old new (Err Unknown) reads is written = let e = written.0 in absurd cc
-takes (Some (Ok listed)) symbols size text old new (Err (Parse p)) reads is written = let e = written.0 in absurd cc
-takes (Some (Ok listed)) symbols size text old new (Err OutOfMemory) reads is written = let e = written.0 in absurd cc
+takes memory (Some (Ok listed)) symbols size text old new (Err Unknown) reads is written = let e = written.0 in absurd cc
+takes memory (Some (Ok listed)) symbols size text old new (Err (Parse p)) reads is written = let e = written.0 in absurd cc
+takes memory (Some (Ok listed)) symbols size text old new (Err OutOfMemory) reads is written = let e = written.0 in absurd cc
 
 -- bytes that stay as they were have grown by nothing more
 kept : (old mid new : Option (List ℕ)) (xs : List ℕ) → Appends old mid xs → Keeps mid new → Appends old new xs

@@ -1,15 +1,27 @@
 -- No file's answer is want of memory.
-use Rattle.std.proofs.Common.{◌≡◌, ℕ, Bool, true, false, ◌&&◌, List, Option, Some, None, Result, Ok, Err, refl, ltb, leb, length}
+use Rattle.std.proofs.Common.{◌≡◌, ℕ, zero, suc, ◌*◌, ◌-◌, [], ◌∷◌, Bool, true, false, ◌&&◌, List, Option, Some, None, Result, Ok, Err, refl, ltb, leb, length}
 use Rattle.std.specs.Prelude.{if◌then◌else◌, find, nat_eq, codes, ◌+◌, ◌%◌, ◌^◌}
 use Rattle.binfarce.specs.declared.ByteOrder.{ByteOrder}
 use Rattle.binfarce.specs.declared.Format.{Format}
 use Rattle.binfarce.specs.declared.Format.TheVariants.{Elf32, Elf64, Macho, PE, Unknown}
 use Rattle.binfarce.specs.Refusal.{Refusal, ◌>>=◌, required, symbols_section_is_missing, section_is_missing, unexpected_section_type, malformed_input, unexpected_eof, out_of_memory}
-use Rattle.binfarce.specs.Walk.{found_or_end, first}
+use Rattle.binfarce.specs.Walk.{Walk, found_or_end, first}
 use Rattle.binfarce.specs.Elf.{ElfClass, SectionTable, Section, elf32, elf64, walk, name_of, section_table, whole_headers}
 use Rattle.binfarce.specs.ElfSymbols.{sought, is_name, part_of, located, elf_answer}
 use Rattle.binfarce.specs.Symbol.{Listed}
-use Rattle.binfarce_tools.specs.Answer.{elf_file_answer, symbols_answer}
+use Rattle.std.specs.Str.{bytes_eq}
+use Rattle.binfarce.specs.Number.{bytes_at}
+use Rattle.binfarce.specs.declared.sizes.RowAddress.{RowAddress}
+use Rattle.binfarce.specs.Sizes.{arranged, least_above, size_up_to, macho_size}
+use Rattle.binfarce.specs.Pe as pe_file
+use Rattle.binfarce.specs.Pe.{least_length, walk as pe_walk}
+use Rattle.binfarce.specs.PeSymbols as pe
+use Rattle.binfarce.specs.PeSymbols.{pe_answer}
+use Rattle.binfarce.specs.Macho as macho_file
+use Rattle.binfarce.specs.Macho.{Command, command_at, commands_from, commands, ended, ahead_of, body_of, header_at, segment, and_then, is_segment, sections_of, is_named, walk as macho_walk}
+use Rattle.binfarce.specs.MachoSymbols as macho
+use Rattle.binfarce.specs.MachoSymbols.{symbol_table_at, some_size, symbol_command, located_by, row_addresses, kept, answer_of, macho_answer}
+use Rattle.binfarce_tools.specs.Answer.{elf_file_answer, macho_file_answer, pe_file_answer, symbols_answer}
 
 -- a refusal that isn't want of memory
 abbrev pub is_told : Refusal → Bool
@@ -69,6 +81,115 @@ told_elf class order file section =
     let table = section_table class (record { order = order; bytes = file }) in
     told_if (ltb (length file) class.header_length) (Err unexpected_eof) _ refl (told_step (located class table section) _ (told_located class table section) (λ found. tt))
 
+-- a walk doesn't end with want of memory
+abbrev ToldEnd : Option Refusal → Type 0
+ToldEnd None = Unit {0}
+ToldEnd (Some refusal) = is_told refusal ≡ true
+
+told_end_if : (b : Bool) (x y : Option Refusal) → ToldEnd x → ToldEnd y → ToldEnd (if b then x else y)
+told_end_if true x y a c = a
+told_end_if false x y a c = c
+
+told_walk_if : {S : Type 0} (b : Bool) (x y : Walk S) → ToldEnd x.refusal → ToldEnd y.refusal → ToldEnd (if b then x else y).refusal
+told_walk_if true x y a c = a
+told_walk_if false x y a c = c
+
+told_found : {S : Type 0} (found : Option S) (end : Option Refusal) → ToldEnd end → Told (found_or_end found end)
+told_found (Some x) end t = tt
+told_found None None t = tt
+told_found None (Some refusal) t = t
+
+-- PE
+told_pe : (file : List ℕ) → Told (pe_file_answer file)
+unfolding pe_answer pe.located pe.symbol_table pe_walk
+told_pe file =
+    let accepts : pe_file.Section → Bool = λ section. bytes_eq section.name (codes ".text") in
+    told_if (ltb (length file) (least_length file)) (Err unexpected_eof) _ refl
+        (told_step (pe.located file) _
+            (told_step (pe.text_section file) _
+                (told_step (first accepts (pe_walk file)) (required symbols_section_is_missing)
+                    (told_found (find accepts (pe_walk file).sections) (pe_walk file).refusal (told_end_if _ None (Some unexpected_eof) tt refl))
+                    (λ o. told_required symbols_section_is_missing o refl))
+                (λ text. told_step (pe.symbol_table file) _ (told_if _ (Err unexpected_eof) _ refl (told_if _ (Err unexpected_eof) _ refl tt)) (λ table. tt)))
+            (λ found. tt))
+
+-- Mach-O
+told_commands : (file : List ℕ) (n place : ℕ) → ToldEnd (commands_from file n place).refusal
+unfolding commands_from
+told_commands file zero place = tt
+told_commands file (suc n) place =
+    told_walk_if (ltb (length file) (place + 8)) (ended None) _ tt
+        (told_walk_if (ltb (command_at file place).size 8) (ended (Some malformed_input)) (ahead_of (command_at file place) (commands_from file n (place + (command_at file place).size))) refl
+            (told_commands file n (place + (command_at file place).size)))
+
+told_segment : (file : List ℕ) (body : ℕ) → ToldEnd (segment file body).refusal
+unfolding segment
+told_segment file body = told_walk_if (ltb (length file) (body + 60)) (ended (Some unexpected_eof)) _ refl (told_end_if _ None (Some unexpected_eof) tt refl)
+
+told_and_then : {S : Type 0} (sections : List S) (end : Option Refusal) (behind : Walk S) → ToldEnd end → ToldEnd behind.refusal → ToldEnd (and_then sections end behind).refusal
+told_and_then sections None behind a b = b
+told_and_then sections (Some refusal) behind a b = a
+
+told_sections : (file : List ℕ) (commands : List Command) (end : Option Refusal) → ToldEnd end → ToldEnd (sections_of file commands end).refusal
+unfolding sections_of
+told_sections file [] end t = t
+told_sections file (command ∷ others) end t =
+    told_walk_if (is_segment command) (and_then (segment file (body_of command)).sections (segment file (body_of command)).refusal (sections_of file others end)) (sections_of file others end)
+        (told_and_then (segment file (body_of command)).sections (segment file (body_of command)).refusal (sections_of file others end) (told_segment file (body_of command)) (told_sections file others end t))
+        (told_sections file others end t)
+
+told_macho_walk : (file : List ℕ) → ToldEnd (macho_walk file).refusal
+unfolding macho_walk
+told_macho_walk file = told_sections file (commands file).sections (commands file).refusal (told_commands file (header_at file).ncmds 32)
+
+told_located_by : (file : List ℕ) (text : macho_file.Section) (command : Option Command) → Told (located_by file text command)
+unfolding located_by
+told_located_by file text None = tt
+told_located_by file text (Some command) =
+    told_step _ _ (told_if _ (Ok (symbol_table_at file (body_of command))) (Err unexpected_eof) tt refl) (λ table.
+    told_step _ _ (told_if _ (Ok (bytes_at file table.strings_offset table.strings_size)) (Err unexpected_eof) tt refl) (λ strings.
+    told_step _ _ (told_if _ (Ok (bytes_at file table.symbol_offset (16 * table.row_count))) (Err unexpected_eof) tt refl) (λ rows.
+    told_step _ _ (told_if _ (Ok (text.address + text.size)) (Err malformed_input) tt refl) (λ text_end. tt))))
+
+told_macho_located : (file : List ℕ) → Told (macho.located file)
+unfolding macho.located
+told_macho_located file =
+    let accepts : macho_file.Section → Bool = λ section. is_named (codes "__TEXT") (codes "__text") section in
+    told_step (macho.text_section file) _
+        (told_step (first accepts (macho_walk file)) (required symbols_section_is_missing)
+            (told_found (find accepts (macho_walk file).sections) (macho_walk file).refusal (told_macho_walk file))
+            (λ o. told_required symbols_section_is_missing o refl))
+        (λ found. told_step (some_size found) _ (told_if (nat_eq found.size 0) (Err malformed_input) (Ok found) refl tt)
+            (λ text. told_step (symbol_command file) _
+                (told_found (find (λ command. nat_eq command.kind 2) (commands file).sections) (commands file).refusal (told_commands file (header_at file).ncmds 32))
+                (λ command. told_located_by file text command)))
+
+told_size : (members : List ℕ) (text_end address : ℕ) → Told (macho_size members text_end address)
+unfolding macho_size
+told_size members text_end address = by_above (least_above members address)
+  where
+  by_above : (o : Option ℕ) → Told (size_up_to o text_end address)
+  by_above (Some above) = tt
+  by_above None = told_if (ltb address text_end) (Ok (Some (text_end - address))) _ tt (told_if (nat_eq address text_end) (Ok None) (Err malformed_input) tt refl)
+
+told_entry : (found : macho.Located) (at : RowAddress) → Told (macho.entry_of found at)
+unfolding macho.entry_of
+told_entry found at = told_if _ _ (Ok None) (told_step _ _ (told_size _ found.text_end at.address) (λ size. tt)) tt
+
+told_kept : {X Y : Type 0} (f : X → Result (Option Y) Refusal) (xs : List X) → ((x : X) → Told (f x)) → Told (kept f xs)
+unfolding kept
+told_kept f [] t = tt
+told_kept f (x ∷ xs) t = told_step (f x) _ (t x) (λ y. told_step (kept f xs) _ (told_kept f xs t) (λ ys. tt))
+
+told_answer_of : (found : Option macho.Located) → Told (answer_of found)
+unfolding answer_of
+told_answer_of None = tt
+told_answer_of (Some found) = told_step (kept (macho.entry_of found) (arranged (row_addresses found.rows))) _ (told_kept (macho.entry_of found) (arranged (row_addresses found.rows)) (told_entry found)) (λ entries. tt)
+
+told_macho : (file : List ℕ) → Told (macho_file_answer file)
+unfolding macho_answer
+told_macho file = told_if (ltb (length file) 28) (Err unexpected_eof) _ refl (told_step (macho.located file) answer_of (told_macho_located file) told_answer_of)
+
 -- the answer, where there is one, isn't want of memory
 abbrev pub ToldAnswer : Option (Result Listed Refusal) → Type 0
 ToldAnswer None = Unit {0}
@@ -78,6 +199,6 @@ pub told_answer : (format : Format) (file section : List ℕ) → ToldAnswer (sy
 unfolding symbols_answer
 told_answer (Elf32 order) file section = told_elf elf32 order file section
 told_answer (Elf64 order) file section = told_elf elf64 order file section
-told_answer Macho file section = tt
-told_answer PE file section = tt
+told_answer Macho file section = told_macho file
+told_answer PE file section = told_pe file
 told_answer Unknown file section = tt

@@ -6,6 +6,9 @@ use Rattle.binfarce.specs.declared.Format.TheVariants.{Elf32, Elf64, Macho, PE, 
 use Rattle.binfarce.specs.Refusal.{Refusal, unexpected_eof}
 use Rattle.binfarce.specs.Elf.{ElfClass, elf32, elf64, section_table}
 use Rattle.binfarce.specs.ElfSymbols.{elf_answer}
+use Rattle.binfarce.specs.MachoSymbols.{macho_answer, HasAddress}
+use Rattle.binfarce.specs.Pe.{least_length}
+use Rattle.binfarce.specs.PeSymbols.{pe_answer}
 use Rattle.binfarce.specs.Symbol.{Listed}
 
 -- what the reader of a class answers for a section: a file too short for its header ends before what it should hold
@@ -14,10 +17,24 @@ elf_file_answer class order file section =
     if nat_lt (length file) class.header_length then Err unexpected_eof
     else elf_answer class (section_table class (record { order = order; bytes = file })) section
 
--- what the reader of the format answers; none where no reader reads it
+abbrev pub pe_file_answer : List ℕ → Result Listed Refusal
+pe_file_answer file = if nat_lt (length file) (least_length file) then Err unexpected_eof else pe_answer file
+
+abbrev pub macho_file_answer : List ℕ → Result Listed Refusal
+macho_file_answer file = if nat_lt (length file) 28 then Err unexpected_eof else macho_answer file
+
+-- what the reader of the format answers: the section is that of an ELF file, and no reader reads an unknown format
 unfoldable pub symbols_answer : Format → List ℕ → List ℕ → Option (Result Listed Refusal)
 symbols_answer (Elf32 order) file section = Some (elf_file_answer elf32 order file section)
 symbols_answer (Elf64 order) file section = Some (elf_file_answer elf64 order file section)
-symbols_answer Macho file section = None
-symbols_answer PE file section = None
+symbols_answer Macho file section = Some (macho_file_answer file)
+symbols_answer PE file section = Some (pe_file_answer file)
 symbols_answer Unknown file section = None
+
+-- want of memory may stand in place of a refusal: of the last of a Mach-O file, whose table has an address then
+unfoldable pub MayWantMemory : Format → List ℕ → Type 0
+MayWantMemory (Elf32 order) file = ⊥
+MayWantMemory (Elf64 order) file = ⊥
+MayWantMemory Macho file = HasAddress file
+MayWantMemory PE file = ⊥
+MayWantMemory Unknown file = ⊥

@@ -19,11 +19,11 @@ IsDue (Some (Ok listed)) text = IsListingOf listed text
 IsDue (Some (Err refusal)) text = ⊥
 IsDue None text = ⊥
 
--- what is told where the answer of the file is this: `Unknown` and `Parse` where the format or its reader refuses, and nowhere else
-abbrev pub Tells : Option (Result Listed Refusal) → Result (Unit {0}) ListError → Type 0
-Tells None result = result ≡ Err Unknown
-Tells (Some (Err refusal)) result = (e : ParseError) × (refusal_of e ≡ refusal) × (result ≡ Err (Parse e))
-Tells (Some (Ok listed)) result = (result ≡ Ok tt) ⊎ (result ≡ Err OutOfMemory) ⊎ (result ≡ Err Write)
+-- what is told where the answer of the file is this: `Unknown` and `Parse` where the format or its reader refuses, and nowhere else; want of memory in place of a refusal only where it may be
+abbrev pub Tells : Type 0 → Option (Result Listed Refusal) → Result (Unit {0}) ListError → Type 0
+Tells memory None result = result ≡ Err Unknown
+Tells memory (Some (Err refusal)) result = ((e : ParseError) × (refusal_of e ≡ refusal) × (result ≡ Err (Parse e))) ⊎ (memory × (result ≡ Err OutOfMemory))
+Tells memory (Some (Ok listed)) result = (result ≡ Ok tt) ⊎ (result ≡ Err OutOfMemory) ⊎ (result ≡ Err Write)
 
 -- told bytes grow by the beginning of a text
 abbrev pub AppendsBeginning : Option (List ℕ) → Option (List ℕ) → List ℕ → Type 0

@@ -4,7 +4,7 @@ ghost use Rattle.std.specs.Prelude.{◌≡◌, ◌<◌, ◌≤◌, ℕ, List, Bo
 ghost use Rattle.std.specs.String.{string_bytes};
 ghost use Rattle.std.specs.Io.KnownBytes.{Keeps, Appends};
 ghost use Rattle.binfarce.specs.Format.{format_of};
-ghost use Rattle.binfarce_tools.specs.Answer.{symbols_answer};
+ghost use Rattle.binfarce_tools.specs.Answer.{symbols_answer, MayWantMemory};
 ghost use Rattle.binfarce_tools.specs.Listing.{listing};
 ghost use Rattle.binfarce_tools.specs.Lists.{Tells, Takes, Fails, Leaves};
 ghost use Rattle.binfarce_tools.specs.Machine.{Writes};
@@ -150,7 +150,7 @@ impl From<ParseError> for ListError {
 
 /// Lists the function symbols of a file's section: a line for each, and then the section's size.
 ///
-/// The format is told by the file's first bytes. A line is `{address:016x} {size:>10} {trimmed}`, the last one
+/// The format is told by the file's first bytes; the section is that of an ELF file, and of a Mach-O or PE file it is the text. A line is `{address:016x} {size:>10} {trimmed}`, the last one
 /// `text {size}`. Refused: `Unknown` where the format isn't one that is read; `Parse` where its reader refuses,
 /// other than for memory; `OutOfMemory` where a growth was refused; `Write` where a write failed. The listing is
 /// made before its first byte is written, so only `Write` can leave a beginning of it written.
@@ -160,7 +160,7 @@ pub fn list<S: Sink>(
     section: &str,
     out: &mut S,
 ) -> Result<(), ListError>
-    ensures tells { Tells (symbols_answer (format_of data.now) data.now section.now) result }
+    ensures tells { Tells (MayWantMemory (format_of data.now) data.now) (symbols_answer (format_of data.now) data.now section.now) result }
     ensures takes { Takes (symbols_answer (format_of data.now) data.now section.now) (S.taken out.old) (S.taken out.new) result }
     ensures fails { Fails (S.has_failed out.old) (S.has_failed out.new) result }
     ensures leaves { Leaves out.old out.new result }

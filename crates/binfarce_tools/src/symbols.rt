@@ -2,27 +2,30 @@
 
 ghost use Rattle.binfarce.specs.Format.{format_of};
 ghost use Rattle.binfarce.specs.Elf.{elf32, elf64};
+ghost use Rattle.binfarce.specs.MachoSymbols.{AnswersOr, HasAddress};
 ghost use Rattle.binfarce.specs.Symbol.{Answers};
-ghost use Rattle.binfarce_tools.specs.Answer.{elf_file_answer, symbols_answer};
+ghost use Rattle.binfarce_tools.specs.Answer.{elf_file_answer, macho_file_answer, pe_file_answer, symbols_answer, MayWantMemory};
 ghost use Rattle.binfarce_tools.specs.Machine.{Reads};
 
 use binfarce::demangle::SymbolData;
-use binfarce::{ByteOrder, Format, ParseError, detect_format, elf32, elf64};
+use binfarce::{ByteOrder, Format, ParseError, detect_format, elf32, elf64, macho, pe};
 use std::alloc::Global;
 
 // What the reader of the file's format returns; `None` where no reader reads it.
-#[tactic(auto, unfolding(crate::specs::Answer::symbols_answer))]
+#[tactic(auto, unfolding(crate::specs::Answer::symbols_answer, crate::specs::Answer::MayWantMemory), using(crate::proofs::Readers::answers, crate::proofs::Readers::answers_or))]
 pub(crate) fn read_symbols(
     alloc: Global,
     data: &[u8],
     section: &str,
 ) -> Option<Result<(Vec<SymbolData>, u64), ParseError>>
-    ensures { Reads (symbols_answer (format_of data.now) data.now section.now) result }
+    ensures { Reads (MayWantMemory (format_of data.now) data.now) (symbols_answer (format_of data.now) data.now section.now) result }
 {
     match detect_format(data) {
         Format::Elf32 { byte_order } => Some(read_elf32(alloc, data, byte_order, section)),
         Format::Elf64 { byte_order } => Some(read_elf64(alloc, data, byte_order, section)),
-        _ => None,
+        Format::Macho => Some(read_macho(alloc, data)),
+        Format::PE => Some(read_pe(alloc, data)),
+        Format::Unknown => None,
     }
 }
 
@@ -48,4 +51,16 @@ fn read_elf64(
     ensures { Answers (elf_file_answer elf64 byte_order data.now section.now) result }
 {
     elf64::parse(data, byte_order)?.symbols(alloc, section)
+}
+
+fn read_macho(alloc: Global, data: &[u8]) -> Result<(Vec<SymbolData>, u64), ParseError>
+    ensures { AnswersOr (HasAddress data.now) (macho_file_answer data.now) result }
+{
+    macho::parse(data)?.symbols(alloc)
+}
+
+fn read_pe(alloc: Global, data: &[u8]) -> Result<(Vec<SymbolData>, u64), ParseError>
+    ensures { Answers (pe_file_answer data.now) result }
+{
+    pe::parse(data)?.symbols(alloc)
 }

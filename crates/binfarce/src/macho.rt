@@ -689,3 +689,6 @@ fn sized_entry(address: u64, size: Option<u64>, name: Option<&str>) -> Option<Ra
         },
     }
 }
+
+#[cfg(test)]
+mod tests;

@@ -11,3 +11,4 @@ pub mod Commands
 pub mod Sections
 pub mod Kept
 pub mod MachoAnswers
+pub mod MachoLaws

@@ -12,3 +12,4 @@ pub mod Sections
 pub mod Kept
 pub mod MachoAnswers
 pub mod MachoLaws
+pub mod Rising

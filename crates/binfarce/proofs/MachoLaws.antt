@@ -70,7 +70,7 @@ are_sized found entries is =
     record {
       apart = All-weaker (Sized addresses found.text_end) (λ e. All (λ c. e.address < c → e.address + e.size ≤ c) addresses) (sized_apart addresses found.text_end) entries sized;
       agree = All-weaker (Sized addresses found.text_end) (λ e. All (λ f. e.address ≡ f.address → e.size ≡ f.size) entries)
-        (λ e one. All-weaker (Sized addresses found.text_end) (λ f. e.address ≡ f.address → e.size ≡ f.size) (λ f other. sized_agree addresses found.text_end e f one other) entries sized) entries sized;
+          (λ e one. All-weaker (Sized addresses found.text_end) (λ f. e.address ≡ f.address → e.size ≡ f.size) (λ f other. sized_agree addresses found.text_end e f one other) entries sized) entries sized;
     }
 
 pub answer_sized : (file : List ℕ) (found : Located) (listed : Listed) → located file ≡ Ok (Some found) → macho_answer file ≡ Ok listed → AreSized (addresses_of (row_addresses found.rows)) listed.entries

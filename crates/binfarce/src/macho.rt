@@ -1,6 +1,6 @@
 //! 64-bit Mach-O files, which are little endian (Apple's `<mach-o/loader.h>` and `<mach-o/nlist.h>`).
 
-ghost use Rattle.std.specs.Prelude.{◌≡◌, ◌≢◌, ℕ, ◌+◌, ◌*◌, ◌<◌, ◌≤◌, ◌^◌, [], length, map, All, IfOk, OnErr, MatchResult};
+ghost use Rattle.std.specs.Prelude.{◌≡◌, ◌≢◌, ℕ, List, ◌+◌, ◌*◌, ◌<◌, ◌≤◌, ◌^◌, [], length, map, All, IfOk, OnErr, MatchResult};
 ghost use Rattle.std.specs.Option.{option_map};
 ghost use Rattle.std.specs.Iterator.{UpTo};
 ghost use Rattle.binfarce.specs.Number.{bytes_at};
@@ -8,7 +8,7 @@ ghost use Rattle.binfarce.specs.Refusal.{Gives, refusal_of, malformed_input, une
 ghost use Rattle.binfarce.specs.Walk.{MayBeAsked, FirstAccepted, first};
 ghost use Rattle.binfarce.specs.Macho.{header_at, command_at, body_of, commands, walk, segment, section_at, is_named};
 ghost use Rattle.binfarce.specs.MachoSymbols.{AnswersOr, AreSized, Located, HasAddress, macho_answer, located, located_by, text_section, some_size, symbol_command, symbol_table_at, part_at, text_end_of, whole_table, row_addresses, symbol_at, is_candidate, sized_entry, entry_of, kept};
-ghost use Rattle.binfarce.specs.Sizes.{addresses_of, arranged, least_above, size_up_to};
+ghost use Rattle.binfarce.specs.Sizes.{RisesStrictly, addresses_of, arranged, least_above, size_up_to};
 ghost use Rattle.binfarce.specs.Symbol.{Listed};
 ghost use Rattle.binfarce.specs.MachoTypes.{header_seen, section_seen};
 ghost use Rattle.binfarce.specs.RawMacho.{command_seen, damage_refusal, commands_left, found_seen, raw_symbol, raw_symbol_table, entry_seen, ListsKept};
@@ -201,6 +201,8 @@ impl<'a> Macho<'a> {
         // A law of that answer: ranges hold no address of the table, and equal addresses have equal sizes.
         ensures sized { (found : Located) (listed : Listed) → located self.now ≡ Ok (Some found) → macho_answer self.now ≡ Ok listed
             → AreSized (addresses_of (row_addresses found.rows)) listed.entries }
+        // The order is strict: each row's address and number are past those of the row before it.
+        ensures strict { (rows : List ℕ) → RisesStrictly (arranged (row_addresses rows)) }
     {
         match self.locate() {
             Err(error) => Err(error),

@@ -2,6 +2,7 @@ use Rattle.binfarce.specs.RawMacho.{found_seen}
 use Rattle.binfarce.specs.MachoSymbols.{HasAddress}
 use Rattle.binfarce.proofs.MachoAnswers.{refused_answer, no_table_answer, listed_answer, wanting_answer}
 use Rattle.binfarce.proofs.MachoLaws.{answer_sized}
+use Rattle.binfarce.proofs.Rising.{rise}
 use Rattle.binfarce.proofs.macho.Macho.symbols.Goals as goal
 
 pub returns-in-Err-clause-answer : goal.returns-in-Err-clause-answer
@@ -28,3 +29,15 @@ returns-in-Ok-clause-sized c = λ found listed at is. answer_sized c.args.self.n
 
 pub returns-in-Err-parse_symbols-clause-sized : goal.returns-in-Err-parse_symbols-clause-sized
 returns-in-Err-parse_symbols-clause-sized c = λ found listed at is. answer_sized c.args.self.now found listed at is
+
+pub returns-in-Err-clause-strict : goal.returns-in-Err-clause-strict
+returns-in-Err-clause-strict c = rise
+
+pub returns-in-Ok-None-clause-strict : goal.returns-in-Ok-None-clause-strict
+returns-in-Ok-None-clause-strict c = rise
+
+pub returns-in-Ok-clause-strict : goal.returns-in-Ok-clause-strict
+returns-in-Ok-clause-strict c = rise
+
+pub returns-in-Err-parse_symbols-clause-strict : goal.returns-in-Err-parse_symbols-clause-strict
+returns-in-Err-parse_symbols-clause-strict c = rise

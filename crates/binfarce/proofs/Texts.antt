@@ -29,10 +29,10 @@ is_nul b = eqb b 0
 taken : (bytes : List ℕ) (n : ℕ) (text : List ℕ) → text_of bytes n ≡ Some text → (text ≡ take n bytes) × (0 < n) × IsUtf8 (take n bytes)
 taken bytes n text e = by_tests (ltb 0 n) (is_utf8 (take n bytes)) refl refl e
   where
-  by_tests : (some utf8 : Bool) → ltb 0 n ≡ some → is_utf8 (take n bytes) ≡ utf8 → cond (some && utf8) (Some (take n bytes)) None ≡ Some text → (text ≡ take n bytes) × (0 < n) × IsUtf8 (take n bytes)
-  by_tests true true s u e = (cc, ltb-true 0 n s, IsUtf8-from_is_utf8 (take n bytes) u)
-  by_tests true false s u e = absurd cc
-  by_tests false utf8 s u e = absurd cc
+    by_tests : (some utf8 : Bool) → ltb 0 n ≡ some → is_utf8 (take n bytes) ≡ utf8 → cond (some && utf8) (Some (take n bytes)) None ≡ Some text → (text ≡ take n bytes) × (0 < n) × IsUtf8 (take n bytes)
+    by_tests true true s u e = (cc, ltb-true 0 n s, IsUtf8-from_is_utf8 (take n bytes) u)
+    by_tests true false s u e = absurd cc
+    by_tests false utf8 s u e = absurd cc
 
 not_nul : (b : ℕ) → is_nul b ≡ false → b ≢ 0
 not_nul b e z = absurd (false≢true (sym e ∙ eq-eqb b 0 z))
@@ -40,9 +40,9 @@ not_nul b e z = absurd (false≢true (sym e ∙ eq-eqb b 0 z))
 nul_not : (b : ℕ) → b ≢ 0 → is_nul b ≡ false
 nul_not b ne = by_test (is_nul b) refl
   where
-  by_test : (t : Bool) → is_nul b ≡ t → t ≡ false
-  by_test true e = absurd (ne (eqb-true b 0 e))
-  by_test false e = refl
+    by_test : (t : Bool) → is_nul b ≡ t → t ≡ false
+    by_test true e = absurd (ne (eqb-true b 0 e))
+    by_test false e = refl
 
 -- what stands up to the first NUL stands there as a text
 stands_to_nul : (bytes : List ℕ) (start n : ℕ) (text : List ℕ) → nul_at (drop start bytes) ≡ Some n → text_of (drop start bytes) n ≡ Some text → IsTextAt bytes start text
@@ -56,7 +56,7 @@ stands_to_nul bytes start n text at e =
       stands = (drop (suc n) xs, whole ∙ ap (λ (ys : List ℕ). ys ++ 0 ∷ drop (suc n) xs) (sym t.0));
       no_nul = All-same (λ (b : ℕ). b ≢ 0) text (take n xs) t.0 (λ k d lt. let below : k < n = omega (arith, length-take n xs) in not_nul (get_or (take n xs) k d) (rw (get_or-take n xs k d below) (rw (get_or_default xs k d 1 (omega arith)) (p.2 k below))));
       utf8 = subst IsUtf8 (sym t.0) t.2;
-      some = λ empty. absurd (omega (arith, ap length (sym t.0 ∙ empty), length-take n xs))
+      some = λ empty. absurd (omega (arith, ap length (sym t.0 ∙ empty), length-take n xs));
     }
 
 -- the text that stands there is the one that is found
@@ -69,7 +69,7 @@ only_text bytes start text h =
     let whole : xs ≡ text ++ 0 ∷ rest = h.stands.1 in
     let long : n < length xs = omega (arith, ap length whole, length-append text (0 ∷ rest)) in
     let before : (k : ℕ) → k < n → is_nul (get_or xs k 1) ≡ false =
-        λ k lt. nul_not (get_or xs k 1) (rw whole (rw (get_or_append_left text (0 ∷ rest) 1 k lt) (h.no_nul k 1 lt))) in
+    λ k lt. nul_not (get_or xs k 1) (rw whole (rw (get_or_append_left text (0 ∷ rest) 1 k lt) (h.no_nul k 1 lt))) in
     let at_end : get_or xs n 1 ≡ 0 = ap (λ (ys : List ℕ). get_or ys n 1) whole ∙ get_or-append_right text (0 ∷ rest) n n 1 refl (omega arith) ∙ ap (λ (k : ℕ). get_or (0 ∷ rest) k 1) (nothing n) in
     let first : position_or_len is_nul xs ≡ n = position_or_len_is is_nul xs n 1 (omega arith) before (λ _. eq-eqb (get_or xs n 1) 0 at_end) in
     let at : nul_at xs ≡ Some n = rw (first, lt-ltb n (length xs) long) refl in
@@ -77,20 +77,21 @@ only_text bytes start text h =
     let some : 0 < n = positive text h.some in
     ap (option_and_then (text_of xs)) at ∙ text_of_is xs n some (subst IsUtf8 (sym taken_is) h.utf8) ∙ ap (λ (t : List ℕ). Some t) taken_is
   where
-  nothing : (k : ℕ) → k - k ≡ 0
-  nothing k = omega arith
-  positive : (t : List ℕ) → t ≢ [] → 0 < length t
-  positive [] ne = absurd (ne refl)
-  positive (b ∷ t) ne = omega arith
+    nothing : (k : ℕ) → k - k ≡ 0
+    nothing k = omega arith
+
+    positive : (t : List ℕ) → t ≢ [] → 0 < length t
+    positive [] ne = absurd (ne refl)
+    positive (b ∷ t) ne = omega arith
 
 -- what is found stands there
 pub found_text : (bytes : List ℕ) (start : ℕ) (text : List ℕ) → text_at bytes start ≡ Some text → IsTextAt bytes start text
 unfolding text_at
 found_text bytes start text e = by_place (nul_at (drop start bytes)) refl e
   where
-  by_place : (o : Option ℕ) → nul_at (drop start bytes) ≡ o → option_and_then (text_of (drop start bytes)) o ≡ Some text → IsTextAt bytes start text
-  by_place (Some n) at e = stands_to_nul bytes start n text at e
-  by_place None at e = absurd cc
+    by_place : (o : Option ℕ) → nul_at (drop start bytes) ≡ o → option_and_then (text_of (drop start bytes)) o ≡ Some text → IsTextAt bytes start text
+    by_place (Some n) at e = stands_to_nul bytes start n text at e
+    by_place None at e = absurd cc
 
 pub finds_text : (bytes : List ℕ) (start : ℕ) (o : Option (List ℕ)) → o ≡ text_at bytes start → FindsText bytes start o
 finds_text bytes start (Some text) e = found_text bytes start text (sym e)
@@ -112,6 +113,6 @@ part_stands file at size start text h =
     ∙ ap (take n) (sym (drop-take start m xs) ∙ ap (λ (k : ℕ). drop start (take k xs)) split ∙ whole)
     ∙ take_at text (0 ∷ rest) n refl
   where
-  positive : (t : List ℕ) → t ≢ [] → 0 < length t
-  positive [] ne = absurd (ne refl)
-  positive (b ∷ t) ne = omega arith
+    positive : (t : List ℕ) → t ≢ [] → 0 < length t
+    positive [] ne = absurd (ne refl)
+    positive (b ∷ t) ne = omega arith

@@ -59,6 +59,7 @@ impl RawNumber for u8 {
 
 impl RawNumber for i8 {
     ghost SIZE = { 1 };
+
     ghost value = { λ order bytes. signed 1 (number order bytes) };
 
     const SIZE: usize = 1;
@@ -95,6 +96,7 @@ impl RawNumber for u16 {
 
 impl RawNumber for i16 {
     ghost SIZE = { 2 };
+
     ghost value = { λ order bytes. signed 2 (number order bytes) };
 
     const SIZE: usize = 2;

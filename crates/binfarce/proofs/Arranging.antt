@@ -55,7 +55,7 @@ same_row x y p q =
     first ∙ ap (λ (n : ℕ). record { address = y.address; row = n }) q
 
 -- of two rows of which neither comes first, there is one
-tied : (x y : RowAddress) → comes_before x y ≡ false → comes_before y x ≡ false → x ≡ y
+pub tied : (x y : RowAddress) → comes_before x y ≡ false → comes_before y x ≡ false → x ≡ y
 tied x y e f = ties (not_before_tells x.address y.address x.row y.row e) (not_before_tells y.address x.address y.row x.row f)
   where
     ties : (y.address < x.address) ⊎ ((x.address ≡ y.address) × (y.row ≤ x.row)) → (x.address < y.address) ⊎ ((y.address ≡ x.address) × (x.row ≤ y.row)) → x ≡ y

@@ -52,7 +52,7 @@ all_kept {X} P f (suc n) each = subst (λ (m : ℕ). All P (filter_map f (range_
     last None e = All-nil P
     last (Some x) e = All-cons P x [] (each n x (omega arith) e) (All-nil P)
 
-address_row : (rows : List ℕ) (k : ℕ) (x : RowAddress) → address_of rows k ≡ Some x → x.row ≡ k
+pub address_row : (rows : List ℕ) (k : ℕ) (x : RowAddress) → address_of rows k ≡ Some x → x.row ≡ k
 address_row rows k x e = by_test (nat_eq (symbol_of rows k).value 0) e
   where
     by_test : (b : Bool) → cond b None (Some (record { address = (symbol_of rows k).value; row = k })) ≡ Some x → x.row ≡ k

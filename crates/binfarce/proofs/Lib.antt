@@ -16,3 +16,5 @@ pub mod Commands
 pub mod Sections
 pub mod Kept
 pub mod MachoAnswers
+pub mod MachoLaws
+pub mod Rising

@@ -1,5 +1,5 @@
 -- The function symbols of a Mach-O file (Apple's <mach-o/nlist.h>), with sizes that the table's addresses give.
-use Rattle.std.specs.Prelude.{◌≡◌, ◌≢◌, ℕ, ◌+◌, ◌*◌, ◌/◌, ◌^◌, Bool, ◌&&◌, ◌⊎◌, List, [], ◌∷◌, length, codes, Option, Some, None, Result, Ok, Err, nat_eq, nat_le, nat_lt, not, bit_and, if◌then◌else◌}
+use Rattle.std.specs.Prelude.{◌≡◌, ◌≢◌, ℕ, ◌+◌, ◌*◌, ◌/◌, ◌^◌, Bool, ◌&&◌, ◌⊎◌, List, [], ◌∷◌, length, codes, Option, Some, None, Result, Ok, Err, nat_eq, nat_le, nat_lt, not, bit_and, if◌then◌else◌, ◌<◌, ◌≤◌, All}
 use Rattle.std.specs.List.{range_with_len, filter_map, cons_option}
 use Rattle.std.specs.Global.{Vec}
 use Rattle.binfarce_names.specs.declared.demangle.SymbolData.{SymbolData}
@@ -161,6 +161,11 @@ answer_of (Some found) = do
 
 unfoldable pub macho_answer : List ℕ → Result Listed Refusal
 macho_answer file = located file >>= answer_of
+
+-- laws of sizes over a table's addresses: no address lies strictly inside an entry's range, and entries of one address have one size
+pub record AreSized (addresses : List ℕ) (entries : List Entry) : Type 0 where
+  pub apart : All (λ e. All (λ a. e.address < a → e.address + e.size ≤ a) addresses) entries
+  pub agree : All (λ e. All (λ f. e.address ≡ f.address → e.size ≡ f.size) entries) entries
 
 -- the symbol table is there, and has a value that isn't 0
 pub record HasAddress (file : List ℕ) : Type 0 where

@@ -1,14 +1,15 @@
 //! 64-bit Mach-O files, which are little endian (Apple's `<mach-o/loader.h>` and `<mach-o/nlist.h>`).
 
-ghost use Rattle.std.specs.Prelude.{◌≡◌, ◌≢◌, ℕ, ◌+◌, ◌*◌, ◌<◌, ◌≤◌, ◌^◌, [], length, map, All, IfOk, OnErr, MatchResult};
+ghost use Rattle.std.specs.Prelude.{◌≡◌, ◌≢◌, ℕ, List, ◌+◌, ◌*◌, ◌<◌, ◌≤◌, ◌^◌, [], length, map, All, IfOk, OnErr, MatchResult};
 ghost use Rattle.std.specs.Option.{option_map};
 ghost use Rattle.std.specs.Iterator.{UpTo};
 ghost use Rattle.binfarce.specs.Number.{bytes_at};
 ghost use Rattle.binfarce.specs.Refusal.{Gives, refusal_of, malformed_input, unexpected_eof};
 ghost use Rattle.binfarce.specs.Walk.{MayBeAsked, FirstAccepted, first};
 ghost use Rattle.binfarce.specs.Macho.{header_at, command_at, body_of, commands, walk, segment, section_at, is_named};
-ghost use Rattle.binfarce.specs.MachoSymbols.{AnswersOr, HasAddress, macho_answer, located, located_by, text_section, some_size, symbol_command, symbol_table_at, part_at, text_end_of, whole_table, row_addresses, symbol_at, is_candidate, sized_entry, entry_of, kept};
-ghost use Rattle.binfarce.specs.Sizes.{addresses_of, arranged, least_above, size_up_to};
+ghost use Rattle.binfarce.specs.MachoSymbols.{AnswersOr, AreSized, Located, HasAddress, macho_answer, located, located_by, text_section, some_size, symbol_command, symbol_table_at, part_at, text_end_of, whole_table, row_addresses, symbol_at, is_candidate, sized_entry, entry_of, kept};
+ghost use Rattle.binfarce.specs.Sizes.{RisesStrictly, addresses_of, arranged, least_above, size_up_to};
+ghost use Rattle.binfarce.specs.Symbol.{Listed};
 ghost use Rattle.binfarce.specs.MachoTypes.{header_seen, section_seen};
 ghost use Rattle.binfarce.specs.RawMacho.{command_seen, damage_refusal, commands_left, found_seen, raw_symbol, raw_symbol_table, entry_seen, ListsKept};
 
@@ -196,7 +197,12 @@ impl<'a> Macho<'a> {
     /// text's end passes an address, or a row that would be kept lies past that end with no address above it.
     /// `OutOfMemory` comes only where the table has a value that isn't 0, and may stand in place of the last refusal.
     pub fn symbols(&self, alloc: Global) -> Result<(Vec<SymbolData>, u64), ParseError>
-        ensures { AnswersOr (HasAddress self.now) (macho_answer self.now) result }
+        ensures answer { AnswersOr (HasAddress self.now) (macho_answer self.now) result }
+        // A law of that answer: ranges hold no address of the table, and equal addresses have equal sizes.
+        ensures sized { (found : Located) (listed : Listed) → located self.now ≡ Ok (Some found) → macho_answer self.now ≡ Ok listed
+            → AreSized (addresses_of (row_addresses found.rows)) listed.entries }
+        // The order is strict: each row's address and number are past those of the row before it.
+        ensures strict { (rows : List ℕ) → RisesStrictly (arranged (row_addresses rows)) }
     {
         match self.locate() {
             Err(error) => Err(error),
@@ -689,3 +695,6 @@ fn sized_entry(address: u64, size: Option<u64>, name: Option<&str>) -> Option<Ra
         },
     }
 }
+
+#[cfg(test)]
+mod tests;

@@ -11,7 +11,6 @@ use Rattle.binfarce.specs.ElfSymbols.{sought, is_name, part_of, located, elf_ans
 use Rattle.binfarce.specs.Symbol.{Listed}
 use Rattle.std.specs.Str.{bytes_eq}
 use Rattle.binfarce.specs.Number.{bytes_at}
-use Rattle.binfarce.specs.declared.sizes.RowAddress.{RowAddress}
 use Rattle.binfarce.specs.Sizes.{arranged, least_above, size_up_to, macho_size}
 use Rattle.binfarce.specs.Pe as pe_file
 use Rattle.binfarce.specs.Pe.{least_length, walk as pe_walk}
@@ -20,7 +19,7 @@ use Rattle.binfarce.specs.PeSymbols.{pe_answer}
 use Rattle.binfarce.specs.Macho as macho_file
 use Rattle.binfarce.specs.Macho.{Command, command_at, commands_from, commands, ended, ahead_of, body_of, header_at, segment, and_then, is_segment, sections_of, is_named, walk as macho_walk}
 use Rattle.binfarce.specs.MachoSymbols as macho
-use Rattle.binfarce.specs.MachoSymbols.{symbol_table_at, some_size, symbol_command, located_by, row_addresses, kept, answer_of, macho_answer}
+use Rattle.binfarce.specs.MachoSymbols.{whole_table, part_at, text_end_of, symbol_table_at, some_size, symbol_command, located_by, row_addresses, kept, answer_of, macho_answer}
 use Rattle.binfarce_tools.specs.Answer.{elf_file_answer, macho_file_answer, pe_file_answer, symbols_answer}
 
 -- a refusal that isn't want of memory
@@ -100,8 +99,16 @@ told_found None None t = tt
 told_found None (Some refusal) t = t
 
 -- PE
+told_symbol_table : (file : List ℕ) → Told (pe.symbol_table file)
+unfolding pe.symbol_table
+told_symbol_table file =
+    let header = pe_file.header_of file in
+    let whole : Result pe.SymbolTable Refusal = Ok (record { file = file; place = header.pointer_to_symbol_table; count = header.number_of_symbols }) in
+    told_if (leb (length file) header.pointer_to_symbol_table) (Err unexpected_eof) _ refl
+        (told_if (ltb (length file) (header.pointer_to_symbol_table + header.number_of_symbols * 18)) (Err unexpected_eof) whole refl tt)
+
 told_pe : (file : List ℕ) → Told (pe_file_answer file)
-unfolding pe_answer pe.located pe.symbol_table pe_walk
+unfolding pe_answer pe.located pe_walk
 told_pe file =
     let accepts : pe_file.Section → Bool = λ section. bytes_eq section.name (codes ".text") in
     told_if (ltb (length file) (least_length file)) (Err unexpected_eof) _ refl
@@ -110,7 +117,7 @@ told_pe file =
                 (told_step (first accepts (pe_walk file)) (required symbols_section_is_missing)
                     (told_found (find accepts (pe_walk file).sections) (pe_walk file).refusal (told_end_if _ None (Some unexpected_eof) tt refl))
                     (λ o. told_required symbols_section_is_missing o refl))
-                (λ text. told_step (pe.symbol_table file) _ (told_if _ (Err unexpected_eof) _ refl (told_if _ (Err unexpected_eof) _ refl tt)) (λ table. tt)))
+                (λ text. told_step (pe.symbol_table file) _ (told_symbol_table file) (λ table. tt)))
             (λ found. tt))
 
 -- Mach-O
@@ -142,14 +149,23 @@ told_macho_walk : (file : List ℕ) → ToldEnd (macho_walk file).refusal
 unfolding macho_walk
 told_macho_walk file = told_sections file (commands file).sections (commands file).refusal (told_commands file (header_at file).ncmds 32)
 
+told_whole_table : (file : List ℕ) (command : Command) → Told (whole_table file command)
+told_whole_table file command = told_if _ (Ok (symbol_table_at file (body_of command))) (Err unexpected_eof) tt refl
+
+told_part_at : (file : List ℕ) (offset size : ℕ) → Told (part_at file offset size)
+told_part_at file offset size = told_if _ (Ok (bytes_at file offset size)) (Err unexpected_eof) tt refl
+
+told_text_end : (text : macho_file.Section) → Told (text_end_of text)
+told_text_end text = told_if _ (Ok (text.address + text.size)) (Err malformed_input) tt refl
+
 told_located_by : (file : List ℕ) (text : macho_file.Section) (command : Option Command) → Told (located_by file text command)
 unfolding located_by
 told_located_by file text None = tt
 told_located_by file text (Some command) =
-    told_step _ _ (told_if _ (Ok (symbol_table_at file (body_of command))) (Err unexpected_eof) tt refl) (λ table.
-    told_step _ _ (told_if _ (Ok (bytes_at file table.strings_offset table.strings_size)) (Err unexpected_eof) tt refl) (λ strings.
-    told_step _ _ (told_if _ (Ok (bytes_at file table.symbol_offset (16 * table.row_count))) (Err unexpected_eof) tt refl) (λ rows.
-    told_step _ _ (told_if _ (Ok (text.address + text.size)) (Err malformed_input) tt refl) (λ text_end. tt))))
+    told_step (whole_table file command) _ (told_whole_table file command) (λ table.
+    told_step (part_at file table.strings_offset table.strings_size) _ (told_part_at file table.strings_offset table.strings_size) (λ strings.
+    told_step (part_at file table.symbol_offset (16 * table.row_count)) _ (told_part_at file table.symbol_offset (16 * table.row_count)) (λ rows.
+    told_step (text_end_of text) _ (told_text_end text) (λ text_end. tt))))
 
 told_macho_located : (file : List ℕ) → Told (macho.located file)
 unfolding macho.located
@@ -172,19 +188,15 @@ told_size members text_end address = by_above (least_above members address)
   by_above (Some above) = tt
   by_above None = told_if (ltb address text_end) (Ok (Some (text_end - address))) _ tt (told_if (nat_eq address text_end) (Ok None) (Err malformed_input) tt refl)
 
-told_entry : (found : macho.Located) (at : RowAddress) → Told (macho.entry_of found at)
-unfolding macho.entry_of
-told_entry found at = told_if _ _ (Ok None) (told_step _ _ (told_size _ found.text_end at.address) (λ size. tt)) tt
-
 told_kept : {X Y : Type 0} (f : X → Result (Option Y) Refusal) (xs : List X) → ((x : X) → Told (f x)) → Told (kept f xs)
 unfolding kept
 told_kept f [] t = tt
 told_kept f (x ∷ xs) t = told_step (f x) _ (t x) (λ y. told_step (kept f xs) _ (told_kept f xs t) (λ ys. tt))
 
 told_answer_of : (found : Option macho.Located) → Told (answer_of found)
-unfolding answer_of
+unfolding answer_of macho.entry_of
 told_answer_of None = tt
-told_answer_of (Some found) = told_step (kept (macho.entry_of found) (arranged (row_addresses found.rows))) _ (told_kept (macho.entry_of found) (arranged (row_addresses found.rows)) (told_entry found)) (λ entries. tt)
+told_answer_of (Some found) = told_step (kept (macho.entry_of found) (arranged (row_addresses found.rows))) _ (told_kept (macho.entry_of found) (arranged (row_addresses found.rows)) (λ at. told_if _ _ (Ok None) (told_step _ _ (told_size _ found.text_end at.address) (λ size. tt)) tt)) (λ entries. tt)
 
 told_macho : (file : List ℕ) → Told (macho_file_answer file)
 unfolding macho_answer

@@ -24,7 +24,7 @@ pub enum ByteOrder {
 }
 
 /// What a file's first bytes say that it is.
-#[derive(PartialEq, Debug)]
+#[derive(PartialEq, Debug, Drop)]
 pub enum Format {
     Elf32 { byte_order: ByteOrder },
     Elf64 { byte_order: ByteOrder },

@@ -1,0 +1,43 @@
+-- What the program's functions answer.
+use Rattle.std.specs.Prelude.{◌≡◌, ℕ, List, [], ◌∷◌, codes, true, Option, Some, None, Result, Ok, Err}
+use Rattle.binfarce.specs.Refusal.{Refusal}
+use Rattle.binfarce.specs.Symbol.{Listed}
+use Rattle.binfarce_tools.specs.Lists as lists
+use Rattle.binfarce_tools.specs.declared.list.Out.{Out}
+use Rattle.binfarce_tools.specs.declared.list.ListError.TheVariants as errors
+use Rattle.binfarce_tools.specs.Sink.{has_failed}
+use Rattle.binfarce_list.specs.declared.program.Fault.{Fault}
+use Rattle.binfarce_list.specs.declared.program.Fault.TheVariants.{Usage, File, List as Listing}
+
+-- the file and the section that arguments give, if there are one or two
+abbrev pub words_of : List (List ℕ) → Option (List ℕ × List ℕ)
+words_of [] = None
+words_of (file ∷ []) = Some (file, codes ".text")
+words_of (file ∷ section ∷ []) = Some (file, section)
+words_of (file ∷ section ∷ more ∷ others) = None
+
+-- the status that a fault ends the program with
+abbrev pub status_of : Fault → ℕ
+status_of Usage = 2
+status_of File = 1
+status_of (Listing e) = 1
+
+-- what is told of a file that has this answer: what its listing tells; a file that can't be read, and want of memory, may be told of any
+abbrev pub Tells : Option (Result Listed Refusal) → Result (Unit {0}) Fault → Type 0
+Tells answer (Ok x) = lists.Tells answer (Ok x)
+Tells answer (Err Usage) = ⊥
+Tells answer (Err File) = Unit {0}
+Tells answer (Err (Listing errors.OutOfMemory)) = Unit {0}
+Tells answer (Err (Listing e)) = lists.Tells answer (Err e)
+
+-- what the writer holds afterwards: what its listing wrote
+abbrev pub Takes : Option (Result Listed Refusal) → Option (List ℕ) → Option (List ℕ) → Result (Unit {0}) Fault → Type 0
+Takes answer old new (Ok x) = lists.Takes answer old new (Ok x)
+Takes answer old new (Err (Listing e)) = lists.Takes answer old new (Err e)
+Takes answer old new (Err _) = lists.Takes answer old new (Err errors.OutOfMemory)
+
+-- a fault but a failed write leaves the sink as it was; a failed write is one that the sink tells, and success leaves what it tells
+abbrev pub Fails : {W : Type 0} → Out W → Out W → Result (Unit {0}) Fault → Type 0
+Fails old new (Ok x) = has_failed new ≡ has_failed old
+Fails old new (Err (Listing errors.Write)) = has_failed new ≡ true
+Fails old new (Err _) = new ≡ old

@@ -1,0 +1,98 @@
+-- What `list` tells and takes follows from what its reader returned and its sink took.
+use Rattle.std.proofs.Common.{◌≡◌, ℕ, ◌+◌, ◌-◌, ◌≤◌, Bool, true, List, ◌++◌, length, take, drop, Option, Some, None, Result, Ok, Err, refl, sym, ap, subst, ◌∙◌, inl, inr, append_assoc, arith}
+use Rattle.std.specs.Result.{IsErrAnd, result_ok}
+use Rattle.std.specs.Global.{Vec}
+use Rattle.std.specs.Io.KnownBytes.{Appends, Keeps}
+use Rattle.std.proofs.lemmas.List.{take-append-drop, take_all, length-drop}
+use Rattle.std.proofs.Math.Seq.{take-add}
+use Rattle.binfarce_names.specs.declared.demangle.SymbolData.{SymbolData}
+use Rattle.binfarce.specs.declared.error.ParseError.{ParseError}
+use Rattle.binfarce.specs.declared.error.ParseError.TheVariants as errors
+use Rattle.binfarce.specs.Refusal.{Refusal, refusal_of, out_of_memory}
+use Rattle.binfarce.specs.Symbol.{Listed}
+use Rattle.binfarce_tools.specs.declared.list.ListError.{ListError}
+use Rattle.binfarce_tools.specs.declared.list.ListError.TheVariants.{Unknown, Parse, OutOfMemory, Write}
+use Rattle.binfarce_tools.specs.Listing.{listing}
+use Rattle.binfarce_tools.specs.Lists.{Tells, Takes, AppendsBeginning}
+use Rattle.binfarce_tools.specs.Machine.{Reads, told_as, Writes}
+use Rattle.binfarce_tools.proofs.Told.{is_told, ToldAnswer}
+
+-- want of memory is told as such
+memory : (e : ParseError) → refusal_of e ≡ out_of_memory → told_as e ≡ OutOfMemory
+memory errors.SymbolsSectionIsMissing is = absurd cc
+memory (errors.SectionIsMissing name) is = absurd cc
+memory (errors.UnexpectedSectionType expected actual) is = absurd cc
+memory errors.MalformedInput is = absurd cc
+memory errors.UnexpectedEof is = absurd cc
+memory errors.OutOfMemory is = refl
+
+-- any other refusal is told with its words
+parse : (e : ParseError) → is_told (refusal_of e) ≡ true → told_as e ≡ Parse e
+parse errors.SymbolsSectionIsMissing told = refl
+parse (errors.SectionIsMissing name) told = refl
+parse (errors.UnexpectedSectionType expected actual) told = refl
+parse errors.MalformedInput told = refl
+parse errors.UnexpectedEof told = refl
+parse errors.OutOfMemory told = absurd cc
+
+tells : (answer : Option (Result Listed Refusal)) (e : ParseError) → ToldAnswer answer → Reads answer (Some (Err e)) → Tells answer (Err (told_as e))
+tells None e told reads = absurd reads
+tells (Some (Ok listed)) e told reads = inr (inl (ap Err (memory e reads.0)))
+tells (Some (Err refusal)) e told reads = (e, reads, ap Err (parse e (ap is_told reads ∙ told)))
+
+-- what a reader returned, where it came through a refusal of the format
+pub returned : (answer : Option (Result Listed Refusal)) (from : Option (Result (Vec SymbolData × ℕ) ParseError)) (through : Result (Result (Vec SymbolData × ℕ) ParseError) ListError)
+    (inner value : Result (Vec SymbolData × ℕ) ParseError)
+    → Reads answer from → from ≡ result_ok through → through ≡ Ok inner → inner ≡ value → Reads answer (Some value)
+returned answer from through inner value reads a b c =
+    let P : Option (Result (Vec SymbolData × ℕ) ParseError) → Type 0 = λ r. Reads answer r in subst P (a ∙ ap result_ok b ∙ ap Some c) reads
+
+-- a reader's refusal is told
+pub refused : (answer : Option (Result Listed Refusal)) (e : ParseError) (result : Result (Unit {0}) ListError)
+    → ToldAnswer answer → Reads answer (Some (Err e)) → IsErrAnd result (λ f. f ≡ told_as e) → Tells answer result
+refused answer e (Ok x) told reads is = absurd is
+refused answer e (Err f) told reads is =
+    let P : ListError → Type 0 = λ f. Tells answer (Err f) in subst P (sym is) (tells answer e told reads)
+
+-- what was taken is the listing of what the reader returned, or a beginning of it
+pub takes : (answer : Option (Result Listed Refusal)) (symbols : Vec SymbolData) (size : ℕ) (text : List ℕ) (old new : Option (List ℕ)) (result : Result (Unit {0}) ListError)
+    → Reads answer (Some (Ok (symbols, size))) → text ≡ listing symbols.items size → Writes old new text result → Takes answer old new result
+takes None symbols size text old new result reads is written = absurd reads
+takes (Some (Err refusal)) symbols size text old new result reads is written = absurd reads
+takes (Some (Ok listed)) symbols size text old new (Ok x) reads is written =
+    (text, (symbols.items, reads.0, is ∙ ap (listing symbols.items) reads.1), written)
+takes (Some (Ok listed)) symbols size text old new (Err Write) reads is written =
+    (text, (symbols.items, reads.0, is ∙ ap (listing symbols.items) reads.1), written.1)
+takes (Some (Ok listed)) symbols size text old new (Err Unknown) reads is written = let e = written.0 in absurd cc
+takes (Some (Ok listed)) symbols size text old new (Err (Parse p)) reads is written = let e = written.0 in absurd cc
+takes (Some (Ok listed)) symbols size text old new (Err OutOfMemory) reads is written = let e = written.0 in absurd cc
+
+-- bytes that stay as they were have grown by nothing more
+kept : (old mid new : Option (List ℕ)) (xs : List ℕ) → Appends old mid xs → Keeps mid new → Appends old new xs
+kept None mid new xs grown same = tt
+kept (Some a) None new xs grown same = absurd grown
+kept (Some a) (Some b) None xs grown same = absurd same
+kept (Some a) (Some b) (Some c) xs grown same = same ∙ grown
+
+-- a failed write leaves what was taken before it: a beginning
+pub begins : (old mid new : Option (List ℕ)) (bytes : List ℕ) (at : ℕ) → Appends old mid (take at bytes) → Keeps mid new → AppendsBeginning old new bytes
+begins old mid new bytes at grown same = (take at bytes, drop at bytes, sym (take-append-drop at bytes), kept old mid new (take at bytes) grown same)
+
+joined : (old mid new : Option (List ℕ)) (xs ys : List ℕ) → Appends old mid xs → Appends mid new ys → Appends old new (xs ++ ys)
+joined None mid new xs ys first then = tt
+joined (Some a) None new xs ys first then = absurd first
+joined (Some a) (Some b) None xs ys first then = absurd then
+joined (Some a) (Some b) (Some c) xs ys first then = then ∙ ap (λ (zs : List ℕ). zs ++ ys) first ∙ append_assoc a xs ys
+
+-- the bytes before a place and n of those behind it
+parts : (bytes : List ℕ) (at n : ℕ) → take at bytes ++ take n (take (length bytes - at) (drop at bytes)) ≡ take (at + n) bytes
+parts bytes at n =
+    let rest : take (length bytes - at) (drop at bytes) ≡ drop at bytes = take_all (length bytes - at) (drop at bytes) (omega (arith, length-drop at bytes)) in
+    rw (rest, take-add at n bytes) refl
+
+-- n further bytes were taken
+pub further : (old mid new : Option (List ℕ)) (bytes : List ℕ) (at n : ℕ)
+    → Appends old mid (take at bytes) → Appends mid new (take n (take (length bytes - at) (drop at bytes))) → Appends old new (take (at + n) bytes)
+further old mid new bytes at n first then =
+    let P : List ℕ → Type 0 = λ xs. Appends old new xs in
+    subst P (parts bytes at n) (joined old mid new (take at bytes) (take n (take (length bytes - at) (drop at bytes))) first then)

@@ -1,0 +1,23 @@
+-- The symbols of a file of any format.
+use Rattle.std.specs.Prelude.{ℕ, List, length, nat_lt, Option, Some, None, Result, Ok, Err, if◌then◌else◌}
+use Rattle.binfarce.specs.declared.ByteOrder.{ByteOrder}
+use Rattle.binfarce.specs.declared.Format.{Format}
+use Rattle.binfarce.specs.declared.Format.TheVariants.{Elf32, Elf64, Macho, PE, Unknown}
+use Rattle.binfarce.specs.Refusal.{Refusal, unexpected_eof}
+use Rattle.binfarce.specs.Elf.{ElfClass, elf32, elf64, section_table}
+use Rattle.binfarce.specs.ElfSymbols.{elf_answer}
+use Rattle.binfarce.specs.Symbol.{Listed}
+
+-- what the reader of a class answers for a section: a file too short for its header ends before what it should hold
+abbrev pub elf_file_answer : ElfClass → ByteOrder → List ℕ → List ℕ → Result Listed Refusal
+elf_file_answer class order file section =
+    if nat_lt (length file) class.header_length then Err unexpected_eof
+    else elf_answer class (section_table class (record { order = order; bytes = file })) section
+
+-- what the reader of the format answers; none where no reader reads it
+unfoldable pub symbols_answer : Format → List ℕ → List ℕ → Option (Result Listed Refusal)
+symbols_answer (Elf32 order) file section = Some (elf_file_answer elf32 order file section)
+symbols_answer (Elf64 order) file section = Some (elf_file_answer elf64 order file section)
+symbols_answer Macho file section = None
+symbols_answer PE file section = None
+symbols_answer Unknown file section = None

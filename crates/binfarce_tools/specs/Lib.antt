@@ -1,0 +1,6 @@
+pub mod Answer
+pub mod Listing
+pub mod Lists
+pub mod ListWords
+pub mod Machine
+pub mod Sink

@@ -1,0 +1,202 @@
+//! Lists the function symbols of an executable, a line each.
+
+ghost use Rattle.std.specs.Prelude.{◌≡◌, ◌<◌, ◌≤◌, ℕ, List, Bool, true, false, length, take, Option, Some, None, IfSome, IfNone, IfOk};
+ghost use Rattle.std.specs.String.{string_bytes};
+ghost use Rattle.std.specs.Io.KnownBytes.{Keeps, Appends};
+ghost use Rattle.binfarce.specs.Format.{format_of};
+ghost use Rattle.binfarce_tools.specs.Answer.{symbols_answer};
+ghost use Rattle.binfarce_tools.specs.Listing.{listing};
+ghost use Rattle.binfarce_tools.specs.Lists.{Tells, Takes, Fails, Leaves};
+ghost use Rattle.binfarce_tools.specs.Machine.{Writes};
+
+use crate::symbols::read_symbols;
+use binfarce::ParseError;
+use binfarce::demangle::SymbolData;
+use std::alloc::{AllocError, Global};
+use std::error::Error;
+use std::fmt;
+use std::io::Write;
+
+/// What bytes are written to.
+pub trait Sink {
+    // The bytes that were taken so far, where the sink tells them.
+    ghost taken: { Self → Option (List ℕ) } = { λ _. None };
+
+    // A write has failed.
+    ghost has_failed: { Self → Bool };
+
+    /// Takes some of the bytes, of which there is at least one.
+    ///
+    /// `Some(n)`: the first `n` were taken, `n` being from 1 to their number. `None`: none was taken, and from here
+    /// on `failed` is true.
+    fn write(&mut self, bytes: &[u8]) -> Option<usize>
+        requires { 0 < length bytes.now }
+        ensures count { IfSome result (λ n. (0 < n) × (n ≤ length bytes.now)) }
+        ensures takes { IfSome result (λ n. Appends (taken self.old) (taken self.new) (take n bytes.now)) }
+        ensures kept { IfSome result (λ _. has_failed self.new ≡ has_failed self.old) }
+        ensures none { IfNone result (Keeps (taken self.old) (taken self.new)) }
+        ensures fails { IfNone result (has_failed self.new ≡ true) };
+
+    /// Whether a write has failed.
+    fn failed(&self) -> bool
+        ensures { result ≡ has_failed self.now };
+}
+
+/// A sink over a writer.
+#[derive(Drop)]
+pub struct Out<W> {
+    writer: W,
+    failed: bool,
+}
+
+impl<W: Write> Out<W> {
+    ghost use Rattle.binfarce_tools.specs.Sink.{writer_of, has_failed};
+
+    /// A sink over this writer, in which no write has failed.
+    pub fn new(writer: W) -> Out<W>
+        ensures writer { writer_of result ≡ writer }
+        ensures failed { has_failed result ≡ false }
+    {
+        Out {
+            writer,
+            failed: false,
+        }
+    }
+
+    /// The writer.
+    pub fn into_inner(self) -> W
+        ensures { result ≡ writer_of self }
+    {
+        self.writer
+    }
+}
+
+impl<W: Write> Sink for Out<W> {
+    ghost use Rattle.binfarce_tools.specs.Sink.{writer_of, has_failed};
+
+    ghost taken = { λ s. W.contents (writer_of s) };
+
+    ghost has_failed = { has_failed };
+
+    /// `None` is the writer's error, of any kind, or its 0.
+    fn write(&mut self, bytes: &[u8]) -> Option<usize> {
+        match self.writer.write(bytes) {
+            Ok(n) if n > 0 => Some(n),
+            _ => {
+                self.failed = true;
+                None
+            }
+        }
+    }
+
+    fn failed(&self) -> bool {
+        self.failed
+    }
+}
+
+/// Why a file was not listed.
+#[derive(Debug, PartialEq, Drop)]
+pub enum ListError {
+    /// The file's first bytes name no format that is read.
+    Unknown,
+    /// The reader of the file's format refused it.
+    Parse(ParseError),
+    /// A growth of memory was refused.
+    OutOfMemory,
+    /// A write of the sink failed. What it took before is a beginning of the listing.
+    Write,
+}
+
+impl fmt::Display for ListError {
+    ghost use Rattle.binfarce_tools.specs.ListWords.{list_words};
+
+    ghost output = { λ e. Some (list_words e) };
+
+    fn fmt<W: fmt::Write>(&self, f: &mut fmt::Formatter<W>) -> fmt::Result {
+        match self {
+            ListError::Unknown => write!(f, "unknown file format"),
+            ListError::Parse(e) => write!(f, "{e}"),
+            ListError::OutOfMemory => write!(f, "out of memory"),
+            ListError::Write => write!(f, "write failed"),
+        }
+    }
+}
+
+impl Error for ListError {}
+
+impl From<AllocError> for ListError {
+    ghost use Rattle.binfarce_tools.specs.declared.list.ListError.TheVariants.{OutOfMemory};
+
+    ghost from_gives = { λ _ e. e ≡ OutOfMemory };
+
+    fn from(_: AllocError) -> Self {
+        ListError::OutOfMemory
+    }
+}
+
+impl From<ParseError> for ListError {
+    ghost use Rattle.binfarce_tools.specs.Machine.{told_as};
+
+    ghost from_gives = { λ e l. l ≡ told_as e };
+
+    /// Want of memory is told as such, whichever call it comes from.
+    fn from(e: ParseError) -> Self {
+        match e {
+            ParseError::OutOfMemory => ListError::OutOfMemory,
+            _ => ListError::Parse(e),
+        }
+    }
+}
+
+/// Lists the function symbols of a file's section: a line for each, and then the section's size.
+///
+/// The format is told by the file's first bytes. A line is `{address:016x} {size:>10} {trimmed}`, the last one
+/// `text {size}`. Refused: `Unknown` where the format isn't one that is read; `Parse` where its reader refuses,
+/// other than for memory; `OutOfMemory` where a growth was refused; `Write` where a write failed. The listing is
+/// made before its first byte is written, so only `Write` can leave a beginning of it written.
+pub fn list<S: Sink>(
+    alloc: Global,
+    data: &[u8],
+    section: &str,
+    out: &mut S,
+) -> Result<(), ListError>
+    ensures tells { Tells (symbols_answer (format_of data.now) data.now section.now) result }
+    ensures takes { Takes (symbols_answer (format_of data.now) data.now section.now) (S.taken out.old) (S.taken out.new) result }
+    ensures fails { Fails (S.has_failed out.old) (S.has_failed out.new) result }
+    ensures leaves { Leaves out.old out.new result }
+{
+    let (symbols, size) = read_symbols(alloc, data, section).ok_or(ListError::Unknown)??;
+    let text = listing(alloc, symbols.as_slice(), size)?;
+    write_whole(out, text.as_bytes())
+}
+
+// The whole listing.
+fn listing(alloc: Global, symbols: &[SymbolData], size: u64) -> Result<String, AllocError>
+    ensures { IfOk result (λ t. string_bytes t ≡ listing symbols.now size) }
+{
+    let mut text = String::new(alloc);
+    for symbol in symbols {
+        writeln!(
+            text,
+            "{:016x} {:>10} {}",
+            symbol.address, symbol.size, symbol.name.trimmed
+        )?;
+    }
+    writeln!(text, "text {size}")?;
+    Ok(text)
+}
+
+// Writes the bytes in as many calls as the sink needs.
+fn write_whole<S: Sink>(out: &mut S, bytes: &[u8]) -> Result<(), ListError>
+    ensures takes { Writes (S.taken out.old) (S.taken out.new) bytes.now result }
+    ensures fails { Fails (S.has_failed out.old) (S.has_failed out.new) result }
+{
+    let mut at = 0;
+    while at < bytes.len() {
+        match out.write(&bytes[at..]) {
+            None => return Err(ListError::Write),
+            Some(n) => at += n,
+        }
+    }
+    Ok(())
+}

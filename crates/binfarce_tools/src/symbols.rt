@@ -1,0 +1,51 @@
+//! The symbols of a file of any format.
+
+ghost use Rattle.binfarce.specs.Format.{format_of};
+ghost use Rattle.binfarce.specs.Elf.{elf32, elf64};
+ghost use Rattle.binfarce.specs.Symbol.{Answers};
+ghost use Rattle.binfarce_tools.specs.Answer.{elf_file_answer, symbols_answer};
+ghost use Rattle.binfarce_tools.specs.Machine.{Reads};
+
+use binfarce::demangle::SymbolData;
+use binfarce::{ByteOrder, Format, ParseError, detect_format, elf32, elf64};
+use std::alloc::Global;
+
+// What the reader of the file's format returns; `None` where no reader reads it.
+#[tactic(auto, unfolding(crate::specs::Answer::symbols_answer))]
+pub(crate) fn read_symbols(
+    alloc: Global,
+    data: &[u8],
+    section: &str,
+) -> Option<Result<(Vec<SymbolData>, u64), ParseError>>
+    ensures { Reads (symbols_answer (format_of data.now) data.now section.now) result }
+{
+    match detect_format(data) {
+        Format::Elf32 { byte_order } => Some(read_elf32(alloc, data, byte_order, section)),
+        Format::Elf64 { byte_order } => Some(read_elf64(alloc, data, byte_order, section)),
+        _ => None,
+    }
+}
+
+#[tactic(auto, unfolding(binfarce::specs::Elf::elf32))]
+fn read_elf32(
+    alloc: Global,
+    data: &[u8],
+    byte_order: ByteOrder,
+    section: &str,
+) -> Result<(Vec<SymbolData>, u64), ParseError>
+    ensures { Answers (elf_file_answer elf32 byte_order data.now section.now) result }
+{
+    elf32::parse(data, byte_order)?.symbols(alloc, section)
+}
+
+#[tactic(auto, unfolding(binfarce::specs::Elf::elf64))]
+fn read_elf64(
+    alloc: Global,
+    data: &[u8],
+    byte_order: ByteOrder,
+    section: &str,
+) -> Result<(Vec<SymbolData>, u64), ParseError>
+    ensures { Answers (elf_file_answer elf64 byte_order data.now section.now) result }
+{
+    elf64::parse(data, byte_order)?.symbols(alloc, section)
+}

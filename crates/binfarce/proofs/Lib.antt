@@ -4,3 +4,4 @@ pub mod Walks
 pub mod Firsts
 pub mod Rows
 pub mod Signed
+pub mod Names

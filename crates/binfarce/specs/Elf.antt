@@ -1,5 +1,5 @@
 -- ELF files of both classes: tables of places and widths, and what stands there (System V gABI, chapter 4).
-use Rattle.std.specs.Prelude.{ℕ, ◌+◌, ◌-◌, ◌*◌, ◌/◌, ◌&&◌, List, length, map, Option, Some, None, nat_eq, nat_lt, nat_le, min, if◌then◌else◌}
+use Rattle.std.specs.Prelude.{◌≡◌, ℕ, ◌+◌, ◌-◌, ◌*◌, ◌/◌, ◌&&◌, List, length, map, Option, Some, None, nat_eq, nat_lt, nat_le, min, if◌then◌else◌}
 use Rattle.std.specs.List.{range_with_len}
 use Rattle.binfarce.specs.declared.ByteOrder.{ByteOrder}
 use Rattle.binfarce.specs.Steps.{◌>>=◌}
@@ -248,3 +248,8 @@ name_of class table section = do
   names ← names_section class table
   strings ← contents table.file names
   text_at strings section.name_offset
+
+-- the name is the bytes of the file at its offset among the section names
+abbrev pub NameStands : ElfClass → SectionTable → Section → List ℕ → Type 0
+NameStands class table section name =
+    (names : Section) × (names_section class table ≡ Some names) × (bytes_at table.file (names.offset + section.name_offset) (length name) ≡ name)

@@ -21,3 +21,8 @@ pub record IsTextAt (bytes : List ℕ) (start : ℕ) (text : List ℕ) : Type 0 
   pub no_nul : All (λ b. b ≢ 0) text
   pub utf8 : IsUtf8 text
   pub some : text ≢ []
+
+-- what is found there is the text that stands there; where nothing is found, none does
+abbrev pub FindsText : List ℕ → ℕ → Option (List ℕ) → Type 0
+FindsText bytes start None = (text : List ℕ) → ¬ (IsTextAt bytes start text)
+FindsText bytes start (Some text) = IsTextAt bytes start text

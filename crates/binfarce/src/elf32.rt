@@ -4,7 +4,7 @@ ghost use Rattle.std.specs.Prelude.{◌≡◌, ◌+◌, ◌/◌, ◌<◌, ◌≤
 ghost use Rattle.std.specs.Option.{option_map};
 ghost use Rattle.binfarce.specs.Refusal.{Gives, refusal_of, malformed_input, unexpected_eof};
 ghost use Rattle.binfarce.specs.Walk.{MayBeAsked, FirstAccepted, first};
-ghost use Rattle.binfarce.specs.Elf.{elf32, header_at, section_table, walk, name_of, entry_count};
+ghost use Rattle.binfarce.specs.Elf.{elf32, header_at, section_table, walk, name_of, entry_count, NameStands};
 ghost use Rattle.binfarce.specs.ElfSymbols.{is_name, elf_answer};
 ghost use Rattle.binfarce.specs.Symbol.{Answers};
 ghost use Rattle.binfarce.specs.Elf32.{header_seen, section_seen};
@@ -74,8 +74,10 @@ impl Section {
     /// The section's name, a part of the file that `parent` reads.
     ///
     /// `None` where the section names, which the header names by `shstrndx`, or the name itself can't be read.
+    #[tactic(auto, using(crate::proofs::Names::name_told))]
     pub fn name<'a>(&self, parent: &Elf32<'a>) -> Option<&'a str>
-        ensures { option_map (λ t. t.now) result ≡ name_of elf32 (section_table elf32 parent.now) (section_seen self.now) }
+        ensures name { option_map (λ t. t.now) result ≡ name_of elf32 (section_table elf32 parent.now) (section_seen self.now) }
+        ensures part { IfSome (option_map (λ t. t.now) result) (NameStands elf32 (section_table elf32 parent.now) (section_seen self.now)) }
     {
         elf::section_name::<Class32>(parent.table(), Class32::raw(self))
     }

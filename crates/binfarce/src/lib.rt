@@ -80,3 +80,6 @@ fn elf_format(class: u8, order: u8) -> Format
         _ => Format::Unknown,
     }
 }
+
+#[cfg(test)]
+mod tests;

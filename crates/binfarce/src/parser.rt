@@ -3,7 +3,7 @@
 ghost use Rattle.std.specs.Prelude.{◌≡◌, ℕ, ◌+◌, ◌-◌, ◌<◌, ◌≤◌, ◌^◌, ◌↔◌, List, length, IsTrue, MatchOption, MatchResult};
 ghost use Rattle.binfarce.specs.declared.ByteOrder.{ByteOrder};
 ghost use Rattle.binfarce.specs.Number.{number, signed, bytes_at};
-ghost use Rattle.binfarce.specs.Text.{text_at, nul_at, text_of};
+ghost use Rattle.binfarce.specs.Text.{text_at, nul_at, text_of, FindsText};
 ghost use Rattle.std.specs.Option.{option_map};
 
 use crate::ByteOrder;
@@ -59,6 +59,7 @@ impl RawNumber for u8 {
 
 impl RawNumber for i8 {
     ghost SIZE = { 1 };
+
     ghost value = { λ order bytes. signed 1 (number order bytes) };
 
     const SIZE: usize = 1;
@@ -95,6 +96,7 @@ impl RawNumber for u16 {
 
 impl RawNumber for i16 {
     ghost SIZE = { 2 };
+
     ghost value = { λ order bytes. signed 2 (number order bytes) };
 
     const SIZE: usize = 2;
@@ -297,8 +299,16 @@ pub fn number_at<T: RawNumber>(
 /// The text from `start` to the first NUL, which is a part of `bytes`.
 ///
 /// `None` where `start` is past the end, there is no NUL, the text is empty, or it isn't UTF-8.
-#[tactic(auto, unfolding(crate::specs::Text::text_at))]
+#[tactic(auto, using(crate::proofs::Texts::finds_text))]
 pub fn parse_null_string(bytes: &[u8], start: usize) -> Option<&str>
+    ensures text { option_map (λ t. t.now) result ≡ text_at bytes.now start }
+    ensures found { FindsText bytes.now start (option_map (λ t. t.now) result) }
+{
+    text_from(bytes, start)
+}
+
+#[tactic(auto, unfolding(crate::specs::Text::text_at))]
+fn text_from(bytes: &[u8], start: usize) -> Option<&str>
     ensures { option_map (λ t. t.now) result ≡ text_at bytes.now start }
 {
     match bytes.get(start..) {

@@ -1,2 +1,5 @@
+pub mod Endings
+pub mod Legacy
 pub mod Name
 pub mod Named
+pub mod machine

@@ -1,9 +1,10 @@
--- What clauses see of a symbol's name: its texts as bytes.
+-- What clauses see of a symbol's name and of a mangling: texts as bytes.
 use Rattle.std.specs.Prelude.{ℕ, List, Option}
 use Rattle.std.specs.Option.{option_map}
 use Rattle.std.specs.String.{string_bytes}
 use Rattle.binfarce_names.specs.declared.demangle.Kind.{Kind}
 use Rattle.binfarce_names.specs.declared.demangle.SymbolName.{SymbolName}
+use Rattle.binfarce_names.specs.declared.demangle.Demangled.{Demangled}
 
 -- the answer for one name
 pub record Name : Type 0 where
@@ -15,3 +16,12 @@ pub record Name : Type 0 where
 -- a `SymbolName`, its texts as their bytes
 abbrev pub name_seen : SymbolName → Name
 name_seen s = record { complete = string_bytes s.complete; trimmed = string_bytes s.trimmed; crate_name = option_map string_bytes s.crate_name; kind = s.kind }
+
+-- which mangling a text is, and the part of it that is kept
+pub record Mangled : Type 0 where
+  pub part : List ℕ
+  pub kind : Kind
+
+-- a `Demangled`, the text that it holds as its bytes
+abbrev pub mangled_seen : Demangled → Mangled
+mangled_seen d = record { part = d.part.now; kind = d.kind }

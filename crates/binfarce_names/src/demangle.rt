@@ -1,7 +1,11 @@
 //! What a symbol's name means.
 
 ghost use Rattle.std.specs.Prelude.{IfOk};
+ghost use Rattle.binfarce_names.specs.Name.{mangled_seen};
+ghost use Rattle.binfarce_names.specs.Named.{HasOneAnswer, IsMangled};
 
+use crate::endings::without_llvm;
+use crate::legacy;
 use std::alloc::{AllocError, Global};
 
 /// How a name was mangled.
@@ -34,20 +38,70 @@ pub struct SymbolName {
     pub kind: Kind,
 }
 
+/// A mangled name, whose mangling is a part of the text that was given: nothing is copied.
+#[derive(Drop)]
+pub struct Demangled<'a> {
+    kind: Kind,
+    part: &'a str,
+}
+
 impl SymbolName {
     ghost use Rattle.binfarce_names.specs.Name.{name_seen};
     ghost use Rattle.binfarce_names.specs.Named.{IsNamed};
 
     /// The readable form of `name`. The only refusal is want of memory.
-    #[tactic(auto, unfolding(crate::specs::Named::IsNamed))]
+    #[tactic(auto, unfolding(crate::specs::Named::IsNamed, crate::specs::Named::IsMangled))]
     pub fn demangle(alloc: Global, name: &str) -> Result<SymbolName, AllocError>
         ensures named { IfOk result (λ n. IsNamed name.now (name_seen n)) }
     {
-        Ok(SymbolName {
-            complete: String::from_str(alloc, name)?,
-            trimmed: String::from_str(alloc, name)?,
-            crate_name: None,
-            kind: Kind::Unknown,
-        })
+        let demangled = demangle(name);
+        match demangled.kind {
+            Kind::Legacy => {
+                let complete = legacy::complete(alloc, demangled.part)?;
+                let trimmed = legacy::trimmed(alloc, complete.as_str())?;
+                Ok(SymbolName {
+                    complete,
+                    trimmed,
+                    crate_name: None,
+                    kind: Kind::Legacy,
+                })
+            }
+            _ => Ok(SymbolName {
+                complete: String::from_str(alloc, name)?,
+                trimmed: String::from_str(alloc, name)?,
+                crate_name: None,
+                kind: Kind::Unknown,
+            }),
+        }
     }
 }
+
+/// Which mangling `name` is, decided without memory. What is kept of `name` is the part behind the
+/// mangling's prefix, up to the `.llvm.` ending that LLVM may have added; of a name that is no
+/// mangling, all of it.
+#[tactic(auto, unfolding(crate::specs::Named::IsMangled))]
+pub fn demangle(name: &str) -> Demangled<'_>
+    ensures mangled { IsMangled name.now (mangled_seen result) }
+{
+    match legacy::mangling(without_llvm(name)) {
+        Some(part) => Demangled {
+            kind: Kind::Legacy,
+            part,
+        },
+        None => Demangled {
+            kind: Kind::Unknown,
+            part: name,
+        },
+    }
+}
+
+/// A name has one answer.
+#[tactic(auto, unfolding(crate::specs::Named::IsNamed))]
+fn has_one_answer(name: &str)
+    ensures { HasOneAnswer name.now }
+{
+    let _ = name;
+}
+
+#[cfg(test)]
+mod tests;

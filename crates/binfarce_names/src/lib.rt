@@ -2,3 +2,5 @@
 #![tactic(auto)]
 
 pub mod demangle;
+mod endings;
+mod legacy;

@@ -12,6 +12,7 @@ import listing
 SECTION = re.compile(
     rb" *\[ *([0-9]+)\] (.*?) *([A-Z][A-Z0-9_]*(?:\+0x[0-9a-f]+)?|<unknown>|[0-9a-f]{8}: <unknown>) +"
     rb"((?:[0-9a-f]{8}){1,2}) ([0-9a-f]+) ([0-9a-f]+) ([0-9a-f]+) [ A-Za-z]* *[0-9]+ +[0-9]+ +[0-9]+")
+CORRUPT = re.compile(rb"<corrupt(: *[0-9a-f]+)?>")  # what is shown for a name past the end of the strings
 # Num: Value Size Type Bind Vis [other bits] Ndx Name; sizes above 99999 are in hex
 SYMBOL = re.compile(
     rb" *[0-9]+: ([0-9a-f]+) +(0x[0-9a-f]+|[0-9]+) (.{7}) (.{6}) (\S+) +(?:\[[^\]]*\] +)?(\S+)(?: (.*))?", re.S)
@@ -46,13 +47,13 @@ def symbols(file, table):
             if match:
                 size = match[2].decode()
                 rows.append((int(match[1], 16), int(size, 16 if size.startswith("0x") else 10), match[3].strip(),
-                             match[6], match[7] or b""))
+                             match[6], (match[7] or b"").replace(b"^\xbf", b"\x7f")))
     return rows
 
 
 def shown(name):
     """A name as readelf shows it: a control character as ^ and a letter."""
-    return re.sub(rb"[\0-\x1f\x7f]", lambda m: b"^" + bytes([(m[0][0] + 64) % 256]), name)
+    return re.sub(rb"[\0-\x1f]", lambda m: b"^" + bytes([m[0][0] + 64]), name)
 
 
 def expected(file, args):
@@ -66,7 +67,7 @@ def expected(file, args):
     rows = []
     for address, size, kind, section, name in symbols(file, table[1]):
         kept = kind == b"FUNC" and section == b"%d" % text[0] and size != 0
-        if kept and name and not name.startswith(b"<corrupt") and listing.is_text(name):
+        if kept and name and not CORRUPT.fullmatch(name) and listing.is_text(name):
             rows.append((address, size, name))
     return rows, text[3], None
 

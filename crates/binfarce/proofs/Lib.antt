@@ -5,3 +5,4 @@ pub mod Firsts
 pub mod Rows
 pub mod Signed
 pub mod Names
+pub mod Nuls

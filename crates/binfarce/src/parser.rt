@@ -1,9 +1,10 @@
 //! Numbers and texts at an offset.
 
-ghost use Rattle.std.specs.Prelude.{◌≡◌, ℕ, ◌+◌, ◌-◌, ◌<◌, ◌≤◌, ◌^◌, ◌↔◌, List, length, IsTrue, MatchOption, MatchResult};
+ghost use Rattle.std.specs.Prelude.{◌≡◌, ℕ, ◌+◌, ◌-◌, ◌<◌, ◌≤◌, ◌^◌, ◌↔◌, List, length, IsTrue, MatchOption, MatchResult, nat_eq};
 ghost use Rattle.binfarce.specs.declared.ByteOrder.{ByteOrder};
 ghost use Rattle.binfarce.specs.Number.{number, signed, bytes_at};
 ghost use Rattle.binfarce.specs.Text.{text_at, nul_at, text_of, FindsText};
+ghost use Rattle.std.specs.List.{list_any};
 ghost use Rattle.std.specs.Option.{option_map};
 
 use crate::ByteOrder;
@@ -320,10 +321,41 @@ fn text_from(bytes: &[u8], start: usize) -> Option<&str>
     }
 }
 
+// How many bytes are looked at together.
+const STRIDE: usize = 32;
+
 fn find_nul(bytes: &[u8]) -> Option<usize>
     ensures { result ≡ nul_at bytes.now }
 {
+    let mut at = 0;
+    while bytes.len() - at >= STRIDE {
+        if has_nul(&bytes[at..at + STRIDE]) {
+            break;
+        }
+        at += STRIDE;
+    }
+    match first_nul(&bytes[at..]) {
+        None => None,
+        Some(i) => Some(at + i),
+    }
+}
+
+fn first_nul(bytes: &[u8]) -> Option<usize>
+    ensures { result ≡ nul_at bytes.now }
+{
     bytes.iter().position(|b| *b == 0)
+}
+
+// Without an early end, so that the bytes are compared side by side.
+#[inline(always)]
+fn has_nul(bytes: &[u8]) -> bool
+    ensures { result ≡ list_any (λ b. nat_eq b 0) bytes.now }
+{
+    let mut found = false;
+    for b in bytes {
+        found |= *b == 0;
+    }
+    found
 }
 
 // The first `len` bytes.

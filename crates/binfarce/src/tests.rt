@@ -1,14 +1,15 @@
 mod bench_file;
 
 use self::bench_file::{ELF32_BIG, ELF32_LITTLE, ELF64_BIG, ELF64_LITTLE};
+use crate::demangle::Kind;
 use crate::parser::Stream;
 use crate::{ByteOrder, Format, ParseError, detect_format, elf32, elf64};
 use std::alloc::{AllocError, Global};
 use std::test::Fail;
 
-const COMPLETE: &str = "_ZN3foo3barE";
+const COMPLETE: &str = "foo::bar";
 
-const TRIMMED: &str = "_ZN3foo3barE";
+const TRIMMED: &str = "foo";
 
 // The file with other bytes at a place.
 fn patched(alloc: Global, file: &[u8], place: usize, bytes: &[u8]) -> Result<Vec<u8>, AllocError> {
@@ -167,6 +168,8 @@ macro_rules! finds_the_bench_file {
         for symbol in &symbols {
             assert_eq!($rt; symbol.name.complete.as_str(), COMPLETE);
             assert_eq!($rt; symbol.name.trimmed.as_str(), TRIMMED);
+            assert_eq!($rt; symbol.name.kind, Kind::Legacy);
+            assert!($rt; symbol.name.crate_name.is_none());
             assert_eq!($rt; symbol.address, 4096);
             assert_eq!($rt; symbol.size, 16);
         }

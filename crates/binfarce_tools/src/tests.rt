@@ -4,7 +4,7 @@ use binfarce::ParseError;
 use std::alloc::{AllocError, Global};
 use std::io::{self, ErrorKind, Write};
 
-const LISTING: &str = "0000000000001000         16 _ZN3foo3barE\ntext 32\n";
+const LISTING: &str = "0000000000001000         16 foo\ntext 32\n";
 
 fn listed(alloc: Global, data: &[u8], section: &str) -> (Result<(), ListError>, Vec<u8>) {
     let mut out = Out::new(Vec::new(alloc));

@@ -9,13 +9,14 @@ import re
 import subprocess
 import sys
 
+PROGRAM = os.path.join(os.path.dirname(os.path.abspath(__file__)), "../crates/binfarce_list/out/binfarce_list")
 LINE = re.compile(rb"([0-9a-f]{16}) ( *[0-9]{1,20}) (.*)", re.S)
 MANGLED = re.compile(rb"_?_?ZN|_?_?R[A-Z]|.*\.llvm\.", re.S)
 
 
 def arguments(what):
     parser = argparse.ArgumentParser(description=what)
-    parser.add_argument("--list", default="binfarce-list", metavar="PROGRAM", help="the listing program")
+    parser.add_argument("--list", default=PROGRAM, metavar="PROGRAM", help="the listing program, if not the built one")
     parser.add_argument("--peer", metavar="COMMAND", help="answers names from standard input, one a line")
     parser.add_argument("--section", default=".text", help="the section that is listed (ELF)")
     parser.add_argument("--all", action="store_true", help="print every disagreement of a file, not the first three")
@@ -123,6 +124,11 @@ def ask(peer, names):
     return answers
 
 
+def short(name):
+    """A name to be shown, cut where it is long."""
+    return "any" if name is None else repr(name) if len(name) < 160 else repr(name[:160]) + ".."
+
+
 def judge(args, cases, rows_of, shown=lambda name: name):
     """Compares each file's listing with what `rows_of(file, args)` expects; ends the process with 1 where one disagrees.
 
@@ -148,8 +154,8 @@ def judge(args, cases, rows_of, shown=lambda name: name):
                 told = shown(told)
             total["unnamed" if name is None else "named"] += 1
             if want[:2] != have[:2] or (name is not None and name != told):
-                faults.append("line %d, stored name %r:\n    expected %x %d %r\n    but got  %x %d %r" % (
-                    row + 1, want[2], want[0], want[1], name, have[0], have[1], have[2]))
+                faults.append("line %d, stored name %s:\n    expected %x %d %s\n    but got  %x %d %s" % (
+                    row + 1, short(want[2]), want[0], want[1], short(name), have[0], have[1], short(have[2])))
         total["files"] += 1
         total["refused"] += refusal is not None
         total["lines"] += len(expected)

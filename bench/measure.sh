@@ -1,17 +1,17 @@
 #!/bin/sh
 # Measures the listing program beside its peers on the files given, into /dev/null, and prints ratios to the program.
 #
-#   LIST      the listing program (binfarce-list)
+#   LIST      (optional) the listing program, if not the one that the repository has built
 #   ORIGINAL  (optional) a command that makes the same listing, called as `ORIGINAL FILE`
 #   RUNS      (optional) runs of each command, 15
 #   COUNT     (optional) 1 counts instructions too, by callgrind (slow)
 #
-# Usage: LIST=path/to/binfarce-list ./measure.sh FILE..
+# Usage: ./measure.sh FILE..
 #
 # The runs of a round follow one another, so that a busy machine is as busy for all of them; the least wall time of
 # each command counts. The peak is the greatest resident set of one run.
 set -eu
-: "${LIST:?set LIST to the listing program}"
+LIST=${LIST:-$(dirname "$0")/../crates/binfarce_list/out/binfarce_list}
 runs=${RUNS:-15}
 scratch=$(mktemp -d)
 trap 'rm -rf "$scratch"' EXIT
@@ -34,7 +34,7 @@ peak() {
 
 instructions() {
     valgrind --tool=callgrind --callgrind-out-file=/dev/null "$@" 2>&1 >/dev/null |
-        awk '/Collected/ {print $NF}'
+        awk '/Collected/ {counted = $NF} END {print counted ? counted : "-"}'
 }
 
 for file in "$@"; do

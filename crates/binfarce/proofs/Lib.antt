@@ -3,6 +3,12 @@ pub mod Headers
 pub mod Walks
 pub mod Firsts
 pub mod Rows
+pub mod Arranging
+pub mod Above
 pub mod Signed
 pub mod Names
 pub mod Nuls
+pub mod Numbered
+pub mod PeWalks
+pub mod PeRows
+pub mod Strictly

@@ -10,3 +10,8 @@ pub mod ElfSymbols
 pub mod RawElf
 pub mod Elf32
 pub mod Elf64
+pub mod Sizes
+pub mod Pe
+pub mod PeSeen
+pub mod PeSymbols
+pub mod RawPe

@@ -9,6 +9,8 @@ pub mod elf32;
 pub mod elf64;
 mod error;
 mod parser;
+pub mod pe;
+mod sizes;
 
 pub use crate::error::ParseError;
 pub use crate::parser::UnexpectedEof;

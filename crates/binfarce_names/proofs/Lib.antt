@@ -1,6 +1,22 @@
-pub mod TextLemmas
-pub mod LlvmLemmas
-pub mod ElementLemmas
-pub mod PieceLemmas
+pub mod Complete
 pub mod CutLemmas
+pub mod Cuts
+pub mod ElementLemmas
 pub mod JoinLemmas
+pub mod Levels
+pub mod Lists
+pub mod LlvmLemmas
+pub mod Manglings
+pub mod NameLemmas
+pub mod Numbers
+pub mod PieceLemmas
+mod PunycodeLemmas
+pub mod ReadingComplete
+pub mod ReadingLists
+pub mod ReadingSound
+pub mod Says
+pub mod Sound
+pub mod SoundForms
+pub mod States
+pub mod TextLemmas
+pub mod Texts

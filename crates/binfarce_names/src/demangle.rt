@@ -1,11 +1,13 @@
 //! What a symbol's name means.
 
-ghost use Rattle.std.specs.Prelude.{IfOk};
-ghost use Rattle.binfarce_names.specs.Name.{mangled_seen};
-ghost use Rattle.binfarce_names.specs.Named.{HasOneAnswer, IsMangled};
+ghost use Rattle.std.specs.Prelude.{◌≡◌, IfOk};
+ghost use Rattle.binfarce_names.specs.Name.{mangled_seen, name_seen};
+ghost use Rattle.binfarce_names.specs.Named.{HasOneAnswer, IsMangled, unknown};
 
 use crate::endings::without_llvm;
 use crate::legacy;
+use crate::v0;
+use crate::v0::Texts;
 use std::alloc::{AllocError, Global};
 
 /// How a name was mangled.
@@ -66,14 +68,37 @@ impl SymbolName {
                     kind: Kind::Legacy,
                 })
             }
-            _ => Ok(SymbolName {
-                complete: String::from_str(alloc, name)?,
-                trimmed: String::from_str(alloc, name)?,
-                crate_name: None,
-                kind: Kind::Unknown,
-            }),
+            Kind::V0 => match v0::both_texts(alloc, demangled.part)? {
+                Some(texts) => {
+                    let Texts {
+                        complete,
+                        trimmed,
+                        crate_name,
+                    } = texts;
+                    Ok(SymbolName {
+                        complete,
+                        trimmed,
+                        crate_name,
+                        kind: Kind::V0,
+                    })
+                }
+                None => unknown(alloc, name),
+            },
+            Kind::Unknown => unknown(alloc, name),
         }
     }
+}
+
+// A name that stands unchanged.
+fn unknown(alloc: Global, name: &str) -> Result<SymbolName, AllocError>
+    ensures { IfOk result (λ n. name_seen n ≡ unknown name.now) }
+{
+    Ok(SymbolName {
+        complete: String::from_str(alloc, name)?,
+        trimmed: String::from_str(alloc, name)?,
+        crate_name: None,
+        kind: Kind::Unknown,
+    })
 }
 
 /// Which mangling `name` is, decided without memory. What is kept of `name` is the part behind the
@@ -83,9 +108,16 @@ impl SymbolName {
 pub fn demangle(name: &str) -> Demangled<'_>
     ensures mangled { IsMangled name.now (mangled_seen result) }
 {
-    match legacy::mangling(without_llvm(name)) {
-        Some(part) => Demangled {
+    let text = without_llvm(name);
+    if let Some(part) = legacy::mangling(text) {
+        return Demangled {
             kind: Kind::Legacy,
+            part,
+        };
+    }
+    match v0::mangle_part(text) {
+        Some(part) => Demangled {
+            kind: Kind::V0,
             part,
         },
         None => Demangled {

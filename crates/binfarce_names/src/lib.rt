@@ -4,3 +4,4 @@
 pub mod demangle;
 mod endings;
 mod legacy;
+mod v0;

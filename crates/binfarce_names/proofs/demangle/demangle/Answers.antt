@@ -1,10 +1,17 @@
-use Rattle.std.proofs.Common.{ℕ, List, inr, refl, subst}
+use Rattle.std.proofs.Common.{ℕ, List, inl, inr, refl, subst}
 use Rattle.binfarce_names.specs.Legacy.{Element, IsLegacy}
-use Rattle.binfarce_names.specs.Named.{IsMangled}
+use Rattle.binfarce_names.specs.Named.{IsMangled, IsV0}
 use Rattle.binfarce_names.proofs.demangle.demangle.Goals as goal
+
+pub returns-in-Some-mangle_part : goal.returns-in-Some-mangle_part
+unfolding IsMangled
+returns-in-Some-mangle_part c =
+    let P : List ℕ → Type 0 = λ text. (part : List ℕ) (elements : List Element) (rest : List ℕ) → IsLegacy text part elements rest → ⊥ in
+    record { mangled = inr (subst P c.without_llvm-text.ensures c.in_default.ensures, inl (subst (λ text. IsV0 text c.in-Some-mangle_part.part.now) c.without_llvm-text.ensures c.in-Some-mangle_part.ensures, refl)) }
 
 pub returns-in-None : goal.returns-in-None
 unfolding IsMangled
 returns-in-None c =
     let P : List ℕ → Type 0 = λ text. (part : List ℕ) (elements : List Element) (rest : List ℕ) → IsLegacy text part elements rest → ⊥ in
-    record { mangled = inr (subst P c.without_llvm.ensures c.in-None.ensures, refl) }
+    let Q : List ℕ → Type 0 = λ text. (part : List ℕ) → IsV0 text part → ⊥ in
+    record { mangled = inr (subst P c.without_llvm-text.ensures c.in_default.ensures, inr (subst Q c.without_llvm-text.ensures c.in-None.ensures, refl)) }

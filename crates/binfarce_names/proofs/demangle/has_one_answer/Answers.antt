@@ -1,8 +1,9 @@
 use Rattle.std.proofs.Common.{◌≡◌, ℕ, List, inl, inr, ap, sym, ◌∙◌}
 use Rattle.binfarce_names.specs.Endings.{without_llvm}
 use Rattle.binfarce_names.specs.Legacy.{Element, IsLegacy}
-use Rattle.binfarce_names.specs.Named.{IsNamed, legacy}
+use Rattle.binfarce_names.specs.Named.{IsNamed, legacy, v0}
 use Rattle.binfarce_names.proofs.ElementLemmas.{reads_one_way}
+use Rattle.binfarce_names.proofs.NameLemmas.{one_tree}
 use Rattle.binfarce_names.proofs.TextLemmas.{some_same}
 use Rattle.binfarce_names.proofs.demangle.has_one_answer.Goals as goal
 
@@ -22,6 +23,12 @@ returns c = λ first second a b. elim a [
   ]
   | inr m ↦ elim b [
     | inl n ↦ absurd (m.0 n.0 n.1 n.2 n.3)
-    | inr n ↦ m.1 ∙ sym n.1
+    | inr n ↦ elim m.1 [
+      | inl v ↦ elim n.1 [
+        | inl w ↦ v.4 ∙ ap v0 (one_tree (without_llvm c.args.name.now) v.0 w.0 v.1 w.1 v.2 v.3 w.2 w.3) ∙ sym w.4
+        | inr w ↦ absurd (w.0 v.0 v.1 v.2 v.3)
+      ]
+      | inr v ↦ elim n.1 [ inl w ↦ absurd (v.0 w.0 w.1 w.2 w.3) | inr w ↦ v.1 ∙ sym w.1 ]
+    ]
   ]
 ]

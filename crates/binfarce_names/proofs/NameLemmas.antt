@@ -1,0 +1,61 @@
+-- The answer of a v0 name.
+use Rattle.std.proofs.Common.{◌≡◌, ℕ, List, Option, Some, None, Result, Ok, Err, Bool, true, false, drop, inl, inr, refl, ap, sym, ◌∙◌, subst}
+use Rattle.std.specs.Prelude.{IfOk}
+use Rattle.binfarce_names.specs.declared.demangle.Kind.TheVariants.{Unknown, Legacy, V0}
+use Rattle.binfarce_names.specs.Endings.{without_llvm, is_allowed_rest}
+use Rattle.binfarce_names.specs.Mangling.{IsMangling, ReadsPaths}
+use Rattle.binfarce_names.specs.Name.{Name, Mangled}
+use Rattle.binfarce_names.specs.Named.{IsV0, IsMangled, IsNamed, IsNotLegacy, unknown}
+use Rattle.binfarce_names.specs.Tree.{PathTree}
+use Rattle.binfarce_names.specs.Unfolding.{UnfoldsTo}
+use Rattle.binfarce_names.specs.machine.Places.{paths_place}
+use Rattle.binfarce_names.proofs.Manglings.{read_paths_at, unfolds_once}
+use Rattle.binfarce_names.proofs.TextLemmas.{some_same}
+
+same_place : (a b : ℕ) → ◌≡◌ {A = Option ℕ} (Some a) (Some b) → a ≡ b
+same_place a b e = cc
+
+-- a text is one v0 mangling
+pub one_part : (text p q : List ℕ) (a b : ℕ) → IsMangling text p a → IsMangling text q b → p ≡ q
+one_part text p q a b m n = some_same p q (sym m.behind ∙ n.behind)
+
+one_end : (text p q : List ℕ) (a b : ℕ) → IsMangling text p a → IsMangling text q b → a ≡ b
+one_end text p q a b m n =
+    let paths = subst (λ x. ReadsPaths x b) (sym (one_part text p q a b m n)) n.paths in
+    same_place a b (sym (read_paths_at p a m.paths) ∙ read_paths_at p b paths)
+
+-- a mangling with another rest is no v0 name
+pub rest_not_allowed : (text p : List ℕ) (a : ℕ) → IsMangling text p a → is_allowed_rest (drop a p) ≡ false → (part : List ℕ) → IsV0 text part → ⊥
+rest_not_allowed text p a m e part v =
+    let same = one_part text p part a v.after m v.mangling in
+    let place = one_end text p part a v.after m v.mangling in
+    let allowed : is_allowed_rest (drop a p) ≡ true = rw (place, same) v.rest in
+    let both : true ≡ false = sym allowed ∙ e in cc
+
+-- a v0 name unfolds to one tree
+pub one_tree : (text p q : List ℕ) (t u : PathTree) → IsV0 text p → UnfoldsTo p t → IsV0 text q → UnfoldsTo q u → t ≡ u
+one_tree text p q t u v a w b =
+    let same = one_part text p q v.after w.after v.mangling w.mangling in
+    unfolds_once p t u a (subst (λ x. UnfoldsTo x u) (sym same) b)
+
+pub if_ok : {T E : Type 0} (P Q : T → Type 0) (r : Result T E) → ((x : T) → P x → Q x) → IfOk r P → IfOk r Q
+if_ok P Q (Ok x) f h = f x h
+if_ok P Q (Err e) f h = h
+
+-- past a limit
+pub named_past_limits : (text : List ℕ) (m : Mangled) (name : Name) → IsMangled text m → m.kind ≡ V0 → ((tree : PathTree) → UnfoldsTo m.part tree → ⊥) → name ≡ unknown text → IsNamed text name
+unfolding IsMangled IsNamed
+named_past_limits text m name is k none e = elim is [
+  | inl a ↦ cc
+  | inr a ↦ elim a.1 [
+    | inl v ↦ inr (a.0, inr (λ part tree w u. none tree (subst (λ x. UnfoldsTo x tree) (sym (one_part (without_llvm text) m.part part v.0.after w.after v.0.mangling w.mangling)) u), e))
+    | inr v ↦ cc
+  ]
+]
+
+pub named_unknown : (text : List ℕ) (m : Mangled) (name : Name) → IsMangled text m → m.kind ≡ Unknown → name ≡ unknown text → IsNamed text name
+unfolding IsMangled IsNamed
+named_unknown text m name is k e = elim is [
+  | inl a ↦ cc
+  | inr a ↦ elim a.1 [ inl v ↦ cc | inr v ↦ inr (a.0, inr (λ part tree w u. v.0 part w, e)) ]
+]

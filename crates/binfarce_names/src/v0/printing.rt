@@ -1,0 +1,516 @@
+//! What a place of a v0 name unfolds to, written as it is read.
+
+ghost use Rattle.std.specs.Prelude.{◌≡◌, ◌+◌, ◌*◌, ◌≤◌, IfOk, OnOk, Some, codes, suc};
+ghost use Rattle.std.specs.Str.{IsAscii};
+ghost use Rattle.binfarce_names.specs.Forms.{label_at};
+ghost use Rattle.binfarce_names.specs.Tree as tree;
+ghost use Rattle.binfarce_names.specs.Tree.{
+    NoType, parent_position, value_mark, closing, is_open_trait, is_left_open,
+};
+ghost use Rattle.binfarce_names.specs.Unfolding.{Arguments, Types};
+ghost use Rattle.binfarce_names.specs.machine.Seen.{
+    path_seen, type_seen, const_seen, lifetime_seen, signature_seen, position_seen, listed_seen,
+};
+ghost use Rattle.binfarce_names.specs.machine.Printing.{
+    readers, path_rule, type_rule, item_rule, items_from, items_count, qualified, named_state,
+    bindings_rule, function_rule, dyn_rule, reference_rule, taking, generic_rule, go, say, mute,
+    unmute, array_rule, tuple_end, unread_reference, unread_function,
+};
+
+use std::alloc::AllocError;
+
+use crate::v0::forms::{
+    ConstForm, Lifetime, Listed, PathForm, Position, Signature, TypeForm,
+};
+use crate::v0::leaves::{const_form, identifier, label, lifetime, path_form, type_form};
+use crate::v0::places::{bound_place, eat, lifetime_steps, list_end, required_place};
+use crate::v0::printer::Printer;
+
+/// The position of a path's parent.
+fn parent(position: Position) -> Position
+    ensures { position_seen result ≡ parent_position (position_seen position) }
+{
+    match position {
+        Position::InValue => Position::InValue,
+        Position::InType | Position::OpenTrait => Position::InType,
+    }
+}
+
+/// What stands before the arguments of a path.
+fn value_mark(position: Position) -> &'static str
+    ensures { result.now ≡ value_mark (position_seen position) }
+{
+    match position {
+        Position::InValue => "::",
+        Position::InType | Position::OpenTrait => "",
+    }
+}
+
+/// What stands behind the arguments of a path.
+fn closing(position: Position) -> &'static str
+    ensures { result.now ≡ closing (position_seen position) }
+{
+    match position {
+        Position::InValue | Position::InType => ">",
+        Position::OpenTrait => "",
+    }
+}
+
+/// A position that leaves arguments open.
+fn is_open_trait(position: Position) -> bool
+    ensures { result ≡ is_open_trait (position_seen position) }
+{
+    matches!(position, Position::OpenTrait)
+}
+
+impl<'a> Printer<'a> {
+    /// `<const>`
+    #[tactic(auto, using(crate::proofs::Levels::constant_at), unfolding(crate::specs::machine::Printing::const_rule))]
+    pub fn print_const(&mut self, name: &'a str, left: usize) -> Result<(), AllocError>
+        requires ascii { IsAscii name.now }
+        ensures { OnOk result (self.new ≡ ((readers name.entry.now left).constant self.old).1) }
+    {
+        let form = const_form(name, self.at);
+        if !self.enter(left) {
+            return Ok(());
+        }
+        match form {
+            ConstForm::Nothing => self.fault(),
+            ConstForm::Placeholder(type_name, after) => {
+                self.go(Some(after));
+                self.say("_")?;
+                self.say(": ")?;
+                self.say(type_name)
+            }
+            ConstForm::Digits(type_name, digits, after) => {
+                self.go(Some(after));
+                self.say_number(digits)?;
+                self.say(": ")?;
+                self.say(type_name)
+            }
+            ConstForm::Unread(type_name) => {
+                self.fault()?;
+                self.say(": ")?;
+                self.say(type_name)
+            }
+            ConstForm::Back(target, after) => {
+                let outside = self.outside;
+                self.enter_target(target);
+                self.print_const(name, left - 1)?;
+                self.leave_target(after, outside);
+                Ok(())
+            }
+        }
+    }
+
+    // The name of a nested path behind its parent.
+    fn print_nested_name(&mut self, name: &'a str, namespace: u8) -> Result<(), AllocError>
+        requires ascii { IsAscii name.now }
+        ensures { OnOk result (self.new ≡ named_state namespace self.old (label_at name.entry.now self.old.at)) }
+    {
+        let found = match self.at {
+            Some(at) => label(name, at),
+            None => None,
+        };
+        match found {
+            Some((label, after)) => {
+                self.go(Some(after));
+                self.say_nested(namespace, label)
+            }
+            None => self.fault(),
+        }
+    }
+
+    /// `<path>`: whether it was left open.
+    #[cycle(printing)]
+    #[tactic(auto, using(crate::proofs::Levels::path_at))]
+    pub fn print_path(&mut self, name: &'a str, left: usize, depth: usize, position: Position) -> Result<bool, AllocError>
+        requires ascii { IsAscii name.now }
+        requires depth { depth + 65536 * left ≤ 32768000 }
+        ensures printed { OnOk result (self.new ≡ ((readers name.entry.now left).path (position_seen position) depth self.old).1) }
+        ensures opened { IfOk result (λ opened. opened ≡ is_left_open ((readers name.entry.now left).path (position_seen position) depth self.old).0 (position_seen position)) }
+    {
+        let form = path_form(name, self.at);
+        if !self.enter(left) {
+            return Ok(false);
+        }
+        self.print_path_form(name, left - 1, depth, position, form)
+    }
+
+    // A path of a form.
+    #[cycle(printing)]
+    #[tactic(auto, unfolding(crate::specs::machine::Printing::path_rule))]
+    fn print_path_form(&mut self, name: &'a str, left: usize, depth: usize, position: Position, form: PathForm<'a>) -> Result<bool, AllocError>
+        requires ascii { IsAscii name.now }
+        requires depth { depth + 65536 * (left + 1) ≤ 32768000 }
+        ensures printed { OnOk result (self.new ≡ (path_rule name.entry.now (readers name.entry.now left) (position_seen position) depth self.old (path_seen form.entry)).1) }
+        ensures opened { IfOk result (λ opened. opened ≡ is_left_open (path_rule name.entry.now (readers name.entry.now left) (position_seen position) depth self.old (path_seen form.entry)).0 (position_seen position)) }
+    {
+        match form {
+            PathForm::Nothing => self.fault()?,
+            PathForm::CrateRoot(root, after) => {
+                self.go(Some(after));
+                self.keep_root(root.name);
+                self.say_identifier(root.name)?;
+                self.say_disambiguator(root.disambiguator)?;
+            }
+            PathForm::NestedIn(namespace, after) => {
+                self.go(Some(after));
+                self.print_path(name, left, depth, parent(position))?;
+                self.print_nested_name(name, namespace)?;
+            }
+            PathForm::InherentImpl(after) => {
+                self.print_impl_path(name, left, depth, position, after)?;
+                self.say("<")?;
+                self.print_type(name, left, depth)?;
+                self.say(">")?;
+            }
+            PathForm::TraitImpl(after) => {
+                self.print_impl_path(name, left, depth, position, after)?;
+                self.print_qualified(name, left, depth)?;
+            }
+            PathForm::TraitDefinition(after) => {
+                self.go(Some(after));
+                self.print_qualified(name, left, depth)?;
+            }
+            PathForm::WithArguments(after) => {
+                self.print_generic(name, left, depth, position, after)?;
+                return Ok(is_open_trait(position));
+            }
+            PathForm::Back(target, after) => {
+                let outside = self.outside;
+                self.enter_target(target);
+                let opened = self.print_path(name, left, depth, position)?;
+                self.leave_target(after, outside);
+                return Ok(opened);
+            }
+        }
+        Ok(false)
+    }
+
+    // The path of an impl, which is read and not written.
+    #[cycle(printing)]
+    fn print_impl_path(&mut self, name: &'a str, left: usize, depth: usize, position: Position, after: usize) -> Result<(), AllocError>
+        requires ascii { IsAscii name.now }
+        requires depth { depth + 65536 * left ≤ 32768000 }
+        ensures { OnOk result (self.new ≡ unmute self.old.muted ((readers name.entry.now left).path (parent_position (position_seen position)) depth (mute (go (Some after) self.old))).1) }
+    {
+        let muted = self.muted;
+        self.go(Some(after));
+        self.mute(true);
+        self.print_path(name, left, depth, parent(position))?;
+        self.mute(muted);
+        Ok(())
+    }
+
+    // `<T as Trait>`
+    #[cycle(printing)]
+    fn print_qualified(&mut self, name: &'a str, left: usize, depth: usize) -> Result<(), AllocError>
+        requires ascii { IsAscii name.now }
+        requires depth { depth + 65536 * left ≤ 32768000 }
+        ensures { OnOk result (self.new ≡ (qualified (readers name.entry.now left) depth self.old).1) }
+    {
+        self.say("<")?;
+        self.print_type(name, left, depth)?;
+        self.say(" as ")?;
+        self.print_path(name, left, depth, Position::InType)?;
+        self.say(">")
+    }
+
+    // A path with its arguments.
+    #[cycle(printing)]
+    fn print_generic(&mut self, name: &'a str, left: usize, depth: usize, position: Position, after: usize) -> Result<(), AllocError>
+        requires ascii { IsAscii name.now }
+        requires depth { depth + 65536 * left ≤ 32768000 }
+        ensures { OnOk result (self.new ≡ (generic_rule name.entry.now (readers name.entry.now left) (position_seen position) depth ((readers name.entry.now left).path (parent_position (position_seen position)) depth (go (Some after) self.old))).1) }
+    {
+        self.go(Some(after));
+        self.print_path(name, left, depth, parent(position))?;
+        self.say(value_mark(position))?;
+        self.say("<")?;
+        self.print_items(name, left, depth, Listed::Arguments, ", ")?;
+        self.say(closing(position))
+    }
+
+    // A list up to its `E`: how many items it has.
+    #[cycle(printing)]
+    #[tactic(auto, using(crate::proofs::Lists::items_step, crate::proofs::Lists::items_none))]
+    fn print_items(&mut self, name: &'a str, left: usize, depth: usize, listed: Listed, between: &'static str) -> Result<usize, AllocError>
+        requires ascii { IsAscii name.now }
+        requires depth { depth + 65536 * left ≤ 32768000 }
+        ensures printed { OnOk result (self.new ≡ (items_from name.entry.now (readers name.entry.now left) depth (listed_seen listed) between.entry.now self.old).1) }
+        ensures counted { IfOk result (λ count. count ≡ items_count (items_from name.entry.now (readers name.entry.now left) depth (listed_seen listed) between.entry.now self.old).0) }
+    {
+        let most = self.room + 1;
+        for count in 0..most {
+            if let Some(after) = list_end(name.as_bytes(), self.at) {
+                self.go(after);
+                return Ok(count);
+            }
+            self.say(if count == 0 { "" } else { between })?;
+            self.print_item(name, left, depth, listed)?;
+        }
+        self.stop();
+        Ok(most)
+    }
+
+    // An item of a list.
+    #[cycle(printing)]
+    #[tactic(auto, unfolding(crate::specs::machine::Printing::item_rule))]
+    fn print_item(&mut self, name: &'a str, left: usize, depth: usize, listed: Listed) -> Result<(), AllocError>
+        requires ascii { IsAscii name.now }
+        requires depth { depth + 65536 * left ≤ 32768000 }
+        ensures { OnOk result (self.new ≡ (item_rule name.entry.now (readers name.entry.now left) depth (listed_seen listed) self.old).1) }
+    {
+        match listed {
+            Listed::Types => self.print_type(name, left, depth),
+            Listed::Arguments => self.print_argument(name, left, depth),
+            Listed::Traits => {
+                let opened = self.print_path(name, left, depth, Position::OpenTrait)?;
+                self.print_bindings(name, left, depth, opened)
+            }
+        }
+    }
+
+    // `<generic-arg>`
+    #[cycle(printing)]
+    #[tactic(auto, unfolding(crate::specs::machine::Printing::item_rule))]
+    fn print_argument(&mut self, name: &'a str, left: usize, depth: usize) -> Result<(), AllocError>
+        requires ascii { IsAscii name.now }
+        requires depth { depth + 65536 * left ≤ 32768000 }
+        ensures { OnOk result (self.new ≡ (item_rule name.entry.now (readers name.entry.now left) depth Arguments self.old).1) }
+    {
+        let bytes = name.as_bytes();
+        if eat(bytes, b'L', self.at).is_some() {
+            let (life, after) = lifetime(bytes, self.at);
+            if self.take(1) {
+                self.go(required_place(depth, life, after));
+                self.say_argument_lifetime(depth, life)?;
+            }
+            return Ok(());
+        }
+        match eat(bytes, b'K', self.at) {
+            Some(after) => {
+                self.go(Some(after));
+                self.print_const(name, left)
+            }
+            None => self.print_type(name, left, depth),
+        }
+    }
+
+    // The bindings of a trait.
+    #[cycle(printing)]
+    #[tactic(auto, using(crate::proofs::Lists::bindings_step, crate::proofs::Lists::bindings_none))]
+    fn print_bindings(&mut self, name: &'a str, left: usize, depth: usize, mut opened: bool) -> Result<(), AllocError>
+        requires ascii { IsAscii name.now }
+        requires depth { depth + 65536 * left ≤ 32768000 }
+        ensures { OnOk result (self.new ≡ (bindings_rule name.entry.now (readers name.entry.now left) depth (suc self.old.room) opened self.old).1) }
+    {
+        let most = self.room + 1;
+        for _turn in 0..most {
+            let Some(start) = eat(name.as_bytes(), b'p', self.at) else {
+                return self.say(if opened { ">" } else { "" });
+            };
+            self.say(if opened { ", " } else { "<" })?;
+            let Some((binding, after)) = identifier(name, start) else {
+                return self.fault();
+            };
+            self.go(Some(after));
+            self.say_identifier(binding)?;
+            self.say(" = ")?;
+            self.print_type(name, left, depth)?;
+            opened = true;
+        }
+        self.stop();
+        Ok(())
+    }
+
+    /// `<type>`
+    #[cycle(printing)]
+    #[tactic(auto, using(crate::proofs::Levels::type_at))]
+    pub fn print_type(&mut self, name: &'a str, left: usize, depth: usize) -> Result<(), AllocError>
+        requires ascii { IsAscii name.now }
+        requires depth { depth + 65536 * left ≤ 32768000 }
+        ensures { OnOk result (self.new ≡ ((readers name.entry.now left).ty depth self.old).1) }
+    {
+        let form = type_form(name, self.at);
+        if !self.enter(left) {
+            return Ok(());
+        }
+        self.print_type_form(name, left - 1, depth, form)
+    }
+
+    // A type of a form.
+    #[cycle(printing)]
+    #[tactic(auto, unfolding(crate::specs::machine::Printing::type_rule))]
+    fn print_type_form(&mut self, name: &'a str, left: usize, depth: usize, form: TypeForm<'a>) -> Result<(), AllocError>
+        requires ascii { IsAscii name.now }
+        requires depth { depth + 65536 * (left + 1) ≤ 32768000 }
+        ensures { OnOk result (self.new ≡ (type_rule name.entry.now (readers name.entry.now left) depth self.old (type_seen form.entry)).1) }
+    {
+        match form {
+            TypeForm::Nothing => self.fault(),
+            TypeForm::Basic(text, after) => {
+                self.go(Some(after));
+                self.say(text)
+            }
+            TypeForm::ReferenceTo(mutable, life, after) => {
+                self.print_reference(name, left, depth, mutable, life, after)
+            }
+            TypeForm::UnreadReference => self.print_unread_reference(),
+            TypeForm::PointerTo(mutable, after) => {
+                self.go(Some(after));
+                self.say(if mutable { "*mut " } else { "*const " })?;
+                self.print_type(name, left, depth)
+            }
+            TypeForm::SliceOf(after) => {
+                self.go(Some(after));
+                self.say("[")?;
+                self.print_type(name, left, depth)?;
+                self.say("]")
+            }
+            TypeForm::ArrayOf(after) => self.print_array(name, left, depth, after),
+            TypeForm::TupleOf(after) => self.print_tuple(name, left, depth, after),
+            TypeForm::FunctionOf(signature, after) => {
+                self.print_function(name, left, depth, signature, after)
+            }
+            TypeForm::UnreadAbi(binder) => self.print_unread_function(depth, binder),
+            TypeForm::DynOf(binder, after) => self.print_dyn(name, left, depth, binder, after),
+            TypeForm::UnreadDyn => {
+                self.go(None);
+                self.say("dyn ??")
+            }
+            TypeForm::Back(target, after) => {
+                let outside = self.outside;
+                self.enter_target(target);
+                self.print_type(name, left, depth)?;
+                self.leave_target(after, outside);
+                Ok(())
+            }
+            TypeForm::Path => {
+                self.print_path(name, left, depth, Position::InType)?;
+                Ok(())
+            }
+        }
+    }
+
+    // `"A" <type> <const>`
+    #[cycle(printing)]
+    fn print_array(&mut self, name: &'a str, left: usize, depth: usize, after: usize) -> Result<(), AllocError>
+        requires ascii { IsAscii name.now }
+        requires depth { depth + 65536 * left ≤ 32768000 }
+        ensures { OnOk result (self.new ≡ (array_rule (readers name.entry.now left) ((readers name.entry.now left).ty depth (say (codes "[") (go (Some after) self.old)))).1) }
+    {
+        self.go(Some(after));
+        self.say("[")?;
+        self.print_type(name, left, depth)?;
+        self.say("; ")?;
+        self.print_const(name, left)?;
+        self.say("]")
+    }
+
+    // `"T" {<type>} "E"`
+    #[cycle(printing)]
+    #[tactic(auto, using(crate::proofs::Lists::single_mark_count))]
+    fn print_tuple(&mut self, name: &'a str, left: usize, depth: usize, after: usize) -> Result<(), AllocError>
+        requires ascii { IsAscii name.now }
+        requires depth { depth + 65536 * left ≤ 32768000 }
+        ensures { OnOk result (self.new ≡ (tuple_end (items_from name.entry.now (readers name.entry.now left) depth Types (codes ", ") (say (codes "(") (go (Some after) self.old)))).1) }
+    {
+        self.go(Some(after));
+        self.say("(")?;
+        let count = self.print_items(name, left, depth, Listed::Types, ", ")?;
+        self.say(if count == 1 { "," } else { "" })?;
+        self.say(")")
+    }
+
+    // A reference.
+    #[cycle(printing)]
+    fn print_reference(&mut self, name: &'a str, left: usize, depth: usize, mutable: bool, life: Lifetime, after: usize) -> Result<(), AllocError>
+        requires ascii { IsAscii name.now }
+        requires depth { depth + 65536 * left ≤ 32768000 }
+        ensures { OnOk result (self.new ≡ (taking (tree.lifetime_steps (lifetime_seen life)) NoType self.old (reference_rule (readers name.entry.now left) depth mutable (lifetime_seen life) after)).1) }
+    {
+        if !self.take(lifetime_steps(life)) {
+            return Ok(());
+        }
+        self.go(bound_place(depth, life, Some(after)));
+        self.say("&")?;
+        self.say_reference_lifetime(depth, life)?;
+        self.say(if mutable { "mut " } else { "" })?;
+        self.print_type(name, left, depth)
+    }
+
+    // A function type.
+    #[cycle(printing)]
+    fn print_function(&mut self, name: &'a str, left: usize, depth: usize, signature: Signature<'a>, after: usize) -> Result<(), AllocError>
+        requires ascii { IsAscii name.now }
+        requires depth { depth + 65536 * (left + 1) ≤ 32768000 }
+        ensures { OnOk result (self.new ≡ (taking signature.entry.binder NoType self.old (function_rule name.entry.now (readers name.entry.now left) depth (signature_seen signature.entry) after)).1) }
+    {
+        if !self.take(signature.binder) {
+            return Ok(());
+        }
+        self.go(Some(after));
+        self.say_binder(depth, signature.binder)?;
+        self.say_signature(signature)?;
+        let inner = depth + signature.binder as usize;
+        self.print_items(name, left, inner, Listed::Types, ", ")?;
+        self.say(")")?;
+        match eat(name.as_bytes(), b'u', self.at) {
+            Some(after) => {
+                self.go(Some(after));
+                Ok(())
+            }
+            None => {
+                self.say(" -> ")?;
+                self.print_type(name, left, inner)
+            }
+        }
+    }
+
+    // A dyn type.
+    #[cycle(printing)]
+    fn print_dyn(&mut self, name: &'a str, left: usize, depth: usize, binder: u64, after: usize) -> Result<(), AllocError>
+        requires ascii { IsAscii name.now }
+        requires depth { depth + 65536 * (left + 1) ≤ 32768000 }
+        ensures { OnOk result (self.new ≡ (taking binder NoType self.old (dyn_rule name.entry.now (readers name.entry.now left) depth binder after)).1) }
+    {
+        if !self.take(binder) {
+            return Ok(());
+        }
+        self.go(Some(after));
+        self.say("dyn ")?;
+        self.say_binder(depth, binder)?;
+        self.print_items(name, left, depth + binder as usize, Listed::Traits, " + ")?;
+        let (life, end) = lifetime(name.as_bytes(), self.at);
+        if self.take(lifetime_steps(life)) {
+            self.go(required_place(depth, life, end));
+            self.say_dyn_lifetime(depth, life)?;
+        }
+        Ok(())
+    }
+
+    // A reference whose lifetime doesn't read.
+    fn print_unread_reference(&mut self) -> Result<(), AllocError>
+        ensures { OnOk result (self.new ≡ (taking 1 NoType self.old unread_reference).1) }
+    {
+        if self.take(1) {
+            self.go(None);
+            self.say("&?")?;
+        }
+        Ok(())
+    }
+
+    // A function type whose ABI doesn't read.
+    fn print_unread_function(&mut self, depth: usize, binder: u64) -> Result<(), AllocError>
+        requires { depth + 65536 ≤ 32768000 }
+        ensures { OnOk result (self.new ≡ (taking binder NoType self.old (unread_function depth binder)).1) }
+    {
+        if self.take(binder) {
+            self.say_binder(depth, binder)?;
+            self.fault()?;
+        }
+        Ok(())
+    }
+}

@@ -20,3 +20,4 @@ pub mod SoundForms
 pub mod States
 pub mod TextLemmas
 pub mod Texts
+pub mod V0LawLemmas

@@ -14,6 +14,7 @@ mod PunycodeLemmas
 pub mod ReadingComplete
 pub mod ReadingLists
 pub mod ReadingSound
+pub mod ReadingTrees
 pub mod Says
 pub mod Sound
 pub mod SoundForms

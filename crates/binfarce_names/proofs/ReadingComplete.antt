@@ -10,7 +10,7 @@ use Rattle.binfarce_names.specs.Unfolding.{Listed, Arguments, Types, Traits}
 use Rattle.binfarce_names.specs.Reading.{ReadsConst, ReadsPath, ReadsType, ReadsItem, ReadsItems, ReadsBindings}
 use Rattle.binfarce_names.specs.machine.Places.{Places, onward, const_place, label_place, lifetime_place, bound_from, bindings_place, argument_place, item_place, items_place, list_place, return_place, type_place, path_place, places}
 
-suc-one : (l : ℕ) → suc l - 1 ≡ l
+pub suc-one : (l : ℕ) → suc l - 1 ≡ l
 suc-one l = omega arith
 
 pub path_place_at : (name : List ℕ) (l at : ℕ) → 1 ≤ l → (places name l).path at ≡ path_place name (places name (l - 1)) (path_form name (Some at))
@@ -44,16 +44,16 @@ onward_is : (at mid : ℕ) → at < mid → onward at mid ≡ Some mid
 onward_is at mid h = let e : nat_lt at mid ≡ true = grind (arith, nat_tests) in rw e refl
 
 -- a byte that stands at a place is one of the name
-within : (name : List ℕ) (byte at : ℕ) → stands name (suc byte) (Some at) ≡ true → at < length name
+pub within : (name : List ℕ) (byte at : ℕ) → stands name (suc byte) (Some at) ≡ true → at < length name
 within name byte at e = grind (arith, nat_tests, get_or_past)
 
-if_so : {T : Type 0} (b : Bool) (x y : T) → b ≡ true → (if b then x else y) ≡ x
+pub if_so : {T : Type 0} (b : Bool) (x y : T) → b ≡ true → (if b then x else y) ≡ x
 if_so b x y e = rw e refl
 
-if_not : {T : Type 0} (b : Bool) (x y : T) → b ≡ false → (if b then x else y) ≡ y
+pub if_not : {T : Type 0} (b : Bool) (x y : T) → b ≡ false → (if b then x else y) ≡ y
 if_not b x y e = rw e refl
 
-then_is : {A : Type 0} (o : Option A) (f : A → Option ℕ) (a : A) → o ≡ Some a → (o >>= f) ≡ f a
+pub then_is : {A : Type 0} (o : Option A) (f : A → Option ℕ) (a : A) → o ≡ Some a → (o >>= f) ≡ f a
 then_is o f a e = rw e refl
 
 pub const_placed : (c : ConstTree) (name : List ℕ) (l at after : ℕ) → ReadsConst name c at after → const_height c ≤ l → (places name l).constant at ≡ Some after
@@ -66,7 +66,7 @@ const_placed (BackConst c) name l at after r h = absurd r
 const_placed (ConstPlace place) name l at after r h = const_place_at name l at h ∙ ap const_place r
 
 -- a list begins within the name
-items_within : (items : Items) (name : List ℕ) (listed : Listed) (at after : ℕ) → ReadsItems name listed items at after → at < length name
+pub items_within : (items : Items) (name : List ℕ) (listed : Listed) (at after : ℕ) → ReadsItems name listed items at after → at < length name
 unfolding ReadsItems
 items_within NoItems name listed at after r = within name 68 at r.0
 items_within (ItemThen i items) name listed at after r =

@@ -6,7 +6,7 @@ use Rattle.binfarce_names.specs.Tree.{PathTree, path_height, path_steps, name_te
 use Rattle.binfarce_names.specs.V0Laws.{UnfoldsOneWay, ReadsOneWay, NamesAnEarlierPlace, UnfoldsWithin, KnowsNoLimit}
 use Rattle.binfarce_names.specs.machine.Printing.{State}
 use Rattle.binfarce_names.proofs.Complete.{path_complete}
-use Rattle.binfarce_names.proofs.ReadingComplete.{path_placed}
+use Rattle.binfarce_names.proofs.ReadingTrees.{reads_one_tree}
 
 -- a printing from a place with some steps
 abbrev from : Option ℕ → ℕ → State
@@ -21,14 +21,8 @@ unfolds_one name t u at depth a b p q =
     let second = path_complete u name l InValue depth (from at n) b refl q (omega arith) (omega arith) in
     let both = sym first ∙ second in (ap (λ r. r.0) both, ap (λ r. r.1.at) both)
 
-some_once : (a b : ℕ) → ◌≡◌ {A = Option ℕ} (Some a) (Some b) → a ≡ b
-some_once a b e = cc
-
 pub reads_one : (name : List ℕ) → ReadsOneWay name
-reads_one name t u at a b p q =
-    let l = max (path_height t) (path_height u) in
-    let first = path_placed t name l at a p (omega arith) in
-    let second = path_placed u name l at b q (omega arith) in some_once a b (sym first ∙ second)
+reads_one name t u at a b p q = reads_one_tree name t u at a b p q
 
 pub earlier_place : (name : List ℕ) → NamesAnEarlierPlace name
 unfolding back_reference

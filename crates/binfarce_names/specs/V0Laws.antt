@@ -12,11 +12,12 @@ UnfoldsOneWay name =
     → IsPath name first at depth after → IsPath name second at depth behind
     → (first ≡ second) × (after ≡ behind)
 
--- a place reads up to at most one place behind it
+-- a place reads to at most one tree, and up to at most one place behind it
 abbrev pub ReadsOneWay : List ℕ → Type 0
 ReadsOneWay name =
     (first second : PathTree) (at after behind : ℕ)
-    → ReadsPath name first at after → ReadsPath name second at behind → after ≡ behind
+    → ReadsPath name first at after → ReadsPath name second at behind
+    → (first ≡ second) × (after ≡ behind)
 
 -- an accepted back reference names a place strictly before its own "B"
 abbrev pub NamesAnEarlierPlace : List ℕ → Type 0

@@ -11,7 +11,7 @@ pub fn unfolds_one_way(name: &[u8])
     let _ = name;
 }
 
-/// A place reads up to at most one place behind it.
+/// A place reads to at most one tree.
 pub fn reads_one_way(name: &[u8])
     ensures { ReadsOneWay name.now }
 {

@@ -1,12 +1,12 @@
 -- A place reads to one tree: a reading that makes the tree finds each tree that the relation relates.
-use Rattle.std.proofs.Common.{◌≡◌, ℕ, zero, suc, ◌+◌, ◌-◌, ◌≤◌, ◌<◌, Bool, true, false, List, Option, Some, None, max, if◌then◌else◌, length, refl, ap, sym, ◌∙◌, arith}
+use Rattle.std.proofs.Common.{◌≡◌, ℕ, zero, suc, ◌+◌, ◌-◌, ◌≤◌, ◌<◌, List, Option, Some, None, max, if◌then◌else◌, length, refl, ap, sym, ◌∙◌, arith}
 use Rattle.binfarce_names.specs.Base62.{◌>>=◌}
-use Rattle.binfarce_names.specs.Identifier.{Identifier, Label, label, identifier}
-use Rattle.binfarce_names.specs.Forms.{Lifetime, stands, lifetime, path_form, type_form, const_form, PathForm, NoPathForm, CrateRoot, NestedIn, InherentImpl, TraitImpl, TraitDefinition, WithArguments, BackToPath, TypeForm, NoTypeForm, BasicType, ReferenceTo, UnreadReference, PointerTo, SliceOf, ArrayOf, TupleOf, FunctionOf, UnreadAbi, DynOf, UnreadDyn, BackToType, PathType, ConstForm, NoConstForm, PlaceholderConst, DigitsConst, UnreadConst, BackToConst}
+use Rattle.binfarce_names.specs.Identifier.{label, identifier}
+use Rattle.binfarce_names.specs.Forms.{stands, lifetime, path_form, type_form, const_form, PathForm, NoPathForm, CrateRoot, NestedIn, InherentImpl, TraitImpl, TraitDefinition, WithArguments, BackToPath, TypeForm, NoTypeForm, BasicType, ReferenceTo, UnreadReference, PointerTo, SliceOf, ArrayOf, TupleOf, FunctionOf, UnreadAbi, DynOf, UnreadDyn, BackToType, PathType, ConstForm, NoConstForm, PlaceholderConst, DigitsConst, UnreadConst, BackToConst}
 use Rattle.binfarce_names.specs.Tree.{PathTree, TypeTree, ConstTree, Item, Items, Bindings, NoConst, Placeholder, Number, UnreadNumber, BackConst, ConstPlace, NoPath, Crate, Nested, UnreadNested, OfType, OfImpl, OfTrait, Generic, BackPath, PathPlace, NoType, Basic, Reference, UnreadReferenceType, Pointer, Slice, Array, Tuple, Function, FunctionTo, UnreadFunction, Dyn, UnreadDynType, Named, BackType, TypePlace, LifetimeItem, TypeItem, ConstItem, TraitItem, NoItems, ItemThen, NoBindings, Binding, UnreadBinding, path_height, type_height, const_height, item_height, items_height, bindings_height}
 use Rattle.binfarce_names.specs.Unfolding.{Listed, Arguments, Types, Traits}
 use Rattle.binfarce_names.specs.Reading.{ReadsConst, ReadsPath, ReadsType, ReadsItem, ReadsItems, ReadsBindings}
-use Rattle.binfarce_names.proofs.ReadingComplete.{if_so, if_not, then_is, suc-one, within, items_within}
+use Rattle.binfarce_names.proofs.ReadingComplete.{if_so, if_not, suc-one, within, items_within}
 
 -- the readers of one level less
 record Trees : Type 0 where
@@ -107,6 +107,7 @@ const_found (ConstPlace place) name l at after r h = const_at name l at h ∙ ap
 
 mutual
   unfolding ReadsPath path_height path_tree type_tree item_tree items_tree bindings_tree
+
   path_found : (t : PathTree) (name : List ℕ) (l at after : ℕ) → ReadsPath name t at after → path_height t ≤ l → (trees name l).path at ≡ Some (t, after)
   path_found NoPath name l at after r h = absurd r
   path_found (Crate root) name l at after r h = path_at name l at h ∙ ap (path_tree name (trees name (l - 1))) r

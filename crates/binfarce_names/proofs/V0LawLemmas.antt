@@ -1,9 +1,9 @@
 -- The laws of v0 names.
-use Rattle.std.proofs.Common.{◌≡◌, ℕ, ◌+◌, ◌≤◌, ◌<◌, Bool, true, false, List, [], Option, Some, None, cond, nat_lt, max, refl, ap, sym, ◌∙◌, arith}
+use Rattle.std.proofs.Common.{◌≡◌, ℕ, ◌+◌, ◌<◌, Bool, true, false, List, [], Option, Some, None, cond, nat_lt, max, refl, ap, sym, ◌∙◌, arith}
 use Rattle.std.proofs.lemmas.Bool.Decides.{nat_tests}
 use Rattle.binfarce_names.specs.Base62.{◌>>=◌, number, back_reference}
-use Rattle.binfarce_names.specs.Tree.{PathTree, path_height, path_steps, name_text, path_root, InValue}
-use Rattle.binfarce_names.specs.V0Laws.{UnfoldsOneWay, ReadsOneWay, NamesAnEarlierPlace, UnfoldsWithin, KnowsNoLimit}
+use Rattle.binfarce_names.specs.Tree.{path_height, path_steps, name_text, path_root, InValue}
+use Rattle.binfarce_names.specs.V0Laws.{UnfoldsOneWay, ReadsOneWay, NamesAnEarlierPlace, KnowsNoLimit}
 use Rattle.binfarce_names.specs.machine.Printing.{State}
 use Rattle.binfarce_names.proofs.Complete.{path_complete}
 use Rattle.binfarce_names.proofs.ReadingTrees.{reads_one_tree}
@@ -34,6 +34,7 @@ earlier_place name at target after e = by (number name (at + 1)) e
         let same : ◌≡◌ {A = ℕ × ℕ} r (target, after) = cc in
         let value : r.0 ≡ target = ap (λ x. x.0) same in omega arith
     kept r false t h = cc
+
     by : (o : Option (ℕ × ℕ)) → (o >>= λ r. cond (nat_lt r.0 at) (Some r) None) ≡ Some (target, after) → target < at
     by None h = cc
     by (Some r) h = kept r (nat_lt r.0 at) refl h

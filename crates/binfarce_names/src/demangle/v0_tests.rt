@@ -122,7 +122,13 @@ fn push_times(text: &mut String, part: &str, times: usize) -> Result<(), AllocEr
 }
 
 // The complete text of a name is this one.
-fn check_text(rt: &impl Abort, alloc: Global, name: &str, text: &str, what: &str) -> Result<(), Fail> {
+fn check_text(
+    rt: &impl Abort,
+    alloc: Global,
+    name: &str,
+    text: &str,
+    what: &str,
+) -> Result<(), Fail> {
     let answer = SymbolName::demangle(alloc, name)?;
     assert_eq!(rt; answer.complete.as_str(), text, "{what}");
     Ok(())
@@ -167,7 +173,13 @@ fn keeps_500_levels(rt: HostRuntime) -> Result<(), Fail> {
 fn keeps_500_levels_of_the_reading(rt: HostRuntime) -> Result<(), Fail> {
     let alloc = rt.alloc();
     let name = in_slices(alloc, "_RMC0RL0_", 497, "u")?;
-    check_text(&rt, alloc, name.as_str(), "<&'? ?>", "a reading of 500 levels")?;
+    check_text(
+        &rt,
+        alloc,
+        name.as_str(),
+        "<&'? ?>",
+        "a reading of 500 levels",
+    )?;
     let past = in_slices(alloc, "_RMC0RL0_", 498, "u")?;
     check_unknown(&rt, alloc, past.as_str(), "a reading of 501 levels")
 }
@@ -176,7 +188,13 @@ fn keeps_500_levels_of_the_reading(rt: HostRuntime) -> Result<(), Fail> {
 fn keeps_500_levels_of_the_second_path(rt: HostRuntime) -> Result<(), Fail> {
     let alloc = rt.alloc();
     let name = in_slices(alloc, "_RC1aMC0", 498, "u")?;
-    check_text(&rt, alloc, name.as_str(), "a[0]", "a second path of 500 levels")?;
+    check_text(
+        &rt,
+        alloc,
+        name.as_str(),
+        "a[0]",
+        "a second path of 500 levels",
+    )?;
     let past = in_slices(alloc, "_RC1aMC0", 499, "u")?;
     check_unknown(&rt, alloc, past.as_str(), "a second path of 501 levels")
 }
@@ -194,7 +212,13 @@ fn counts_levels_in_targets(rt: HostRuntime) -> Result<(), Fail> {
     let second = slices_text(alloc, 496)?;
     let text = format!(in alloc; "<({first}, {second})>")?;
     let name = shared_slices(alloc, 196)?;
-    check_text(&rt, alloc, name.as_str(), text.as_str(), "500 levels by a back reference, 802 steps")?;
+    check_text(
+        &rt,
+        alloc,
+        name.as_str(),
+        text.as_str(),
+        "500 levels by a back reference, 802 steps",
+    )?;
     let past = shared_slices(alloc, 197)?;
     check_unknown(&rt, alloc, past.as_str(), "501 levels by a back reference")
 }
@@ -212,17 +236,48 @@ fn tuples_text(alloc: Global, tuples: usize) -> Result<String, AllocError> {
 fn counts_steps_in_targets(rt: HostRuntime) -> Result<(), Fail> {
     let alloc = rt.alloc();
     let six = tuples_text(alloc, 6)?;
-    check_text(&rt, alloc, "_RMC0TTTTTTpB8_EB7_EB6_EB5_EB4_EB3_E", six.as_str(), "six tuples, 192 steps")?;
+    check_text(
+        &rt,
+        alloc,
+        "_RMC0TTTTTTpB8_EB7_EB6_EB5_EB4_EB3_E",
+        six.as_str(),
+        "six tuples, 192 steps",
+    )?;
     let many = tuples_text(alloc, 14)?;
-    check_text(&rt, alloc, "_RMC0TTTTTTTTTTTTTTpBg_EBf_EBe_EBd_EBc_EBb_EBa_EB9_EB8_EB7_EB6_EB5_EB4_EB3_E", many.as_str(), "fourteen tuples, 49,152 steps")?;
-    check_unknown(&rt, alloc, "_RMC0TTTTTTTTTTTTTTTpBh_EBg_EBf_EBe_EBd_EBc_EBb_EBa_EB9_EB8_EB7_EB6_EB5_EB4_EB3_E", "fifteen tuples, 98,304 steps")
+    check_text(
+        &rt,
+        alloc,
+        "_RMC0TTTTTTTTTTTTTTpBg_EBf_EBe_EBd_EBc_EBb_EBa_EB9_EB8_EB7_EB6_EB5_EB4_EB3_E",
+        many.as_str(),
+        "fourteen tuples, 49,152 steps",
+    )?;
+    check_unknown(
+        &rt,
+        alloc,
+        "_RMC0TTTTTTTTTTTTTTTpBh_EBg_EBf_EBe_EBd_EBc_EBb_EBa_EB9_EB8_EB7_EB6_EB5_EB4_EB3_E",
+        "fifteen tuples, 98,304 steps",
+    )
 }
 
 #[test]
 fn counts_announced_lifetimes(rt: HostRuntime) -> Result<(), Fail> {
     let alloc = rt.alloc();
     let last = SymbolName::demangle(alloc, "_RMC0FGh2X_Eu")?;
-    assert!(rt; last.complete.as_str().ends_with("'_65532> fn()>"), "65,533 lifetimes, 65,536 steps");
-    check_text(&rt, alloc, "_RMIC1aFGh2V_EuEu", "<()>", "65,536 steps in a dropped impl path")?;
-    check_unknown(&rt, alloc, "_RMIC1aFGh2W_EuEu", "65,537 steps in a dropped impl path")
+    assert!(rt;
+        last.complete.as_str().ends_with("'_65532> fn()>"),
+        "65,533 lifetimes, 65,536 steps"
+    );
+    check_text(
+        &rt,
+        alloc,
+        "_RMIC1aFGh2V_EuEu",
+        "<()>",
+        "65,536 steps in a dropped impl path",
+    )?;
+    check_unknown(
+        &rt,
+        alloc,
+        "_RMIC1aFGh2W_EuEu",
+        "65,537 steps in a dropped impl path",
+    )
 }

@@ -1,7 +1,10 @@
 //! Laws of v0 names, which their definitions keep.
 
 ghost use Rattle.binfarce_names.specs.V0Laws.{
-    UnfoldsOneWay, ReadsOneWay, NamesAnEarlierPlace, KnowsNoLimit,
+  UnfoldsOneWay,
+  ReadsOneWay,
+  NamesAnEarlierPlace,
+  KnowsNoLimit,
 };
 
 /// A place unfolds to at most one tree.

@@ -137,4 +137,6 @@ fn has_one_answer(name: &str)
 #[cfg(test)]
 mod tests;
 #[cfg(test)]
+mod v0_real_tests;
+#[cfg(test)]
 mod v0_tests;

@@ -1,12 +1,12 @@
 -- Whatever the relation relates within the limits is what the printer reads, shown as the tree's text.
-use Rattle.std.proofs.Common.{◌≡◌, ℕ, zero, suc, ◌+◌, ◌-◌, ◌≤◌, ◌<◌, Bool, true, false, ◌&&◌, List, [], ◌++◌, Option, Some, None, cond, nat_le, max, min, if◌then◌else◌, refl, ap, sym, ◌∙◌, subst, arith}
+use Rattle.std.proofs.Common.{◌≡◌, ℕ, zero, suc, ◌+◌, ◌-◌, ◌≤◌, ◌<◌, Bool, true, false, ◌&&◌, List, [], Option, Some, None, nat_le, if◌then◌else◌, refl, ap, sym, ◌∙◌, arith}
 use Rattle.std.proofs.lemmas.Bool.Decides.{nat_tests}
 use Rattle.std.specs.Prelude.{codes}
-use Rattle.binfarce_names.specs.Identifier.{Identifier, Label, identifier_text}
-use Rattle.binfarce_names.specs.Forms.{Lifetime, NoLifetime, UnreadLifetime, IndexedLifetime, Signature, stands, behind, label_at, identifier_at, lifetime, path_form, type_form, const_form, PathForm, NoPathForm, CrateRoot, NestedIn, InherentImpl, TraitImpl, TraitDefinition, WithArguments, BackToPath, TypeForm, NoTypeForm, BasicType, ReferenceTo, UnreadReference, PointerTo, SliceOf, ArrayOf, TupleOf, FunctionOf, UnreadAbi, DynOf, UnreadDyn, BackToType, PathType, ConstForm, NoConstForm, PlaceholderConst, DigitsConst, UnreadConst, BackToConst}
-use Rattle.binfarce_names.specs.Tree.{PathTree, TypeTree, ConstTree, Item, Items, Bindings, NoConst, Placeholder, Number, UnreadNumber, BackConst, ConstPlace, NoPath, Crate, Nested, UnreadNested, OfType, OfImpl, OfTrait, Generic, BackPath, PathPlace, NoType, Basic, Reference, UnreadReferenceType, Pointer, Slice, Array, Tuple, Function, FunctionTo, UnreadFunction, Dyn, UnreadDynType, Named, BackType, TypePlace, LifetimeItem, TypeItem, ConstItem, TraitItem, NoItems, ItemThen, NoBindings, Binding, UnreadBinding, lifetime_steps, path_height, type_height, const_height, item_height, items_height, bindings_height, path_steps, type_steps, const_steps, item_steps, items_steps, bindings_steps, path_root, type_root, item_root, items_root, bindings_root, path_text, type_text, const_text, item_text, items_text, bindings_text, Position, InValue, InType, OpenTrait, parent_position, value_mark, closing, is_left_open, separator, single_mark, open_mark, close_mark, binder_text, signature_text, nested_text, number_text, disambiguator_text, reference_lifetime, argument_lifetime, dyn_lifetime, mutable_text}
-use Rattle.binfarce_names.specs.Unfolding.{Listed, Arguments, Types, Traits, bound_place, required_place, list_goes_on, IsConst, IsPath, IsType, IsItem, AreItems, AreBindings}
-use Rattle.binfarce_names.specs.machine.Printing.{State, Readers, say, go, faulted, stopped, take, entered, into, mute, unmute, unmuted, taking, entering, const_rule, const_item, type_item, lifetime_item, argument_rule, binding_then, binding_rule, bound_type, named_binding, bindings_rule, trait_item, trait_rule, item_rule, item_then, list_rule, items_behind, items_rule, items_from, type_then, type_as, array_rule, array_end, tuple_end, returned, function_end, function_rule, dyn_life, dyn_lifetime_rule, dyn_end, dyn_rule, reference_rule, unread_reference, unread_function, back_type, back_const, back_path, named_type, type_rule, nested_rule, named_tree, named_state, of_type_rule, of_type_end, of_impl_rule, as_trait, path_then, generic_rule, generic_end, path_rule, readers}
+use Rattle.binfarce_names.specs.Identifier.{identifier_text}
+use Rattle.binfarce_names.specs.Forms.{Lifetime, NoLifetime, stands, behind, lifetime, path_form, type_form, const_form, PathForm, NoPathForm, CrateRoot, NestedIn, InherentImpl, TraitImpl, TraitDefinition, WithArguments, BackToPath, TypeForm, NoTypeForm, BasicType, ReferenceTo, UnreadReference, PointerTo, SliceOf, ArrayOf, TupleOf, FunctionOf, UnreadAbi, DynOf, UnreadDyn, BackToType, PathType, ConstForm, NoConstForm, PlaceholderConst, DigitsConst, UnreadConst, BackToConst}
+use Rattle.binfarce_names.specs.Tree.{PathTree, TypeTree, ConstTree, Item, Items, Bindings, NoConst, Placeholder, Number, UnreadNumber, BackConst, ConstPlace, NoPath, Crate, Nested, UnreadNested, OfType, OfImpl, OfTrait, Generic, BackPath, PathPlace, NoType, Basic, Reference, UnreadReferenceType, Pointer, Slice, Array, Tuple, Function, FunctionTo, UnreadFunction, Dyn, UnreadDynType, Named, BackType, TypePlace, LifetimeItem, TypeItem, ConstItem, TraitItem, NoItems, ItemThen, NoBindings, Binding, UnreadBinding, lifetime_steps, path_height, type_height, const_height, item_height, items_height, bindings_height, path_steps, type_steps, const_steps, item_steps, items_steps, bindings_steps, path_root, type_root, item_root, items_root, bindings_root, path_text, type_text, const_text, item_text, items_text, bindings_text, Position, InType, OpenTrait, parent_position, value_mark, closing, is_left_open, separator, single_mark, open_mark, close_mark, binder_text, signature_text, nested_text, number_text, disambiguator_text, reference_lifetime, argument_lifetime, dyn_lifetime, mutable_text}
+use Rattle.binfarce_names.specs.Unfolding.{Listed, Arguments, Types, Traits, bound_place, required_place, IsConst, IsPath, IsType, IsItem, AreItems, AreBindings}
+use Rattle.binfarce_names.specs.machine.Printing.{State, say, go, stopped, take, entered, into, mute, unmute, unmuted, taking, const_rule, const_item, type_item, lifetime_item, argument_rule, binding_then, binding_rule, bound_type, named_binding, bindings_rule, trait_item, trait_rule, item_rule, item_then, list_rule, items_behind, items_rule, type_then, type_as, array_rule, array_end, tuple_end, returned, function_end, function_rule, dyn_life, dyn_lifetime_rule, dyn_end, dyn_rule, reference_rule, unread_reference, unread_function, back_type, back_const, back_path, named_type, type_rule, nested_rule, of_type_rule, of_type_end, of_impl_rule, as_trait, path_then, generic_rule, generic_end, path_rule, readers}
 use Rattle.binfarce_names.proofs.Sound.{lifetime_step}
 use Rattle.binfarce_names.proofs.Levels.{path_at, type_at, constant_at}
 use Rattle.binfarce_names.proofs.States.{shown, shown_leaf, shown_three, shown_crate, shown_steps, shown_steps_fault, shown_named, shown_back, shown_then, shown_behind, shown_between, shown_tuple, shown_reference, shown_function, shown_dyn, shown_array, shown_function_to, shown_of_type, shown_of_impl, shown_of_trait, shown_generic, shown_end, shown_items, shown_lifetime, shown_trait, shown_bindings_end, shown_bindings_fault, shown_binding}
@@ -122,6 +122,7 @@ item_steps_some name Traits (TraitItem p bindings) at depth after is = omega (ar
 
 mutual
   unfolding IsPath path_height path_steps path_root path_text path_rule type_rule item_rule items_rule bindings_rule
+
   pub path_complete : (t : PathTree) (name : List ℕ) (l : ℕ) (position : Position) (depth : ℕ) (s : State) (after : Option ℕ) → s.over ≡ false → IsPath name t s.at depth after → path_height t ≤ l → path_steps t ≤ s.room → (readers name l).path position depth s ≡ (t, shown (path_text s.full t position depth) (path_root t) (path_height t) (path_steps t) after l s)
   path_complete NoPath name l position depth s after o is h n =
       enter_path name l position depth s NoPathForm h n is.0 ∙ rw is.1 (at_tree _ _ _ (shown_leaf s l None (codes "?")))

@@ -1,12 +1,12 @@
 -- Where an ASCII text may be cut, and where a Punycode identifier is.
-use Rattle.std.proofs.Common.{◌≡◌, ℕ, ◌+◌, ◌-◌, ◌<◌, ◌≤◌, List, [], ◌∷◌, length, get_or, take, drop, Option, Some, None, Bool, true, false, not, cond, ◌==◌, slice_range, refl, ap, sym, ◌∙◌, subst, arith}
+use Rattle.std.proofs.Common.{◌≡◌, ℕ, ◌+◌, ◌-◌, ◌<◌, ◌≤◌, List, length, get_or, take, drop, Some, None, true, false, not, ◌==◌, slice_range, refl, subst, arith}
 use Rattle.std.specs.List.{suffix_len}
 use Rattle.std.specs.Str.{IsUtf8, IsCharBoundary}
 use Rattle.std.proofs.lemmas.Grind.{common_steps}
 use Rattle.std.proofs.lemmas.Bool.Decides.{nat_tests}
 use Rattle.std.proofs.lemmas.List.Sums.{suffix_len-le-length}
 use Rattle.std.proofs.lemmas.Str.{IsCharBoundary-after_ascii, IsCharBoundary-from_ascii, IsAscii-take, IsAscii-drop}
-use Rattle.binfarce_names.specs.Identifier.{Identifier, identifier_of, is_empty}
+use Rattle.binfarce_names.specs.Identifier.{identifier_of, is_empty}
 
 -- a text may be cut behind an "R"
 pub behind_letter : (text : List ℕ) (n : ℕ) → IsUtf8 text → 0 < n → n ≤ length text → get_or text (n - 1) 0 ≡ 82 → IsCharBoundary text n

@@ -1,9 +1,9 @@
 -- What a reader of some levels does.
-use Rattle.std.proofs.Common.{◌≡◌, ℕ, zero, suc, ◌+◌, ◌-◌, ◌≤◌, ◌<◌, Bool, true, false, List, cond, nat_le, if◌then◌else◌, ◌&&◌, refl, ap, sym, ◌∙◌, arith}
+use Rattle.std.proofs.Common.{◌≡◌, ℕ, zero, suc, ◌-◌, true, List, nat_le, if◌then◌else◌, ◌&&◌, refl, arith}
 use Rattle.std.proofs.lemmas.Bool.Decides.{nat_tests}
 use Rattle.binfarce_names.specs.Forms.{path_form, type_form, const_form}
-use Rattle.binfarce_names.specs.Tree.{Position, PathTree, TypeTree, ConstTree, NoPath, NoType, NoConst}
-use Rattle.binfarce_names.specs.machine.Printing.{State, Readers, readers, path_rule, type_rule, const_rule, entered, stopped}
+use Rattle.binfarce_names.specs.Tree.{Position, NoPath, NoType, NoConst}
+use Rattle.binfarce_names.specs.machine.Printing.{State, readers, path_rule, type_rule, const_rule, entered, stopped}
 
 one_le_suc : (l : ℕ) → nat_le 1 (suc l) ≡ true
 one_le_suc l = grind (arith, nat_tests)

@@ -14,9 +14,11 @@ mod PunycodeLemmas
 pub mod ReadingComplete
 pub mod ReadingLists
 pub mod ReadingSound
+pub mod ReadingTrees
 pub mod Says
 pub mod Sound
 pub mod SoundForms
 pub mod States
 pub mod TextLemmas
 pub mod Texts
+pub mod V0LawLemmas

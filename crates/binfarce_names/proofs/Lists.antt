@@ -1,8 +1,8 @@
 -- One more item of a list.
-use Rattle.std.proofs.Common.{◌≡◌, ℕ, zero, suc, ◌+◌, ◌-◌, ◌<◌, ◌≤◌, Bool, true, false, List, ◌==◌, if◌then◌else◌, refl, arith}
+use Rattle.std.proofs.Common.{◌≡◌, ℕ, zero, suc, ◌-◌, ◌<◌, Bool, true, false, List, ◌==◌, if◌then◌else◌, refl, arith}
 use Rattle.std.specs.Prelude.{codes, []}
 use Rattle.binfarce_names.specs.Forms.{stands}
-use Rattle.binfarce_names.specs.Tree.{Items, NoItems, ItemThen, Bindings, NoBindings, single_mark, separator}
+use Rattle.binfarce_names.specs.Tree.{Items, NoItems, ItemThen, NoBindings, single_mark, separator}
 use Rattle.binfarce_names.specs.Unfolding.{Listed, list_goes_on}
 use Rattle.binfarce_names.specs.machine.Printing.{State, Readers, items_rule, list_rule, items_count, bindings_rule, binding_rule, stopped, say, item_rule}
 use Rattle.std.proofs.lemmas.Bool.Decides.{nat_tests}

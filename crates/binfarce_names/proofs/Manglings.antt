@@ -1,20 +1,15 @@
 -- What the reading and the printer do with a whole name.
-use Rattle.std.proofs.Common.{◌≡◌, ℕ, zero, suc, ◌+◌, ◌-◌, ◌≤◌, ◌<◌, Bool, true, false, List, [], ◌++◌, Option, Some, None, cond, refl, ap, sym, ◌∙◌, subst, arith}
-use Rattle.std.specs.Str.{IsAscii}
+use Rattle.std.proofs.Common.{◌≡◌, ℕ, ◌≤◌, Bool, true, false, List, Option, Some, None, cond, refl, ap, sym, ◌∙◌, subst, arith}
 use Rattle.std.specs.Option.{option_map}
 use Rattle.binfarce_names.specs.Identifier.{Identifier, identifier_text}
-use Rattle.binfarce_names.specs.Tree.{PathTree, path_height, path_steps, path_text, path_root, name_text, InValue}
-use Rattle.binfarce_names.specs.Unfolding.{UnfoldsTo, IsPath}
-use Rattle.binfarce_names.specs.Reading.{ReadsPath}
+use Rattle.binfarce_names.specs.Tree.{PathTree, path_steps, name_text, InValue}
+use Rattle.binfarce_names.specs.Unfolding.{UnfoldsTo}
 use Rattle.binfarce_names.specs.Mangling.{is_upper_at, PathStands, SecondPath, ReadsPaths, IsMangling, behind_prefix, Tells, TextsTell}
 use Rattle.binfarce_names.specs.machine.Printing.{State, readers, first_state}
 use Rattle.binfarce_names.specs.machine.Places.{places, paths_place}
-use Rattle.binfarce_names.specs.Base62.{◌>>=◌}
 use Rattle.std.specs.Prelude.{MatchOption}
-use Rattle.binfarce_names.proofs.Sound.{Sound}
 use Rattle.binfarce_names.proofs.SoundForms.{readers_sound}
 use Rattle.binfarce_names.proofs.Complete.{path_complete}
-use Rattle.binfarce_names.proofs.States.{shown}
 use Rattle.binfarce_names.proofs.ReadingSound.{places_read, between}
 use Rattle.binfarce_names.proofs.ReadingComplete.{path_placed}
 

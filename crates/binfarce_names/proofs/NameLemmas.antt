@@ -1,14 +1,13 @@
 -- The answer of a v0 name.
-use Rattle.std.proofs.Common.{◌≡◌, ℕ, List, Option, Some, None, Result, Ok, Err, Bool, true, false, drop, inl, inr, refl, ap, sym, ◌∙◌, subst}
+use Rattle.std.proofs.Common.{◌≡◌, ℕ, List, Option, Some, Result, Ok, Err, true, false, drop, inl, inr, sym, ◌∙◌, subst}
 use Rattle.std.specs.Prelude.{IfOk}
-use Rattle.binfarce_names.specs.declared.demangle.Kind.TheVariants.{Unknown, Legacy, V0}
+use Rattle.binfarce_names.specs.declared.demangle.Kind.TheVariants.{Unknown, V0}
 use Rattle.binfarce_names.specs.Endings.{without_llvm, is_allowed_rest}
 use Rattle.binfarce_names.specs.Mangling.{IsMangling, ReadsPaths}
 use Rattle.binfarce_names.specs.Name.{Name, Mangled}
-use Rattle.binfarce_names.specs.Named.{IsV0, IsMangled, IsNamed, IsNotLegacy, unknown}
+use Rattle.binfarce_names.specs.Named.{IsV0, IsMangled, IsNamed, unknown}
 use Rattle.binfarce_names.specs.Tree.{PathTree}
 use Rattle.binfarce_names.specs.Unfolding.{UnfoldsTo}
-use Rattle.binfarce_names.specs.machine.Places.{paths_place}
 use Rattle.binfarce_names.proofs.Manglings.{read_paths_at, unfolds_once}
 use Rattle.binfarce_names.proofs.TextLemmas.{some_same}
 

@@ -1,5 +1,5 @@
 -- One more byte of a number, and numbers that are too large.
-use Rattle.std.proofs.Common.{◌≡◌, ℕ, zero, suc, ◌+◌, ◌*◌, ◌-◌, ◌^◌, ◌<◌, ◌≤◌, List, [], ◌∷◌, length, get_or, drop, Option, Some, None, Bool, true, false, cond, eqb, nat_lt, if◌then◌else◌, ◌==◌, refl, ap, sym, ◌∙◌, arith}
+use Rattle.std.proofs.Common.{◌≡◌, ℕ, ◌+◌, ◌*◌, ◌-◌, ◌^◌, ◌<◌, ◌≤◌, List, [], ◌∷◌, length, get_or, drop, Option, Some, None, Bool, true, false, cond, eqb, if◌then◌else◌, ◌==◌, refl, ◌∙◌, arith}
 use Rattle.std.specs.Option.{option_map}
 use Rattle.std.specs.Int.{is_in_range}
 use Rattle.std.proofs.lemmas.List.{at_drop_more}
@@ -32,6 +32,7 @@ length_from_step s at worth h = at_drop_more (λ l. length_from l worth at) s at
   where
     rest : ℕ × ℕ
     rest = decimal_from (drop (at + 1) s) (worth * 10 + (get_or s at 0 - 48)) (at + 1)
+
     split : (b : Bool) → limited (cond b rest (worth, at)).0 (cond b rest (worth, at)).1 ≡ cond b (limited rest.0 rest.1) (limited worth at)
     split true = refl
     split false = refl

@@ -1,16 +1,16 @@
 -- Whatever the relation relates within the levels is read.
-use Rattle.std.proofs.Common.{◌≡◌, ℕ, zero, suc, ◌+◌, ◌-◌, ◌≤◌, ◌<◌, Bool, true, false, List, Option, Some, None, cond, nat_lt, max, if◌then◌else◌, length, get_or, refl, ap, sym, ◌∙◌, subst, arith}
+use Rattle.std.proofs.Common.{◌≡◌, ℕ, zero, suc, ◌+◌, ◌-◌, ◌≤◌, ◌<◌, Bool, true, false, List, Option, Some, None, nat_lt, if◌then◌else◌, length, refl, ap, sym, ◌∙◌, arith}
 use Rattle.std.proofs.lemmas.Bool.Decides.{nat_tests}
 use Rattle.std.proofs.lemmas.List.{get_or_past}
 use Rattle.binfarce_names.specs.Base62.{◌>>=◌}
-use Rattle.binfarce_names.specs.Identifier.{Identifier, Label, label, identifier}
-use Rattle.binfarce_names.specs.Forms.{Lifetime, Signature, stands, lifetime, path_form, type_form, const_form, PathForm, CrateRoot, NestedIn, InherentImpl, TraitImpl, TraitDefinition, WithArguments, BackToPath, TypeForm, BasicType, ReferenceTo, PointerTo, SliceOf, ArrayOf, TupleOf, FunctionOf, DynOf, BackToType, PathType, ConstForm, PlaceholderConst, DigitsConst, BackToConst}
+use Rattle.binfarce_names.specs.Identifier.{label}
+use Rattle.binfarce_names.specs.Forms.{stands, path_form, type_form, const_form}
 use Rattle.binfarce_names.specs.Tree.{PathTree, TypeTree, ConstTree, Item, Items, Bindings, NoConst, Placeholder, Number, UnreadNumber, BackConst, ConstPlace, NoPath, Crate, Nested, UnreadNested, OfType, OfImpl, OfTrait, Generic, BackPath, PathPlace, NoType, Basic, Reference, UnreadReferenceType, Pointer, Slice, Array, Tuple, Function, FunctionTo, UnreadFunction, Dyn, UnreadDynType, Named, BackType, TypePlace, LifetimeItem, TypeItem, ConstItem, TraitItem, NoItems, ItemThen, NoBindings, Binding, UnreadBinding, path_height, type_height, const_height, item_height, items_height, bindings_height}
 use Rattle.binfarce_names.specs.Unfolding.{Listed, Arguments, Types, Traits}
 use Rattle.binfarce_names.specs.Reading.{ReadsConst, ReadsPath, ReadsType, ReadsItem, ReadsItems, ReadsBindings}
-use Rattle.binfarce_names.specs.machine.Places.{Places, onward, const_place, label_place, lifetime_place, bound_from, bindings_place, argument_place, item_place, items_place, list_place, return_place, type_place, path_place, places}
+use Rattle.binfarce_names.specs.machine.Places.{onward, const_place, label_place, bound_from, bindings_place, item_place, items_place, type_place, path_place, places}
 
-suc-one : (l : ℕ) → suc l - 1 ≡ l
+pub suc-one : (l : ℕ) → suc l - 1 ≡ l
 suc-one l = omega arith
 
 pub path_place_at : (name : List ℕ) (l at : ℕ) → 1 ≤ l → (places name l).path at ≡ path_place name (places name (l - 1)) (path_form name (Some at))
@@ -44,16 +44,16 @@ onward_is : (at mid : ℕ) → at < mid → onward at mid ≡ Some mid
 onward_is at mid h = let e : nat_lt at mid ≡ true = grind (arith, nat_tests) in rw e refl
 
 -- a byte that stands at a place is one of the name
-within : (name : List ℕ) (byte at : ℕ) → stands name (suc byte) (Some at) ≡ true → at < length name
+pub within : (name : List ℕ) (byte at : ℕ) → stands name (suc byte) (Some at) ≡ true → at < length name
 within name byte at e = grind (arith, nat_tests, get_or_past)
 
-if_so : {T : Type 0} (b : Bool) (x y : T) → b ≡ true → (if b then x else y) ≡ x
+pub if_so : {T : Type 0} (b : Bool) (x y : T) → b ≡ true → (if b then x else y) ≡ x
 if_so b x y e = rw e refl
 
-if_not : {T : Type 0} (b : Bool) (x y : T) → b ≡ false → (if b then x else y) ≡ y
+pub if_not : {T : Type 0} (b : Bool) (x y : T) → b ≡ false → (if b then x else y) ≡ y
 if_not b x y e = rw e refl
 
-then_is : {A : Type 0} (o : Option A) (f : A → Option ℕ) (a : A) → o ≡ Some a → (o >>= f) ≡ f a
+pub then_is : {A : Type 0} (o : Option A) (f : A → Option ℕ) (a : A) → o ≡ Some a → (o >>= f) ≡ f a
 then_is o f a e = rw e refl
 
 pub const_placed : (c : ConstTree) (name : List ℕ) (l at after : ℕ) → ReadsConst name c at after → const_height c ≤ l → (places name l).constant at ≡ Some after
@@ -66,7 +66,7 @@ const_placed (BackConst c) name l at after r h = absurd r
 const_placed (ConstPlace place) name l at after r h = const_place_at name l at h ∙ ap const_place r
 
 -- a list begins within the name
-items_within : (items : Items) (name : List ℕ) (listed : Listed) (at after : ℕ) → ReadsItems name listed items at after → at < length name
+pub items_within : (items : Items) (name : List ℕ) (listed : Listed) (at after : ℕ) → ReadsItems name listed items at after → at < length name
 unfolding ReadsItems
 items_within NoItems name listed at after r = within name 68 at r.0
 items_within (ItemThen i items) name listed at after r =
@@ -74,6 +74,7 @@ items_within (ItemThen i items) name listed at after r =
 
 mutual
   unfolding ReadsPath path_height path_place type_place item_place items_place bindings_place
+
   pub path_placed : (t : PathTree) (name : List ℕ) (l at after : ℕ) → ReadsPath name t at after → path_height t ≤ l → (places name l).path at ≡ Some after
   path_placed NoPath name l at after r h = absurd r
   path_placed (Crate root) name l at after r h = path_place_at name l at h ∙ ap (path_place name (places name (l - 1))) r

@@ -1,5 +1,5 @@
 -- One more item of a list that is read.
-use Rattle.std.proofs.Common.{◌≡◌, ℕ, zero, suc, ◌+◌, ◌-◌, ◌<◌, true, false, List, Option, Some, None, if◌then◌else◌, refl, arith}
+use Rattle.std.proofs.Common.{◌≡◌, ℕ, zero, suc, ◌+◌, ◌-◌, ◌<◌, true, false, List, Some, None, if◌then◌else◌, refl, arith}
 use Rattle.binfarce_names.specs.Base62.{◌>>=◌}
 use Rattle.binfarce_names.specs.Identifier.{Identifier, identifier}
 use Rattle.binfarce_names.specs.Forms.{stands}

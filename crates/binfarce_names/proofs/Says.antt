@@ -1,5 +1,5 @@
 -- Texts that are said one after the other.
-use Rattle.std.proofs.Common.{◌≡◌, ℕ, List, [], ◌++◌, Bool, true, false, refl, sym, ap, append_assoc}
+use Rattle.std.proofs.Common.{◌≡◌, ℕ, List, ◌++◌, Bool, true, false, refl, ap, append_assoc}
 use Rattle.binfarce_names.specs.machine.Printing.{State, say, heard}
 
 heard-append : (muted : Bool) (a b : List ℕ) → heard muted (a ++ b) ≡ heard muted a ++ heard muted b

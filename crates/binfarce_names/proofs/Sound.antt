@@ -1,13 +1,12 @@
 -- Whatever the printer reads within its limits is a tree of the relation, of that height, with exactly those steps.
-use Rattle.std.proofs.Common.{◌≡◌, ℕ, zero, suc, ◌+◌, ◌-◌, ◌≤◌, ◌<◌, Bool, true, false, List, Option, Some, None, cond, nat_le, max, if◌then◌else◌, refl, ap, sym, ◌∙◌, arith}
+use Rattle.std.proofs.Common.{◌≡◌, ℕ, zero, suc, ◌+◌, ◌≤◌, Bool, true, false, List, Option, Some, None, cond, nat_le, if◌then◌else◌, refl, arith}
 use Rattle.std.proofs.lemmas.Bool.Decides.{nat_tests}
-use Rattle.binfarce_names.specs.Identifier.{Identifier, Label}
-use Rattle.binfarce_names.specs.Forms.{Lifetime, NoLifetime, UnreadLifetime, IndexedLifetime, Signature, stands, behind, label_at, identifier_at, lifetime, indexed_lifetime, path_form, type_form, const_form, PathForm, NoPathForm, CrateRoot, NestedIn, InherentImpl, TraitImpl, TraitDefinition, WithArguments, BackToPath, TypeForm, NoTypeForm, BasicType, ReferenceTo, UnreadReference, PointerTo, SliceOf, ArrayOf, TupleOf, FunctionOf, UnreadAbi, DynOf, UnreadDyn, BackToType, PathType, ConstForm, NoConstForm, PlaceholderConst, DigitsConst, UnreadConst, BackToConst}
+use Rattle.binfarce_names.specs.Identifier.{Identifier}
+use Rattle.binfarce_names.specs.Forms.{NoLifetime, stands, behind, identifier_at, lifetime, indexed_lifetime, const_form, ConstForm, NoConstForm, PlaceholderConst, DigitsConst, UnreadConst, BackToConst}
 use Rattle.binfarce_names.specs.Base62.{number}
-use Rattle.binfarce_names.specs.Tree.{PathTree, TypeTree, ConstTree, Item, Items, Bindings, NoType, LifetimeItem, lifetime_steps, path_height, type_height, const_height, item_height, items_height, bindings_height, path_steps, type_steps, const_steps, item_steps, items_steps, bindings_steps, Position, InType, OpenTrait, parent_position, is_left_open, binder_text, separator, signature_text}
-use Rattle.binfarce_names.specs.Unfolding.{Listed, Arguments, Types, Traits, bound_place, required_place, list_goes_on, IsConst, IsPath, IsType, IsItem, AreItems, AreBindings}
-use Rattle.binfarce_names.specs.machine.Printing.{State, Readers, say, go, faulted, stopped, take, entered, into, mute, taking, const_rule, lifetime_item, argument_rule, binding_rule, named_binding, bindings_rule, trait_rule, item_rule, list_rule, items_rule, items_from, items_behind, named_tree, named_state, returned, function_rule, dyn_life, dyn_lifetime_rule, dyn_rule, reference_rule, unread_reference, unread_function, type_rule, path_rule, readers}
-use Rattle.std.specs.Prelude.{codes}
+use Rattle.binfarce_names.specs.Tree.{PathTree, TypeTree, ConstTree, Item, Items, Bindings, LifetimeItem, lifetime_steps, path_height, type_height, const_height, item_height, items_height, bindings_height, path_steps, type_steps, const_steps, item_steps, items_steps, bindings_steps, Position, OpenTrait, separator}
+use Rattle.binfarce_names.specs.Unfolding.{Listed, Arguments, Types, Traits, list_goes_on, IsConst, IsPath, IsType, IsItem, AreItems, AreBindings}
+use Rattle.binfarce_names.specs.machine.Printing.{State, Readers, say, go, stopped, take, into, taking, const_rule, lifetime_item, argument_rule, binding_rule, named_binding, bindings_rule, item_rule, list_rule, items_rule}
 
 pub record ConstFound (name : List ℕ) (left room : ℕ) (at : Option ℕ) (over : Bool) (r : ConstTree × State) : Type 0 where
   pub is : IsConst name r.0 at r.1.at

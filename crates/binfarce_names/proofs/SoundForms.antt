@@ -1,12 +1,12 @@
 -- Types and paths that the printer reads are trees of the relation, and so is what its readers of any number of levels read.
-use Rattle.std.proofs.Common.{◌≡◌, ℕ, zero, suc, ◌+◌, ◌-◌, ◌≤◌, ◌<◌, Bool, true, false, List, [], Option, Some, None, cond, nat_le, max, if◌then◌else◌, refl, ap, sym, ◌∙◌, subst, arith}
+use Rattle.std.proofs.Common.{◌≡◌, ℕ, zero, suc, ◌+◌, ◌-◌, ◌≤◌, Bool, true, false, List, Option, Some, None, cond, nat_le, refl, subst, arith}
 use Rattle.std.proofs.lemmas.Bool.Decides.{nat_tests}
 use Rattle.std.specs.Prelude.{codes}
-use Rattle.binfarce_names.specs.Identifier.{Identifier, Label}
-use Rattle.binfarce_names.specs.Forms.{Lifetime, NoLifetime, UnreadLifetime, IndexedLifetime, Signature, stands, behind, label_at, identifier_at, lifetime, path_form, type_form, const_form, PathForm, NoPathForm, CrateRoot, NestedIn, InherentImpl, TraitImpl, TraitDefinition, WithArguments, BackToPath, TypeForm, NoTypeForm, BasicType, ReferenceTo, UnreadReference, PointerTo, SliceOf, ArrayOf, TupleOf, FunctionOf, UnreadAbi, DynOf, UnreadDyn, BackToType, PathType}
-use Rattle.binfarce_names.specs.Tree.{PathTree, TypeTree, ConstTree, Items, NoPath, NoType, NoConst, lifetime_steps, path_height, type_height, const_height, items_height, path_steps, type_steps, const_steps, items_steps, Position, InType, OpenTrait, parent_position, value_mark, closing, mutable_text}
-use Rattle.binfarce_names.specs.Unfolding.{Listed, Arguments, Types, Traits, bound_place, required_place, IsConst, IsPath, IsType, AreItems}
-use Rattle.binfarce_names.specs.machine.Printing.{State, Readers, say, go, stopped, take, entered, into, mute, entering, items_from, named_tree, named_state, returned, function_end, function_rule, dyn_life, dyn_lifetime_rule, dyn_end, dyn_rule, reference_rule, unread_reference, unread_function, type_rule, path_rule, const_rule, readers}
+use Rattle.binfarce_names.specs.Identifier.{Label}
+use Rattle.binfarce_names.specs.Forms.{Lifetime, Signature, stands, label_at, lifetime, path_form, type_form, const_form, PathForm, NoPathForm, CrateRoot, NestedIn, InherentImpl, TraitImpl, TraitDefinition, WithArguments, BackToPath, TypeForm, NoTypeForm, BasicType, ReferenceTo, UnreadReference, PointerTo, SliceOf, ArrayOf, TupleOf, FunctionOf, UnreadAbi, DynOf, UnreadDyn, BackToType, PathType}
+use Rattle.binfarce_names.specs.Tree.{PathTree, Items, NoPath, NoType, NoConst, lifetime_steps, path_height, type_height, path_steps, type_steps, Position, InType, parent_position}
+use Rattle.binfarce_names.specs.Unfolding.{Arguments, Types, Traits, IsPath, IsType}
+use Rattle.binfarce_names.specs.machine.Printing.{State, Readers, say, go, stopped, take, entered, into, mute, entering, named_tree, named_state, returned, function_rule, dyn_lifetime_rule, dyn_end, dyn_rule, reference_rule, unread_reference, unread_function, type_rule, path_rule, const_rule, readers}
 use Rattle.binfarce_names.proofs.Sound.{Sound, PathFound, TypeFound, ConstFound, ItemsFound, taken, true_not_false, back_place, const_sound, items_sound}
 
 returned_sound : (name : List ℕ) (left : ℕ) (R : Readers) → Sound name left R → (depth room : ℕ) (at : Option ℕ) (signature : Signature) (q : ℕ) (r : Items × State) (over : Bool) (b : Bool) → type_form name at ≡ FunctionOf signature q → stands name 117 r.1.at ≡ b → (r.1.over ≡ false → ItemsFound name Types (depth + signature.binder) left (room - signature.binder) (Some q) over r) → signature.binder ≤ room → (returned name R (depth + signature.binder) signature r.0 (say (codes ")") r.1) b).1.over ≡ false → TypeFound name depth (suc left) (suc room) at over (returned name R (depth + signature.binder) signature r.0 (say (codes ")") r.1) b)

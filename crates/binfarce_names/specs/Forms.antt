@@ -1,7 +1,6 @@
 -- Which form of the grammar stands at a place of a v0 name: the front of each row, up to where it asks for a path, a type or a const
 -- (RFC 2603, "Syntax of mangled names"). A place is None behind a fault, where no form stands.
-use Rattle.std.specs.Prelude.{ℕ, ◌+◌, List, [], ◌∷◌, Option, Some, None, Bool, true, false, ◌&&◌, ◌||◌, if◌then◌else◌, ◌==◌, nat_lt, slice_index, length, codes}
-use Rattle.std.specs.Option.{option_map_or}
+use Rattle.std.specs.Prelude.{ℕ, ◌+◌, List, [], ◌∷◌, Option, Some, None, Bool, true, false, ◌||◌, if◌then◌else◌, ◌==◌, nat_lt, slice_index, length, codes}
 use Rattle.std.specs.Int.{is_in_range}
 use Rattle.binfarce_names.specs.Base62.{◌>>=◌, number, tagged, back_reference, hex_digits}
 use Rattle.binfarce_names.specs.Identifier.{Identifier, identifier, Label, label, past}

@@ -1,5 +1,5 @@
 -- Identifiers of a v0 name (RFC 2603, "Identifiers" and "Punycode identifiers").
-use Rattle.std.specs.Prelude.{ℕ, ◌+◌, ◌-◌, ◌*◌, List, [], ◌∷◌, ◌++◌, Option, Some, None, Bool, true, false, not, ◌&&◌, if◌then◌else◌, ◌==◌, nat_le, slice_index, slice_range, drop, length, codes, encode_utf8_all}
+use Rattle.std.specs.Prelude.{ℕ, ◌+◌, ◌-◌, ◌*◌, List, [], ◌∷◌, ◌++◌, Option, Some, None, Bool, true, false, ◌&&◌, if◌then◌else◌, ◌==◌, nat_le, slice_index, slice_range, drop, length, codes, encode_utf8_all}
 use Rattle.std.specs.List.{before_last, after_last}
 use Rattle.std.specs.Int.{is_in_range}
 use Rattle.binfarce_names.specs.Base62.{◌>>=◌, limited, tagged}

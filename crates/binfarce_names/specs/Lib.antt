@@ -11,4 +11,5 @@ pub mod PunycodeText
 pub mod Reading
 pub mod Tree
 pub mod Unfolding
+pub mod V0Laws
 pub mod machine

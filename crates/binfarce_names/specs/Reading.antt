@@ -1,9 +1,9 @@
 -- Reading a v0 name by the grammar alone (RFC 2603, "Symbol grammar summary"): a place reads to a tree up to the place behind it.
 -- A back reference is a leaf that names an earlier place; what stands there isn't looked at, nor is it looked at what a lifetime's index means.
-use Rattle.std.specs.Prelude.{◌≡◌, ℕ, ◌+◌, ◌<◌, List, Option, Some, None, Bool, true, false}
-use Rattle.binfarce_names.specs.Identifier.{Identifier, Label, label, identifier}
-use Rattle.binfarce_names.specs.Forms.{Lifetime, NoLifetime, UnreadLifetime, IndexedLifetime, Signature, stands, lifetime, path_form, type_form, const_form, NoPathForm, CrateRoot, NestedIn, InherentImpl, TraitImpl, TraitDefinition, WithArguments, BackToPath, NoTypeForm, BasicType, ReferenceTo, UnreadReference, PointerTo, SliceOf, ArrayOf, TupleOf, FunctionOf, UnreadAbi, DynOf, UnreadDyn, BackToType, PathType, NoConstForm, PlaceholderConst, DigitsConst, UnreadConst, BackToConst}
-use Rattle.binfarce_names.specs.Tree.{PathTree, TypeTree, ConstTree, Item, Items, Bindings, NoConst, Placeholder, Number, UnreadNumber, BackConst, ConstPlace, NoPath, Crate, Nested, UnreadNested, OfType, OfImpl, OfTrait, Generic, BackPath, PathPlace, NoType, Basic, Reference, UnreadReferenceType, Pointer, Slice, Array, Tuple, Function, FunctionTo, UnreadFunction, Dyn, UnreadDynType, Named, BackType, TypePlace, LifetimeItem, TypeItem, ConstItem, TraitItem, NoItems, ItemThen, NoBindings, Binding, UnreadBinding}
+use Rattle.std.specs.Prelude.{◌≡◌, ℕ, ◌+◌, ◌<◌, List, Some, true, false}
+use Rattle.binfarce_names.specs.Identifier.{label, identifier}
+use Rattle.binfarce_names.specs.Forms.{stands, lifetime, path_form, type_form, const_form, CrateRoot, NestedIn, InherentImpl, TraitImpl, TraitDefinition, WithArguments, BackToPath, BasicType, ReferenceTo, PointerTo, SliceOf, ArrayOf, TupleOf, FunctionOf, DynOf, BackToType, PathType, PlaceholderConst, DigitsConst, BackToConst}
+use Rattle.binfarce_names.specs.Tree.{PathTree, TypeTree, ConstTree, Item, Items, Bindings, Placeholder, Number, ConstPlace, Crate, Nested, OfType, OfImpl, OfTrait, Generic, PathPlace, Basic, Reference, Pointer, Slice, Array, Tuple, Function, FunctionTo, Dyn, Named, TypePlace, LifetimeItem, TypeItem, ConstItem, TraitItem, NoItems, ItemThen, NoBindings, Binding, UnreadBinding}
 use Rattle.binfarce_names.specs.Unfolding.{Listed, Arguments, Types, Traits}
 
 unfoldable pub ReadsConst : List ℕ → ConstTree → ℕ → ℕ → Type 0

@@ -5,9 +5,8 @@ ghost use Rattle.binfarce_names.specs.Name.{mangled_seen, name_seen};
 ghost use Rattle.binfarce_names.specs.Named.{HasOneAnswer, IsMangled, unknown};
 
 use crate::endings::without_llvm;
-use crate::legacy;
-use crate::v0;
 use crate::v0::Texts;
+use crate::{legacy, v0};
 use std::alloc::{AllocError, Global};
 
 /// How a name was mangled.
@@ -137,3 +136,7 @@ fn has_one_answer(name: &str)
 
 #[cfg(test)]
 mod tests;
+#[cfg(test)]
+mod v0_real_tests;
+#[cfg(test)]
+mod v0_tests;

@@ -1,6 +1,7 @@
 //! Rust's v0 mangling (RFC 2603): reading a name by the grammar, and printing what it means.
 
 mod forms;
+mod laws;
 mod leaves;
 mod mangling;
 mod numbers;

@@ -1,5 +1,5 @@
 -- The reading, step by step: from a place to the place behind what the grammar reads there, with some levels left.
-use Rattle.std.specs.Prelude.{ℕ, zero, suc, ◌+◌, List, Option, Some, None, Bool, true, false, if◌then◌else◌, nat_lt, length}
+use Rattle.std.specs.Prelude.{ℕ, zero, suc, ◌+◌, List, Option, Some, None, if◌then◌else◌, nat_lt, length}
 use Rattle.binfarce_names.specs.Base62.{◌>>=◌}
 use Rattle.binfarce_names.specs.Identifier.{Identifier, Label, label, identifier}
 use Rattle.binfarce_names.specs.Forms.{stands, lifetime, path_form, type_form, const_form, PathForm, NoPathForm, CrateRoot, NestedIn, InherentImpl, TraitImpl, TraitDefinition, WithArguments, BackToPath, TypeForm, NoTypeForm, BasicType, ReferenceTo, UnreadReference, PointerTo, SliceOf, ArrayOf, TupleOf, FunctionOf, UnreadAbi, DynOf, UnreadDyn, BackToType, PathType, ConstForm, NoConstForm, PlaceholderConst, DigitsConst, UnreadConst, BackToConst}

@@ -1,7 +1,5 @@
 -- What clauses see of the forms that the code reads: texts as their bytes.
-use Rattle.std.specs.Prelude.{ℕ, List, Option, Some, None}
 use Rattle.std.specs.Option.{option_map}
-use Rattle.std.specs.Borrow.{Bor}
 use Rattle.binfarce_names.specs.Identifier
 use Rattle.binfarce_names.specs.Identifier.{Label}
 use Rattle.binfarce_names.specs.Forms.{Signature, NoLifetime, UnreadLifetime, IndexedLifetime, NoPathForm, NestedIn, InherentImpl, TraitImpl, TraitDefinition, WithArguments, BackToPath, NoTypeForm, BasicType, ReferenceTo, UnreadReference, PointerTo, SliceOf, ArrayOf, TupleOf, FunctionOf, UnreadAbi, DynOf, UnreadDyn, BackToType, PathType, NoConstForm, PlaceholderConst, DigitsConst, UnreadConst, BackToConst}

@@ -6,15 +6,33 @@ ghost use Rattle.std.specs.Str.{IsAscii};
 ghost use Rattle.std.specs.List.{suffix_len};
 ghost use Rattle.binfarce_names.specs.Base62.{hex_digits};
 ghost use Rattle.binfarce_names.specs.Identifier.{
-    identifier_of, identifier_bytes, identifier, label,
+  identifier_of,
+  identifier_bytes,
+  identifier,
+  label,
 };
 ghost use Rattle.binfarce_names.specs.Forms.{
-    nested_form, path_form_by, path_form, lifetime, basic_type, abi, function_form,
-    reference_form, type_form_by, type_form, unsigned_type, typed_form,
-    const_form,
+  nested_form,
+  path_form_by,
+  path_form,
+  lifetime,
+  basic_type,
+  abi,
+  function_form,
+  reference_form,
+  type_form_by,
+  type_form,
+  unsigned_type,
+  typed_form,
+  const_form,
 };
 ghost use Rattle.binfarce_names.specs.machine.Seen.{
-    identifier_seen, label_seen, path_seen, lifetime_seen, type_seen, const_seen,
+  identifier_seen,
+  label_seen,
+  path_seen,
+  lifetime_seen,
+  type_seen,
+  const_seen,
 };
 
 use crate::v0::forms::{ConstForm, Identifier, Label, Lifetime, PathForm, Signature, TypeForm};
@@ -67,7 +85,12 @@ fn identifier_of<'a>(is_punycode: bool, text: &'a str) -> Option<Identifier<'a>>
 
 // As many bytes of a name as an identifier's length says.
 #[tactic(auto, unfolding(crate::specs::Identifier::identifier_bytes))]
-fn identifier_bytes<'a>(name: &'a str, is_punycode: bool, start: usize, size: u64) -> Option<(Identifier<'a>, usize)>
+fn identifier_bytes<'a>(
+    name: &'a str,
+    is_punycode: bool,
+    start: usize,
+    size: u64,
+) -> Option<(Identifier<'a>, usize)>
     requires ascii { IsAscii name.now }
     ensures value { option_map (λ i. (identifier_seen i.0, i.1)) result ≡ identifier_bytes name.now is_punycode start size }
     ensures ascii { IfSome result (λ i. IsAscii i.0.plain.now) }
@@ -145,7 +168,11 @@ pub fn path_form<'a>(name: &'a str, at: Option<usize>) -> PathForm<'a>
         },
         b'N' => {
             let namespace = byte_at(bytes, at + 1);
-            if namespace == 0 { PathForm::Nothing } else { nested_form(namespace, at + 2) }
+            if namespace == 0 {
+                PathForm::Nothing
+            } else {
+                nested_form(namespace, at + 2)
+            }
         }
         b'M' => match tagged(bytes, b's', at + 1) {
             Some((_, after)) => PathForm::InherentImpl(after),

@@ -1,7 +1,19 @@
 //! A whole v0 mangling.
 
 ghost use Rattle.std.specs.Prelude.{
-    ◌≡◌, ℕ, ◌-◌, ◌<◌, ◌≤◌, List, IfOk, IfSome, MatchOption, length, slice_index, option_map, drop,
+  ◌≡◌,
+  ℕ,
+  ◌-◌,
+  ◌<◌,
+  ◌≤◌,
+  List,
+  IfOk,
+  IfSome,
+  MatchOption,
+  length,
+  slice_index,
+  option_map,
+  drop,
 };
 ghost use Rattle.std.specs.Str.{IsAscii};
 ghost use Rattle.std.specs.String.{string_bytes};
@@ -10,12 +22,15 @@ ghost use Rattle.binfarce_names.specs.Named.{IsV0};
 ghost use Rattle.binfarce_names.specs.Tree.{PathTree};
 ghost use Rattle.binfarce_names.specs.Unfolding.{UnfoldsTo};
 ghost use Rattle.binfarce_names.specs.Mangling.{
-    prefix_length, behind_prefix, is_upper_at, IsMangling, Tells, TextsTell,
+  prefix_length,
+  behind_prefix,
+  is_upper_at,
+  IsMangling,
+  Tells,
+  TextsTell,
 };
 ghost use Rattle.binfarce_names.specs.machine.Places.{paths_place};
 ghost use Rattle.binfarce_names.specs.machine.Seen.{identifier_seen};
-
-use std::alloc::{AllocError, Global};
 
 use crate::endings::is_allowed_rest;
 use crate::v0::forms::{Identifier, Position};
@@ -23,6 +38,7 @@ use crate::v0::numbers::byte_at;
 use crate::v0::printer::{Printed, Printer};
 use crate::v0::reading::read_path;
 use crate::v0::text::push_identifier;
+use std::alloc::{AllocError, Global};
 
 /// The most levels of a reading, and of a printing.
 pub const MAX_LEVELS: usize = 500;
@@ -43,7 +59,11 @@ fn prefix_length(text: &[u8]) -> Option<usize>
     if second == b'R' {
         return Some(2);
     }
-    if second == b'_' && byte_at(text, 2) == b'R' { Some(3) } else { None }
+    if second == b'_' && byte_at(text, 2) == b'R' {
+        Some(3)
+    } else {
+        None
+    }
 }
 
 // What stands behind the prefix.
@@ -68,7 +88,11 @@ fn read_paths(name: &str) -> Option<usize>
     ensures { result ≡ paths_place name.now }
 {
     let mid = read_path(name, MAX_LEVELS, 0)?;
-    if is_upper_at(name.as_bytes(), mid) { read_path(name, MAX_LEVELS, mid) } else { Some(mid) }
+    if is_upper_at(name.as_bytes(), mid) {
+        read_path(name, MAX_LEVELS, mid)
+    } else {
+        Some(mid)
+    }
 }
 
 /// The v0 mangling that `text` begins with: what stands behind its prefix, and the place there behind its paths.
@@ -86,7 +110,11 @@ pub fn read(text: &str) -> Option<(&str, usize)>
 
 /// The text of what `name`, which stands behind a prefix, unfolds to, with or without the disambiguators of crates.
 /// None where it unfolds to no tree of at most `MAX_LEVELS` levels and `MAX_STEPS` steps.
-pub fn print<'a>(alloc: Global, name: &'a str, full: bool) -> Result<Option<Printed<'a>>, AllocError>
+pub fn print<'a>(
+    alloc: Global,
+    name: &'a str,
+    full: bool,
+) -> Result<Option<Printed<'a>>, AllocError>
     requires { IsAscii name.now }
     ensures { IfOk result (λ p. MatchOption p ((tree : PathTree) → UnfoldsTo name.entry.now tree → ⊥) (λ p. Tells name.entry.now full (string_bytes p.text) (option_map identifier_seen p.root))) }
 {
@@ -101,7 +129,11 @@ pub fn mangle_part(text: &str) -> Option<&str>
     ensures { MatchOption result ((part : List ℕ) → IsV0 text.now part → ⊥) (λ p. IsV0 text.now p.now) }
 {
     let (part, after) = read(text)?;
-    if is_allowed_rest(rest_from(part.as_bytes(), after)) { Some(part) } else { None }
+    if is_allowed_rest(rest_from(part.as_bytes(), after)) {
+        Some(part)
+    } else {
+        None
+    }
 }
 
 // What stands from a place on.
@@ -144,7 +176,10 @@ pub fn both_texts(alloc: Global, name: &str) -> Result<Option<Texts>, AllocError
     };
     let Printed { text, root } = complete;
     let crate_name = root_text(alloc, root)?;
-    let Printed { text: short, root: _ } = trimmed;
+    let Printed {
+        text: short,
+        root: _,
+    } = trimmed;
     Ok(Some(Texts {
         complete: text,
         trimmed: short,

@@ -4,7 +4,12 @@ ghost use Rattle.std.specs.Prelude.{◌≡◌, ◌+◌, ◌-◌, ◌*◌, ◌^�
 ghost use Rattle.std.specs.Int.{is_in_range};
 ghost use Rattle.std.specs.Option.{option_map};
 ghost use Rattle.binfarce_names.specs.Base62.{
-    digit_62, number_from, number, tagged, back_reference, hex_length,
+  digit_62,
+  number_from,
+  number,
+  tagged,
+  back_reference,
+  hex_length,
 };
 ghost use Rattle.binfarce_names.specs.Identifier.{length_from, length_at, past};
 
@@ -21,7 +26,11 @@ pub fn past(name: &[u8], byte: u8, at: usize) -> usize
     requires { 0 < byte }
     ensures { result ≡ past name.now byte at }
 {
-    if byte_at(name, at) == byte { at + 1 } else { at }
+    if byte_at(name, at) == byte {
+        at + 1
+    } else {
+        at
+    }
 }
 
 /// The value of a base-62 digit.
@@ -95,7 +104,11 @@ pub fn back_reference(name: &[u8], at: usize) -> Option<(usize, usize)>
 {
     let (target, after) = number(name, at + 1)?;
     let target = target as usize;
-    if target < at { Some((target, after)) } else { None }
+    if target < at {
+        Some((target, after))
+    } else {
+        None
+    }
 }
 
 /// A decimal digit's value.

@@ -15,7 +15,11 @@ pub fn eat(name: &[u8], byte: u8, at: Option<usize>) -> Option<usize>
     ensures { MatchOption result (stands name.now byte at ≡ false) (λ after. (stands name.now byte at ≡ true) × (behind at ≡ Some after)) }
 {
     let at = at?;
-    if byte_at(name, at) == byte { Some(at + 1) } else { None }
+    if byte_at(name, at) == byte {
+        Some(at + 1)
+    } else {
+        None
+    }
 }
 
 /// The place behind a list, where the list ends.
@@ -25,7 +29,11 @@ pub fn list_end(name: &[u8], at: Option<usize>) -> Option<Option<usize>>
     let Some(at) = at else {
         return Some(None);
     };
-    if byte_at(name, at) == b'E' { Some(Some(at + 1)) } else { None }
+    if byte_at(name, at) == b'E' {
+        Some(Some(at + 1))
+    } else {
+        None
+    }
 }
 
 /// How many steps a lifetime is.
@@ -46,13 +54,7 @@ pub fn bound_place(depth: usize, life: Lifetime, after: Option<usize>) -> Option
     match life {
         Lifetime::Nothing => after,
         Lifetime::Unread => None,
-        Lifetime::Indexed(index) => {
-            if index > depth as u64 {
-                None
-            } else {
-                after
-            }
-        }
+        Lifetime::Indexed(index) => { if index > depth as u64 { None } else { after } }
     }
 }
 

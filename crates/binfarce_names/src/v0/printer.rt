@@ -4,24 +4,43 @@ ghost use Rattle.std.specs.Prelude.{◌≡◌, ◌+◌, ◌-◌, ◌≤◌, ◌^
 ghost use Rattle.std.specs.String.{string_bytes};
 ghost use Rattle.binfarce_names.specs.Identifier.{identifier_text};
 ghost use Rattle.binfarce_names.specs.Tree.{
-    lifetime_text, binder_text, argument_lifetime, reference_lifetime, dyn_lifetime,
-    nested_text, signature_text, number_text, disambiguator_text,
+  lifetime_text,
+  binder_text,
+  argument_lifetime,
+  reference_lifetime,
+  dyn_lifetime,
+  nested_text,
+  signature_text,
+  number_text,
+  disambiguator_text,
 };
 ghost use Rattle.binfarce_names.specs.machine.Seen.{
-    identifier_seen, label_seen, lifetime_seen, signature_seen,
+  identifier_seen,
+  label_seen,
+  lifetime_seen,
+  signature_seen,
 };
 ghost use Rattle.binfarce_names.specs.machine.Printing.{
-    first_state, say, go, faulted, stopped, take, entered, rooted, into, back_to, unmute,
+  first_state,
+  say,
+  go,
+  faulted,
+  stopped,
+  take,
+  entered,
+  rooted,
+  into,
+  back_to,
+  unmute,
 };
-
-use std::alloc::{AllocError, Global};
-use std::marker::Model;
 
 use crate::v0::forms::{Identifier, Label, Lifetime, Signature};
 use crate::v0::text::{
     push_binder, push_disambiguator, push_identifier, push_lifetime, push_nested, push_number,
     push_signature,
 };
+use std::alloc::{AllocError, Global};
+use std::marker::Model;
 
 /// The most steps of a printing.
 pub const MAX_STEPS: usize = 65_536;

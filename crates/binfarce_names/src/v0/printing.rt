@@ -5,26 +5,53 @@ ghost use Rattle.std.specs.Str.{IsAscii};
 ghost use Rattle.binfarce_names.specs.Forms.{label_at};
 ghost use Rattle.binfarce_names.specs.Tree as tree;
 ghost use Rattle.binfarce_names.specs.Tree.{
-    NoType, parent_position, value_mark, closing, is_open_trait, is_left_open,
+  NoType,
+  parent_position,
+  value_mark,
+  closing,
+  is_open_trait,
+  is_left_open,
 };
 ghost use Rattle.binfarce_names.specs.Unfolding.{Arguments, Types};
 ghost use Rattle.binfarce_names.specs.machine.Seen.{
-    path_seen, type_seen, const_seen, lifetime_seen, signature_seen, position_seen, listed_seen,
+  path_seen,
+  type_seen,
+  const_seen,
+  lifetime_seen,
+  signature_seen,
+  position_seen,
+  listed_seen,
 };
 ghost use Rattle.binfarce_names.specs.machine.Printing.{
-    readers, path_rule, type_rule, item_rule, items_from, items_count, qualified, named_state,
-    bindings_rule, function_rule, dyn_rule, reference_rule, taking, generic_rule, go, say, mute,
-    unmute, array_rule, tuple_end, unread_reference, unread_function,
+  readers,
+  path_rule,
+  type_rule,
+  item_rule,
+  items_from,
+  items_count,
+  qualified,
+  named_state,
+  bindings_rule,
+  function_rule,
+  dyn_rule,
+  reference_rule,
+  taking,
+  generic_rule,
+  go,
+  say,
+  mute,
+  unmute,
+  array_rule,
+  tuple_end,
+  unread_reference,
+  unread_function,
 };
 
-use std::alloc::AllocError;
-
-use crate::v0::forms::{
-    ConstForm, Lifetime, Listed, PathForm, Position, Signature, TypeForm,
-};
+use crate::v0::forms::{ConstForm, Lifetime, Listed, PathForm, Position, Signature, TypeForm};
 use crate::v0::leaves::{const_form, identifier, label, lifetime, path_form, type_form};
 use crate::v0::places::{bound_place, eat, lifetime_steps, list_end, required_place};
 use crate::v0::printer::Printer;
+use std::alloc::AllocError;
 
 /// The position of a path's parent.
 fn parent(position: Position) -> Position
@@ -124,7 +151,13 @@ impl<'a> Printer<'a> {
     /// `<path>`: whether it was left open.
     #[cycle(printing)]
     #[tactic(auto, using(crate::proofs::Levels::path_at))]
-    pub fn print_path(&mut self, name: &'a str, left: usize, depth: usize, position: Position) -> Result<bool, AllocError>
+    pub fn print_path(
+        &mut self,
+        name: &'a str,
+        left: usize,
+        depth: usize,
+        position: Position,
+    ) -> Result<bool, AllocError>
         requires ascii { IsAscii name.now }
         requires depth { depth + 65536 * left ≤ 32768000 }
         ensures printed { OnOk result (self.new ≡ ((readers name.entry.now left).path (position_seen position) depth self.old).1) }
@@ -140,7 +173,14 @@ impl<'a> Printer<'a> {
     // A path of a form.
     #[cycle(printing)]
     #[tactic(auto, unfolding(crate::specs::machine::Printing::path_rule))]
-    fn print_path_form(&mut self, name: &'a str, left: usize, depth: usize, position: Position, form: PathForm<'a>) -> Result<bool, AllocError>
+    fn print_path_form(
+        &mut self,
+        name: &'a str,
+        left: usize,
+        depth: usize,
+        position: Position,
+        form: PathForm<'a>,
+    ) -> Result<bool, AllocError>
         requires ascii { IsAscii name.now }
         requires depth { depth + 65536 * (left + 1) ≤ 32768000 }
         ensures printed { OnOk result (self.new ≡ (path_rule name.entry.now (readers name.entry.now left) (position_seen position) depth self.old (path_seen form.entry)).1) }
@@ -190,7 +230,14 @@ impl<'a> Printer<'a> {
 
     // The path of an impl, which is read and not written.
     #[cycle(printing)]
-    fn print_impl_path(&mut self, name: &'a str, left: usize, depth: usize, position: Position, after: usize) -> Result<(), AllocError>
+    fn print_impl_path(
+        &mut self,
+        name: &'a str,
+        left: usize,
+        depth: usize,
+        position: Position,
+        after: usize,
+    ) -> Result<(), AllocError>
         requires ascii { IsAscii name.now }
         requires depth { depth + 65536 * left ≤ 32768000 }
         ensures { OnOk result (self.new ≡ unmute self.old.muted ((readers name.entry.now left).path (parent_position (position_seen position)) depth (mute (go (Some after) self.old))).1) }
@@ -205,7 +252,12 @@ impl<'a> Printer<'a> {
 
     // `<T as Trait>`
     #[cycle(printing)]
-    fn print_qualified(&mut self, name: &'a str, left: usize, depth: usize) -> Result<(), AllocError>
+    fn print_qualified(
+        &mut self,
+        name: &'a str,
+        left: usize,
+        depth: usize,
+    ) -> Result<(), AllocError>
         requires ascii { IsAscii name.now }
         requires depth { depth + 65536 * left ≤ 32768000 }
         ensures { OnOk result (self.new ≡ (qualified (readers name.entry.now left) depth self.old).1) }
@@ -219,7 +271,14 @@ impl<'a> Printer<'a> {
 
     // A path with its arguments.
     #[cycle(printing)]
-    fn print_generic(&mut self, name: &'a str, left: usize, depth: usize, position: Position, after: usize) -> Result<(), AllocError>
+    fn print_generic(
+        &mut self,
+        name: &'a str,
+        left: usize,
+        depth: usize,
+        position: Position,
+        after: usize,
+    ) -> Result<(), AllocError>
         requires ascii { IsAscii name.now }
         requires depth { depth + 65536 * left ≤ 32768000 }
         ensures { OnOk result (self.new ≡ (generic_rule name.entry.now (readers name.entry.now left) (position_seen position) depth ((readers name.entry.now left).path (parent_position (position_seen position)) depth (go (Some after) self.old))).1) }
@@ -235,7 +294,14 @@ impl<'a> Printer<'a> {
     // A list up to its `E`: how many items it has.
     #[cycle(printing)]
     #[tactic(auto, using(crate::proofs::Lists::items_step, crate::proofs::Lists::items_none))]
-    fn print_items(&mut self, name: &'a str, left: usize, depth: usize, listed: Listed, between: &'static str) -> Result<usize, AllocError>
+    fn print_items(
+        &mut self,
+        name: &'a str,
+        left: usize,
+        depth: usize,
+        listed: Listed,
+        between: &'static str,
+    ) -> Result<usize, AllocError>
         requires ascii { IsAscii name.now }
         requires depth { depth + 65536 * left ≤ 32768000 }
         ensures printed { OnOk result (self.new ≡ (items_from name.entry.now (readers name.entry.now left) depth (listed_seen listed) between.entry.now self.old).1) }
@@ -257,7 +323,13 @@ impl<'a> Printer<'a> {
     // An item of a list.
     #[cycle(printing)]
     #[tactic(auto, unfolding(crate::specs::machine::Printing::item_rule))]
-    fn print_item(&mut self, name: &'a str, left: usize, depth: usize, listed: Listed) -> Result<(), AllocError>
+    fn print_item(
+        &mut self,
+        name: &'a str,
+        left: usize,
+        depth: usize,
+        listed: Listed,
+    ) -> Result<(), AllocError>
         requires ascii { IsAscii name.now }
         requires depth { depth + 65536 * left ≤ 32768000 }
         ensures { OnOk result (self.new ≡ (item_rule name.entry.now (readers name.entry.now left) depth (listed_seen listed) self.old).1) }
@@ -301,7 +373,13 @@ impl<'a> Printer<'a> {
     // The bindings of a trait.
     #[cycle(printing)]
     #[tactic(auto, using(crate::proofs::Lists::bindings_step, crate::proofs::Lists::bindings_none))]
-    fn print_bindings(&mut self, name: &'a str, left: usize, depth: usize, mut opened: bool) -> Result<(), AllocError>
+    fn print_bindings(
+        &mut self,
+        name: &'a str,
+        left: usize,
+        depth: usize,
+        mut opened: bool,
+    ) -> Result<(), AllocError>
         requires ascii { IsAscii name.now }
         requires depth { depth + 65536 * left ≤ 32768000 }
         ensures { OnOk result (self.new ≡ (bindings_rule name.entry.now (readers name.entry.now left) depth (suc self.old.room) opened self.old).1) }
@@ -343,7 +421,13 @@ impl<'a> Printer<'a> {
     // A type of a form.
     #[cycle(printing)]
     #[tactic(auto, unfolding(crate::specs::machine::Printing::type_rule))]
-    fn print_type_form(&mut self, name: &'a str, left: usize, depth: usize, form: TypeForm<'a>) -> Result<(), AllocError>
+    fn print_type_form(
+        &mut self,
+        name: &'a str,
+        left: usize,
+        depth: usize,
+        form: TypeForm<'a>,
+    ) -> Result<(), AllocError>
         requires ascii { IsAscii name.now }
         requires depth { depth + 65536 * (left + 1) ≤ 32768000 }
         ensures { OnOk result (self.new ≡ (type_rule name.entry.now (readers name.entry.now left) depth self.old (type_seen form.entry)).1) }
@@ -396,7 +480,13 @@ impl<'a> Printer<'a> {
 
     // `"A" <type> <const>`
     #[cycle(printing)]
-    fn print_array(&mut self, name: &'a str, left: usize, depth: usize, after: usize) -> Result<(), AllocError>
+    fn print_array(
+        &mut self,
+        name: &'a str,
+        left: usize,
+        depth: usize,
+        after: usize,
+    ) -> Result<(), AllocError>
         requires ascii { IsAscii name.now }
         requires depth { depth + 65536 * left ≤ 32768000 }
         ensures { OnOk result (self.new ≡ (array_rule (readers name.entry.now left) ((readers name.entry.now left).ty depth (say (codes "[") (go (Some after) self.old)))).1) }
@@ -412,7 +502,13 @@ impl<'a> Printer<'a> {
     // `"T" {<type>} "E"`
     #[cycle(printing)]
     #[tactic(auto, using(crate::proofs::Lists::single_mark_count))]
-    fn print_tuple(&mut self, name: &'a str, left: usize, depth: usize, after: usize) -> Result<(), AllocError>
+    fn print_tuple(
+        &mut self,
+        name: &'a str,
+        left: usize,
+        depth: usize,
+        after: usize,
+    ) -> Result<(), AllocError>
         requires ascii { IsAscii name.now }
         requires depth { depth + 65536 * left ≤ 32768000 }
         ensures { OnOk result (self.new ≡ (tuple_end (items_from name.entry.now (readers name.entry.now left) depth Types (codes ", ") (say (codes "(") (go (Some after) self.old)))).1) }
@@ -426,7 +522,15 @@ impl<'a> Printer<'a> {
 
     // A reference.
     #[cycle(printing)]
-    fn print_reference(&mut self, name: &'a str, left: usize, depth: usize, mutable: bool, life: Lifetime, after: usize) -> Result<(), AllocError>
+    fn print_reference(
+        &mut self,
+        name: &'a str,
+        left: usize,
+        depth: usize,
+        mutable: bool,
+        life: Lifetime,
+        after: usize,
+    ) -> Result<(), AllocError>
         requires ascii { IsAscii name.now }
         requires depth { depth + 65536 * left ≤ 32768000 }
         ensures { OnOk result (self.new ≡ (taking (tree.lifetime_steps (lifetime_seen life)) NoType self.old (reference_rule (readers name.entry.now left) depth mutable (lifetime_seen life) after)).1) }
@@ -443,7 +547,14 @@ impl<'a> Printer<'a> {
 
     // A function type.
     #[cycle(printing)]
-    fn print_function(&mut self, name: &'a str, left: usize, depth: usize, signature: Signature<'a>, after: usize) -> Result<(), AllocError>
+    fn print_function(
+        &mut self,
+        name: &'a str,
+        left: usize,
+        depth: usize,
+        signature: Signature<'a>,
+        after: usize,
+    ) -> Result<(), AllocError>
         requires ascii { IsAscii name.now }
         requires depth { depth + 65536 * (left + 1) ≤ 32768000 }
         ensures { OnOk result (self.new ≡ (taking signature.entry.binder NoType self.old (function_rule name.entry.now (readers name.entry.now left) depth (signature_seen signature.entry) after)).1) }
@@ -471,7 +582,14 @@ impl<'a> Printer<'a> {
 
     // A dyn type.
     #[cycle(printing)]
-    fn print_dyn(&mut self, name: &'a str, left: usize, depth: usize, binder: u64, after: usize) -> Result<(), AllocError>
+    fn print_dyn(
+        &mut self,
+        name: &'a str,
+        left: usize,
+        depth: usize,
+        binder: u64,
+        after: usize,
+    ) -> Result<(), AllocError>
         requires ascii { IsAscii name.now }
         requires depth { depth + 65536 * (left + 1) ≤ 32768000 }
         ensures { OnOk result (self.new ≡ (taking binder NoType self.old (dyn_rule name.entry.now (readers name.entry.now left) depth binder after)).1) }

@@ -4,7 +4,14 @@ ghost use Rattle.std.specs.Prelude.{◌≡◌, length, suc};
 ghost use Rattle.std.specs.Str.{IsAscii};
 ghost use Rattle.binfarce_names.specs.machine.Seen.{listed_seen};
 ghost use Rattle.binfarce_names.specs.machine.Places.{
-    places, onward, bindings_place, item_place, list_place, return_place, lifetime_place, argument_place,
+  places,
+  onward,
+  bindings_place,
+  item_place,
+  list_place,
+  return_place,
+  lifetime_place,
+  argument_place,
 };
 
 use crate::v0::forms::{ConstForm, Listed, PathForm, TypeForm};

@@ -6,16 +6,23 @@ ghost use Rattle.std.specs.Fmt.{decimal};
 ghost use Rattle.std.specs.Str.{IsAscii};
 ghost use Rattle.binfarce_names.specs.Identifier.{identifier_text, undecoded};
 ghost use Rattle.binfarce_names.specs.Tree.{
-    lifetime_text, binder_text, abi_text, signature_text, hex_digit, number_text, disambiguator_text,
-    namespace_text, after_mark, nested_text,
+  lifetime_text,
+  binder_text,
+  abi_text,
+  signature_text,
+  hex_digit,
+  number_text,
+  disambiguator_text,
+  namespace_text,
+  after_mark,
+  nested_text,
 };
 ghost use Rattle.binfarce_names.specs.machine.Seen.{identifier_seen, label_seen, signature_seen};
 
-use std::alloc::AllocError;
-use std::fmt::Write;
-
 use crate::v0::forms::{Identifier, Label, Signature};
 use crate::v0::punycode::decode;
+use std::alloc::AllocError;
+use std::fmt::Write;
 
 /// A number in decimal.
 pub fn push_decimal(text: &mut String, n: u64) -> Result<(), AllocError>

@@ -1,5 +1,4 @@
 use Rattle.std.proofs.Common.{sym, ◌∙◌}
-use Rattle.binfarce_names.specs.Endings.{is_allowed_rest}
 use Rattle.binfarce_names.proofs.NameLemmas.{rest_not_allowed}
 use Rattle.binfarce_names.proofs.v0.mangling.mangle_part.Goals as goal
 

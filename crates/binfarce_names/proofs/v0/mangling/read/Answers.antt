@@ -1,5 +1,4 @@
 use Rattle.std.proofs.Common.{rules, sym, ◌∙◌}
-use Rattle.binfarce_names.specs.machine.Places.{paths_place}
 use Rattle.binfarce_names.proofs.Manglings.{not_mangling, paths_read}
 use Rattle.binfarce_names.proofs.v0.mangling.read.Goals as goal
 

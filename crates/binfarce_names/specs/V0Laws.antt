@@ -1,0 +1,39 @@
+-- Laws of v0 names.
+use Rattle.std.specs.Prelude.{◌≡◌, ℕ, ◌≤◌, ◌<◌, List, Option, Some, Bool}
+use Rattle.binfarce_names.specs.Base62.{back_reference}
+use Rattle.binfarce_names.specs.Tree.{PathTree, path_height, path_steps, name_text, path_root}
+use Rattle.binfarce_names.specs.Reading.{ReadsPath}
+use Rattle.binfarce_names.specs.Unfolding.{IsPath}
+
+-- a place unfolds to at most one tree, and up to at most one place behind it
+abbrev pub UnfoldsOneWay : List ℕ → Type 0
+UnfoldsOneWay name =
+    (first second : PathTree) (at : Option ℕ) (depth : ℕ) (after behind : Option ℕ)
+    → IsPath name first at depth after → IsPath name second at depth behind
+    → (first ≡ second) × (after ≡ behind)
+
+-- a place reads to at most one tree, and up to at most one place behind it
+abbrev pub ReadsOneWay : List ℕ → Type 0
+ReadsOneWay name =
+    (first second : PathTree) (at after behind : ℕ)
+    → ReadsPath name first at after → ReadsPath name second at behind
+    → (first ≡ second) × (after ≡ behind)
+
+-- an accepted back reference names a place strictly before its own "B"
+abbrev pub NamesAnEarlierPlace : List ℕ → Type 0
+NamesAnEarlierPlace name =
+    (at target after : ℕ) → back_reference name at ≡ Some (target, after) → target < at
+
+-- a name unfolds to a tree within some limits
+pub record UnfoldsWithin (levels steps : ℕ) (name : List ℕ) (tree : PathTree) : Type 0 where
+  pub after : Option ℕ
+  pub is_path : IsPath name tree (Some 0) 0 after
+  pub height : path_height tree ≤ levels
+  pub count : path_steps tree ≤ steps
+
+-- within any limits a name has the same texts and the same crate
+abbrev pub KnowsNoLimit : List ℕ → Type 0
+KnowsNoLimit name =
+    (levels steps more_levels more_steps : ℕ) (first second : PathTree) (full : Bool)
+    → UnfoldsWithin levels steps name first → UnfoldsWithin more_levels more_steps name second
+    → (name_text full first ≡ name_text full second) × (path_root first ≡ path_root second)

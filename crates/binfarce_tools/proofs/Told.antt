@@ -105,20 +105,20 @@ told_symbol_table file =
     let header = pe_file.header_of file in
     let whole : Result pe.SymbolTable Refusal = Ok (record { file = file; place = header.pointer_to_symbol_table; count = header.number_of_symbols }) in
     told_if (leb (length file) header.pointer_to_symbol_table) (Err unexpected_eof) _ refl
-        (told_if (ltb (length file) (header.pointer_to_symbol_table + header.number_of_symbols * 18)) (Err unexpected_eof) whole refl tt)
+    (told_if (ltb (length file) (header.pointer_to_symbol_table + header.number_of_symbols * 18)) (Err unexpected_eof) whole refl tt)
 
 told_pe : (file : List ℕ) → Told (pe_file_answer file)
 unfolding pe_answer pe.located pe_walk
 told_pe file =
     let accepts : pe_file.Section → Bool = λ section. bytes_eq section.name (codes ".text") in
     told_if (ltb (length file) (least_length file)) (Err unexpected_eof) _ refl
-        (told_step (pe.located file) _
-            (told_step (pe.text_section file) _
-                (told_step (first accepts (pe_walk file)) (required symbols_section_is_missing)
-                    (told_found (find accepts (pe_walk file).sections) (pe_walk file).refusal (told_end_if _ None (Some unexpected_eof) tt refl))
-                    (λ o. told_required symbols_section_is_missing o refl))
-                (λ text. told_step (pe.symbol_table file) _ (told_symbol_table file) (λ table. tt)))
-            (λ found. tt))
+    (told_step (pe.located file) _
+    (told_step (pe.text_section file) _
+    (told_step (first accepts (pe_walk file)) (required symbols_section_is_missing)
+    (told_found (find accepts (pe_walk file).sections) (pe_walk file).refusal (told_end_if _ None (Some unexpected_eof) tt refl))
+    (λ o. told_required symbols_section_is_missing o refl))
+    (λ text. told_step (pe.symbol_table file) _ (told_symbol_table file) (λ table. tt)))
+    (λ found. tt))
 
 -- Mach-O
 told_commands : (file : List ℕ) (n place : ℕ) → ToldEnd (commands_from file n place).refusal
@@ -126,8 +126,8 @@ unfolding commands_from
 told_commands file zero place = tt
 told_commands file (suc n) place =
     told_walk_if (ltb (length file) (place + 8)) (ended None) _ tt
-        (told_walk_if (ltb (command_at file place).size 8) (ended (Some malformed_input)) (ahead_of (command_at file place) (commands_from file n (place + (command_at file place).size))) refl
-            (told_commands file n (place + (command_at file place).size)))
+    (told_walk_if (ltb (command_at file place).size 8) (ended (Some malformed_input)) (ahead_of (command_at file place) (commands_from file n (place + (command_at file place).size))) refl
+    (told_commands file n (place + (command_at file place).size)))
 
 told_segment : (file : List ℕ) (body : ℕ) → ToldEnd (segment file body).refusal
 unfolding segment
@@ -142,8 +142,8 @@ unfolding sections_of
 told_sections file [] end t = t
 told_sections file (command ∷ others) end t =
     told_walk_if (is_segment command) (and_then (segment file (body_of command)).sections (segment file (body_of command)).refusal (sections_of file others end)) (sections_of file others end)
-        (told_and_then (segment file (body_of command)).sections (segment file (body_of command)).refusal (sections_of file others end) (told_segment file (body_of command)) (told_sections file others end t))
-        (told_sections file others end t)
+    (told_and_then (segment file (body_of command)).sections (segment file (body_of command)).refusal (sections_of file others end) (told_segment file (body_of command)) (told_sections file others end t))
+    (told_sections file others end t)
 
 told_macho_walk : (file : List ℕ) → ToldEnd (macho_walk file).refusal
 unfolding macho_walk
@@ -172,21 +172,21 @@ unfolding macho.located
 told_macho_located file =
     let accepts : macho_file.Section → Bool = λ section. is_named (codes "__TEXT") (codes "__text") section in
     told_step (macho.text_section file) _
-        (told_step (first accepts (macho_walk file)) (required symbols_section_is_missing)
-            (told_found (find accepts (macho_walk file).sections) (macho_walk file).refusal (told_macho_walk file))
-            (λ o. told_required symbols_section_is_missing o refl))
-        (λ found. told_step (some_size found) _ (told_if (nat_eq found.size 0) (Err malformed_input) (Ok found) refl tt)
-            (λ text. told_step (symbol_command file) _
-                (told_found (find (λ command. nat_eq command.kind 2) (commands file).sections) (commands file).refusal (told_commands file (header_at file).ncmds 32))
-                (λ command. told_located_by file text command)))
+    (told_step (first accepts (macho_walk file)) (required symbols_section_is_missing)
+    (told_found (find accepts (macho_walk file).sections) (macho_walk file).refusal (told_macho_walk file))
+    (λ o. told_required symbols_section_is_missing o refl))
+    (λ found. told_step (some_size found) _ (told_if (nat_eq found.size 0) (Err malformed_input) (Ok found) refl tt)
+    (λ text. told_step (symbol_command file) _
+    (told_found (find (λ command. nat_eq command.kind 2) (commands file).sections) (commands file).refusal (told_commands file (header_at file).ncmds 32))
+    (λ command. told_located_by file text command)))
 
 told_size : (members : List ℕ) (text_end address : ℕ) → Told (macho_size members text_end address)
 unfolding macho_size
 told_size members text_end address = by_above (least_above members address)
   where
-  by_above : (o : Option ℕ) → Told (size_up_to o text_end address)
-  by_above (Some above) = tt
-  by_above None = told_if (ltb address text_end) (Ok (Some (text_end - address))) _ tt (told_if (nat_eq address text_end) (Ok None) (Err malformed_input) tt refl)
+    by_above : (o : Option ℕ) → Told (size_up_to o text_end address)
+    by_above (Some above) = tt
+    by_above None = told_if (ltb address text_end) (Ok (Some (text_end - address))) _ tt (told_if (nat_eq address text_end) (Ok None) (Err malformed_input) tt refl)
 
 told_kept : {X Y : Type 0} (f : X → Result (Option Y) Refusal) (xs : List X) → ((x : X) → Told (f x)) → Told (kept f xs)
 unfolding kept

@@ -350,7 +350,11 @@ fn check_name(rt: &impl Abort, alloc: Global, row: &str) -> Result<(), Fail> {
     let (complete, row) = row.split_once('|').ok_or("a row with one bar")?;
     let (trimmed, root) = row.split_once('|').ok_or("a row with two bars")?;
     let answer = SymbolName::demangle(alloc, name)?;
-    assert_eq!(rt; answer.complete.as_str(), complete, "complete text of {name}");
+    assert_eq!(rt;
+        answer.complete.as_str(),
+        complete,
+        "complete text of {name}"
+    );
     assert_eq!(rt; answer.trimmed.as_str(), trimmed, "trimmed text of {name}");
     match &answer.crate_name {
         Some(crate_name) => assert_eq!(rt; crate_name.as_str(), root, "crate of {name}"),

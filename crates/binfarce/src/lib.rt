@@ -1,4 +1,4 @@
-//! A small reader of executables: the header, the sections and the function symbols of ELF files.
+//! A small reader of executables: the header, the sections and the function symbols of ELF, Mach-O and PE files.
 #![tactic(auto)]
 
 ghost use Rattle.std.specs.Prelude.{◌≡◌};

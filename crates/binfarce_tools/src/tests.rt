@@ -1,10 +1,16 @@
-use crate::bench_files::{E_ELF32_BIG, E_ELF32_LITTLE, E_ELF64_BIG, E_ELF64_LITTLE};
+use crate::bench_files::{E_ELF32_BIG, E_ELF32_LITTLE, E_ELF64_BIG, E_ELF64_LITTLE, M, P};
 use crate::list::{ListError, Out, Sink, list};
 use binfarce::ParseError;
 use std::alloc::{AllocError, Global};
 use std::io::{self, ErrorKind, Write};
 
 const LISTING: &str = "0000000000001000         16 foo\ntext 32\n";
+
+const MACHO_LISTING: &str =
+    "0000000000001000         64 a\n0000000000001000         64 b\n0000000000001040        192 c\ntext 256\n";
+
+const PE_LISTING: &str =
+    "0000000000000000         64 b\n0000000000000000         64 d\n0000000000000040        192 c\n0000000000000100        128 e\n0000000000000180          0 a\ntext 256\n";
 
 fn listed(alloc: Global, data: &[u8], section: &str) -> (Result<(), ListError>, Vec<u8>) {
     let mut out = Out::new(Vec::new(alloc));
@@ -109,6 +115,20 @@ fn lists_files(rt: HostRuntime) -> Result<(), AllocError> {
         assert!(&rt; bytes.is_empty(), "{label}");
     }
     Ok(())
+}
+
+// Formats with one section of code: which section is asked for changes nothing.
+#[test]
+fn lists_files_without_sizes(rt: HostRuntime) {
+    let rows = [
+        ("Mach-O", &M[..], MACHO_LISTING),
+        ("PE", &P[..], PE_LISTING),
+    ];
+    for (label, data, text) in rows {
+        let (result, bytes) = listed(rt.alloc(), data, ".data");
+        assert!(&rt; result == Ok(()), "{label}");
+        assert!(&rt; bytes.as_slice() == text.as_bytes(), "{label}");
+    }
 }
 
 // Takes up to `left` bytes, at most `most` in a call, and then ends as it is told to.

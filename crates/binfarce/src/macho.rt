@@ -1,6 +1,6 @@
 //! 64-bit Mach-O files, which are little endian (Apple's `<mach-o/loader.h>` and `<mach-o/nlist.h>`).
 
-ghost use Rattle.std.specs.Prelude.{◌≡◌, ◌≢◌, ℕ, List, ◌+◌, ◌*◌, ◌<◌, ◌≤◌, ◌^◌, [], length, map, All, IfOk, OnErr, MatchResult};
+ghost use Rattle.std.specs.Prelude.{◌≡◌, ◌≢◌, ℕ, List, ◌+◌, ◌*◌, ◌<◌, ◌≤◌, ◌^◌, [], length, map, nat_eq, not, All, IfOk, OnErr, MatchResult};
 ghost use Rattle.std.specs.Option.{option_map};
 ghost use Rattle.std.specs.Iterator.{UpTo};
 ghost use Rattle.binfarce.specs.Number.{bytes_at};
@@ -587,7 +587,7 @@ fn row_addresses(alloc: Global, rows: &[u8]) -> Result<Vec<RowAddress>, AllocErr
     let mut addresses = Vec::new(alloc);
     for k in 0..rows.len() / SYMBOL_LENGTH {
         let row = symbol_at(rows, k * SYMBOL_LENGTH).unwrap();
-        if row.value != 0 {
+        if has_address(row) {
             addresses.push(RowAddress {
                 address: row.value,
                 row: k,
@@ -654,6 +654,12 @@ fn entry_of<'a>(
             parse_null_string(found.strings, row.name as usize),
         )),
     }
+}
+
+fn has_address(row: RawSymbol) -> bool
+    ensures { result ≡ not (nat_eq (raw_symbol row).value 0) }
+{
+    row.value != 0
 }
 
 fn is_candidate(row: RawSymbol) -> bool

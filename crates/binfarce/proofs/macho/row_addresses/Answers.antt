@@ -4,7 +4,7 @@ use Rattle.binfarce.specs.MachoSymbols.{address_of, symbol_of}
 use Rattle.binfarce.proofs.Rows.{match_ok, on_err}
 use Rattle.binfarce.proofs.Kept.{some_kept, added_some, added_none, address_some, address_none}
 use Rattle.binfarce.proofs.macho.row_addresses.Goals as goal
-use Rattle.binfarce.proofs.macho.row_addresses.Goals.{then-row-ne0+in_ok-push, else-row-ne0}
+use Rattle.binfarce.proofs.macho.row_addresses.Goals.{then-has_address+in_ok-push, else-has_address}
 
 pub returns-in_err-push-clause-memory : goal.returns-in_err-push-clause-memory
 returns-in_err-push-clause-memory c =
@@ -12,7 +12,7 @@ returns-in_err-push-clause-memory c =
     let at = match_ok c.symbol_at.result c.unwrap-row.result _ _ c.unwrap-row.ensures c.symbol_at.ensures in
     let value : c.unwrap-row.result.value ≡ (symbol_of rows c.loop-k.k).value = ap (λ s. s.value) at.1 in
     on_err c.from_residual.result _ (some_kept (address_of rows) (length rows / 16) c.loop-k.k (record { address = c.unwrap-row.result.value; row = c.loop-k.k })
-    (address_some rows c.loop-k.k c.unwrap-row.result.value value c.if-row-ne0.true) c.loop-k-test.true)
+    (address_some rows c.loop-k.k c.unwrap-row.result.value value (sym c.has_address.ensures ∙ c.if-has_address.true)) c.loop-k-test.true)
 
 pub loop-k-preserved : goal.loop-k-preserved
 loop-k-preserved c =
@@ -20,11 +20,11 @@ loop-k-preserved c =
     let at = match_ok c.symbol_at.result c.unwrap-row.result _ _ c.unwrap-row.ensures c.symbol_at.ensures in
     let value : c.unwrap-row.result.value ≡ (symbol_of rows c.loop-k.k).value = ap (λ s. s.value) at.1 in
     let x : RowAddress = record { address = c.unwrap-row.result.value; row = c.loop-k.k } in
-    elim c.if-row-ne0.branch [
-      | then-row-ne0+in_ok-push w ↦
+    elim c.if-has_address.branch [
+      | then-has_address+in_ok-push w ↦
           ap (λ v. v.items) w.addresses-is ∙ w.in_ok-push.ensures.items ∙ ap (λ (xs : List RowAddress). xs ++ x ∷ []) c.loop-k.invariant
-          ∙ sym (added_some (address_of rows) c.loop-k.k x (address_some rows c.loop-k.k c.unwrap-row.result.value value w.if-row-ne0.true))
-      | else-row-ne0 w ↦
+          ∙ sym (added_some (address_of rows) c.loop-k.k x (address_some rows c.loop-k.k c.unwrap-row.result.value value (sym c.has_address.ensures ∙ w.if-has_address.true)))
+      | else-has_address w ↦
           ap (λ v. v.items) w.addresses-is ∙ c.loop-k.invariant
-          ∙ sym (added_none (address_of rows) c.loop-k.k (address_none rows c.loop-k.k c.unwrap-row.result.value value w.if-row-ne0.false))
+          ∙ sym (added_none (address_of rows) c.loop-k.k (address_none rows c.loop-k.k c.unwrap-row.result.value value (sym c.has_address.ensures ∙ w.if-has_address.false)))
     ]

@@ -22,3 +22,4 @@ pub mod States
 pub mod TextLemmas
 pub mod Texts
 pub mod V0LawLemmas
+pub mod WorkedNames

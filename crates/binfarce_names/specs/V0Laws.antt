@@ -1,9 +1,11 @@
 -- Laws of v0 names.
 use Rattle.std.specs.Prelude.{◌≡◌, ℕ, ◌≤◌, ◌<◌, List, Option, Some, Bool}
+use Rattle.binfarce_names.specs.declared.demangle.Kind.TheVariants.{V0}
 use Rattle.binfarce_names.specs.Base62.{back_reference}
 use Rattle.binfarce_names.specs.Tree.{PathTree, path_height, path_steps, name_text, path_root}
 use Rattle.binfarce_names.specs.Reading.{ReadsPath}
-use Rattle.binfarce_names.specs.Unfolding.{IsPath}
+use Rattle.binfarce_names.specs.Unfolding.{IsPath, UnfoldsTo}
+use Rattle.binfarce_names.specs.Named.{IsNamed}
 
 -- a place unfolds to at most one tree, and up to at most one place behind it
 abbrev pub UnfoldsOneWay : List ℕ → Type 0
@@ -37,3 +39,15 @@ KnowsNoLimit name =
     (levels steps more_levels more_steps : ℕ) (first second : PathTree) (full : Bool)
     → UnfoldsWithin levels steps name first → UnfoldsWithin more_levels more_steps name second
     → (name_text full first ≡ name_text full second) × (path_root first ≡ path_root second)
+
+-- text is a v0 name of these texts and this crate
+abbrev pub Means : List ℕ → List ℕ → List ℕ → Option (List ℕ) → Type 0
+Means text complete trimmed crate_name =
+    IsNamed text (record { complete = complete; trimmed = trimmed; crate_name = crate_name; kind = V0 })
+
+-- what stands behind a prefix unfolds to a tree of so many levels and steps
+pub record Counts (name : List ℕ) (levels steps : ℕ) : Type 0 where
+  pub tree : PathTree
+  pub unfolds : UnfoldsTo name tree
+  pub levels_are : path_height tree ≡ levels
+  pub steps_are : path_steps tree ≡ steps

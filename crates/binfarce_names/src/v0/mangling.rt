@@ -32,6 +32,7 @@ ghost use Rattle.binfarce_names.specs.Mangling.{
 ghost use Rattle.binfarce_names.specs.machine.Places.{paths_place};
 ghost use Rattle.binfarce_names.specs.machine.Seen.{identifier_seen};
 
+use crate::demangle::MAX_LEVELS;
 use crate::endings::is_allowed_rest;
 use crate::v0::forms::{Identifier, Position};
 use crate::v0::numbers::byte_at;
@@ -39,9 +40,6 @@ use crate::v0::printer::{Printed, Printer};
 use crate::v0::reading::read_path;
 use crate::v0::text::push_identifier;
 use std::alloc::{AllocError, Global};
-
-/// The most levels of a reading, and of a printing.
-pub const MAX_LEVELS: usize = 500;
 
 // How many bytes the prefix has.
 fn prefix_length(text: &[u8]) -> Option<usize>

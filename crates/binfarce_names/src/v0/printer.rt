@@ -34,6 +34,7 @@ ghost use Rattle.binfarce_names.specs.machine.Printing.{
   unmute,
 };
 
+use crate::demangle::{MAX_LEVELS, MAX_STEPS};
 use crate::v0::forms::{Identifier, Label, Lifetime, Signature};
 use crate::v0::text::{
     push_binder, push_disambiguator, push_identifier, push_lifetime, push_nested, push_number,
@@ -41,9 +42,6 @@ use crate::v0::text::{
 };
 use std::alloc::{AllocError, Global};
 use std::marker::Model;
-
-/// The most steps of a printing.
-pub const MAX_STEPS: usize = 65_536;
 
 /// What a name means, as a text.
 #[derive(Drop)]
@@ -98,7 +96,7 @@ impl<'a> Printer<'a> {
         Printer {
             at: Some(0),
             room: MAX_STEPS,
-            least: 500,
+            least: MAX_LEVELS,
             over: false,
             text: String::new(alloc),
             muted: false,

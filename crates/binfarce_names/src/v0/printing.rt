@@ -1,10 +1,11 @@
 //! What a place of a v0 name unfolds to, written as it is read.
 
-ghost use Rattle.std.specs.Prelude.{◌≡◌, ◌+◌, ◌*◌, ◌≤◌, IfOk, OnOk, Some, codes, suc};
+ghost use Rattle.std.specs.Prelude.{◌≡◌, ℕ, ◌+◌, ◌*◌, ◌≤◌, ◌==◌, IfOk, OnOk, Some, None, [], if◌then◌else◌, codes, suc};
 ghost use Rattle.std.specs.Str.{IsAscii};
-ghost use Rattle.binfarce_names.specs.Forms.{label_at};
+ghost use Rattle.binfarce_names.specs.Forms.{label_at, lifetime};
 ghost use Rattle.binfarce_names.specs.Tree as tree;
 ghost use Rattle.binfarce_names.specs.Tree.{
+  Items,
   NoType,
   parent_position,
   value_mark,
@@ -14,6 +15,7 @@ ghost use Rattle.binfarce_names.specs.Tree.{
 };
 ghost use Rattle.binfarce_names.specs.Unfolding.{Arguments, Types};
 ghost use Rattle.binfarce_names.specs.machine.Seen.{
+  label_seen,
   path_seen,
   type_seen,
   const_seen,
@@ -34,7 +36,11 @@ ghost use Rattle.binfarce_names.specs.machine.Printing.{
   bindings_rule,
   function_rule,
   dyn_rule,
+  dyn_life,
   reference_rule,
+  crate_rule,
+  into,
+  back_to,
   taking,
   generic_rule,
   go,
@@ -47,7 +53,9 @@ ghost use Rattle.binfarce_names.specs.machine.Printing.{
   unread_function,
 };
 
-use crate::v0::forms::{ConstForm, Lifetime, Listed, PathForm, Position, Signature, TypeForm};
+use crate::v0::forms::{
+    ConstForm, Label, Lifetime, Listed, PathForm, Position, Signature, TypeForm,
+};
 use crate::v0::leaves::{const_form, identifier, label, lifetime, path_form, type_form};
 use crate::v0::places::{bound_place, eat, lifetime_steps, list_end, required_place};
 use crate::v0::printer::Printer;
@@ -88,6 +96,13 @@ fn is_open_trait(position: Position) -> bool
     ensures { result ≡ is_open_trait (position_seen position) }
 {
     matches!(position, Position::OpenTrait)
+}
+
+/// What stands behind the items of a tuple of so many.
+fn single_mark(count: usize) -> &'static str
+    ensures { result.now ≡ (if count == 1 then codes "," else []) }
+{
+    if count == 1 { "," } else { "" }
 }
 
 impl<'a> Printer<'a> {
@@ -148,6 +163,16 @@ impl<'a> Printer<'a> {
         }
     }
 
+    // `"C" <identifier>`
+    fn print_crate_root(&mut self, root: Label<'a>, after: usize) -> Result<(), AllocError>
+        ensures { OnOk result (self.new ≡ (crate_rule (label_seen root.entry) (go (Some after) self.old)).1) }
+    {
+        self.go(Some(after));
+        self.keep_root(root.name);
+        self.say_identifier(root.name)?;
+        self.say_disambiguator(root.disambiguator)
+    }
+
     /// `<path>`: whether it was left open.
     #[cycle(printing)]
     #[tactic(auto, using(crate::proofs::Levels::path_at))]
@@ -188,12 +213,7 @@ impl<'a> Printer<'a> {
     {
         match form {
             PathForm::Nothing => self.fault()?,
-            PathForm::CrateRoot(root, after) => {
-                self.go(Some(after));
-                self.keep_root(root.name);
-                self.say_identifier(root.name)?;
-                self.say_disambiguator(root.disambiguator)?;
-            }
+            PathForm::CrateRoot(root, after) => self.print_crate_root(root, after)?,
             PathForm::NestedIn(namespace, after) => {
                 self.go(Some(after));
                 self.print_path(name, left, depth, parent(position))?;
@@ -218,14 +238,33 @@ impl<'a> Printer<'a> {
                 return Ok(is_open_trait(position));
             }
             PathForm::Back(target, after) => {
-                let outside = self.outside;
-                self.enter_target(target);
-                let opened = self.print_path(name, left, depth, position)?;
-                self.leave_target(after, outside);
-                return Ok(opened);
+                return self.print_path_target(name, left, depth, position, target, after);
             }
         }
         Ok(false)
+    }
+
+    // What a back reference stands for: a path like any other, printed from its target.
+    #[cycle(printing)]
+    fn print_path_target(
+        &mut self,
+        name: &'a str,
+        left: usize,
+        depth: usize,
+        position: Position,
+        target: usize,
+        after: usize,
+    ) -> Result<bool, AllocError>
+        requires ascii { IsAscii name.now }
+        requires depth { depth + 65536 * left ≤ 32768000 }
+        ensures printed { OnOk result (self.new ≡ back_to after self.old.outside ((readers name.entry.now left).path (position_seen position) depth (into target self.old)).1) }
+        ensures opened { IfOk result (λ opened. opened ≡ is_left_open ((readers name.entry.now left).path (position_seen position) depth (into target self.old)).0 (position_seen position)) }
+    {
+        let outside = self.outside;
+        self.enter_target(target);
+        let opened = self.print_path(name, left, depth, position)?;
+        self.leave_target(after, outside);
+        Ok(opened)
     }
 
     // The path of an impl, which is read and not written.
@@ -460,22 +499,36 @@ impl<'a> Printer<'a> {
             }
             TypeForm::UnreadAbi(binder) => self.print_unread_function(depth, binder),
             TypeForm::DynOf(binder, after) => self.print_dyn(name, left, depth, binder, after),
-            TypeForm::UnreadDyn => {
-                self.go(None);
-                self.say("dyn ??")
-            }
+            TypeForm::UnreadDyn => self.print_unread_dyn(),
             TypeForm::Back(target, after) => {
-                let outside = self.outside;
-                self.enter_target(target);
-                self.print_type(name, left, depth)?;
-                self.leave_target(after, outside);
-                Ok(())
+                self.print_type_target(name, left, depth, target, after)
             }
             TypeForm::Path => {
                 self.print_path(name, left, depth, Position::InType)?;
                 Ok(())
             }
         }
+    }
+
+    // What a back reference stands for: a type like any other, printed from its target.
+    #[cycle(printing)]
+    fn print_type_target(
+        &mut self,
+        name: &'a str,
+        left: usize,
+        depth: usize,
+        target: usize,
+        after: usize,
+    ) -> Result<(), AllocError>
+        requires ascii { IsAscii name.now }
+        requires depth { depth + 65536 * left ≤ 32768000 }
+        ensures { OnOk result (self.new ≡ back_to after self.old.outside ((readers name.entry.now left).ty depth (into target self.old)).1) }
+    {
+        let outside = self.outside;
+        self.enter_target(target);
+        self.print_type(name, left, depth)?;
+        self.leave_target(after, outside);
+        Ok(())
     }
 
     // `"A" <type> <const>`
@@ -516,7 +569,7 @@ impl<'a> Printer<'a> {
         self.go(Some(after));
         self.say("(")?;
         let count = self.print_items(name, left, depth, Listed::Types, ", ")?;
-        self.say(if count == 1 { "," } else { "" })?;
+        self.say(single_mark(count))?;
         self.say(")")
     }
 
@@ -601,6 +654,13 @@ impl<'a> Printer<'a> {
         self.say("dyn ")?;
         self.say_binder(depth, binder)?;
         self.print_items(name, left, depth + binder as usize, Listed::Traits, " + ")?;
+        self.print_dyn_lifetime(name, depth)
+    }
+
+    // The lifetime of a dyn type, which stands behind its binder.
+    fn print_dyn_lifetime(&mut self, name: &'a str, depth: usize) -> Result<(), AllocError>
+        ensures { OnOk result ((binder : ℕ) (items : Items) → self.new ≡ (dyn_life depth binder items (lifetime name.entry.now self.old.at) self.old).1) }
+    {
         let (life, end) = lifetime(name.as_bytes(), self.at);
         if self.take(lifetime_steps(life)) {
             self.go(required_place(depth, life, end));
@@ -618,6 +678,14 @@ impl<'a> Printer<'a> {
             self.say("&?")?;
         }
         Ok(())
+    }
+
+    // A dyn type whose binder doesn't read.
+    fn print_unread_dyn(&mut self) -> Result<(), AllocError>
+        ensures { OnOk result (self.new ≡ say (codes "dyn ??") (go None self.old)) }
+    {
+        self.go(None);
+        self.say("dyn ??")
     }
 
     // A function type whose ABI doesn't read.

@@ -9,6 +9,9 @@ decreases-print_path l = 10 * l.left + 0
 abbrev pub decreases-print_path_form : goal.decreases-print_path_form
 decreases-print_path_form l = 10 * l.left + 6
 
+abbrev pub decreases-print_path_target : goal.decreases-print_path_target
+decreases-print_path_target l = 10 * l.left + 5
+
 abbrev pub decreases-print_impl_path : goal.decreases-print_impl_path
 decreases-print_impl_path l = 10 * l.left + 5
 
@@ -35,6 +38,9 @@ decreases-print_type l = 10 * l.left + 0
 
 abbrev pub decreases-print_type_form : goal.decreases-print_type_form
 decreases-print_type_form l = 10 * l.left + 6
+
+abbrev pub decreases-print_type_target : goal.decreases-print_type_target
+decreases-print_type_target l = 10 * l.left + 5
 
 abbrev pub decreases-print_array : goal.decreases-print_array
 decreases-print_array l = 10 * l.left + 5

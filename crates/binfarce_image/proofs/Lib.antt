@@ -1,0 +1,3 @@
+pub mod NumbersBack
+pub mod Fields
+pub mod ReadsBack

@@ -1,0 +1,7 @@
+-- The law of layouts: an image reads back from its file in each layout.
+use Rattle.binfarce_image.specs.declared.image.Image.{Image}
+use Rattle.binfarce_image.specs.ImageSymbols.{LayoutsAgree}
+use Rattle.binfarce_image.proofs.Fields.{put_back}
+
+pub reads_back : (image : Image) → LayoutsAgree image
+reads_back image layout fits due name not_table = ?

@@ -1,3 +1,4 @@
 pub mod NumbersBack
 pub mod Fields
+pub mod Classes
 pub mod ReadsBack

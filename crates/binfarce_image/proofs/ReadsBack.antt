@@ -2,6 +2,7 @@
 use Rattle.binfarce_image.specs.declared.image.Image.{Image}
 use Rattle.binfarce_image.specs.ImageSymbols.{LayoutsAgree}
 use Rattle.binfarce_image.proofs.Fields.{put_back}
+use Rattle.binfarce_image.proofs.Classes.{is_class}
 
 pub reads_back : (image : Image) → LayoutsAgree image
 reads_back image layout fits due name not_table = ?

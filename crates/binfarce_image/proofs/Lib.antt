@@ -1,4 +1,5 @@
 pub mod NumbersBack
 pub mod Fields
 pub mod Classes
+pub mod HeadersBack
 pub mod ReadsBack

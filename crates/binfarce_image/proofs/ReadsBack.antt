@@ -3,6 +3,7 @@ use Rattle.binfarce_image.specs.declared.image.Image.{Image}
 use Rattle.binfarce_image.specs.ImageSymbols.{LayoutsAgree}
 use Rattle.binfarce_image.proofs.Fields.{put_back}
 use Rattle.binfarce_image.proofs.Classes.{is_class}
+use Rattle.binfarce_image.proofs.HeadersBack.{headers_back}
 
 pub reads_back : (image : Image) → LayoutsAgree image
 reads_back image layout fits due name not_table = ?

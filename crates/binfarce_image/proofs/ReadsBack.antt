@@ -4,6 +4,9 @@ use Rattle.binfarce_image.specs.ImageSymbols.{LayoutsAgree}
 use Rattle.binfarce_image.proofs.Fields.{put_back}
 use Rattle.binfarce_image.proofs.Classes.{is_class}
 use Rattle.binfarce_image.proofs.HeadersBack.{headers_back}
+use Rattle.binfarce_image.proofs.BodiesBack.{bodies_back}
+use Rattle.binfarce_image.proofs.RowsBack.{rows_back}
+use Rattle.binfarce_image.proofs.Found.{find_index}
 
 pub reads_back : (image : Image) → LayoutsAgree image
 reads_back image layout fits due name not_table = ?

@@ -5,4 +5,5 @@ pub mod HeadersBack
 pub mod RowsBack
 pub mod BodiesBack
 pub mod Found
+pub mod WalkBack
 pub mod ReadsBack

@@ -32,6 +32,12 @@ both_at R (a ∷ xs) [] i x y all lt = absurd all
 both_at R (a ∷ xs) (b ∷ ys) zero x y all lt = all.0
 both_at R (a ∷ xs) (b ∷ ys) (suc i) x y all lt = both_at R xs ys i x y all.1 (omega arith)
 
+-- where an element is, the list is longer
+pub index_below : {A : Type 0} (xs : List A) (i : ℕ) (x : A) → slice_get xs i ≡ Some x → i < length xs
+index_below [] i x found = absurd cc
+index_below (y ∷ xs) zero x found = omega arith
+index_below (y ∷ xs) (suc i) x found = omega (arith, index_below xs i x found)
+
 passes_by : {A : Type 0} (g : A → Bool) (x y : A) (o : Option A) (b : Bool) → g x ≡ b → cond b (Some x) o ≡ Some y → (o ≡ Some y → g y ≡ true) → g y ≡ true
 passes_by g x y o true e found later = let same : x ≡ y = cc in ap g (sym same) ∙ e
 passes_by g x y o false e found later = later found

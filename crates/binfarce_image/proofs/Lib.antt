@@ -6,4 +6,6 @@ pub mod RowsBack
 pub mod BodiesBack
 pub mod Found
 pub mod WalkBack
+pub mod PartsBack
+pub mod AnswerBack
 pub mod ReadsBack

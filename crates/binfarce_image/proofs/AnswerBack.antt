@@ -1,6 +1,7 @@
 -- From the sections that were found on, the reader answers what the image holds.
 use Rattle.std.proofs.Common.{◌≡◌, ℕ, ◌+◌, ◌*◌, ◌/◌, ◌%◌, ◌^◌, ◌<◌, Bool, true, false, cond, eqb, ltb, leb, ◌&&◌, List, [], ◌∷◌, ◌++◌, length, Option, Some, None, Result, Ok, Err, refl, sym, ap, ◌∙◌, arith}
 use Rattle.std.specs.List.{AllByRecursion, flat_map}
+use Rattle.std.specs.Global.{Vec}
 use Rattle.std.proofs.lemmas.Bool.{eq-eqb, and_parts, ltb-true}
 use Rattle.std.proofs.lemmas.Nat.{div-mul-add, mod-mul-add}
 use Rattle.binfarce.specs.declared.ByteOrder.{ByteOrder}
@@ -96,3 +97,39 @@ kind_refused class table text symbols linked kind is other =
 
 kind_passes : (linked : Section) (kind : ℕ) → linked.kind ≡ kind → eqb kind 3 ≡ true → string_table_kind linked ≡ Ok linked
 kind_passes linked kind is same = ap (λ (b : Bool). cond b (Ok linked) (Err (unexpected_section_type 3 linked.kind))) (ap (λ (k : ℕ). eqb k 3) is ∙ same)
+
+module _ (image : Image) (layout : ElfLayout) (small : length (bytes image layout) < 2 ^ 32) (text symbols : Section) (found : ℕ × Part) (j name link : ℕ) (rows : Vec Row) where
+  answer_by_kind : (linked : Section) (k n kind l : ℕ) (strings : Vec ℕ) (b : Bool) → eqb kind 3 ≡ b
+      → Holds image layout text found → is_table found.1 ≡ false → Holds image layout symbols (j, Table name link rows) → Holds image layout linked (k, Bytes n kind l strings)
+      → answer_of (class_of layout) (table_of image layout) (located_with (class_of layout) (table_of image layout) text symbols linked) ≡ answer_with found (Table name link rows) (Bytes n kind l strings)
+  answer_by_kind linked k n kind l strings true is t other s r =
+      let class = class_of layout in
+      let order = order_of layout in
+      let table = table_of image layout in
+      let written = flat_map (symbol_bytes class order) rows.items in
+      let first : part_of (bytes image layout) linked ≡ Ok strings.items = part_back class order (bytes image layout) linked (k, Bytes n kind l strings) r small in
+      let second : part_of (bytes image layout) symbols ≡ Ok written = part_back class order (bytes image layout) symbols (j, Table name link rows) s small in
+      let whole : whole_rows class written ≡ Ok written = whole_is class written (length rows.items) (symbol_some layout) (length_rows class order rows.items (is_class layout)) in
+      let located = located_is class table text symbols linked strings.items written (kind_passes linked kind (ap (λ (x : Section). x.kind) r.is) is) first second whole in
+      let index : text.index ≡ found.0 = ap (λ (x : Section). x.index) t.is in
+      let size : text.size ≡ part_size found.1 = ap (λ (x : Section). x.size) t.is ∙ size_back class found.1 other in
+      let all = entries_of class order strings.items text.index written (length written / class.symbol_length) in
+      let entries : all ≡ image_entries strings.items found.0 rows.items = entries_back layout strings.items text.index rows.items s.fits.2 ∙ ap (λ (i : ℕ). image_entries strings.items i rows.items) index in
+      ap (answer_of class table) located
+      ∙ same_listed all (image_entries strings.items found.0 rows.items) text.size (part_size found.1) entries size
+      ∙ sym (ap (λ (q : Bool). cond q (Ok strings.items) (Err (unexpected_section_type 3 kind)) >>= λ (xs : List ℕ). Ok (record { entries = image_entries xs found.0 rows.items; section_size = part_size found.1 })) is)
+  answer_by_kind linked k n kind l strings false is t other s r =
+      let class = class_of layout in
+      let table = table_of image layout in
+      ap (answer_of class table) (kind_refused class table text symbols linked kind (ap (λ (x : Section). x.kind) r.is) is)
+      ∙ sym (ap (λ (q : Bool). cond q (Ok strings.items) (Err (unexpected_section_type 3 kind)) >>= λ (xs : List ℕ). Ok (record { entries = image_entries xs found.0 rows.items; section_size = part_size found.1 })) is)
+
+  -- the answer, whichever part is linked
+  pub answer_back : (linked : Section) (k : ℕ) (part : Part)
+      → Holds image layout text found → is_table found.1 ≡ false → Holds image layout symbols (j, Table name link rows) → Holds image layout linked (k, part)
+      → answer_of (class_of layout) (table_of image layout) (located_with (class_of layout) (table_of image layout) text symbols linked) ≡ answer_with found (Table name link rows) part
+  answer_back linked k (Bytes n kind l strings) t other s r = answer_by_kind linked k n kind l strings (eqb kind 3) refl t other s r
+  answer_back linked k (Table n l others) t other s r =
+      let class = class_of layout in
+      let table = table_of image layout in
+      ap (answer_of class table) (kind_refused class table text symbols linked 2 (ap (λ (x : Section). x.kind) r.is) refl)

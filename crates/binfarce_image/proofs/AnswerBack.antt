@@ -1,10 +1,9 @@
 -- From the sections that were found on, the reader answers what the image holds.
-use Rattle.std.proofs.Common.{◌≡◌, ℕ, ◌+◌, ◌*◌, ◌/◌, ◌%◌, ◌^◌, ◌<◌, Bool, true, false, cond, eqb, ltb, leb, ◌&&◌, List, [], ◌∷◌, ◌++◌, length, Option, Some, None, Result, Ok, Err, refl, sym, ap, ◌∙◌, arith}
+use Rattle.std.proofs.Common.{◌≡◌, ℕ, ◌+◌, ◌*◌, ◌/◌, ◌%◌, ◌^◌, ◌<◌, Bool, true, false, cond, eqb, ltb, leb, ◌&&◌, List, [], length, Result, Ok, Err, refl, sym, ap, ◌∙◌, arith}
 use Rattle.std.specs.List.{AllByRecursion, flat_map}
 use Rattle.std.specs.Global.{Vec}
 use Rattle.std.proofs.lemmas.Bool.{eq-eqb, and_parts, ltb-true}
 use Rattle.std.proofs.lemmas.Nat.{div-mul-add, mod-mul-add}
-use Rattle.binfarce.specs.declared.ByteOrder.{ByteOrder}
 use Rattle.binfarce.specs.Refusal.{Refusal, ◌>>=◌, unexpected_section_type, unexpected_eof}
 use Rattle.binfarce.specs.Elf.{ElfClass, Section, SectionTable}
 use Rattle.binfarce.specs.ElfSymbols.{Located, part_of, string_table_kind, whole_rows, entries_of}
@@ -14,12 +13,11 @@ use Rattle.binfarce_image.specs.declared.image.Image.{Image}
 use Rattle.binfarce_image.specs.declared.image.Part.{Part}
 use Rattle.binfarce_image.specs.declared.image.Part.TheVariants.{Bytes, Table}
 use Rattle.binfarce_image.specs.declared.image.Row.{Row}
-use Rattle.binfarce_image.specs.Image.{bytes, body, body_length, class_of, order_of, part_kind, symbol_bytes}
+use Rattle.binfarce_image.specs.Image.{bytes, body_length, class_of, order_of, symbol_bytes}
 use Rattle.binfarce_image.specs.ImageRefusal.{is_table}
 use Rattle.binfarce_image.specs.ImageSymbols.{RowFits, strings_of, rows_of, part_size, entries_of as image_entries}
-use Rattle.binfarce_image.proofs.Classes.{IsClass, is_class}
+use Rattle.binfarce_image.proofs.Classes.{is_class}
 use Rattle.binfarce_image.proofs.RowsBack.{length_rows, rows_back}
-use Rattle.binfarce_image.proofs.BodiesBack.{IsSectionOf}
 use Rattle.binfarce_image.proofs.WalkBack.{table_of}
 use Rattle.binfarce_image.proofs.PartsBack.{Holds, part_back}
 

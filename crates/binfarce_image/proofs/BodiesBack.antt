@@ -1,5 +1,5 @@
 -- The bodies of an image's parts stand where their section headers say.
-use Rattle.std.proofs.Common.{◌≡◌, ℕ, ◌+◌, ◌-◌, ◌*◌, ◌<◌, ◌≤◌, Bool, false, ◌||◌, List, [], ◌∷◌, ◌++◌, length, take, drop, refl, sym, ap, ◌∙◌, append_assoc, arith}
+use Rattle.std.proofs.Common.{◌≡◌, ℕ, ◌+◌, ◌≤◌, false, List, [], ◌∷◌, ◌++◌, length, take, refl, sym, ap, ◌∙◌, append_assoc, arith}
 use Rattle.std.specs.List.{AllByRecursion, AllZip, enumerate_from, flat_map, list_any}
 use Rattle.std.proofs.lemmas.Bool.{or_parts}
 use Rattle.std.proofs.lemmas.List.{length-append, drop_at, take_at}
@@ -49,8 +49,7 @@ bodies_back class order file front behind place i (part ∷ parts) is stands at 
     let split : file ≡ front ++ (here ++ rest) = stands ∙ ap (λ (xs : List ℕ). front ++ xs) (append_assoc here bodies behind) in
     let further : length (front ++ here) ≡ place + size = length-append front here ∙ ap (λ (n : ℕ). n + length here) at ∙ ap (λ (n : ℕ). place + n) long in
     let found : bytes_at file place size ≡ here = ap (λ (xs : List ℕ). bytes_at xs place size) split ∙ ap (take size) (drop_at front (here ++ rest) place at) ∙ take_at here rest size long in
-    let within : place + size ≤ length file = omega (arith, ap length split, length-append front (here ++ rest), length-append here rest) in
-    (
+    let within : place + size ≤ length file = omega (arith, ap length split, length-append front (here ++ rest), length-append here rest) in (
       record { place = place; is = refl; stands = found; inside = within; unclaimed = u.0; fits = fits.0 },
       bodies_back class order file (front ++ here) behind (place + size) (i + 1) parts is (split ∙ sym (append_assoc front here rest)) further fits.1 u.1,
     )

@@ -1,12 +1,12 @@
 -- What the tables of both classes have in common: each number that an image writes is read where it was put.
-use Rattle.std.proofs.Common.{◌≡◌, ℕ, ◌+◌, ◌-◌, ◌*◌, ◌^◌, ◌<◌, Bool, true, List, length, ◌++◌, replicate, leb, ltb, ◌&&◌, Option, Some, refl}
-use Rattle.binfarce.specs.Elf.{Field, ElfClass, elf32, elf64}
+use Rattle.std.proofs.Common.{◌≡◌, ℕ, ◌^◌, true, length, leb, ltb, ◌&&◌, refl}
+use Rattle.binfarce.specs.Elf.{ElfClass, elf32, elf64}
 use Rattle.binfarce_image.specs.declared.image.ElfLayout.{ElfLayout}
 use Rattle.binfarce_image.specs.declared.image.ElfLayout.TheVariants.{Elf32Little, Elf32Big, Elf64Little, Elf64Big}
 use Rattle.binfarce_image.specs.declared.image.Image.{Image}
 use Rattle.binfarce_image.specs.declared.image.Part.{Part}
 use Rattle.binfarce_image.specs.declared.image.Row.{Row}
-use Rattle.binfarce_image.specs.Image.{class_of, identification, bodies_end, body_length, entry_length, part_name, part_kind, part_link, symbol_numbers, section_numbers, header_numbers}
+use Rattle.binfarce_image.specs.Image.{class_of, bodies_end, body_length, entry_length, part_name, part_kind, part_link, symbol_numbers, section_numbers, header_numbers}
 use Rattle.binfarce_image.proofs.Fields.{IsPut, all_lie_in}
 
 -- what a section header says is read where it was put

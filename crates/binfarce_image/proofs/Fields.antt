@@ -1,6 +1,5 @@
 -- What stands in the fields of a structure after numbers were put into some.
 use Rattle.std.proofs.Common.{◌≡◌, ℕ, ◌+◌, ◌-◌, ◌^◌, ◌<◌, ◌≤◌, Bool, true, false, cond, ◌&&◌, ◌||◌, leb, eqb, List, [], ◌∷◌, ◌++◌, length, take, drop, Option, Some, None, inl, inr, refl, sym, ap, ◌∙◌, append_assoc, arith}
-use Rattle.std.specs.List.{fold}
 use Rattle.std.proofs.lemmas.Bool.{leb-true, eqb-true, and_parts, or_cases}
 use Rattle.std.proofs.lemmas.List.{length-append, length-take, length-take-le, length-drop, take-append-le, drop-append-le, take-take, drop-take, drop-drop, drop_at, take_at}
 use Rattle.binfarce.specs.declared.ByteOrder.{ByteOrder}
@@ -80,7 +79,7 @@ put_apart order bytes f x len long inside apart =
     let fits : x.0.place + x.0.width ≤ len = leb-true (x.0.place + x.0.width) len inside in
     let starts : x.0.place ≤ length bytes = omega arith in
     ap (number order) (elim (or_cases (leb (f.place + f.width) x.0.place) (leb (x.0.place + x.0.width) f.place) apart) [
-      inl low ↦ before bytes others x.0.place f.place f.width starts (leb-true (f.place + f.width) x.0.place low)
+      | inl low ↦ before bytes others x.0.place f.place f.width starts (leb-true (f.place + f.width) x.0.place low)
       | inr high ↦ behind bytes others x.0.place f.place f.width starts (omega (arith, leb-true (x.0.place + x.0.width) f.place high, number_length order x.0.width x.1))
     ])
 

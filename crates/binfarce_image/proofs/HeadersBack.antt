@@ -1,16 +1,16 @@
 -- The section headers of an image's file say of each part where it is and what it is.
-use Rattle.std.proofs.Common.{◌≡◌, ℕ, zero, suc, ◌+◌, ◌-◌, ◌*◌, ◌^◌, ◌<◌, ◌≤◌, true, ◌&&◌, leb, ltb, List, [], ◌∷◌, ◌++◌, length, replicate, map, refl, sym, ap, subst, ◌∙◌, append_assoc, arith}
+use Rattle.std.proofs.Common.{◌≡◌, ℕ, ◌+◌, ◌*◌, ◌^◌, ◌<◌, ◌≤◌, ◌&&◌, leb, ltb, List, [], ◌∷◌, ◌++◌, length, replicate, map, refl, sym, ap, ◌∙◌, append_assoc, arith}
 use Rattle.std.specs.List.{range_with_len, AllByRecursion}
-use Rattle.std.proofs.lemmas.Bool.{and_parts, ltb-true, leb-true}
+use Rattle.std.proofs.lemmas.Bool.{and_parts, ltb-true}
 use Rattle.std.proofs.lemmas.List.{length-append, length-replicate}
 use Rattle.binfarce.specs.declared.ByteOrder.{ByteOrder}
-use Rattle.binfarce.specs.Elf.{ElfClass, Section, section_at, value_at}
+use Rattle.binfarce.specs.Elf.{ElfClass, Section, section_at}
 use Rattle.binfarce_image.specs.declared.image.Part.{Part}
 use Rattle.binfarce_image.specs.declared.image.Part.TheVariants.{Bytes, Table}
 use Rattle.binfarce_image.specs.Image.{bodies_end, body_length, entry_length, part_name, part_kind, part_link, section_numbers, section_bytes, section_headers}
 use Rattle.binfarce_image.specs.ImageSymbols.{PartFits}
-use Rattle.binfarce_image.proofs.Fields.{IsPut, field_back, length_filled}
-use Rattle.binfarce_image.proofs.Classes.{IsClass, SectionPut}
+use Rattle.binfarce_image.proofs.Fields.{field_back, length_filled}
+use Rattle.binfarce_image.proofs.Classes.{IsClass}
 
 -- the section that a part is, whose body begins at this place
 abbrev pub section_of_part : ElfClass → ℕ → ℕ → Part → Section

@@ -1,13 +1,11 @@
 -- The bytes and the name of each section of an image's file are those of its part.
-use Rattle.std.proofs.Common.{◌≡◌, ℕ, ◌+◌, ◌-◌, ◌*◌, ◌^◌, ◌<◌, ◌≤◌, Bool, true, false, not, cond, eqb, leb, ltb, List, [], ◌∷◌, length, get_or, map, Option, Some, None, Result, Ok, Err, refl, sym, ap, subst, ◌∙◌, arith}
-use Rattle.std.specs.List.{range_with_len, AllByRecursion, AllZip, enumerate_from, flat_map, slice_get}
+use Rattle.std.proofs.Common.{◌≡◌, ℕ, ◌+◌, ◌^◌, ◌<◌, false, List, length, get_or, map, Option, Some, None, Ok, refl, sym, ap, subst, ◌∙◌, arith}
+use Rattle.std.specs.List.{range_with_len, AllByRecursion, AllZip, enumerate_from, slice_get}
 use Rattle.std.specs.Option.{option_and_then, is_none}
 use Rattle.std.proofs.lemmas.Bool.{lt-ltb, le-ltb, le-leb, lt-leb}
 use Rattle.std.proofs.lemmas.List.FromFn.{get_or-map-range_with_len, get_or-enumerate_from, length-map-range_with_len}
 use Rattle.std.proofs.lemmas.Option.{get_or_from_slice_get}
 use Rattle.binfarce.specs.declared.ByteOrder.{ByteOrder}
-use Rattle.binfarce.specs.Number.{bytes_at}
-use Rattle.binfarce.specs.Refusal.{Refusal, malformed_input, unexpected_eof}
 use Rattle.binfarce.specs.Steps.{◌>>=◌}
 use Rattle.binfarce.specs.Text.{text_at}
 use Rattle.binfarce.specs.Elf.{ElfClass, Section, SectionTable, section_of, whole_headers, contents, names_section, name_of}
@@ -19,7 +17,6 @@ use Rattle.binfarce_image.specs.declared.image.Part.TheVariants.{Bytes, Table}
 use Rattle.binfarce_image.specs.Image.{bytes, body, body_length, class_of, order_of, part_name}
 use Rattle.binfarce_image.specs.ImageRefusal.{bytes_of, names_of}
 use Rattle.binfarce_image.specs.ImageSymbols.{PartFits, name_of as part_name_of}
-use Rattle.binfarce_image.proofs.HeadersBack.{section_of_part, sections_from}
 use Rattle.binfarce_image.proofs.BodiesBack.{IsSectionOf}
 use Rattle.binfarce_image.proofs.WalkBack.{LaysOut, table_of, whole_back, sections_back, parts_back}
 use Rattle.binfarce_image.proofs.Found.{both_at, index_below}

@@ -1,12 +1,12 @@
 -- The law of layouts: an image reads back from its file in each layout.
-use Rattle.std.proofs.Common.{◌≡◌, ℕ, ◌^◌, ◌<◌, Bool, true, false, eqb, List, length, codes, Option, Some, None, Result, Ok, Err, refl, sym, ap, ◌∙◌, arith}
+use Rattle.std.proofs.Common.{◌≡◌, ℕ, Bool, true, false, eqb, List, codes, Option, Some, None, Result, refl, sym, ap, ◌∙◌, arith}
 use Rattle.std.specs.Prelude.{find}
-use Rattle.std.specs.List.{AllByRecursion, AllZip, enumerate_from, slice_get}
+use Rattle.std.specs.List.{AllByRecursion, enumerate_from, slice_get}
 use Rattle.std.specs.Option.{option_map}
 use Rattle.std.specs.Global.{Vec}
 use Rattle.binfarce.specs.Refusal.{Refusal, ◌>>=◌, required, symbols_section_is_missing, section_is_missing}
 use Rattle.binfarce.specs.Walk.{Walk, found_or_end}
-use Rattle.binfarce.specs.Elf.{ElfClass, Section, SectionTable, section_table, walk, name_of}
+use Rattle.binfarce.specs.Elf.{ElfClass, Section, SectionTable, walk, name_of}
 use Rattle.binfarce.specs.ElfSymbols.{Located, sought, located, is_name, elf_answer}
 use Rattle.binfarce.specs.Symbol.{Listed}
 use Rattle.binfarce_image.specs.declared.image.ElfLayout.{ElfLayout}
@@ -14,7 +14,7 @@ use Rattle.binfarce_image.specs.declared.image.Image.{Image}
 use Rattle.binfarce_image.specs.declared.image.Part.{Part}
 use Rattle.binfarce_image.specs.declared.image.Part.TheVariants.{Bytes, Table}
 use Rattle.binfarce_image.specs.declared.image.Row.{Row}
-use Rattle.binfarce_image.specs.Image.{bytes, class_of, order_of, part_kind, part_link}
+use Rattle.binfarce_image.specs.Image.{class_of, part_kind, part_link}
 use Rattle.binfarce_image.specs.ImageRefusal.{is_table, claims_table}
 use Rattle.binfarce_image.specs.ImageSymbols.{PartFits, IsNotTable, LayoutsAgree, name_of as part_name_of, part_named, symbols_of}
 use Rattle.binfarce_image.proofs.HeadersBack.{sections_from}

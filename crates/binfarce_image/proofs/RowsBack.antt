@@ -1,5 +1,5 @@
 -- The rows of a symbol table read back, each where it was written.
-use Rattle.std.proofs.Common.{◌≡◌, ℕ, zero, suc, ◌+◌, ◌-◌, ◌*◌, ◌^◌, ◌<◌, ◌≤◌, List, [], ◌∷◌, ◌++◌, length, replicate, Option, refl, sym, ap, ◌∙◌, append_assoc, arith}
+use Rattle.std.proofs.Common.{◌≡◌, ℕ, suc, ◌+◌, ◌*◌, ◌^◌, List, [], ◌∷◌, ◌++◌, length, replicate, refl, sym, ap, ◌∙◌, append_assoc, arith}
 use Rattle.std.specs.List.{range_with_len, AllByRecursion, filter_map, cons_option, flat_map}
 use Rattle.std.proofs.lemmas.List.{length-append, length-replicate}
 use Rattle.binfarce.specs.declared.ByteOrder.{ByteOrder}
@@ -9,8 +9,8 @@ use Rattle.binfarce.specs.Symbol.{Entry}
 use Rattle.binfarce_image.specs.declared.image.Row.{Row}
 use Rattle.binfarce_image.specs.Image.{symbol_numbers, symbol_bytes}
 use Rattle.binfarce_image.specs.ImageSymbols.{RowFits, symbol_of}
-use Rattle.binfarce_image.proofs.Fields.{IsPut, field_back, length_filled}
-use Rattle.binfarce_image.proofs.Classes.{IsClass, SymbolPut}
+use Rattle.binfarce_image.proofs.Fields.{field_back, length_filled}
+use Rattle.binfarce_image.proofs.Classes.{IsClass}
 
 length_symbol : (class : ElfClass) (order : ByteOrder) (row : Row) → IsClass class → length (symbol_bytes class order row) ≡ class.symbol_length
 unfolding symbol_bytes

@@ -1,5 +1,5 @@
 -- The walk over an image's file goes over the sections that its parts are, to the end.
-use Rattle.std.proofs.Common.{◌≡◌, ℕ, zero, suc, ◌+◌, ◌-◌, ◌*◌, ◌/◌, ◌^◌, ◌<◌, ◌≤◌, Bool, true, false, not, cond, leb, ltb, eqb, ◌&&◌, List, [], ◌∷◌, ◌++◌, length, replicate, map, min, Option, Some, None, refl, sym, ap, ◌∙◌, append_assoc, arith}
+use Rattle.std.proofs.Common.{◌≡◌, ℕ, suc, ◌+◌, ◌-◌, ◌*◌, ◌/◌, ◌^◌, ◌<◌, ◌≤◌, Bool, true, false, not, cond, leb, ltb, eqb, ◌&&◌, List, [], ◌∷◌, ◌++◌, length, replicate, map, min, Some, None, refl, sym, ap, ◌∙◌, append_assoc, arith}
 use Rattle.std.specs.List.{range_with_len, AllByRecursion, AllZip, enumerate_from, flat_map, list_any, count_by}
 use Rattle.std.specs.Option.{is_none}
 use Rattle.std.proofs.lemmas.Bool.{and_parts, ltb-true, ltb-false, leb-true, leb-false, lt-ltb, le-leb, eqb-true, not-true}
@@ -7,18 +7,16 @@ use Rattle.std.proofs.lemmas.List.{length-append, length-replicate}
 use Rattle.std.proofs.lemmas.Nat.{div-mul-add}
 use Rattle.std.proofs.lemmas.List.Sums.{count_by-le-length}
 use Rattle.binfarce.specs.declared.ByteOrder.{ByteOrder}
-use Rattle.binfarce.specs.Elf.{ElfClass, ElfFile, Section, SectionTable, section_table, header_at, section_of, whole_headers, value_at, walk}
+use Rattle.binfarce.specs.Elf.{ElfClass, SectionTable, section_table, header_at, section_of, whole_headers, value_at, walk}
 use Rattle.binfarce_image.specs.declared.image.ElfLayout.{ElfLayout}
-use Rattle.binfarce_image.specs.declared.image.ElfLayout.TheVariants.{Elf32Little, Elf32Big, Elf64Little, Elf64Big}
 use Rattle.binfarce_image.specs.declared.image.Image.{Image}
-use Rattle.binfarce_image.specs.declared.image.ImageError.{ImageError}
-use Rattle.binfarce_image.specs.declared.image.ImageError.TheVariants.{TooManySections, TableCount, NamesPlace, TooLarge, OutOfMemory}
+use Rattle.binfarce_image.specs.declared.image.ImageError.TheVariants.{TooManySections, TableCount, NamesPlace, TooLarge}
 use Rattle.binfarce_image.specs.declared.image.Part.{Part}
 use Rattle.binfarce_image.specs.Image.{bytes, body, body_length, bodies_end, class_of, order_of, header_bytes, header_numbers, identification, section_headers, section_bytes}
 use Rattle.binfarce_image.specs.ImageRefusal.{refusal_due, has_one_table, is_table, claims_table, names_of}
 use Rattle.binfarce_image.specs.ImageSymbols.{PartFits}
 use Rattle.binfarce_image.proofs.Fields.{field_back, length_filled}
-use Rattle.binfarce_image.proofs.Classes.{IsClass, HeaderPut, is_class}
+use Rattle.binfarce_image.proofs.Classes.{IsClass, is_class}
 use Rattle.binfarce_image.proofs.HeadersBack.{sections_from, headers_back, length_section}
 use Rattle.binfarce_image.proofs.BodiesBack.{IsSectionOf, bodies_back, length_bodies}
 

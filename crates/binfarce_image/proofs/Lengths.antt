@@ -147,3 +147,17 @@ bodies_end_saturated class place most part parts =
 -- a place isn't behind the end of the bodies that begin there
 pub bodies_end_above : (class : ElfClass) (place : ℕ) (parts : List Part) → place ≤ bodies_end class place parts
 bodies_end_above class place parts = omega (arith, bodies_end_from class place parts)
+
+-- the first of many zeros
+pub take_zeros : (n most : ℕ) → n ≤ most → take n (replicate {A = ℕ} most 0) ≡ replicate n 0
+take_zeros zero most h = refl
+take_zeros (suc n) zero h = absurd (omega arith)
+take_zeros (suc n) (suc most) h = ap (λ zeros. 0 ∷ zeros) (take_zeros n most (omega arith))
+
+-- the header's bytes before its numbers are put in, as the first of 64
+pub take_blank : (layout : ElfLayout) → take (class_of layout).header_length (identification layout ++ replicate 48 0) ≡ identification layout ++ replicate ((class_of layout).header_length - 16) 0
+unfolding elf32 elf64
+take_blank Elf32Little = refl
+take_blank Elf32Big = refl
+take_blank Elf64Little = refl
+take_blank Elf64Big = refl

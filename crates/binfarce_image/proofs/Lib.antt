@@ -1,2 +1,4 @@
 pub mod Bytes
 pub mod Lengths
+pub mod Fitting
+pub mod Refusing

@@ -8,5 +8,5 @@ abbrev pub invariant-loop-part : goal.invariant-loop-part
 invariant-loop-part l = record {
   fits : l.end < 2 ^ 64;
   end : min (bodies_end (class_seen l.class) l.end (drop l.part-index l.parts)) (2 ^ 64 - 1)
-    ≡ min (bodies_end (class_seen l.class) l.class.header_length l.parts) (2 ^ 64 - 1);
+      ≡ min (bodies_end (class_seen l.class) l.class.header_length l.parts) (2 ^ 64 - 1);
 }

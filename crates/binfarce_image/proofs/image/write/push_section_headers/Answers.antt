@@ -56,10 +56,10 @@ loop-part-preserved c =
     let headers = λ (n : ℕ). section_headers class order n rest in
     record {
       headers = ap (λ n. c.push_section_header.new.file.items ++ headers (place + n)) same
-        ∙ ap (λ file. file ++ headers (place + body_length class part)) c.in_ok-push_section_header.ensures.header
-        ∙ append_assoc c.loop-part.file.items (section_bytes class order place part) (headers (place + body_length class part))
-        ∙ sym (ap (λ ps. c.loop-part.file.items ++ section_headers class order place ps) split)
-        ∙ c.loop-part.invariant.headers;
+          ∙ ap (λ file. file ++ headers (place + body_length class part)) c.in_ok-push_section_header.ensures.header
+          ∙ append_assoc c.loop-part.file.items (section_bytes class order place part) (headers (place + body_length class part))
+          ∙ sym (ap (λ ps. c.loop-part.file.items ++ section_headers class order place ps) split)
+          ∙ c.loop-part.invariant.headers;
       fits = λ behind. c.loop-part.invariant.fits (subst (λ (ps : List Part). AllByRecursion HeaderFits ps) (sym split) (c.in_ok-push_section_header.ensures.fits, behind));
       end = subst (λ (n : ℕ). bodies_end class (place + n) rest < 2 ^ 32) (sym same) ends.0;
     }

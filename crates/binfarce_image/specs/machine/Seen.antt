@@ -13,7 +13,7 @@ use Rattle.binfarce_image.specs.Image.{part_name, part_kind, part_link}
 use Rattle.binfarce_image.specs.ImageSymbols.{RowFits}
 
 abbrev pub field_seen : Field → elf.Field
-field_seen f = record { place = f.place; width = f.width }
+field_seen f = record { place = f.0; width = f.1 }
 
 abbrev pub header_seen : Header → elf.Header elf.Field
 header_seen h = record { elf_type = field_seen h.elf_type; machine = field_seen h.machine; version = field_seen h.version; entry = field_seen h.entry; phoff = field_seen h.phoff; shoff = field_seen h.shoff; flags = field_seen h.flags; ehsize = field_seen h.ehsize; phentsize = field_seen h.phentsize; phnum = field_seen h.phnum; shentsize = field_seen h.shentsize; shnum = field_seen h.shnum; shstrndx = field_seen h.shstrndx }

@@ -241,9 +241,10 @@ fn put(structure: &mut [u8], order: ByteOrder, field: Field, number: u64)
     requires { fits (length structure.old) (field_seen field) ≡ true }
     ensures { structure.new ≡ put order structure.old (field_seen field, number) }
 {
-    let place = &mut structure[field.place..field.place + field.width];
+    let Field(place, width) = field;
+    let bytes = &mut structure[place..place + width];
     match order {
-        ByteOrder::LittleEndian => place.copy_from_slice(&number.to_le_bytes()[..field.width]),
-        ByteOrder::BigEndian => place.copy_from_slice(&number.to_be_bytes()[8 - field.width..]),
+        ByteOrder::LittleEndian => bytes.copy_from_slice(&number.to_le_bytes()[..width]),
+        ByteOrder::BigEndian => bytes.copy_from_slice(&number.to_be_bytes()[8 - width..]),
     }
 }

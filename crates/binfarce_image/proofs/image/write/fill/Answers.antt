@@ -7,7 +7,7 @@ use Rattle.binfarce_image.proofs.Lengths.{both}
 use Rattle.binfarce_image.proofs.image.write.fill.Goals as goal
 
 none : Field × ℕ
-none = (record { place = 0; width = 0 }, 0)
+none = (record { 0 = 0; 1 = 0 }, 0)
 
 first_fits : (n : ℕ) (numbers : List (Field × ℕ)) (i : ℕ) → i < length numbers → all_fit n (numbers_seen (drop i numbers)) ≡ true → (fits n (field_seen (get_or numbers i none).0) ≡ true) × (all_fit n (numbers_seen (drop (i + 1) numbers)) ≡ true)
 first_fits n numbers i h fit =

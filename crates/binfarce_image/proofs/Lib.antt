@@ -1,3 +1,7 @@
+pub mod Bytes
+pub mod Lengths
+pub mod Fitting
+pub mod Refusing
 pub mod NumbersBack
 pub mod Fields
 pub mod Classes

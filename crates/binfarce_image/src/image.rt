@@ -3,16 +3,16 @@
 //! An image knows no layout. [`lay_out`] writes it in one of four, and what the readers find in the file is what the
 //! image holds, whichever it is.
 
-ghost use Rattle.std.specs.Prelude.{◌≡◌, ◌<◌, ◌≤◌, ◌^◌, IfOk, is_some, min, length};
-ghost use Rattle.binfarce_image.specs.Image.{bytes, bodies_end, body_length, class_of};
-ghost use Rattle.binfarce_image.specs.ImageRefusal.{refusal_due, Refuses, has_one_table, is_table, claims_table, names_of};
+ghost use Rattle.std.specs.Prelude.{◌≡◌, Some, IfOk};
+ghost use Rattle.binfarce_image.specs.Image.{bytes};
+ghost use Rattle.binfarce_image.specs.ImageRefusal.{refusal_due, Refuses};
 ghost use Rattle.binfarce_image.specs.ImageSymbols.{ReadsBack};
-ghost use Rattle.binfarce_image.specs.machine.Seen.{class_seen};
 
+mod parts;
 mod tables;
 mod write;
 
-use self::tables::Class;
+use self::parts::{bodies_end, has_names, has_one_table};
 use std::alloc::{AllocError, Global};
 use std::error::Error;
 use std::fmt;
@@ -160,64 +160,6 @@ pub fn lay_out(alloc: Global, image: &Image, layout: ElfLayout) -> Result<Vec<u8
         return Err(ImageError::TooLarge);
     }
     Ok(write::file(alloc, image, layout, shoff, length)?)
-}
-
-// Exactly one symbol table, and no byte section of its kind.
-fn has_one_table(parts: &[Part]) -> bool
-    ensures { result ≡ has_one_table parts.now }
-{
-    parts.iter().filter(|part| is_table(part)).count() == 1
-        && !parts.iter().any(|part| claims_table(part))
-}
-
-fn is_table(part: &Part) -> bool
-    ensures { result ≡ is_table part.now }
-{
-    match part {
-        Part::Bytes { .. } => false,
-        Part::Table { .. } => true,
-    }
-}
-
-fn claims_table(part: &Part) -> bool
-    ensures { result ≡ claims_table part.now }
-{
-    const SHT_SYMTAB: u32 = 2;
-    match part {
-        Part::Bytes { kind, .. } => *kind == SHT_SYMTAB,
-        Part::Table { .. } => false,
-    }
-}
-
-// The section names are in a byte section.
-fn has_names(image: &Image) -> bool
-    ensures { result ≡ is_some (names_of image.now) }
-{
-    match image.parts.get(image.names_at as usize) {
-        Some(Part::Bytes { .. }) => true,
-        _ => false,
-    }
-}
-
-// Where the bodies end, or `usize::MAX` where that is no number.
-fn bodies_end(parts: &[Part], class: Class) -> usize
-    ensures { result ≡ min (bodies_end (class_seen class) class.header_length parts.now) (2 ^ 64 - 1) }
-{
-    let mut end = class.header_length;
-    for part in parts {
-        end = end.saturating_add(body_length(part, class));
-    }
-    end
-}
-
-// How many bytes a part has in a file, or `usize::MAX` where that is no number.
-fn body_length(part: &Part, class: Class) -> usize
-    ensures { result ≡ min (body_length (class_seen class) part.now) (2 ^ 64 - 1) }
-{
-    match part {
-        Part::Bytes { body, .. } => body.len(),
-        Part::Table { rows, .. } => rows.len().saturating_mul(class.symbol_length),
-    }
 }
 
 #[cfg(test)]

@@ -9,10 +9,11 @@ use Rattle.binfarce_image.specs.declared.image.tables.Header.{Header}
 use Rattle.binfarce_image.specs.declared.image.tables.SectionHeader.{SectionHeader}
 use Rattle.binfarce_image.specs.declared.image.tables.SymbolRow.{SymbolRow}
 use Rattle.binfarce_image.specs.declared.image.tables.Class.{Class}
+use Rattle.binfarce_image.specs.Image.{part_name, part_kind, part_link}
 use Rattle.binfarce_image.specs.ImageSymbols.{RowFits}
 
 abbrev pub field_seen : Field → elf.Field
-field_seen f = record { place = f.place; width = f.width }
+field_seen f = record { place = f.0; width = f.1 }
 
 abbrev pub header_seen : Header → elf.Header elf.Field
 header_seen h = record { elf_type = field_seen h.elf_type; machine = field_seen h.machine; version = field_seen h.version; entry = field_seen h.entry; phoff = field_seen h.phoff; shoff = field_seen h.shoff; flags = field_seen h.flags; ehsize = field_seen h.ehsize; phentsize = field_seen h.phentsize; phnum = field_seen h.phnum; shentsize = field_seen h.shentsize; shnum = field_seen h.shnum; shstrndx = field_seen h.shstrndx }
@@ -45,5 +46,4 @@ BodyFits (Table name link rows) = AllByRecursion RowFits rows.items
 
 -- the numbers of a part that stand in its section header fit their types
 abbrev pub HeaderFits : Part → Type 0
-HeaderFits (Bytes name kind link body) = (name < 2 ^ 32) × (kind < 2 ^ 32) × (link < 2 ^ 32)
-HeaderFits (Table name link rows) = (name < 2 ^ 32) × (link < 2 ^ 32)
+HeaderFits part = (part_name part < 2 ^ 32) × (part_kind part < 2 ^ 32) × (part_link part < 2 ^ 32)

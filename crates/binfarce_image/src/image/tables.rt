@@ -3,10 +3,7 @@
 
 /// Where a field stands in its structure, and how many bytes it has.
 #[derive(Clone, Copy)]
-pub(super) struct Field {
-    pub(super) place: usize,
-    pub(super) width: usize,
-}
+pub(super) struct Field(pub(super) usize, pub(super) usize);
 
 /// ELF Header.
 #[derive(Clone, Copy)]
@@ -69,108 +66,39 @@ pub(super) const ELF32: Class = Class {
     section_length: 40,
     symbol_length: 16,
     header: Header {
-        elf_type: Field {
-            place: 16,
-            width: 2,
-        },
-        machine: Field {
-            place: 18,
-            width: 2,
-        },
-        version: Field {
-            place: 20,
-            width: 4,
-        },
-        entry: Field {
-            place: 24,
-            width: 4,
-        },
-        phoff: Field {
-            place: 28,
-            width: 4,
-        },
-        shoff: Field {
-            place: 32,
-            width: 4,
-        },
-        flags: Field {
-            place: 36,
-            width: 4,
-        },
-        ehsize: Field {
-            place: 40,
-            width: 2,
-        },
-        phentsize: Field {
-            place: 42,
-            width: 2,
-        },
-        phnum: Field {
-            place: 44,
-            width: 2,
-        },
-        shentsize: Field {
-            place: 46,
-            width: 2,
-        },
-        shnum: Field {
-            place: 48,
-            width: 2,
-        },
-        shstrndx: Field {
-            place: 50,
-            width: 2,
-        },
+        elf_type: Field(16, 2),
+        machine: Field(18, 2),
+        version: Field(20, 4),
+        entry: Field(24, 4),
+        phoff: Field(28, 4),
+        shoff: Field(32, 4),
+        flags: Field(36, 4),
+        ehsize: Field(40, 2),
+        phentsize: Field(42, 2),
+        phnum: Field(44, 2),
+        shentsize: Field(46, 2),
+        shnum: Field(48, 2),
+        shstrndx: Field(50, 2),
     },
     section: SectionHeader {
-        name: Field { place: 0, width: 4 },
-        kind: Field { place: 4, width: 4 },
-        flags: Field { place: 8, width: 4 },
-        addr: Field {
-            place: 12,
-            width: 4,
-        },
-        offset: Field {
-            place: 16,
-            width: 4,
-        },
-        size: Field {
-            place: 20,
-            width: 4,
-        },
-        link: Field {
-            place: 24,
-            width: 4,
-        },
-        info: Field {
-            place: 28,
-            width: 4,
-        },
-        addralign: Field {
-            place: 32,
-            width: 4,
-        },
-        entry_size: Field {
-            place: 36,
-            width: 4,
-        },
+        name: Field(0, 4),
+        kind: Field(4, 4),
+        flags: Field(8, 4),
+        addr: Field(12, 4),
+        offset: Field(16, 4),
+        size: Field(20, 4),
+        link: Field(24, 4),
+        info: Field(28, 4),
+        addralign: Field(32, 4),
+        entry_size: Field(36, 4),
     },
     symbol: SymbolRow {
-        name: Field { place: 0, width: 4 },
-        value: Field { place: 4, width: 4 },
-        size: Field { place: 8, width: 4 },
-        info: Field {
-            place: 12,
-            width: 1,
-        },
-        other: Field {
-            place: 13,
-            width: 1,
-        },
-        section: Field {
-            place: 14,
-            width: 2,
-        },
+        name: Field(0, 4),
+        value: Field(4, 4),
+        size: Field(8, 4),
+        info: Field(12, 1),
+        other: Field(13, 1),
+        section: Field(14, 2),
     },
 };
 
@@ -180,101 +108,38 @@ pub(super) const ELF64: Class = Class {
     section_length: 64,
     symbol_length: 24,
     header: Header {
-        elf_type: Field {
-            place: 16,
-            width: 2,
-        },
-        machine: Field {
-            place: 18,
-            width: 2,
-        },
-        version: Field {
-            place: 20,
-            width: 4,
-        },
-        entry: Field {
-            place: 24,
-            width: 8,
-        },
-        phoff: Field {
-            place: 32,
-            width: 8,
-        },
-        shoff: Field {
-            place: 40,
-            width: 8,
-        },
-        flags: Field {
-            place: 48,
-            width: 4,
-        },
-        ehsize: Field {
-            place: 52,
-            width: 2,
-        },
-        phentsize: Field {
-            place: 54,
-            width: 2,
-        },
-        phnum: Field {
-            place: 56,
-            width: 2,
-        },
-        shentsize: Field {
-            place: 58,
-            width: 2,
-        },
-        shnum: Field {
-            place: 60,
-            width: 2,
-        },
-        shstrndx: Field {
-            place: 62,
-            width: 2,
-        },
+        elf_type: Field(16, 2),
+        machine: Field(18, 2),
+        version: Field(20, 4),
+        entry: Field(24, 8),
+        phoff: Field(32, 8),
+        shoff: Field(40, 8),
+        flags: Field(48, 4),
+        ehsize: Field(52, 2),
+        phentsize: Field(54, 2),
+        phnum: Field(56, 2),
+        shentsize: Field(58, 2),
+        shnum: Field(60, 2),
+        shstrndx: Field(62, 2),
     },
     section: SectionHeader {
-        name: Field { place: 0, width: 4 },
-        kind: Field { place: 4, width: 4 },
-        flags: Field { place: 8, width: 8 },
-        addr: Field {
-            place: 16,
-            width: 8,
-        },
-        offset: Field {
-            place: 24,
-            width: 8,
-        },
-        size: Field {
-            place: 32,
-            width: 8,
-        },
-        link: Field {
-            place: 40,
-            width: 4,
-        },
-        info: Field {
-            place: 44,
-            width: 4,
-        },
-        addralign: Field {
-            place: 48,
-            width: 8,
-        },
-        entry_size: Field {
-            place: 56,
-            width: 8,
-        },
+        name: Field(0, 4),
+        kind: Field(4, 4),
+        flags: Field(8, 8),
+        addr: Field(16, 8),
+        offset: Field(24, 8),
+        size: Field(32, 8),
+        link: Field(40, 4),
+        info: Field(44, 4),
+        addralign: Field(48, 8),
+        entry_size: Field(56, 8),
     },
     symbol: SymbolRow {
-        name: Field { place: 0, width: 4 },
-        info: Field { place: 4, width: 1 },
-        other: Field { place: 5, width: 1 },
-        section: Field { place: 6, width: 2 },
-        value: Field { place: 8, width: 8 },
-        size: Field {
-            place: 16,
-            width: 8,
-        },
+        name: Field(0, 4),
+        info: Field(4, 1),
+        other: Field(5, 1),
+        section: Field(6, 2),
+        value: Field(8, 8),
+        size: Field(16, 8),
     },
 };

@@ -1,14 +1,15 @@
 //! The bytes of a file: structures of zero bytes, into which the numbers of fields are put.
 
-ghost use Rattle.std.specs.Prelude.{◌≡◌, ◌+◌, ◌++◌, ◌<◌, ◌≤◌, ◌^◌, OnOk, IfOk, length, replicate, All};
+ghost use Rattle.std.specs.Prelude.{◌≡◌, ◌++◌, ◌∷◌, ◌<◌, ◌≤◌, ◌^◌, true, OnOk, IfOk, length, replicate, take};
 ghost use Rattle.std.specs.List.{AllByRecursion, flat_map};
 ghost use Rattle.binfarce_image.specs.Structure.{number_bytes, put, filled};
 ghost use Rattle.binfarce_image.specs.Image.{bytes, class_of, order_of, identification, header_bytes, body, bodies_end, body_length, section_headers, section_bytes, symbol_bytes};
 ghost use Rattle.binfarce_image.specs.ImageSymbols.{PartFits, RowFits};
 ghost use Rattle.binfarce_image.specs.machine.Seen.{class_seen, field_seen, numbers_seen, fits, all_fit, BodyFits, HeaderFits};
 
+use super::parts::{body_length, entry_length, kind, link, name};
 use super::tables::{Class, ELF32, ELF64, Field};
-use super::{ElfLayout, Image, Part, Row, body_length};
+use super::{ElfLayout, Image, Part, Row};
 use binfarce::ByteOrder;
 use std::alloc::{AllocError, Global};
 
@@ -37,18 +38,30 @@ fn order(layout: ElfLayout) -> ByteOrder
     }
 }
 
-fn identification(layout: ElfLayout) -> [u8; 16]
-    ensures { result ≡ identification layout }
+// The identification, and zeros behind it.
+fn identified(layout: ElfLayout) -> [u8; LONGEST]
+    ensures { result ≡ identification layout ++ replicate 48 0 }
 {
-    let (class, order) = match layout {
-        ElfLayout::Elf32Little => (1, 1),
-        ElfLayout::Elf32Big => (1, 2),
-        ElfLayout::Elf64Little => (2, 1),
-        ElfLayout::Elf64Big => (2, 2),
-    };
-    [
-        0x7F, b'E', b'L', b'F', class, order, 1, 0, 0, 0, 0, 0, 0, 0, 0, 0,
-    ]
+    match layout {
+        ElfLayout::Elf32Little => begun(1, 1),
+        ElfLayout::Elf32Big => begun(1, 2),
+        ElfLayout::Elf64Little => begun(2, 1),
+        ElfLayout::Elf64Big => begun(2, 2),
+    }
+}
+
+fn begun(class: u8, order: u8) -> [u8; LONGEST]
+    ensures { result ≡ 127 ∷ 69 ∷ 76 ∷ 70 ∷ class ∷ order ∷ 1 ∷ replicate 57 0 }
+{
+    let mut bytes = [0; LONGEST];
+    bytes[0] = 0x7F;
+    bytes[1] = b'E';
+    bytes[2] = b'L';
+    bytes[3] = b'F';
+    bytes[4] = class;
+    bytes[5] = order;
+    bytes[6] = 1;
+    bytes
 }
 
 /// The file, of this length, whose bodies end at `shoff`.
@@ -85,12 +98,11 @@ fn push_header(
     const EV_CURRENT: u64 = 1;
     let class = class(layout);
     let fields = class.header;
-    let mut zeros = [0; LONGEST];
-    let header = &mut zeros[..class.header_length];
-    header[..16].copy_from_slice(&identification(layout));
-    fill(
-        header,
+    push_structure(
+        file,
         order(layout),
+        identified(layout),
+        class.header_length,
         &[
             (fields.elf_type, ET_REL),
             (fields.version, EV_CURRENT),
@@ -100,8 +112,7 @@ fn push_header(
             (fields.shnum, image.parts.len() as u64),
             (fields.shstrndx, u64::from(image.names_at)),
         ],
-    );
-    file.extend_from_slice(header)
+    )
 }
 
 fn push_bodies(file: &mut Vec<u8>, parts: &[Part], layout: ElfLayout) -> Result<(), AllocError>
@@ -136,6 +147,7 @@ fn push_row(file: &mut Vec<u8>, row: Row, layout: ElfLayout) -> Result<(), Alloc
     push_structure(
         file,
         order(layout),
+        [0; LONGEST],
         class.symbol_length,
         &[
             (fields.name, u64::from(row.name)),
@@ -178,47 +190,38 @@ fn push_section_header(
     ensures header { OnOk result (file.new.items ≡ file.old.items ++ section_bytes (class_of layout) (order_of layout) place part.now) }
     ensures fits { HeaderFits part.now }
 {
-    const SHT_SYMTAB: u32 = 2;
     let class = class(layout);
     let fields = class.section;
-    let (name, kind, link, entry_size) = match part {
-        Part::Bytes {
-            name,
-            kind,
-            link,
-            ..
-        } => (*name, *kind, *link, 0),
-        Part::Table { name, link, .. } => (*name, SHT_SYMTAB, *link, class.symbol_length),
-    };
     push_structure(
         file,
         order(layout),
+        [0; LONGEST],
         class.section_length,
         &[
-            (fields.name, u64::from(name)),
-            (fields.kind, u64::from(kind)),
+            (fields.name, u64::from(name(part))),
+            (fields.kind, u64::from(kind(part))),
             (fields.offset, place as u64),
             (fields.size, body_length(part, class) as u64),
-            (fields.link, u64::from(link)),
+            (fields.link, u64::from(link(part))),
             (fields.addralign, 1),
-            (fields.entry_size, entry_size as u64),
+            (fields.entry_size, entry_length(part, class) as u64),
         ],
     )
 }
 
-// Appends a structure of this length: zero bytes, into which the numbers are put.
+// Appends a structure: the first `length` of the blank bytes, into which the numbers are put.
 fn push_structure(
     file: &mut Vec<u8>,
     order: ByteOrder,
+    mut blank: [u8; LONGEST],
     length: usize,
     numbers: &[(Field, u64)],
 ) -> Result<(), AllocError>
     requires longest { length ≤ 64 }
     requires fit { all_fit length (numbers_seen numbers.now) ≡ true }
-    ensures { OnOk result (file.new.items ≡ file.old.items ++ filled order (replicate length 0) (numbers_seen numbers.now)) }
+    ensures { OnOk result (file.new.items ≡ file.old.items ++ filled order (take length blank) (numbers_seen numbers.now)) }
 {
-    let mut zeros = [0; LONGEST];
-    let structure = &mut zeros[..length];
+    let structure = &mut blank[..length];
     fill(structure, order, numbers);
     file.extend_from_slice(structure)
 }
@@ -238,9 +241,10 @@ fn put(structure: &mut [u8], order: ByteOrder, field: Field, number: u64)
     requires { fits (length structure.old) (field_seen field) ≡ true }
     ensures { structure.new ≡ put order structure.old (field_seen field, number) }
 {
-    let place = &mut structure[field.place..field.place + field.width];
+    let Field(place, width) = field;
+    let bytes = &mut structure[place..place + width];
     match order {
-        ByteOrder::LittleEndian => place.copy_from_slice(&number.to_le_bytes()[..field.width]),
-        ByteOrder::BigEndian => place.copy_from_slice(&number.to_be_bytes()[8 - field.width..]),
+        ByteOrder::LittleEndian => bytes.copy_from_slice(&number.to_le_bytes()[..width]),
+        ByteOrder::BigEndian => bytes.copy_from_slice(&number.to_be_bytes()[8 - width..]),
     }
 }

@@ -1,3 +1,5 @@
+mod images;
+
 use crate::bench_files::{E_ELF32_BIG, E_ELF32_LITTLE, E_ELF64_BIG, E_ELF64_LITTLE, M, P};
 use crate::list::{ListError, Out, Sink, list};
 use binfarce::ParseError;

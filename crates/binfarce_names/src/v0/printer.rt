@@ -1,6 +1,6 @@
 //! Printing a v0 name: it is read and written in one pass.
 
-ghost use Rattle.std.specs.Prelude.{◌≡◌, ◌+◌, ◌-◌, ◌≤◌, ◌^◌, ◌<◌, ◌↔◌, OnOk, IsTrue, MatchOption, option_map, true, false, if◌then◌else◌, ◌&&◌, nat_le};
+ghost use Rattle.std.specs.Prelude.{◌≡◌, ◌+◌, ◌-◌, ◌≤◌, ◌^◌, ◌<◌, ◌↔◌, IfOk, OnOk, IsTrue, MatchOption, option_map, true, false, if◌then◌else◌, ◌&&◌, nat_le};
 ghost use Rattle.std.specs.String.{string_bytes};
 ghost use Rattle.binfarce_names.specs.Identifier.{identifier_text};
 ghost use Rattle.binfarce_names.specs.Tree.{
@@ -89,21 +89,22 @@ impl<'a> Model for Printer<'a> {
 }
 
 impl<'a> Printer<'a> {
-    /// A printing that begins at the first place.
-    pub fn new(alloc: Global, full: bool) -> Printer<'a>
-        ensures { result ≡ first_state full }
+    /// A printing that begins at the first place, with memory for a text of some bytes.
+    pub fn new(alloc: Global, bytes: usize, full: bool) -> Result<Printer<'a>, AllocError>
+        ensures { IfOk result (λ p. p ≡ first_state full) }
     {
-        Printer {
+        let text = String::with_capacity(alloc, bytes)?;
+        Ok(Printer {
             at: Some(0),
             room: MAX_STEPS,
             least: MAX_LEVELS,
             over: false,
-            text: String::new(alloc),
+            text,
             muted: false,
             full,
             outside: true,
             root: None,
-        }
+        })
     }
 
     /// What was printed, or None where a limit was passed.

@@ -9,5 +9,5 @@ use Rattle.binfarce_names.proofs.v0.mangling.print.Goals as goal
 
 pub returns : goal.returns
 returns c =
-    let begun = ap (λ (s : State). ((readers c.args.name.now 500).path InValue 0 s).1) c.new-printer.ensures in
+    let begun = ap (λ (s : State). ((readers c.args.name.now 500).path InValue 0 s).1) c.in_ok-printer.ensures in
     print_tells (λ p. string_bytes p.text) (λ p. option_map identifier_seen p.root) c.args.name.now c.args.full _ c.finish.result (c.in_ok-print_path.ensures.printed ∙ begun) c.finish.ensures

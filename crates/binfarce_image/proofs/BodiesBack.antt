@@ -45,8 +45,7 @@ module _ (layout : ElfLayout) where
       let split : file ≡ front ++ (here ++ rest) = stands ∙ ap (λ (xs : List ℕ). front ++ xs) (append_assoc here bodies behind) in
       let further : length (front ++ here) ≡ place + size = length-append front here ∙ ap (λ (n : ℕ). n + length here) at ∙ ap (λ (n : ℕ). place + n) long in
       let found : bytes_at file place size ≡ here = ap (λ (xs : List ℕ). bytes_at xs place size) split ∙ ap (take size) (drop_at front (here ++ rest) place at) ∙ take_at here rest size long in
-      let within : place + size ≤ length file = omega (arith, ap length split, length-append front (here ++ rest), length-append here rest) in
-      (
+      let within : place + size ≤ length file = omega (arith, ap length split, length-append front (here ++ rest), length-append here rest) in (
         record { place = place; is = refl; stands = found; inside = within; unclaimed = u.0; fits = fits.0 },
         bodies_back file (front ++ here) behind (place + size) (i + 1) parts (split ∙ sym (append_assoc front here rest)) further fits.1 u.1,
       )

@@ -1,5 +1,5 @@
 -- What the tables of both classes have in common: each number that an image writes is read where it was put.
-use Rattle.std.proofs.Common.{◌≡◌, ℕ, ◌^◌, ◌<◌, length, refl, arith}
+use Rattle.std.proofs.Common.{ℕ, ◌^◌, ◌<◌, length, refl, arith}
 use Rattle.binfarce.specs.Elf.{ElfClass, elf32, elf64}
 use Rattle.binfarce_image.specs.declared.image.ElfLayout.{ElfLayout}
 use Rattle.binfarce_image.specs.declared.image.ElfLayout.TheVariants.{Elf32Little, Elf32Big, Elf64Little, Elf64Big}

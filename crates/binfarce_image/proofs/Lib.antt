@@ -2,4 +2,14 @@ pub mod Bytes
 pub mod Lengths
 pub mod Fitting
 pub mod Refusing
+pub mod NumbersBack
+pub mod Fields
+pub mod Classes
+pub mod HeadersBack
+pub mod RowsBack
+pub mod BodiesBack
+pub mod Found
+pub mod WalkBack
+pub mod PartsBack
+pub mod AnswerBack
 pub mod ReadsBack

@@ -1,0 +1,165 @@
+-- What stands in the fields of a structure after numbers were put into some.
+use Rattle.std.proofs.Common.{◌≡◌, ℕ, ◌+◌, ◌-◌, ◌^◌, ◌<◌, ◌≤◌, Bool, true, false, cond, ◌&&◌, ◌||◌, leb, eqb, List, [], ◌∷◌, ◌++◌, length, take, drop, Option, Some, None, inl, inr, refl, sym, ap, ◌∙◌, append_assoc, arith}
+use Rattle.std.proofs.lemmas.Bool.{leb-true, eqb-true, and_parts, or_cases}
+use Rattle.std.proofs.lemmas.List.{length-append, length-take, length-take-le, length-drop, take-append-le, drop-append-le, take-take, drop-take, drop-drop, drop_at, take_at}
+use Rattle.binfarce.specs.declared.ByteOrder.{ByteOrder}
+use Rattle.binfarce.specs.Elf.{Field, value_at}
+use Rattle.binfarce.specs.Number.{number, bytes_at}
+use Rattle.binfarce_image.specs.Structure.{number_bytes, written_at, put, filled}
+use Rattle.binfarce_image.proofs.NumbersBack.{number_back, number_length}
+
+-- what was written stands there
+there : (bytes others : List ℕ) (place : ℕ) → place ≤ length bytes → bytes_at (written_at bytes place others) place (length others) ≡ others
+there bytes others place inside =
+    let rest = drop (place + length others) bytes in
+    ap (take (length others)) (drop_at (take place bytes) (others ++ rest) place (length-take-le place bytes inside)) ∙ take_at others rest (length others) refl
+
+-- what ends before it stays
+before : (bytes others : List ℕ) (place at width : ℕ) → place ≤ length bytes → at + width ≤ place → bytes_at (written_at bytes place others) at width ≡ bytes_at bytes at width
+before bytes others place at width inside ends =
+    let rest = others ++ drop (place + length others) bytes in
+    let long : at + width ≤ length (take place bytes) = omega (arith, length-take-le place bytes inside) in
+    let front : take (at + width) (take place bytes ++ rest) ≡ take (at + width) bytes =
+    take-append-le (at + width) (take place bytes) rest long ∙ take-take (at + width) place bytes ends in
+    sym (drop-take at width (take place bytes ++ rest)) ∙ ap (drop at) front ∙ drop-take at width bytes
+
+-- what begins behind it stays
+behind : (bytes others : List ℕ) (place at width : ℕ) → place ≤ length bytes → place + length others ≤ at → bytes_at (written_at bytes place others) at width ≡ bytes_at bytes at width
+behind bytes others place at width inside begins =
+    let end = place + length others in
+    let k = at - end in
+    let split : end + k ≡ at = omega arith in
+    let written = take place bytes ++ (others ++ drop end bytes) in
+    let long : length (take place bytes ++ others) ≡ end = length-append (take place bytes) others ∙ ap (λ (n : ℕ). n + length others) (length-take-le place bytes inside) in
+    let back : drop end written ≡ drop end bytes =
+    ap (drop end) (sym (append_assoc (take place bytes) others (drop end bytes))) ∙ drop_at (take place bytes ++ others) (drop end bytes) end long in
+    let moved : drop at written ≡ drop at bytes =
+    ap (λ (n : ℕ). drop n written) (sym split) ∙ sym (drop-drop k end written) ∙ ap (drop k) back ∙ drop-drop k end bytes ∙ ap (λ (n : ℕ). drop n bytes) split in
+    ap (take width) moved
+
+length_written : (bytes others : List ℕ) (place : ℕ) → place + length others ≤ length bytes → length (written_at bytes place others) ≡ length bytes
+length_written bytes others place inside =
+    omega (arith, length-append (take place bytes) (others ++ drop (place + length others) bytes), length-append others (drop (place + length others) bytes), length-take place bytes, length-drop (place + length others) bytes)
+
+-- the field lies in a structure of this length
+abbrev pub lies_in : ℕ → Field → Bool
+lies_in len f = leb (f.place + f.width) len
+
+abbrev pub lies_apart : Field → Field → Bool
+lies_apart f g = leb (f.place + f.width) g.place || leb (g.place + g.width) f.place
+
+abbrev pub is_field : Field → Field → Bool
+is_field f g = eqb f.place g.place && eqb f.width g.width
+
+-- no number is put where the field is
+abbrev pub untouched : ℕ → Field → List (Field × ℕ) → Bool
+untouched len f [] = true
+untouched len f (x ∷ numbers) = lies_in len x.0 && (lies_apart f x.0 && untouched len f numbers)
+
+-- the number that is put last into the field
+abbrev pub put_last : ℕ → Field → List (Field × ℕ) → Option ℕ
+put_last len f [] = None
+put_last len f (x ∷ numbers) = cond (lies_in len x.0) (cond (is_field f x.0 && untouched len f numbers) (Some x.1) (put_last len f numbers)) None
+
+-- the number in a field
+abbrev pub held : ByteOrder → List ℕ → Field → ℕ
+held order bytes f = number order (bytes_at bytes f.place f.width)
+
+pub length_put : (order : ByteOrder) (bytes : List ℕ) (x : Field × ℕ) (len : ℕ) → length bytes ≡ len → lies_in len x.0 ≡ true → length (put order bytes x) ≡ len
+unfolding put
+length_put order bytes x len long inside =
+    let fits : x.0.place + x.0.width ≤ len = leb-true (x.0.place + x.0.width) len inside in
+    length_written bytes (number_bytes order x.0.width x.1) x.0.place (omega (arith, number_length order x.0.width x.1)) ∙ long
+
+put_apart : (order : ByteOrder) (bytes : List ℕ) (f : Field) (x : Field × ℕ) (len : ℕ) → length bytes ≡ len → lies_in len x.0 ≡ true → lies_apart f x.0 ≡ true
+    → held order (put order bytes x) f ≡ held order bytes f
+unfolding put
+put_apart order bytes f x len long inside apart =
+    let others = number_bytes order x.0.width x.1 in
+    let fits : x.0.place + x.0.width ≤ len = leb-true (x.0.place + x.0.width) len inside in
+    let starts : x.0.place ≤ length bytes = omega arith in
+    ap (number order) (elim (or_cases (leb (f.place + f.width) x.0.place) (leb (x.0.place + x.0.width) f.place) apart) [
+      | inl low ↦ before bytes others x.0.place f.place f.width starts (leb-true (f.place + f.width) x.0.place low)
+      | inr high ↦ behind bytes others x.0.place f.place f.width starts (omega (arith, leb-true (x.0.place + x.0.width) f.place high, number_length order x.0.width x.1))
+    ])
+
+-- a field that nothing is put into holds what it held
+pub untouched_back : (order : ByteOrder) (len : ℕ) (f : Field) (numbers : List (Field × ℕ)) (bytes : List ℕ) → length bytes ≡ len → untouched len f numbers ≡ true
+    → held order (filled order bytes numbers) f ≡ held order bytes f
+untouched_back order len f [] bytes long none = refl
+untouched_back order len f (x ∷ numbers) bytes long none =
+    let p = and_parts (lies_in len x.0) (lies_apart f x.0 && untouched len f numbers) none in
+    let q = and_parts (lies_apart f x.0) (untouched len f numbers) p.1 in
+    untouched_back order len f numbers (put order bytes x) (length_put order bytes x len long p.0) q.1 ∙ put_apart order bytes f x len long p.0 q.0
+
+put_there : (order : ByteOrder) (bytes : List ℕ) (f : Field) (x : Field × ℕ) (len : ℕ) → length bytes ≡ len → lies_in len x.0 ≡ true → is_field f x.0 ≡ true → x.1 < 256 ^ f.width
+    → held order (put order bytes x) f ≡ x.1
+unfolding put
+put_there order bytes f x len long inside same small =
+    let fits : x.0.place + x.0.width ≤ len = leb-true (x.0.place + x.0.width) len inside in
+    let p = and_parts (eqb f.place x.0.place) (eqb f.width x.0.width) same in
+    let at : f.place ≡ x.0.place = eqb-true f.place x.0.place p.0 in
+    let wide : f.width ≡ x.0.width = eqb-true f.width x.0.width p.1 in
+    let others = number_bytes order x.0.width x.1 in
+    let width_is : f.width ≡ length others = wide ∙ sym (number_length order x.0.width x.1) in
+    ap (number order) (ap (λ (k : ℕ). bytes_at (written_at bytes x.0.place others) k f.width) at ∙ ap (λ (k : ℕ). bytes_at (written_at bytes x.0.place others) x.0.place k) width_is ∙ there bytes others x.0.place (omega arith))
+    ∙ ap (λ (k : ℕ). number order (number_bytes order k x.1)) (sym wide)
+    ∙ number_back order f.width x.1 small
+
+put_back_by : (order : ByteOrder) (len : ℕ) (f : Field) (n : ℕ) (x : Field × ℕ) (numbers : List (Field × ℕ)) (bytes : List ℕ) (inside here : Bool)
+    → length bytes ≡ len → n < 256 ^ f.width → lies_in len x.0 ≡ inside → (is_field f x.0 && untouched len f numbers) ≡ here
+    → cond inside (cond here (Some x.1) (put_last len f numbers)) None ≡ Some n
+    → (lies_in len x.0 ≡ true → put_last len f numbers ≡ Some n → held order (filled order (put order bytes x) numbers) f ≡ n)
+    → held order (filled order (put order bytes x) numbers) f ≡ n
+put_back_by order len f n x numbers bytes true true long small i h e later =
+    let p = and_parts (is_field f x.0) (untouched len f numbers) h in
+    let value : x.1 ≡ n = cc in
+    untouched_back order len f numbers (put order bytes x) (length_put order bytes x len long i) p.1
+    ∙ put_there order bytes f x len long i p.0 (omega arith)
+    ∙ value
+put_back_by order len f n x numbers bytes true false long small i h e later = later i e
+put_back_by order len f n x numbers bytes false here long small i h e later = absurd cc
+
+-- a field holds the number that was put last into it
+pub put_back : (order : ByteOrder) (len : ℕ) (f : Field) (n : ℕ) (numbers : List (Field × ℕ)) (bytes : List ℕ) → length bytes ≡ len → n < 256 ^ f.width → put_last len f numbers ≡ Some n
+    → held order (filled order bytes numbers) f ≡ n
+put_back order len f n [] bytes long small last = absurd cc
+put_back order len f n (x ∷ numbers) bytes long small last =
+    put_back_by order len f n x numbers bytes (lies_in len x.0) (is_field f x.0 && untouched len f numbers) long small refl refl last
+    (λ i e. put_back order len f n numbers (put order bytes x) (length_put order bytes x len long i) small e)
+
+-- every number is put inside the structure
+abbrev pub all_lie_in : ℕ → List (Field × ℕ) → Bool
+all_lie_in len [] = true
+all_lie_in len (x ∷ numbers) = lies_in len x.0 && all_lie_in len numbers
+
+-- a structure keeps its length
+pub length_filled : (order : ByteOrder) (len : ℕ) (numbers : List (Field × ℕ)) (bytes : List ℕ) → length bytes ≡ len → all_lie_in len numbers ≡ true → length (filled order bytes numbers) ≡ len
+length_filled order len [] bytes long inside = long
+length_filled order len (x ∷ numbers) bytes long inside =
+    let p = and_parts (lies_in len x.0) (all_lie_in len numbers) inside in
+    length_filled order len numbers (put order bytes x) (length_put order bytes x len long p.0) p.1
+
+-- a structure's field is read where the structure stands in a file
+pub value_in : (order : ByteOrder) (front bytes behind : List ℕ) (f : Field) (start len : ℕ) → length front ≡ start → length bytes ≡ len → lies_in len f ≡ true
+    → value_at order (front ++ (bytes ++ behind)) start f ≡ held order bytes f
+value_in order front bytes behind f start len at long inside =
+    let fits : f.place + f.width ≤ len = leb-true (f.place + f.width) len inside in
+    let file = front ++ (bytes ++ behind) in
+    let there : drop (start + f.place) file ≡ drop f.place (bytes ++ behind) = sym (drop-drop f.place start file) ∙ ap (drop f.place) (drop_at front (bytes ++ behind) start at) in
+    let cut : take f.width (drop f.place (bytes ++ behind)) ≡ take f.width (drop f.place bytes) =
+    ap (take f.width) (drop-append-le f.place bytes behind (omega arith)) ∙ take-append-le f.width (drop f.place bytes) behind (omega (arith, length-drop f.place bytes)) in
+    ap (number order) (ap (take f.width) there ∙ cut)
+
+-- the field holds the number, of those below the bound, among numbers that are put into a structure of this length
+pub record IsPut (len : ℕ) (f : Field) (numbers : List (Field × ℕ)) (n bound : ℕ) : Type 0 where
+  pub last : put_last len f numbers ≡ Some n
+  pub room : (lies_in len f && leb bound (256 ^ f.width)) ≡ true
+
+-- what was put into a structure's field is read where the structure stands in a file
+pub field_back : (order : ByteOrder) (front bytes behind : List ℕ) (f : Field) (numbers : List (Field × ℕ)) (start len n bound : ℕ) → length front ≡ start → length bytes ≡ len
+    → all_lie_in len numbers ≡ true → n < bound → IsPut len f numbers n bound → value_at order (front ++ (filled order bytes numbers ++ behind)) start f ≡ n
+field_back order front bytes behind f numbers start len n bound at long inside small is =
+    let p = and_parts (lies_in len f) (leb bound (256 ^ f.width)) is.room in
+    let fits : n < 256 ^ f.width = omega (arith, leb-true bound (256 ^ f.width) p.1) in
+    value_in order front (filled order bytes numbers) behind f start len at (length_filled order len numbers bytes long inside) p.0 ∙ put_back order len f n numbers bytes long fits is.last

@@ -1,8 +1,8 @@
 -- From the sections that were found on, the reader answers what the image holds.
-use Rattle.std.proofs.Common.{◌≡◌, ℕ, ◌+◌, ◌*◌, ◌/◌, ◌%◌, ◌^◌, ◌<◌, Bool, true, false, cond, eqb, ltb, leb, ◌&&◌, List, [], length, Result, Ok, Err, refl, sym, ap, ◌∙◌, arith}
+use Rattle.std.proofs.Common.{◌≡◌, ℕ, ◌+◌, ◌*◌, ◌/◌, ◌%◌, ◌^◌, ◌<◌, Bool, true, false, cond, eqb, List, [], length, Result, Ok, Err, refl, sym, ap, ◌∙◌, arith}
 use Rattle.std.specs.List.{AllByRecursion, flat_map}
 use Rattle.std.specs.Global.{Vec}
-use Rattle.std.proofs.lemmas.Bool.{eq-eqb, and_parts, ltb-true}
+use Rattle.std.proofs.lemmas.Bool.{eq-eqb}
 use Rattle.std.proofs.lemmas.Nat.{div-mul-add, mod-mul-add}
 use Rattle.binfarce.specs.Refusal.{Refusal, ◌>>=◌, unexpected_section_type, unexpected_eof}
 use Rattle.binfarce.specs.Elf.{ElfClass, Section, SectionTable}
@@ -16,8 +16,9 @@ use Rattle.binfarce_image.specs.declared.image.Row.{Row}
 use Rattle.binfarce_image.specs.Image.{bytes, body_length, class_of, order_of, symbol_bytes}
 use Rattle.binfarce_image.specs.ImageRefusal.{is_table}
 use Rattle.binfarce_image.specs.ImageSymbols.{RowFits, strings_of, rows_of, part_size, entries_of as image_entries}
+use Rattle.binfarce_image.proofs.Lengths.{length-body}
 use Rattle.binfarce_image.proofs.Classes.{is_class}
-use Rattle.binfarce_image.proofs.RowsBack.{length_rows, rows_back}
+use Rattle.binfarce_image.proofs.RowsBack.{rows_back}
 use Rattle.binfarce_image.proofs.WalkBack.{table_of}
 use Rattle.binfarce_image.proofs.PartsBack.{Holds, part_back}
 
@@ -43,10 +44,8 @@ answer_with found table linked = do
   strings ← strings_of linked
   Ok (record { entries = image_entries strings found.0 (rows_of table); section_size = part_size found.1 })
 
-symbol_some : (layout : ElfLayout) → 0 < (class_of layout).symbol_length
-symbol_some layout =
-    let class = class_of layout in
-    ltb-true 0 class.symbol_length (and_parts (ltb 0 class.symbol_length) (ltb class.symbol_length 256 && (ltb 0 class.section_length && leb 16 class.header_length)) (is_class layout).lengths).0
+length_rows : (layout : ElfLayout) (name link : ℕ) (rows : Vec Row) → length (flat_map (symbol_bytes (class_of layout) (order_of layout)) rows.items) ≡ length rows.items * (class_of layout).symbol_length
+length_rows layout name link rows = length-body layout (order_of layout) (Table name link rows)
 
 whole_is : (class : ElfClass) (rows : List ℕ) (n : ℕ) → 0 < class.symbol_length → length rows ≡ n * class.symbol_length → whole_rows class rows ≡ Ok rows
 whole_is class rows n some long =
@@ -59,16 +58,14 @@ count_is len n size some long =
     ap (λ (m : ℕ). m / size) split ∙ div-mul-add n size 0 some
 
 -- the entries of the written rows
-entries_back : (layout : ElfLayout) (strings : List ℕ) (index : ℕ) (rows : List Row) → AllByRecursion RowFits rows
-    → entries_of (class_of layout) (order_of layout) strings index (flat_map (symbol_bytes (class_of layout) (order_of layout)) rows) (length (flat_map (symbol_bytes (class_of layout) (order_of layout)) rows) / (class_of layout).symbol_length)
-    ≡ image_entries strings index rows
-entries_back layout strings index rows fits =
+entries_back : (layout : ElfLayout) (strings : List ℕ) (index : ℕ) (rows : List Row) (written : List ℕ) → written ≡ flat_map (symbol_bytes (class_of layout) (order_of layout)) rows
+    → length written ≡ length rows * (class_of layout).symbol_length → AllByRecursion RowFits rows
+    → entries_of (class_of layout) (order_of layout) strings index written (length written / (class_of layout).symbol_length) ≡ image_entries strings index rows
+entries_back layout strings index rows written are long fits =
     let class = class_of layout in
     let order = order_of layout in
-    let written = flat_map (symbol_bytes class order) rows in
-    let count : length written / class.symbol_length ≡ length rows = count_is (length written) (length rows) class.symbol_length (symbol_some layout) (length_rows class order rows (is_class layout)) in
-    ap (λ (n : ℕ). entries_of class order strings index written n) count
-    ∙ rows_back class order strings index written [] 0 rows (is_class layout) refl (omega arith) fits
+    ap (λ (n : ℕ). entries_of class order strings index written n) (count_is (length written) (length rows) class.symbol_length (is_class layout).symbol_some long)
+    ∙ rows_back layout strings index written [] 0 rows are (omega arith) fits
 
 -- the size of the section that was asked for
 size_back : (class : ElfClass) (part : Part) → is_table part ≡ false → body_length class part ≡ part_size part
@@ -107,12 +104,13 @@ module _ (image : Image) (layout : ElfLayout) (small : length (bytes image layou
       let written = flat_map (symbol_bytes class order) rows.items in
       let first : part_of (bytes image layout) linked ≡ Ok strings.items = part_back class order (bytes image layout) linked (k, Bytes n kind l strings) r small in
       let second : part_of (bytes image layout) symbols ≡ Ok written = part_back class order (bytes image layout) symbols (j, Table name link rows) s small in
-      let whole : whole_rows class written ≡ Ok written = whole_is class written (length rows.items) (symbol_some layout) (length_rows class order rows.items (is_class layout)) in
+      let long : length written ≡ length rows.items * class.symbol_length = length_rows layout name link rows in
+      let whole : whole_rows class written ≡ Ok written = whole_is class written (length rows.items) (is_class layout).symbol_some long in
       let located = located_is class table text symbols linked strings.items written (kind_passes linked kind (ap (λ (x : Section). x.kind) r.is) is) first second whole in
       let index : text.index ≡ found.0 = ap (λ (x : Section). x.index) t.is in
       let size : text.size ≡ part_size found.1 = ap (λ (x : Section). x.size) t.is ∙ size_back class found.1 other in
       let all = entries_of class order strings.items text.index written (length written / class.symbol_length) in
-      let entries : all ≡ image_entries strings.items found.0 rows.items = entries_back layout strings.items text.index rows.items s.fits.2 ∙ ap (λ (i : ℕ). image_entries strings.items i rows.items) index in
+      let entries : all ≡ image_entries strings.items found.0 rows.items = entries_back layout strings.items text.index rows.items written refl long s.fits.2 ∙ ap (λ (i : ℕ). image_entries strings.items i rows.items) index in
       ap (answer_of class table) located
       ∙ same_listed all (image_entries strings.items found.0 rows.items) text.size (part_size found.1) entries size
       ∙ sym (ap (λ (q : Bool). cond q (Ok strings.items) (Err (unexpected_section_type 3 kind)) >>= λ (xs : List ℕ). Ok (record { entries = image_entries xs found.0 rows.items; section_size = part_size found.1 })) is)

@@ -1,5 +1,5 @@
 -- What the tables of both classes have in common: each number that an image writes is read where it was put.
-use Rattle.std.proofs.Common.{◌≡◌, ℕ, ◌^◌, true, length, leb, ltb, ◌&&◌, refl}
+use Rattle.std.proofs.Common.{ℕ, ◌^◌, ◌<◌, length, refl, arith}
 use Rattle.binfarce.specs.Elf.{ElfClass, elf32, elf64}
 use Rattle.binfarce_image.specs.declared.image.ElfLayout.{ElfLayout}
 use Rattle.binfarce_image.specs.declared.image.ElfLayout.TheVariants.{Elf32Little, Elf32Big, Elf64Little, Elf64Big}
@@ -7,11 +7,10 @@ use Rattle.binfarce_image.specs.declared.image.Image.{Image}
 use Rattle.binfarce_image.specs.declared.image.Part.{Part}
 use Rattle.binfarce_image.specs.declared.image.Row.{Row}
 use Rattle.binfarce_image.specs.Image.{class_of, bodies_end, body_length, entry_length, part_name, part_kind, part_link, symbol_numbers, section_numbers, header_numbers}
-use Rattle.binfarce_image.proofs.Fields.{IsPut, all_lie_in}
+use Rattle.binfarce_image.proofs.Fields.{IsPut}
 
 -- what a section header says is read where it was put
 pub record SectionPut (class : ElfClass) (place : ℕ) (part : Part) : Type 0 where
-  pub inside : all_lie_in class.section_length (section_numbers class place part) ≡ true
   pub name : IsPut class.section_length class.section.name (section_numbers class place part) (part_name part) (2 ^ 32)
   pub kind : IsPut class.section_length class.section.kind (section_numbers class place part) (part_kind part) (2 ^ 32)
   pub link : IsPut class.section_length class.section.link (section_numbers class place part) (part_link part) (2 ^ 32)
@@ -21,7 +20,6 @@ pub record SectionPut (class : ElfClass) (place : ℕ) (part : Part) : Type 0 wh
 
 -- what a row says
 pub record SymbolPut (class : ElfClass) (row : Row) : Type 0 where
-  pub inside : all_lie_in class.symbol_length (symbol_numbers class row) ≡ true
   pub name : IsPut class.symbol_length class.symbol.name (symbol_numbers class row) row.name (2 ^ 32)
   pub value : IsPut class.symbol_length class.symbol.value (symbol_numbers class row) row.address (2 ^ 32)
   pub size : IsPut class.symbol_length class.symbol.size (symbol_numbers class row) row.size (2 ^ 32)
@@ -31,7 +29,6 @@ pub record SymbolPut (class : ElfClass) (row : Row) : Type 0 where
 
 -- what the header says of the section headers
 pub record HeaderPut (class : ElfClass) (image : Image) : Type 0 where
-  pub inside : all_lie_in class.header_length (header_numbers class image) ≡ true
   pub shoff : IsPut class.header_length class.header.shoff (header_numbers class image) (bodies_end class class.header_length image.parts.items) (2 ^ 32)
   pub shnum : IsPut class.header_length class.header.shnum (header_numbers class image) (length image.parts.items) (2 ^ 16)
   pub shstrndx : IsPut class.header_length class.header.shstrndx (header_numbers class image) image.names_at (2 ^ 16)
@@ -40,13 +37,13 @@ pub record IsClass (class : ElfClass) : Type 0 where
   pub section_put : (place : ℕ) (part : Part) → SectionPut class place part
   pub symbol_put : (row : Row) → SymbolPut class row
   pub header_put : (image : Image) → HeaderPut class image
-  pub lengths : (ltb 0 class.symbol_length && (ltb class.symbol_length 256 && (ltb 0 class.section_length && leb 16 class.header_length))) ≡ true
+  pub section_some : 0 < class.section_length
+  pub symbol_some : 0 < class.symbol_length
 
 is_elf32 : IsClass elf32
 unfolding elf32
 is_elf32 = record {
   section_put = λ place part. record {
-    inside = refl;
     name = record { last = refl; room = refl };
     kind = record { last = refl; room = refl };
     link = record { last = refl; room = refl };
@@ -55,7 +52,6 @@ is_elf32 = record {
     entry_size = record { last = refl; room = refl };
   };
   symbol_put = λ row. record {
-    inside = refl;
     name = record { last = refl; room = refl };
     value = record { last = refl; room = refl };
     size = record { last = refl; room = refl };
@@ -64,19 +60,18 @@ is_elf32 = record {
     section = record { last = refl; room = refl };
   };
   header_put = λ image. record {
-    inside = refl;
     shoff = record { last = refl; room = refl };
     shnum = record { last = refl; room = refl };
     shstrndx = record { last = refl; room = refl };
   };
-  lengths = refl;
+  section_some = omega arith;
+  symbol_some = omega arith;
 }
 
 is_elf64 : IsClass elf64
 unfolding elf64
 is_elf64 = record {
   section_put = λ place part. record {
-    inside = refl;
     name = record { last = refl; room = refl };
     kind = record { last = refl; room = refl };
     link = record { last = refl; room = refl };
@@ -85,7 +80,6 @@ is_elf64 = record {
     entry_size = record { last = refl; room = refl };
   };
   symbol_put = λ row. record {
-    inside = refl;
     name = record { last = refl; room = refl };
     value = record { last = refl; room = refl };
     size = record { last = refl; room = refl };
@@ -94,12 +88,12 @@ is_elf64 = record {
     section = record { last = refl; room = refl };
   };
   header_put = λ image. record {
-    inside = refl;
     shoff = record { last = refl; room = refl };
     shnum = record { last = refl; room = refl };
     shstrndx = record { last = refl; room = refl };
   };
-  lengths = refl;
+  section_some = omega arith;
+  symbol_some = omega arith;
 }
 
 pub is_class : (layout : ElfLayout) → IsClass (class_of layout)

@@ -1,12 +1,16 @@
 -- What stands in the fields of a structure after numbers were put into some.
 use Rattle.std.proofs.Common.{◌≡◌, ℕ, ◌+◌, ◌-◌, ◌^◌, ◌<◌, ◌≤◌, Bool, true, false, cond, ◌&&◌, ◌||◌, leb, eqb, List, [], ◌∷◌, ◌++◌, length, take, drop, Option, Some, None, inl, inr, refl, sym, ap, ◌∙◌, append_assoc, arith}
+use Rattle.std.specs.List.{list_all}
 use Rattle.std.proofs.lemmas.Bool.{leb-true, eqb-true, and_parts, or_cases}
-use Rattle.std.proofs.lemmas.List.{length-append, length-take, length-take-le, length-drop, take-append-le, drop-append-le, take-take, drop-take, drop-drop, drop_at, take_at}
+use Rattle.std.proofs.lemmas.List.{length-append, length-take-le, length-drop, take-append-le, drop-append-le, take-take, drop-take, drop-drop, drop_at, take_at}
 use Rattle.binfarce.specs.declared.ByteOrder.{ByteOrder}
 use Rattle.binfarce.specs.Elf.{Field, value_at}
 use Rattle.binfarce.specs.Number.{number, bytes_at}
+use Rattle.binfarce_image.specs.machine.Seen.{fits, all_fit}
 use Rattle.binfarce_image.specs.Structure.{number_bytes, written_at, put, filled}
-use Rattle.binfarce_image.proofs.NumbersBack.{number_back, number_length}
+use Rattle.binfarce_image.proofs.Bytes.{length-number_bytes}
+use Rattle.binfarce_image.proofs.Lengths.{length-put, length-filled}
+use Rattle.binfarce_image.proofs.NumbersBack.{number_back}
 
 -- what was written stands there
 there : (bytes others : List ℕ) (place : ℕ) → place ≤ length bytes → bytes_at (written_at bytes place others) place (length others) ≡ others
@@ -37,14 +41,7 @@ behind bytes others place at width inside begins =
     ap (λ (n : ℕ). drop n written) (sym split) ∙ sym (drop-drop k end written) ∙ ap (drop k) back ∙ drop-drop k end bytes ∙ ap (λ (n : ℕ). drop n bytes) split in
     ap (take width) moved
 
-length_written : (bytes others : List ℕ) (place : ℕ) → place + length others ≤ length bytes → length (written_at bytes place others) ≡ length bytes
-length_written bytes others place inside =
-    omega (arith, length-append (take place bytes) (others ++ drop (place + length others) bytes), length-append others (drop (place + length others) bytes), length-take place bytes, length-drop (place + length others) bytes)
-
--- the field lies in a structure of this length
-abbrev pub lies_in : ℕ → Field → Bool
-lies_in len f = leb (f.place + f.width) len
-
+-- the fields share no byte
 abbrev pub lies_apart : Field → Field → Bool
 lies_apart f g = leb (f.place + f.width) g.place || leb (g.place + g.width) f.place
 
@@ -52,114 +49,102 @@ abbrev pub is_field : Field → Field → Bool
 is_field f g = eqb f.place g.place && eqb f.width g.width
 
 -- no number is put where the field is
-abbrev pub untouched : ℕ → Field → List (Field × ℕ) → Bool
-untouched len f [] = true
-untouched len f (x ∷ numbers) = lies_in len x.0 && (lies_apart f x.0 && untouched len f numbers)
+abbrev pub untouched : Field → List (Field × ℕ) → Bool
+untouched f numbers = list_all (λ number. lies_apart f number.0) numbers
 
--- the number that is put last into the field
-abbrev pub put_last : ℕ → Field → List (Field × ℕ) → Option ℕ
-put_last len f [] = None
-put_last len f (x ∷ numbers) = cond (lies_in len x.0) (cond (is_field f x.0 && untouched len f numbers) (Some x.1) (put_last len f numbers)) None
+-- the number that is put last into the field, if none is put over it
+abbrev pub put_last : Field → List (Field × ℕ) → Option ℕ
+put_last f [] = None
+put_last f (x ∷ numbers) = cond (is_field f x.0 && untouched f numbers) (Some x.1) (put_last f numbers)
 
 -- the number in a field
 abbrev pub held : ByteOrder → List ℕ → Field → ℕ
 held order bytes f = number order (bytes_at bytes f.place f.width)
 
-pub length_put : (order : ByteOrder) (bytes : List ℕ) (x : Field × ℕ) (len : ℕ) → length bytes ≡ len → lies_in len x.0 ≡ true → length (put order bytes x) ≡ len
-unfolding put
-length_put order bytes x len long inside =
-    let fits : x.0.place + x.0.width ≤ len = leb-true (x.0.place + x.0.width) len inside in
-    length_written bytes (number_bytes order x.0.width x.1) x.0.place (omega (arith, number_length order x.0.width x.1)) ∙ long
+lies_in : (len : ℕ) (f : Field) → fits len f ≡ true → f.place + f.width ≤ len
+lies_in len f inside = leb-true (f.place + f.width) len (and_parts (leb (f.place + f.width) len) (leb f.width 8) inside).0
 
-put_apart : (order : ByteOrder) (bytes : List ℕ) (f : Field) (x : Field × ℕ) (len : ℕ) → length bytes ≡ len → lies_in len x.0 ≡ true → lies_apart f x.0 ≡ true
+length_put : (order : ByteOrder) (bytes : List ℕ) (x : Field × ℕ) (len : ℕ) → length bytes ≡ len → fits len x.0 ≡ true → length (put order bytes x) ≡ len
+length_put order bytes x len long inside = length-put order bytes x.0 x.1 (ap (λ (n : ℕ). fits n x.0) long ∙ inside) ∙ long
+
+put_apart : (order : ByteOrder) (bytes : List ℕ) (f : Field) (x : Field × ℕ) (len : ℕ) → length bytes ≡ len → fits len x.0 ≡ true → lies_apart f x.0 ≡ true
     → held order (put order bytes x) f ≡ held order bytes f
 unfolding put
 put_apart order bytes f x len long inside apart =
     let others = number_bytes order x.0.width x.1 in
-    let fits : x.0.place + x.0.width ≤ len = leb-true (x.0.place + x.0.width) len inside in
+    let end : x.0.place + x.0.width ≤ len = lies_in len x.0 inside in
     let starts : x.0.place ≤ length bytes = omega arith in
     ap (number order) (elim (or_cases (leb (f.place + f.width) x.0.place) (leb (x.0.place + x.0.width) f.place) apart) [
       | inl low ↦ before bytes others x.0.place f.place f.width starts (leb-true (f.place + f.width) x.0.place low)
-      | inr high ↦ behind bytes others x.0.place f.place f.width starts (omega (arith, leb-true (x.0.place + x.0.width) f.place high, number_length order x.0.width x.1))
+      | inr high ↦ behind bytes others x.0.place f.place f.width starts (omega (arith, leb-true (x.0.place + x.0.width) f.place high, length-number_bytes order x.0.width x.1))
     ])
 
 -- a field that nothing is put into holds what it held
-pub untouched_back : (order : ByteOrder) (len : ℕ) (f : Field) (numbers : List (Field × ℕ)) (bytes : List ℕ) → length bytes ≡ len → untouched len f numbers ≡ true
+untouched_back : (order : ByteOrder) (len : ℕ) (f : Field) (numbers : List (Field × ℕ)) (bytes : List ℕ) → length bytes ≡ len → all_fit len numbers ≡ true → untouched f numbers ≡ true
     → held order (filled order bytes numbers) f ≡ held order bytes f
-untouched_back order len f [] bytes long none = refl
-untouched_back order len f (x ∷ numbers) bytes long none =
-    let p = and_parts (lies_in len x.0) (lies_apart f x.0 && untouched len f numbers) none in
-    let q = and_parts (lies_apart f x.0) (untouched len f numbers) p.1 in
-    untouched_back order len f numbers (put order bytes x) (length_put order bytes x len long p.0) q.1 ∙ put_apart order bytes f x len long p.0 q.0
+untouched_back order len f [] bytes long inside none = refl
+untouched_back order len f (x ∷ numbers) bytes long inside none =
+    let i = and_parts (fits len x.0) (all_fit len numbers) inside in
+    let n = and_parts (lies_apart f x.0) (untouched f numbers) none in
+    untouched_back order len f numbers (put order bytes x) (length_put order bytes x len long i.0) i.1 n.1 ∙ put_apart order bytes f x len long i.0 n.0
 
-put_there : (order : ByteOrder) (bytes : List ℕ) (f : Field) (x : Field × ℕ) (len : ℕ) → length bytes ≡ len → lies_in len x.0 ≡ true → is_field f x.0 ≡ true → x.1 < 256 ^ f.width
+put_there : (order : ByteOrder) (bytes : List ℕ) (f : Field) (x : Field × ℕ) (len : ℕ) → length bytes ≡ len → fits len x.0 ≡ true → is_field f x.0 ≡ true → x.1 < 256 ^ f.width
     → held order (put order bytes x) f ≡ x.1
 unfolding put
 put_there order bytes f x len long inside same small =
-    let fits : x.0.place + x.0.width ≤ len = leb-true (x.0.place + x.0.width) len inside in
+    let end : x.0.place + x.0.width ≤ len = lies_in len x.0 inside in
     let p = and_parts (eqb f.place x.0.place) (eqb f.width x.0.width) same in
     let at : f.place ≡ x.0.place = eqb-true f.place x.0.place p.0 in
     let wide : f.width ≡ x.0.width = eqb-true f.width x.0.width p.1 in
     let others = number_bytes order x.0.width x.1 in
-    let width_is : f.width ≡ length others = wide ∙ sym (number_length order x.0.width x.1) in
+    let width_is : f.width ≡ length others = wide ∙ sym (length-number_bytes order x.0.width x.1) in
     ap (number order) (ap (λ (k : ℕ). bytes_at (written_at bytes x.0.place others) k f.width) at ∙ ap (λ (k : ℕ). bytes_at (written_at bytes x.0.place others) x.0.place k) width_is ∙ there bytes others x.0.place (omega arith))
     ∙ ap (λ (k : ℕ). number order (number_bytes order k x.1)) (sym wide)
     ∙ number_back order f.width x.1 small
 
-put_back_by : (order : ByteOrder) (len : ℕ) (f : Field) (n : ℕ) (x : Field × ℕ) (numbers : List (Field × ℕ)) (bytes : List ℕ) (inside here : Bool)
-    → length bytes ≡ len → n < 256 ^ f.width → lies_in len x.0 ≡ inside → (is_field f x.0 && untouched len f numbers) ≡ here
-    → cond inside (cond here (Some x.1) (put_last len f numbers)) None ≡ Some n
-    → (lies_in len x.0 ≡ true → put_last len f numbers ≡ Some n → held order (filled order (put order bytes x) numbers) f ≡ n)
+put_back_by : (order : ByteOrder) (len : ℕ) (f : Field) (n : ℕ) (x : Field × ℕ) (numbers : List (Field × ℕ)) (bytes : List ℕ) (here : Bool)
+    → length bytes ≡ len → fits len x.0 ≡ true → all_fit len numbers ≡ true → n < 256 ^ f.width → (is_field f x.0 && untouched f numbers) ≡ here
+    → cond here (Some x.1) (put_last f numbers) ≡ Some n
+    → (put_last f numbers ≡ Some n → held order (filled order (put order bytes x) numbers) f ≡ n)
     → held order (filled order (put order bytes x) numbers) f ≡ n
-put_back_by order len f n x numbers bytes true true long small i h e later =
-    let p = and_parts (is_field f x.0) (untouched len f numbers) h in
+put_back_by order len f n x numbers bytes true long inside others small h e later =
+    let p = and_parts (is_field f x.0) (untouched f numbers) h in
     let value : x.1 ≡ n = cc in
-    untouched_back order len f numbers (put order bytes x) (length_put order bytes x len long i) p.1
-    ∙ put_there order bytes f x len long i p.0 (omega arith)
+    untouched_back order len f numbers (put order bytes x) (length_put order bytes x len long inside) others p.1
+    ∙ put_there order bytes f x len long inside p.0 (omega arith)
     ∙ value
-put_back_by order len f n x numbers bytes true false long small i h e later = later i e
-put_back_by order len f n x numbers bytes false here long small i h e later = absurd cc
+put_back_by order len f n x numbers bytes false long inside others small h e later = later e
 
 -- a field holds the number that was put last into it
-pub put_back : (order : ByteOrder) (len : ℕ) (f : Field) (n : ℕ) (numbers : List (Field × ℕ)) (bytes : List ℕ) → length bytes ≡ len → n < 256 ^ f.width → put_last len f numbers ≡ Some n
-    → held order (filled order bytes numbers) f ≡ n
-put_back order len f n [] bytes long small last = absurd cc
-put_back order len f n (x ∷ numbers) bytes long small last =
-    put_back_by order len f n x numbers bytes (lies_in len x.0) (is_field f x.0 && untouched len f numbers) long small refl refl last
-    (λ i e. put_back order len f n numbers (put order bytes x) (length_put order bytes x len long i) small e)
-
--- every number is put inside the structure
-abbrev pub all_lie_in : ℕ → List (Field × ℕ) → Bool
-all_lie_in len [] = true
-all_lie_in len (x ∷ numbers) = lies_in len x.0 && all_lie_in len numbers
-
--- a structure keeps its length
-pub length_filled : (order : ByteOrder) (len : ℕ) (numbers : List (Field × ℕ)) (bytes : List ℕ) → length bytes ≡ len → all_lie_in len numbers ≡ true → length (filled order bytes numbers) ≡ len
-length_filled order len [] bytes long inside = long
-length_filled order len (x ∷ numbers) bytes long inside =
-    let p = and_parts (lies_in len x.0) (all_lie_in len numbers) inside in
-    length_filled order len numbers (put order bytes x) (length_put order bytes x len long p.0) p.1
+put_back : (order : ByteOrder) (len : ℕ) (f : Field) (n : ℕ) (numbers : List (Field × ℕ)) (bytes : List ℕ) → length bytes ≡ len → all_fit len numbers ≡ true → n < 256 ^ f.width
+    → put_last f numbers ≡ Some n → held order (filled order bytes numbers) f ≡ n
+put_back order len f n [] bytes long inside small last = absurd cc
+put_back order len f n (x ∷ numbers) bytes long inside small last =
+    let i = and_parts (fits len x.0) (all_fit len numbers) inside in
+    put_back_by order len f n x numbers bytes (is_field f x.0 && untouched f numbers) long i.0 i.1 small refl last
+    (λ e. put_back order len f n numbers (put order bytes x) (length_put order bytes x len long i.0) i.1 small e)
 
 -- a structure's field is read where the structure stands in a file
-pub value_in : (order : ByteOrder) (front bytes behind : List ℕ) (f : Field) (start len : ℕ) → length front ≡ start → length bytes ≡ len → lies_in len f ≡ true
+value_in : (order : ByteOrder) (front bytes behind : List ℕ) (f : Field) (start len : ℕ) → length front ≡ start → length bytes ≡ len → fits len f ≡ true
     → value_at order (front ++ (bytes ++ behind)) start f ≡ held order bytes f
 value_in order front bytes behind f start len at long inside =
-    let fits : f.place + f.width ≤ len = leb-true (f.place + f.width) len inside in
+    let end : f.place + f.width ≤ len = lies_in len f inside in
     let file = front ++ (bytes ++ behind) in
     let there : drop (start + f.place) file ≡ drop f.place (bytes ++ behind) = sym (drop-drop f.place start file) ∙ ap (drop f.place) (drop_at front (bytes ++ behind) start at) in
     let cut : take f.width (drop f.place (bytes ++ behind)) ≡ take f.width (drop f.place bytes) =
     ap (take f.width) (drop-append-le f.place bytes behind (omega arith)) ∙ take-append-le f.width (drop f.place bytes) behind (omega (arith, length-drop f.place bytes)) in
     ap (number order) (ap (take f.width) there ∙ cut)
 
--- the field holds the number, of those below the bound, among numbers that are put into a structure of this length
+-- the field, of a structure of this length, gets the number, and has room for all below the bound
 pub record IsPut (len : ℕ) (f : Field) (numbers : List (Field × ℕ)) (n bound : ℕ) : Type 0 where
-  pub last : put_last len f numbers ≡ Some n
-  pub room : (lies_in len f && leb bound (256 ^ f.width)) ≡ true
+  pub last : put_last f numbers ≡ Some n
+  pub room : (fits len f && leb bound (256 ^ f.width)) ≡ true
 
 -- what was put into a structure's field is read where the structure stands in a file
 pub field_back : (order : ByteOrder) (front bytes behind : List ℕ) (f : Field) (numbers : List (Field × ℕ)) (start len n bound : ℕ) → length front ≡ start → length bytes ≡ len
-    → all_lie_in len numbers ≡ true → n < bound → IsPut len f numbers n bound → value_at order (front ++ (filled order bytes numbers ++ behind)) start f ≡ n
+    → all_fit len numbers ≡ true → n < bound → IsPut len f numbers n bound → value_at order (front ++ (filled order bytes numbers ++ behind)) start f ≡ n
 field_back order front bytes behind f numbers start len n bound at long inside small is =
-    let p = and_parts (lies_in len f) (leb bound (256 ^ f.width)) is.room in
-    let fits : n < 256 ^ f.width = omega (arith, leb-true bound (256 ^ f.width) p.1) in
-    value_in order front (filled order bytes numbers) behind f start len at (length_filled order len numbers bytes long inside) p.0 ∙ put_back order len f n numbers bytes long fits is.last
+    let p = and_parts (fits len f) (leb bound (256 ^ f.width)) is.room in
+    let room : n < 256 ^ f.width = omega (arith, leb-true bound (256 ^ f.width) p.1) in
+    let whole : length (filled order bytes numbers) ≡ len = length-filled order bytes numbers (ap (λ (m : ℕ). all_fit m numbers) long ∙ inside) ∙ long in
+    value_in order front (filled order bytes numbers) behind f start len at whole p.0 ∙ put_back order len f n numbers bytes long inside room is.last

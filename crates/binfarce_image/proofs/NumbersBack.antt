@@ -1,23 +1,12 @@
 -- The bytes of a number read back to it.
-use Rattle.std.proofs.Common.{◌≡◌, ℕ, zero, suc, ◌+◌, ◌*◌, ◌/◌, ◌%◌, ◌^◌, ◌<◌, length, refl, ap, ◌∙◌, arith}
-use Rattle.std.proofs.lemmas.List.{length-reverse, reverse-reverse}
+use Rattle.std.proofs.Common.{◌≡◌, ℕ, zero, suc, ◌+◌, ◌*◌, ◌/◌, ◌%◌, ◌^◌, ◌<◌, ap, ◌∙◌, arith}
+use Rattle.std.proofs.lemmas.List.{reverse-reverse}
 use Rattle.std.proofs.lemmas.Nat.{div_below}
 use Rattle.std.proofs.Math.Nat.{pow-suc}
 use Rattle.binfarce.specs.declared.ByteOrder.{ByteOrder}
 use Rattle.binfarce.specs.declared.ByteOrder.TheVariants.{LittleEndian, BigEndian}
 use Rattle.binfarce.specs.Number.{little_endian, number}
 use Rattle.binfarce_image.specs.Structure.{little_endian_bytes, number_bytes}
-
-little_length : (width n : ℕ) → length (little_endian_bytes width n) ≡ width
-unfolding little_endian_bytes
-little_length zero n = refl
-little_length (suc width) n = ap suc (little_length width (n / 256))
-
--- a number has as many bytes as it is written in
-pub number_length : (order : ByteOrder) (width n : ℕ) → length (number_bytes order width n) ≡ width
-unfolding number_bytes
-number_length LittleEndian width n = little_length width n
-number_length BigEndian width n = length-reverse (little_endian_bytes width n) ∙ little_length width n
 
 small_rest : (width n : ℕ) → n < 256 ^ suc width → n / 256 < 256 ^ width
 small_rest width n small =

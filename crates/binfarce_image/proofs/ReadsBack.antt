@@ -54,8 +54,9 @@ module _ (image : Image) (layout : ElfLayout) (due : LaysOut image layout) (fits
   abbrev numbered : List (ℕ × Part)
   numbered = enumerate_from 0 image.parts.items
 
-  search : (missing : Refusal) (accepts : Section → Bool) (o : Option Section) → find accepts sections ≡ o → sought missing accepts (walk class table) ≡ required missing o
-  search missing accepts o found = sought_is missing accepts (walk class table) sections o (walk_back image layout due fits) (walk_done image layout due) found
+  -- a search in the file's walk
+  sought_in_file : (missing : Refusal) (accepts : Section → Bool) (o : Option Section) → find accepts sections ≡ o → sought missing accepts (walk class table) ≡ required missing o
+  sought_in_file missing accepts o found = sought_is missing accepts (walk class table) sections o (walk_back image layout due fits) (walk_done image layout due) found
 
   -- tests that agree find a part and its section
   both : (f : Section → Bool) (g : ℕ × Part → Bool) → ((s : Section) (q : ℕ × Part) → Holds image layout s q → f s ≡ g q) → BothOrNone (Holds image layout) (find f sections) (find g numbered)
@@ -88,7 +89,7 @@ module _ (image : Image) (layout : ElfLayout) (due : LaysOut image layout) (fits
       → answer_of class table (located_from text symbols) ≡ answer_from found (Table name link rows)
   linked_by text symbols found j name link rows o p e f r t other s =
       let part : slice_get image.parts.items link ≡ option_map (λ (q : ℕ × Part). q.1) p = linked_part link ∙ ap (option_map (λ (q : ℕ × Part). q.1)) f in
-      ap (λ (x : Result Section Refusal). answer_of class table (x >>= λ (linked : Section). located_with class table text symbols linked)) (search (section_is_missing (codes ".strtab")) (λ (s : Section). eqb s.index symbols.link) o e)
+      ap (λ (x : Result Section Refusal). answer_of class table (x >>= λ (linked : Section). located_with class table text symbols linked)) (sought_in_file (section_is_missing (codes ".strtab")) (λ (s : Section). eqb s.index symbols.link) o e)
       ∙ ends o p r
       ∙ sym (ap (λ (x : Option Part). required (section_is_missing (codes ".strtab")) x >>= λ (linked : Part). answer_with found (Table name link rows) linked) part)
     where
@@ -130,7 +131,7 @@ module _ (image : Image) (layout : ElfLayout) (due : LaysOut image layout) (fits
       ends : (o : Option Section) (p : Option (ℕ × Part)) → find (λ (s : Section). eqb s.kind 2) sections ≡ o → find (λ (q : ℕ × Part). is_table q.1) numbered ≡ p → BothOrNone (Holds image layout) o p
           → answer_of class table (located_for text) ≡ answer_for found
       ends o p e f r =
-          ap (λ (x : Result Section Refusal). answer_of class table (x >>= λ (symbols : Section). located_from text symbols)) (search (section_is_missing (codes ".symtab")) (λ (s : Section). eqb s.kind 2) o e)
+          ap (λ (x : Result Section Refusal). answer_of class table (x >>= λ (symbols : Section). located_from text symbols)) (sought_in_file (section_is_missing (codes ".symtab")) (λ (s : Section). eqb s.kind 2) o e)
           ∙ with_symbols o p f r
           ∙ sym (ap (λ (x : Option Part). required (section_is_missing (codes ".symtab")) x >>= λ (part : Part). answer_from found part) (table_part ∙ ap (option_map (λ (q : ℕ × Part). q.1)) f))
 
@@ -148,7 +149,7 @@ module _ (image : Image) (layout : ElfLayout) (due : LaysOut image layout) (fits
       let f : Section → Bool = λ s. is_name name (name_of class table s) in
       let g : ℕ × Part → Bool = λ q. is_name name (part_name_of image q.1) in
       let agree : (s : Section) (q : ℕ × Part) → Holds image layout s q → f s ≡ g q = λ s q h. ap (is_name name) (name_back image layout due fits s q h) in
-      ap (λ (x : Result Section Refusal). answer_of class table (x >>= λ (text : Section). located_for text)) (search symbols_section_is_missing f (find f sections) refl)
+      ap (λ (x : Result Section Refusal). answer_of class table (x >>= λ (text : Section). located_for text)) (sought_in_file symbols_section_is_missing f (find f sections) refl)
       ∙ named_by name (find f sections) (find g numbered) (both f g agree) other
 
 -- in each layout, an image's file reads back to what the image holds

@@ -4,6 +4,7 @@ use crate::ParseError;
 use crate::macho::{Macho, Section, parse};
 use crate::sizes::{RowAddress, arrange, sweep};
 use std::alloc::{AllocError, Global};
+use std::process::Abort;
 use std::test::Fail;
 
 // A file of 281 bytes: a segment with the section `__text` of `__TEXT` at 0x1000, of 0x100 bytes, and four symbols.
@@ -21,17 +22,24 @@ const FILE: [u8; 281] = [
     0, 0x63, 0, 0x64, 0,
 ];
 
+// Other bytes at a place.
+type Patch<'a> = (usize, &'a [u8]);
+
 // The file with other bytes at places.
-fn patched(alloc: Global, patches: &[(usize, &[u8])]) -> Result<Vec<u8>, AllocError> {
+fn patched(alloc: Global, patches: &[Patch<'_>]) -> Result<Vec<u8>, AllocError> {
     let mut file = Vec::from_slice(alloc, &FILE)?;
     for (place, bytes) in patches {
-        for (i, byte) in bytes.iter().enumerate() {
-            if let Some(old) = place.checked_add(i).and_then(|at| file.get_mut(at)) {
-                *old = *byte;
-            }
-        }
+        put(&mut file, *place, bytes);
     }
     Ok(file)
+}
+
+fn put(file: &mut Vec<u8>, place: usize, bytes: &[u8]) {
+    for (i, byte) in bytes.iter().enumerate() {
+        if let Some(old) = file.get_mut(place.saturating_add(i)) {
+            *old = *byte;
+        }
+    }
 }
 
 // The symbols as lines, or the words of the refusal.
@@ -53,74 +61,76 @@ fn listed(alloc: Global, file: &[u8]) -> Result<String, AllocError> {
     Ok(lines)
 }
 
+// What is changed, how, and what is listed or refused.
+const ROWS: [(&str, &[Patch<'static>], &str); 15] = [
+    (
+        "as it stands",
+        &[],
+        "1000 64 a, 1000 64 b, 1040 192 c, text 256",
+    ),
+    (
+        "a greater address in another section",
+        &[(261, &[2]), (264, &[0x00, 0x12])],
+        "1000 64 a, 1000 64 b, 1040 448 c, text 256",
+    ),
+    (
+        "a symbol past the text",
+        &[(264, &[0x00, 0x12])],
+        "malformed input file",
+    ),
+    ("text size 0", &[(144, &[0, 0])], "malformed input file"),
+    (
+        "text past all addresses",
+        &[(136, &[0, 0xFF, 0xFF, 0xFF, 0xFF, 0xFF, 0xFF, 0xFF])],
+        "malformed input file",
+    ),
+    (
+        "second command's size 7",
+        &[(188, &[7])],
+        "malformed input file",
+    ),
+    ("one command", &[(16, &[1])], "text 0"),
+    (
+        "strings of 6 bytes",
+        &[(204, &[6])],
+        "1000 64 a, 1000 64 b, text 256",
+    ),
+    (
+        "third value 0",
+        &[(248, &[0, 0])],
+        "1000 256 a, 1000 256 b, text 256",
+    ),
+    (
+        "third type 4",
+        &[(244, &[4])],
+        "1000 64 a, 1000 64 b, text 256",
+    ),
+    (
+        "no rows at the end",
+        &[(192, &[0x19, 1]), (196, &[0])],
+        "text 256",
+    ),
+    (
+        "no rows past the end",
+        &[(192, &[0x1A, 1]), (196, &[0])],
+        "unexpected end of file",
+    ),
+    ("five rows", &[(196, &[5])], "unexpected end of file"),
+    (
+        "strings of 10 bytes",
+        &[(204, &[10])],
+        "unexpected end of file",
+    ),
+    (
+        "another section name",
+        &[(104, b"__tex\0")],
+        "symbols section is missing",
+    ),
+];
+
 #[test]
 fn symbols(rt: HostRuntime) -> Result<(), Fail> {
-    let rows: [(&str, &[(usize, &[u8])], &str); 15] = [
-        (
-            "as it stands",
-            &[],
-            "1000 64 a, 1000 64 b, 1040 192 c, text 256",
-        ),
-        (
-            "a greater address in another section",
-            &[(261, &[2]), (264, &[0x00, 0x12])],
-            "1000 64 a, 1000 64 b, 1040 448 c, text 256",
-        ),
-        (
-            "a symbol past the text",
-            &[(264, &[0x00, 0x12])],
-            "malformed input file",
-        ),
-        ("text size 0", &[(144, &[0, 0])], "malformed input file"),
-        (
-            "text past all addresses",
-            &[(136, &[0, 0xFF, 0xFF, 0xFF, 0xFF, 0xFF, 0xFF, 0xFF])],
-            "malformed input file",
-        ),
-        (
-            "second command's size 7",
-            &[(188, &[7])],
-            "malformed input file",
-        ),
-        ("one command", &[(16, &[1])], "text 0"),
-        (
-            "strings of 6 bytes",
-            &[(204, &[6])],
-            "1000 64 a, 1000 64 b, text 256",
-        ),
-        (
-            "third value 0",
-            &[(248, &[0, 0])],
-            "1000 256 a, 1000 256 b, text 256",
-        ),
-        (
-            "third type 4",
-            &[(244, &[4])],
-            "1000 64 a, 1000 64 b, text 256",
-        ),
-        (
-            "no rows at the end",
-            &[(192, &[0x19, 1]), (196, &[0])],
-            "text 256",
-        ),
-        (
-            "no rows past the end",
-            &[(192, &[0x1A, 1]), (196, &[0])],
-            "unexpected end of file",
-        ),
-        ("five rows", &[(196, &[5])], "unexpected end of file"),
-        (
-            "strings of 10 bytes",
-            &[(204, &[10])],
-            "unexpected end of file",
-        ),
-        (
-            "another section name",
-            &[(104, b"__tex\0")],
-            "symbols section is missing",
-        ),
-    ];
-    for (what, patches, expected) in &rows {
+    for (what, patches, expected) in &ROWS {
         let file = patched(rt.alloc(), patches)?;
         assert_eq!(rt; listed(rt.alloc(), &file)?.as_str(), *expected, "{what}");
     }
@@ -191,40 +201,42 @@ fn many_rows(alloc: Global, opposite: bool) -> Result<Vec<u8>, AllocError> {
     Ok(file)
 }
 
-#[test]
-fn many_symbols(rt: HostRuntime) -> Result<(), Fail> {
-    for opposite in [false, true] {
-        let file = many_rows(rt.alloc(), opposite)?;
-        let (symbols, size) = parse(&file)?.symbols(rt.alloc())?;
-        assert_eq!(rt; (symbols.len(), size), (4096, 65536));
-        let mut address = 0x1000u64;
-        let mut second = false;
-        for symbol in &symbols {
-            let expected = if address == 0x8FF0 { 32784 } else { 16 };
-            assert_eq!(rt; (symbol.address, symbol.size), (address, expected));
-            assert_eq!(rt; symbol.name.complete.as_str(), "a");
-            if second {
-                address = address.wrapping_add(16);
-            }
-            second = !second;
-        }
+// Its symbols are two and two at one address, and reach to the next; the last two reach to the text's end.
+fn lists_many_rows(rt: &impl Abort, alloc: Global, opposite: bool) -> Result<(), Fail> {
+    let file = many_rows(alloc, opposite)?;
+    let (symbols, size) = parse(&file)?.symbols(alloc)?;
+    assert_eq!(rt; (symbols.len(), size), (4096, 65536));
+    for (row, symbol) in symbols.iter().enumerate() {
+        let address = (row as u64 / 2).wrapping_mul(16).wrapping_add(0x1000);
+        let expected = if address == 0x8FF0 { 32784 } else { 16 };
+        assert_eq!(rt; (symbol.address, symbol.size), (address, expected));
+        assert_eq!(rt; symbol.name.complete.as_str(), "a");
     }
     Ok(())
 }
 
 #[test]
-fn one_walk(rt: HostRuntime) -> Result<(), Fail> {
-    for opposite in [false, true] {
-        let mut rows = Vec::new(rt.alloc());
-        for row in 0..4096usize {
-            let at = if opposite { 4095 - row } else { row };
-            let address = 0x1000 + 16 * (at as u64 / 2);
-            rows.push(RowAddress { address, row })?;
-        }
-        arrange(&mut rows);
-        let swept = sweep(rt.alloc(), &rows)?;
-        assert_eq!(rt; swept.visited, 4096);
-        assert_eq!(rt; swept.above.len(), 4096);
+fn many_symbols(rt: HostRuntime) -> Result<(), Fail> {
+    lists_many_rows(&rt, rt.alloc(), false)?;
+    lists_many_rows(&rt, rt.alloc(), true)
+}
+
+// The walk over as many rows visits each once.
+fn walks_once(rt: &impl Abort, alloc: Global, opposite: bool) -> Result<(), Fail> {
+    let mut rows = Vec::new(alloc);
+    for row in 0..4096usize {
+        let at = if opposite { 4095 - row } else { row };
+        let address = 0x1000 + 16 * (at as u64 / 2);
+        rows.push(RowAddress { address, row })?;
     }
+    arrange(&mut rows);
+    let swept = sweep(alloc, &rows)?;
+    assert_eq!(rt; (swept.visited, swept.above.len()), (4096, 4096));
     Ok(())
+}
+
+#[test]
+fn one_walk(rt: HostRuntime) -> Result<(), Fail> {
+    walks_once(&rt, rt.alloc(), false)?;
+    walks_once(&rt, rt.alloc(), true)
 }

@@ -1,6 +1,6 @@
 //! What a place of a v0 name unfolds to, written as it is read.
 
-ghost use Rattle.std.specs.Prelude.{◌≡◌, ℕ, ◌+◌, ◌*◌, ◌≤◌, ◌==◌, IfOk, OnOk, Some, None, [], if◌then◌else◌, codes, suc};
+ghost use Rattle.std.specs.Prelude.{◌≡◌, ℕ, ◌+◌, ◌≤◌, ◌==◌, IfOk, OnOk, Some, None, [], if◌then◌else◌, codes, suc};
 ghost use Rattle.std.specs.Str.{IsAscii};
 ghost use Rattle.binfarce_names.specs.Forms.{label_at, lifetime};
 ghost use Rattle.binfarce_names.specs.Tree as tree;
@@ -25,6 +25,7 @@ ghost use Rattle.binfarce_names.specs.machine.Seen.{
   listed_seen,
 };
 ghost use Rattle.binfarce_names.specs.machine.Printing.{
+  WithinLevels,
   readers,
   path_rule,
   type_rule,
@@ -110,6 +111,7 @@ impl<'a> Printer<'a> {
     #[tactic(auto, using(crate::proofs::Levels::constant_at), unfolding(crate::specs::machine::Printing::const_rule))]
     pub fn print_const(&mut self, name: &'a str, left: usize) -> Result<(), AllocError>
         requires ascii { IsAscii name.now }
+        requires levels { left ≤ 500 }
         ensures { OnOk result (self.new ≡ ((readers name.entry.now left).constant self.old).1) }
     {
         let form = const_form(name, self.at);
@@ -184,7 +186,7 @@ impl<'a> Printer<'a> {
         position: Position,
     ) -> Result<bool, AllocError>
         requires ascii { IsAscii name.now }
-        requires depth { depth + 65536 * left ≤ 32768000 }
+        requires levels { WithinLevels left depth }
         ensures printed { OnOk result (self.new ≡ ((readers name.entry.now left).path (position_seen position) depth self.old).1) }
         ensures opened { IfOk result (λ opened. opened ≡ is_left_open ((readers name.entry.now left).path (position_seen position) depth self.old).0 (position_seen position)) }
     {
@@ -207,7 +209,7 @@ impl<'a> Printer<'a> {
         form: PathForm<'a>,
     ) -> Result<bool, AllocError>
         requires ascii { IsAscii name.now }
-        requires depth { depth + 65536 * (left + 1) ≤ 32768000 }
+        requires levels { WithinLevels (left + 1) depth }
         ensures printed { OnOk result (self.new ≡ (path_rule name.entry.now (readers name.entry.now left) (position_seen position) depth self.old (path_seen form.entry)).1) }
         ensures opened { IfOk result (λ opened. opened ≡ is_left_open (path_rule name.entry.now (readers name.entry.now left) (position_seen position) depth self.old (path_seen form.entry)).0 (position_seen position)) }
     {
@@ -256,7 +258,7 @@ impl<'a> Printer<'a> {
         after: usize,
     ) -> Result<bool, AllocError>
         requires ascii { IsAscii name.now }
-        requires depth { depth + 65536 * left ≤ 32768000 }
+        requires levels { WithinLevels left depth }
         ensures printed { OnOk result (self.new ≡ back_to after self.old.outside ((readers name.entry.now left).path (position_seen position) depth (into target self.old)).1) }
         ensures opened { IfOk result (λ opened. opened ≡ is_left_open ((readers name.entry.now left).path (position_seen position) depth (into target self.old)).0 (position_seen position)) }
     {
@@ -278,7 +280,7 @@ impl<'a> Printer<'a> {
         after: usize,
     ) -> Result<(), AllocError>
         requires ascii { IsAscii name.now }
-        requires depth { depth + 65536 * left ≤ 32768000 }
+        requires levels { WithinLevels left depth }
         ensures { OnOk result (self.new ≡ unmute self.old.muted ((readers name.entry.now left).path (parent_position (position_seen position)) depth (mute (go (Some after) self.old))).1) }
     {
         let muted = self.muted;
@@ -298,7 +300,7 @@ impl<'a> Printer<'a> {
         depth: usize,
     ) -> Result<(), AllocError>
         requires ascii { IsAscii name.now }
-        requires depth { depth + 65536 * left ≤ 32768000 }
+        requires levels { WithinLevels left depth }
         ensures { OnOk result (self.new ≡ (qualified (readers name.entry.now left) depth self.old).1) }
     {
         self.say("<")?;
@@ -319,7 +321,7 @@ impl<'a> Printer<'a> {
         after: usize,
     ) -> Result<(), AllocError>
         requires ascii { IsAscii name.now }
-        requires depth { depth + 65536 * left ≤ 32768000 }
+        requires levels { WithinLevels left depth }
         ensures { OnOk result (self.new ≡ (generic_rule name.entry.now (readers name.entry.now left) (position_seen position) depth ((readers name.entry.now left).path (parent_position (position_seen position)) depth (go (Some after) self.old))).1) }
     {
         self.go(Some(after));
@@ -342,7 +344,7 @@ impl<'a> Printer<'a> {
         between: &'static str,
     ) -> Result<usize, AllocError>
         requires ascii { IsAscii name.now }
-        requires depth { depth + 65536 * left ≤ 32768000 }
+        requires levels { WithinLevels left depth }
         ensures printed { OnOk result (self.new ≡ (items_from name.entry.now (readers name.entry.now left) depth (listed_seen listed) between.entry.now self.old).1) }
         ensures counted { IfOk result (λ count. count ≡ items_count (items_from name.entry.now (readers name.entry.now left) depth (listed_seen listed) between.entry.now self.old).0) }
     {
@@ -370,7 +372,7 @@ impl<'a> Printer<'a> {
         listed: Listed,
     ) -> Result<(), AllocError>
         requires ascii { IsAscii name.now }
-        requires depth { depth + 65536 * left ≤ 32768000 }
+        requires levels { WithinLevels left depth }
         ensures { OnOk result (self.new ≡ (item_rule name.entry.now (readers name.entry.now left) depth (listed_seen listed) self.old).1) }
     {
         match listed {
@@ -388,7 +390,7 @@ impl<'a> Printer<'a> {
     #[tactic(auto, unfolding(crate::specs::machine::Printing::item_rule))]
     fn print_argument(&mut self, name: &'a str, left: usize, depth: usize) -> Result<(), AllocError>
         requires ascii { IsAscii name.now }
-        requires depth { depth + 65536 * left ≤ 32768000 }
+        requires levels { WithinLevels left depth }
         ensures { OnOk result (self.new ≡ (item_rule name.entry.now (readers name.entry.now left) depth Arguments self.old).1) }
     {
         let bytes = name.as_bytes();
@@ -420,7 +422,7 @@ impl<'a> Printer<'a> {
         mut opened: bool,
     ) -> Result<(), AllocError>
         requires ascii { IsAscii name.now }
-        requires depth { depth + 65536 * left ≤ 32768000 }
+        requires levels { WithinLevels left depth }
         ensures { OnOk result (self.new ≡ (bindings_rule name.entry.now (readers name.entry.now left) depth (suc self.old.room) opened self.old).1) }
     {
         let most = self.room + 1;
@@ -447,7 +449,7 @@ impl<'a> Printer<'a> {
     #[tactic(auto, using(crate::proofs::Levels::type_at))]
     pub fn print_type(&mut self, name: &'a str, left: usize, depth: usize) -> Result<(), AllocError>
         requires ascii { IsAscii name.now }
-        requires depth { depth + 65536 * left ≤ 32768000 }
+        requires levels { WithinLevels left depth }
         ensures { OnOk result (self.new ≡ ((readers name.entry.now left).ty depth self.old).1) }
     {
         let form = type_form(name, self.at);
@@ -468,7 +470,7 @@ impl<'a> Printer<'a> {
         form: TypeForm<'a>,
     ) -> Result<(), AllocError>
         requires ascii { IsAscii name.now }
-        requires depth { depth + 65536 * (left + 1) ≤ 32768000 }
+        requires levels { WithinLevels (left + 1) depth }
         ensures { OnOk result (self.new ≡ (type_rule name.entry.now (readers name.entry.now left) depth self.old (type_seen form.entry)).1) }
     {
         match form {
@@ -521,7 +523,7 @@ impl<'a> Printer<'a> {
         after: usize,
     ) -> Result<(), AllocError>
         requires ascii { IsAscii name.now }
-        requires depth { depth + 65536 * left ≤ 32768000 }
+        requires levels { WithinLevels left depth }
         ensures { OnOk result (self.new ≡ back_to after self.old.outside ((readers name.entry.now left).ty depth (into target self.old)).1) }
     {
         let outside = self.outside;
@@ -541,7 +543,7 @@ impl<'a> Printer<'a> {
         after: usize,
     ) -> Result<(), AllocError>
         requires ascii { IsAscii name.now }
-        requires depth { depth + 65536 * left ≤ 32768000 }
+        requires levels { WithinLevels left depth }
         ensures { OnOk result (self.new ≡ (array_rule (readers name.entry.now left) ((readers name.entry.now left).ty depth (say (codes "[") (go (Some after) self.old)))).1) }
     {
         self.go(Some(after));
@@ -563,7 +565,7 @@ impl<'a> Printer<'a> {
         after: usize,
     ) -> Result<(), AllocError>
         requires ascii { IsAscii name.now }
-        requires depth { depth + 65536 * left ≤ 32768000 }
+        requires levels { WithinLevels left depth }
         ensures { OnOk result (self.new ≡ (tuple_end (items_from name.entry.now (readers name.entry.now left) depth Types (codes ", ") (say (codes "(") (go (Some after) self.old)))).1) }
     {
         self.go(Some(after));
@@ -585,7 +587,7 @@ impl<'a> Printer<'a> {
         after: usize,
     ) -> Result<(), AllocError>
         requires ascii { IsAscii name.now }
-        requires depth { depth + 65536 * left ≤ 32768000 }
+        requires levels { WithinLevels left depth }
         ensures { OnOk result (self.new ≡ (taking (tree.lifetime_steps (lifetime_seen life)) NoType self.old (reference_rule (readers name.entry.now left) depth mutable (lifetime_seen life) after)).1) }
     {
         if !self.take(lifetime_steps(life)) {
@@ -609,7 +611,7 @@ impl<'a> Printer<'a> {
         after: usize,
     ) -> Result<(), AllocError>
         requires ascii { IsAscii name.now }
-        requires depth { depth + 65536 * (left + 1) ≤ 32768000 }
+        requires levels { WithinLevels (left + 1) depth }
         ensures { OnOk result (self.new ≡ (taking signature.entry.binder NoType self.old (function_rule name.entry.now (readers name.entry.now left) depth (signature_seen signature.entry) after)).1) }
     {
         if !self.take(signature.binder) {
@@ -644,7 +646,7 @@ impl<'a> Printer<'a> {
         after: usize,
     ) -> Result<(), AllocError>
         requires ascii { IsAscii name.now }
-        requires depth { depth + 65536 * (left + 1) ≤ 32768000 }
+        requires levels { WithinLevels (left + 1) depth }
         ensures { OnOk result (self.new ≡ (taking binder NoType self.old (dyn_rule name.entry.now (readers name.entry.now left) depth binder after)).1) }
     {
         if !self.take(binder) {
@@ -690,7 +692,7 @@ impl<'a> Printer<'a> {
 
     // A function type whose ABI doesn't read.
     fn print_unread_function(&mut self, depth: usize, binder: u64) -> Result<(), AllocError>
-        requires { depth + 65536 ≤ 32768000 }
+        requires { WithinLevels 1 depth }
         ensures { OnOk result (self.new ≡ (taking binder NoType self.old (unread_function depth binder)).1) }
     {
         if self.take(binder) {
@@ -700,3 +702,6 @@ impl<'a> Printer<'a> {
         Ok(())
     }
 }
+
+#[cfg(test)]
+mod tests;

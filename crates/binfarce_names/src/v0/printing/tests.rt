@@ -14,7 +14,7 @@ fn check_counts(
     levels: usize,
     steps: usize,
 ) -> Result<(), AllocError> {
-    let mut printer = Printer::new(alloc, true);
+    let mut printer = Printer::new(alloc, name.len(), true)?;
     if name.is_ascii() {
         printer.print_path(name, MAX_LEVELS, 0, Position::InValue)?;
     }

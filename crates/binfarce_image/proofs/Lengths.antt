@@ -1,10 +1,9 @@
 -- How long structures and files are, and where bodies end.
-use Rattle.std.proofs.Common.{◌≡◌, ℕ, zero, suc, ◌+◌, ◌-◌, ◌*◌, ◌^◌, ◌≤◌, ◌<◌, Bool, true, false, ◌&&◌, nat_le, min, List, [], ◌∷◌, ◌++◌, length, take, drop, replicate, refl, sym, ap, ◌∙◌, arith}
+use Rattle.std.proofs.Common.{◌≡◌, ℕ, zero, suc, ◌+◌, ◌-◌, ◌*◌, ◌≤◌, Bool, true, false, ◌&&◌, min, List, [], ◌∷◌, ◌++◌, length, take, replicate, refl, sym, ap, ◌∙◌, arith}
 use Rattle.std.proofs.lemmas.Bool.Decides.{nat_tests}
 use Rattle.std.proofs.lemmas.List.{length-append, length-take, length-drop, length-replicate}
 use Rattle.std.proofs.Math.Nat.{suc-mul, mul-suc}
-use Rattle.std.specs.List.{flat_map, fold, list_all}
-use Rattle.std.specs.Global.{Vec}
+use Rattle.std.specs.List.{flat_map}
 use Rattle.binfarce.specs.declared.ByteOrder.{ByteOrder}
 use Rattle.binfarce.specs.Elf.{Field, ElfClass, elf32, elf64}
 use Rattle.binfarce_image.specs.declared.image.ElfLayout.{ElfLayout}
@@ -14,7 +13,7 @@ use Rattle.binfarce_image.specs.declared.image.Part.{Part}
 use Rattle.binfarce_image.specs.declared.image.Part.TheVariants.{Bytes, Table}
 use Rattle.binfarce_image.specs.declared.image.Row.{Row}
 use Rattle.binfarce_image.specs.Structure.{number_bytes, put, filled}
-use Rattle.binfarce_image.specs.Image.{class_of, order_of, part_name, part_kind, part_link, body_length, entry_length, bodies_end, symbol_numbers, section_numbers, header_numbers, identification, symbol_bytes, body, section_bytes, section_headers, header_bytes, bytes}
+use Rattle.binfarce_image.specs.Image.{class_of, order_of, body_length, bodies_end, symbol_numbers, section_numbers, header_numbers, identification, symbol_bytes, body, section_bytes, section_headers, header_bytes, bytes}
 use Rattle.binfarce_image.specs.machine.Seen.{fits, all_fit}
 use Rattle.binfarce_image.proofs.Bytes.{length-number_bytes}
 

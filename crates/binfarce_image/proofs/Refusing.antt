@@ -3,7 +3,6 @@ use Rattle.std.proofs.Common.{◌≡◌, ℕ, ◌+◌, ◌-◌, ◌*◌, ◌^◌
 use Rattle.std.proofs.lemmas.Bool.Decides.{nat_tests}
 use Rattle.binfarce_image.specs.declared.image.ElfLayout.{ElfLayout}
 use Rattle.binfarce_image.specs.declared.image.Image.{Image}
-use Rattle.binfarce_image.specs.declared.image.ImageError.{ImageError}
 use Rattle.binfarce_image.specs.declared.image.ImageError.TheVariants.{TooManySections, TableCount, NamesPlace, TooLarge}
 use Rattle.binfarce_image.specs.Image.{class_of, bodies_end, bytes}
 use Rattle.binfarce_image.specs.declared.image.Part.{Part}

@@ -1,7 +1,6 @@
 -- The ELF file of an image: the header, the bodies of the parts, and their section headers (System V gABI, chapter 4).
 use Rattle.std.specs.Prelude.{ℕ, ◌+◌, ◌-◌, ◌*◌, List, [], ◌∷◌, ◌++◌, length, replicate}
 use Rattle.std.specs.List.{flat_map}
-use Rattle.std.specs.Global.{Vec}
 use Rattle.binfarce.specs.declared.ByteOrder.{ByteOrder}
 use Rattle.binfarce.specs.declared.ByteOrder.TheVariants.{LittleEndian, BigEndian}
 use Rattle.binfarce.specs.Elf.{Field, ElfClass, elf32, elf64}

@@ -1,8 +1,7 @@
 -- The function symbols of an image, read from its parts and rows directly, and the law: its file in any layout reads back to them.
-use Rattle.std.specs.Prelude.{◌≡◌, ◌^◌, ◌<◌, ℕ, Bool, false, List, [], length, codes, Option, Some, None, Result, Ok, Err, find, nat_eq, if◌then◌else◌}
+use Rattle.std.specs.Prelude.{◌≡◌, ◌^◌, ◌<◌, ℕ, false, List, [], length, codes, Option, Some, None, Result, Ok, Err, find, nat_eq, if◌then◌else◌}
 use Rattle.std.specs.List.{AllByRecursion, enumerate_from, filter_map, slice_get}
 use Rattle.std.specs.Option.{option_and_then}
-use Rattle.std.specs.Global.{Vec}
 use Rattle.binfarce.specs.Text.{text_at}
 use Rattle.binfarce.specs.Refusal.{◌>>=◌, Refusal, required, symbols_section_is_missing, section_is_missing, unexpected_section_type}
 use Rattle.binfarce.specs.Elf.{SymbolRow, section_table}

@@ -1,9 +1,8 @@
-use Rattle.std.proofs.Common.{◌≡◌, ℕ, ◌+◌, ◌-◌, ◌≤◌, List, ◌++◌, length, take, drop, refl, sym, ap, ◌∙◌, true, nat_le, ◌&&◌, arith}
+use Rattle.std.proofs.Common.{◌≡◌, ℕ, ◌+◌, ◌-◌, ◌≤◌, List, length, take, drop, refl, sym, ap, ◌∙◌, true, arith}
 use Rattle.std.proofs.lemmas.Bool.Decides.{nat_tests}
 use Rattle.std.proofs.lemmas.List.{drop-drop, take_all}
-use Rattle.std.specs.Int.{w64, to_le_bytes, to_be_bytes}
 use Rattle.binfarce.specs.declared.ByteOrder.{ByteOrder}
-use Rattle.binfarce.specs.declared.ByteOrder.TheVariants.{LittleEndian, BigEndian}
+use Rattle.binfarce.specs.declared.ByteOrder.TheVariants.{BigEndian}
 use Rattle.binfarce.specs.Elf.{Field}
 use Rattle.binfarce_image.specs.Structure.{number_bytes, put}
 use Rattle.binfarce_image.specs.machine.Seen.{field_seen, fits}

@@ -7,8 +7,8 @@ use Rattle.std.proofs.lemmas.List.{append-nil}
 use Rattle.std.proofs.lemmas.List.Elements.{All-nil, All-push, All-append, All-same, All-contains, Contains-append_right, Contains-append_left, filter_map-append, Contains-get_or}
 use Rattle.binfarce.specs.Refusal.{Refusal, unexpected_eof}
 use Rattle.binfarce.specs.Walk.{Walk, Answered, MayBeAsked, IsFirstAccepted, NoneAccepted, FirstAccepted}
-use Rattle.binfarce.specs.Elf.{field}
-use Rattle.binfarce.specs.Macho.{Command, Section, number_in, section_at, section_place, whole_sections, sections_below, segment, ended, ahead_of, and_then, sections_of, body_of, walk, commands}
+use Rattle.binfarce.specs.Field.{field, number_in}
+use Rattle.binfarce.specs.Macho.{Command, Section, section_at, section_place, whole_sections, sections_below, segment, ended, ahead_of, and_then, sections_of, body_of, walk, commands}
 use Rattle.binfarce.proofs.Walks.{behind}
 use Rattle.binfarce.proofs.Rows.{one_more}
 

@@ -3,18 +3,11 @@ use Rattle.std.specs.Prelude.{◌≡◌, ℕ, ◌+◌, ◌-◌, ◌*◌, ◌/◌
 use Rattle.std.specs.List.{range_with_len}
 use Rattle.binfarce.specs.declared.ByteOrder.{ByteOrder}
 use Rattle.binfarce.specs.Steps.{◌>>=◌}
-use Rattle.binfarce.specs.Number.{number, bytes_at}
+use Rattle.binfarce.specs.Field.{Field, field, value_at}
+use Rattle.binfarce.specs.Number.{bytes_at}
 use Rattle.binfarce.specs.Text.{text_at}
 use Rattle.binfarce.specs.Refusal.{unexpected_eof}
 use Rattle.binfarce.specs.Walk.{Walk}
-
--- where a field stands in its structure, and how many bytes it has
-pub record Field : Type 0 where
-  pub place : ℕ
-  pub width : ℕ
-
-abbrev pub field : ℕ → ℕ → Field
-field place width = record { place = place; width = width }
 
 -- ELF Header: one A for each field behind the identification
 pub record Header (A : Type 0) : Type 0 where
@@ -148,10 +141,6 @@ elf64 = record {
     size = field 16 8;
   };
 }
-
--- the number in a field of the structure that begins at start
-abbrev pub value_at : ByteOrder → List ℕ → ℕ → Field → ℕ
-value_at order file start f = number order (bytes_at file (start + f.place) f.width)
 
 -- the file's header
 unfoldable pub header_at : ElfClass → ByteOrder → List ℕ → Header ℕ

@@ -8,7 +8,8 @@ use Rattle.binfarce.specs.Number.{bytes_at}
 use Rattle.binfarce.specs.Text.{text_at}
 use Rattle.binfarce.specs.Refusal.{◌>>=◌, Refusal, required, symbols_section_is_missing, section_is_missing, unexpected_section_type, malformed_input, unexpected_eof}
 use Rattle.binfarce.specs.Walk.{Walk, first}
-use Rattle.binfarce.specs.Elf.{ElfClass, SectionTable, Section, SymbolRow, value_at, walk, name_of}
+use Rattle.binfarce.specs.Field.{value_at}
+use Rattle.binfarce.specs.Elf.{ElfClass, SectionTable, Section, SymbolRow, walk, name_of}
 use Rattle.binfarce.specs.Symbol.{Entry, Listed}
 
 -- the row that begins at start

@@ -1,4 +1,5 @@
 pub mod Number
+pub mod Field
 pub mod Steps
 pub mod Text
 pub mod Format

@@ -2,17 +2,12 @@
 use Rattle.std.specs.Prelude.{ℕ, zero, suc, ◌+◌, ◌-◌, ◌*◌, ◌/◌, Bool, ◌&&◌, List, [], ◌∷◌, ◌++◌, length, Option, Some, None, nat_eq, nat_lt, nat_le, min, if◌then◌else◌}
 use Rattle.std.specs.List.{range_with_len, filter_map}
 use Rattle.std.specs.Str.{bytes_eq}
-use Rattle.binfarce.specs.declared.ByteOrder.TheVariants.{LittleEndian}
 use Rattle.binfarce.specs.Steps.{◌>>=◌}
 use Rattle.binfarce.specs.Number.{bytes_at}
 use Rattle.binfarce.specs.Text.{text_at}
 use Rattle.binfarce.specs.Refusal.{Refusal, malformed_input, unexpected_eof}
 use Rattle.binfarce.specs.Walk.{Walk}
-use Rattle.binfarce.specs.Elf.{Field, field, value_at}
-
--- the number in a field of the structure that begins at start
-abbrev pub number_in : List ℕ → ℕ → Field → ℕ
-number_in file start f = value_at LittleEndian file start f
+use Rattle.binfarce.specs.Field.{Field, field, number_in}
 
 -- mach_header_64: one A for each field behind the magic number
 pub record Header (A : Type 0) : Type 0 where

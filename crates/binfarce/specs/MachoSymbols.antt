@@ -9,8 +9,8 @@ use Rattle.binfarce.specs.Number.{bytes_at}
 use Rattle.binfarce.specs.Text.{text_at}
 use Rattle.binfarce.specs.Refusal.{◌>>=◌, Refusal, refusal_of, required, symbols_section_is_missing, malformed_input, unexpected_eof, out_of_memory}
 use Rattle.binfarce.specs.Walk.{first}
-use Rattle.binfarce.specs.Elf.{Field, field}
-use Rattle.binfarce.specs.Macho.{number_in, Command, body_of, commands, Section, walk, is_named}
+use Rattle.binfarce.specs.Field.{Field, field, number_in}
+use Rattle.binfarce.specs.Macho.{Command, body_of, commands, Section, walk, is_named}
 use Rattle.binfarce.specs.Sizes.{arranged, addresses_of, macho_size}
 use Rattle.binfarce.specs.Symbol.{Entry, Listed, AreSymbolsOf}
 

@@ -6,7 +6,7 @@ use Rattle.std.specs.Str.{is_utf8}
 use Rattle.binfarce.specs.declared.ByteOrder.TheVariants.{LittleEndian}
 use Rattle.binfarce.specs.Number.{number, bytes_at}
 use Rattle.binfarce.specs.Text.{nul_at}
-use Rattle.binfarce.specs.Elf.{Field, field, value_at}
+use Rattle.binfarce.specs.Field.{Field, field, number_in}
 use Rattle.binfarce.specs.Refusal.{unexpected_eof}
 use Rattle.binfarce.specs.Walk.{Walk}
 
@@ -47,10 +47,6 @@ section_header = record {
   pointer_to_raw_data = field 20 4;
 }
 
--- the number in a field of the structure that begins at start
-abbrev pub pe_value : List ℕ → ℕ → Field → ℕ
-pe_value file start f = value_at LittleEndian file start f
-
 -- where the signature stands: the MS-DOS stub tells it at 0x3C
 abbrev pub signature_place : List ℕ → ℕ
 signature_place file = number LittleEndian (bytes_at file 0x3C 4)
@@ -62,13 +58,13 @@ least_length file = max 64 (signature_place file + 24)
 -- the file header, behind a signature that stands at this place
 unfoldable pub header_behind : List ℕ → ℕ → FileHeader ℕ
 header_behind file signature = record {
-  machine = pe_value file (signature + 4) file_header.machine;
-  number_of_sections = pe_value file (signature + 4) file_header.number_of_sections;
-  time_date_stamp = pe_value file (signature + 4) file_header.time_date_stamp;
-  pointer_to_symbol_table = pe_value file (signature + 4) file_header.pointer_to_symbol_table;
-  number_of_symbols = pe_value file (signature + 4) file_header.number_of_symbols;
-  size_of_optional_header = pe_value file (signature + 4) file_header.size_of_optional_header;
-  characteristics = pe_value file (signature + 4) file_header.characteristics;
+  machine = number_in file (signature + 4) file_header.machine;
+  number_of_sections = number_in file (signature + 4) file_header.number_of_sections;
+  time_date_stamp = number_in file (signature + 4) file_header.time_date_stamp;
+  pointer_to_symbol_table = number_in file (signature + 4) file_header.pointer_to_symbol_table;
+  number_of_symbols = number_in file (signature + 4) file_header.number_of_symbols;
+  size_of_optional_header = number_in file (signature + 4) file_header.size_of_optional_header;
+  characteristics = number_in file (signature + 4) file_header.characteristics;
 }
 
 abbrev pub header_of : List ℕ → FileHeader ℕ
@@ -100,9 +96,9 @@ section_at file start index =
     option_map
     (λ name. record {
       name = name;
-      virtual_size = pe_value file start section_header.virtual_size;
-      size_of_raw_data = pe_value file start section_header.size_of_raw_data;
-      pointer_to_raw_data = pe_value file start section_header.pointer_to_raw_data;
+      virtual_size = number_in file start section_header.virtual_size;
+      size_of_raw_data = number_in file start section_header.size_of_raw_data;
+      pointer_to_raw_data = number_in file start section_header.pointer_to_raw_data;
       index = index;
     })
     (short_name (bytes_at file (start + section_header.name.place) section_header.name.width))

@@ -9,8 +9,8 @@ use Rattle.binfarce.specs.Number.{bytes_at}
 use Rattle.binfarce.specs.Text.{text_at}
 use Rattle.binfarce.specs.Refusal.{◌>>=◌, Refusal, required, symbols_section_is_missing, unexpected_eof}
 use Rattle.binfarce.specs.Walk.{first}
-use Rattle.binfarce.specs.Elf.{Field, field}
-use Rattle.binfarce.specs.Pe.{pe_value, header_of, short_name, Section, walk}
+use Rattle.binfarce.specs.Field.{Field, field, number_in}
+use Rattle.binfarce.specs.Pe.{header_of, short_name, Section, walk}
 use Rattle.binfarce.specs.Sizes.{arranged, addresses_of, least_above, IsArrangementOf}
 use Rattle.binfarce.specs.Symbol.{Entry, Listed}
 
@@ -38,13 +38,13 @@ symbol_record = record {
 -- the numbers of the record that begins at start
 unfoldable pub record_at : List ℕ → ℕ → SymbolRecord ℕ
 record_at file start = record {
-  zeroes = pe_value file start symbol_record.zeroes;
-  offset = pe_value file start symbol_record.offset;
-  value = pe_value file start symbol_record.value;
-  section_number = pe_value file start symbol_record.section_number;
-  kind = pe_value file start symbol_record.kind;
-  storage_class = pe_value file start symbol_record.storage_class;
-  number_of_aux_symbols = pe_value file start symbol_record.number_of_aux_symbols;
+  zeroes = number_in file start symbol_record.zeroes;
+  offset = number_in file start symbol_record.offset;
+  value = number_in file start symbol_record.value;
+  section_number = number_in file start symbol_record.section_number;
+  kind = number_in file start symbol_record.kind;
+  storage_class = number_in file start symbol_record.storage_class;
+  number_of_aux_symbols = number_in file start symbol_record.number_of_aux_symbols;
 }
 
 -- a file, and where its symbol table begins and how many records that has

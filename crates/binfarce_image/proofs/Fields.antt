@@ -4,7 +4,7 @@ use Rattle.std.specs.List.{list_all}
 use Rattle.std.proofs.lemmas.Bool.{leb-true, eqb-true, and_parts, or_cases}
 use Rattle.std.proofs.lemmas.List.{length-append, length-take-le, length-drop, take-append-le, drop-append-le, take-take, drop-take, drop-drop, drop_at, take_at}
 use Rattle.binfarce.specs.declared.ByteOrder.{ByteOrder}
-use Rattle.binfarce.specs.Elf.{Field, value_at}
+use Rattle.binfarce.specs.Field.{Field, value_at}
 use Rattle.binfarce.specs.Number.{number, bytes_at}
 use Rattle.binfarce_image.specs.machine.Seen.{fits, all_fit}
 use Rattle.binfarce_image.specs.Structure.{number_bytes, written_at, put, filled}

@@ -3,7 +3,8 @@ use Rattle.std.proofs.Common.{◌≡◌, ℕ, ◌+◌, ◌*◌, ◌^◌, ◌<◌
 use Rattle.std.specs.List.{range_with_len, AllByRecursion}
 use Rattle.std.proofs.lemmas.List.{length-append, length-replicate}
 use Rattle.binfarce.specs.declared.ByteOrder.{ByteOrder}
-use Rattle.binfarce.specs.Elf.{Field, ElfClass, Section, section_at, value_at}
+use Rattle.binfarce.specs.Field.{Field, value_at}
+use Rattle.binfarce.specs.Elf.{ElfClass, Section, section_at}
 use Rattle.binfarce_image.specs.declared.image.ElfLayout.{ElfLayout}
 use Rattle.binfarce_image.specs.declared.image.Part.{Part}
 use Rattle.binfarce_image.specs.declared.image.Part.TheVariants.{Bytes, Table}

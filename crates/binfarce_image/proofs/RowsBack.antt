@@ -3,7 +3,8 @@ use Rattle.std.proofs.Common.{◌≡◌, ℕ, ◌+◌, ◌*◌, ◌^◌, ◌<◌
 use Rattle.std.specs.List.{range_with_len, AllByRecursion, filter_map, cons_option, flat_map}
 use Rattle.std.proofs.lemmas.List.{length-append, length-replicate}
 use Rattle.binfarce.specs.declared.ByteOrder.{ByteOrder}
-use Rattle.binfarce.specs.Elf.{Field, ElfClass, SymbolRow, value_at}
+use Rattle.binfarce.specs.Field.{Field, value_at}
+use Rattle.binfarce.specs.Elf.{ElfClass, SymbolRow}
 use Rattle.binfarce.specs.ElfSymbols.{symbol_at, entry_of}
 use Rattle.binfarce.specs.Symbol.{Entry}
 use Rattle.binfarce_image.specs.declared.image.ElfLayout.{ElfLayout}

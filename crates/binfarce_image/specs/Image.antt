@@ -3,7 +3,8 @@ use Rattle.std.specs.Prelude.{ℕ, ◌+◌, ◌-◌, ◌*◌, List, [], ◌∷�
 use Rattle.std.specs.List.{flat_map}
 use Rattle.binfarce.specs.declared.ByteOrder.{ByteOrder}
 use Rattle.binfarce.specs.declared.ByteOrder.TheVariants.{LittleEndian, BigEndian}
-use Rattle.binfarce.specs.Elf.{Field, ElfClass, elf32, elf64}
+use Rattle.binfarce.specs.Field.{Field}
+use Rattle.binfarce.specs.Elf.{ElfClass, elf32, elf64}
 use Rattle.binfarce_image.specs.declared.image.ElfLayout.{ElfLayout}
 use Rattle.binfarce_image.specs.declared.image.ElfLayout.TheVariants.{Elf32Little, Elf32Big, Elf64Little, Elf64Big}
 use Rattle.binfarce_image.specs.declared.image.Image.{Image}

@@ -3,7 +3,7 @@ use Rattle.std.specs.Prelude.{ℕ, zero, suc, ◌+◌, ◌/◌, ◌%◌, List, [
 use Rattle.std.specs.List.{fold}
 use Rattle.binfarce.specs.declared.ByteOrder.{ByteOrder}
 use Rattle.binfarce.specs.declared.ByteOrder.TheVariants.{LittleEndian, BigEndian}
-use Rattle.binfarce.specs.Elf.{Field}
+use Rattle.binfarce.specs.Field.{Field}
 
 -- the bytes of a number, the least first
 unfoldable pub little_endian_bytes : ℕ → ℕ → List ℕ

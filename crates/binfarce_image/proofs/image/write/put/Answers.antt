@@ -3,7 +3,7 @@ use Rattle.std.proofs.lemmas.Bool.Decides.{nat_tests}
 use Rattle.std.proofs.lemmas.List.{drop-drop, take_all}
 use Rattle.binfarce.specs.declared.ByteOrder.{ByteOrder}
 use Rattle.binfarce.specs.declared.ByteOrder.TheVariants.{BigEndian}
-use Rattle.binfarce.specs.Elf.{Field}
+use Rattle.binfarce.specs.Field.{Field}
 use Rattle.binfarce_image.specs.Structure.{number_bytes, put}
 use Rattle.binfarce_image.specs.machine.Seen.{field_seen, fits}
 use Rattle.binfarce_image.proofs.Bytes.{le_bytes, be_bytes, length-number_bytes}

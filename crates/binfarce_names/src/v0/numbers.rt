@@ -53,8 +53,8 @@ fn with_digit(worth: u64, base: u64, digit: u8) -> Option<u64>
     worth.checked_mul(base)?.checked_add(u64::from(digit))
 }
 
-#[tactic(auto, using(crate::proofs::Numbers::number_from_step, crate::proofs::Numbers::number_from_large, crate::proofs::Numbers::number_from_over))]
 /// Base-62 digits up to a `_`: one more than their value.
+#[tactic(auto, using(crate::proofs::Numbers::number_from_step, crate::proofs::Numbers::number_from_large, crate::proofs::Numbers::number_from_over))]
 fn digits_62(name: &[u8], start: usize) -> Option<(u64, usize)>
     ensures { result ≡ number_from (drop start name.now) 0 start }
 {
@@ -121,8 +121,8 @@ fn decimal_digit(c: u8) -> Option<u8>
     }
 }
 
-#[tactic(auto, using(crate::proofs::Numbers::length_from_step, crate::proofs::Numbers::length_from_large))]
 /// The longest run of decimal digits.
+#[tactic(auto, using(crate::proofs::Numbers::length_from_step, crate::proofs::Numbers::length_from_large))]
 fn digits_10(name: &[u8], start: usize) -> Option<(u64, usize)>
     ensures { result ≡ length_from (drop start name.now) 0 start }
 {
@@ -150,8 +150,8 @@ pub fn length_at(name: &[u8], at: usize) -> Option<(u64, usize)>
     }
 }
 
-#[tactic(auto, using(crate::proofs::Numbers::hex_length_step))]
 /// Where lower-case hexadecimal digits end at a `_`.
+#[tactic(auto, using(crate::proofs::Numbers::hex_length_step))]
 pub fn hex_end(name: &[u8], start: usize) -> Option<usize>
     ensures value { result ≡ option_map (λ n. start + n) (hex_length (drop start name.now)) }
     ensures within { IfSome result (λ end. (start ≤ end) × (end < length name.now)) }

@@ -12,6 +12,7 @@ pub mod Numbers
 pub mod PieceLemmas
 mod PunycodeLemmas
 pub mod ReadingComplete
+pub mod ReadingForward
 pub mod ReadingLists
 pub mod ReadingSound
 pub mod ReadingTrees

@@ -9,6 +9,7 @@ use Rattle.binfarce_names.specs.Tree.{PathTree, TypeTree, ConstTree, Item, Items
 use Rattle.binfarce_names.specs.Unfolding.{Listed, Arguments, Types, Traits}
 use Rattle.binfarce_names.specs.Reading.{ReadsConst, ReadsPath, ReadsType, ReadsItem, ReadsItems, ReadsBindings}
 use Rattle.binfarce_names.specs.machine.Places.{onward, const_place, label_place, bound_from, bindings_place, item_place, items_place, type_place, path_place, places}
+use Rattle.binfarce_names.proofs.ReadingForward.{item_forward, bound_forward}
 
 pub suc-one : (l : ℕ) → suc l - 1 ≡ l
 suc-one l = omega arith
@@ -70,7 +71,7 @@ pub items_within : (items : Items) (name : List ℕ) (listed : Listed) (at after
 unfolding ReadsItems
 items_within NoItems name listed at after r = within name 68 at r.0
 items_within (ItemThen i items) name listed at after r =
-    omega (arith, r.3, items_within items name listed r.0 after r.4)
+    omega (arith, item_forward i name listed at r.0 r.2, items_within items name listed r.0 after r.3)
 
 mutual
   unfolding ReadsPath path_height path_place type_place item_place items_place bindings_place
@@ -142,8 +143,9 @@ mutual
   items_placed NoItems name l listed (suc n) at after r h f = if_so _ _ _ r.0 ∙ ap Some (sym r.1)
   items_placed (ItemThen i items) name l listed zero at after r h f = absurd (omega arith)
   items_placed (ItemThen i items) name l listed (suc n) at after r h f =
-      let below = items_within items name listed r.0 after r.4 in
-      if_not _ _ _ r.1 ∙ then_is _ _ r.0 (item_placed i name l listed at r.0 r.2 (omega arith)) ∙ then_is _ _ r.0 (onward_is at r.0 r.3) ∙ items_placed items name l listed n r.0 after r.4 (omega arith) (omega arith)
+      let below = items_within items name listed r.0 after r.3 in
+      let forward = item_forward i name listed at r.0 r.2 in
+      if_not _ _ _ r.1 ∙ then_is _ _ r.0 (item_placed i name l listed at r.0 r.2 (omega arith)) ∙ then_is _ _ r.0 (onward_is at r.0 forward) ∙ items_placed items name l listed n r.0 after r.3 (omega arith) (omega arith)
 
   pub bindings_placed : (bindings : Bindings) (name : List ℕ) (l n at after : ℕ) → ReadsBindings name bindings at after → bindings_height bindings ≤ l → length name - at < n → bindings_place name (places name l) n at ≡ Some after
   bindings_placed NoBindings name l zero at after r h f = absurd (omega arith)
@@ -151,5 +153,6 @@ mutual
   bindings_placed (Binding i t more) name l zero at after r h f = absurd (omega arith)
   bindings_placed (Binding i t more) name l (suc n) at after r h f =
       let here = within name 111 at r.2 in
-      if_so _ _ _ r.2 ∙ ap (bound_from (places name l) (bindings_place name (places name l) n) at) r.3 ∙ then_is _ _ r.1 (type_placed t name l r.0 r.1 r.4 (omega arith)) ∙ then_is _ _ r.1 (onward_is at r.1 r.5) ∙ bindings_placed more name l n r.1 after r.6 (omega arith) (omega arith)
+      let forward = bound_forward i t name at r.0 r.1 r.3 r.4 in
+      if_so _ _ _ r.2 ∙ ap (bound_from (places name l) (bindings_place name (places name l) n) at) r.3 ∙ then_is _ _ r.1 (type_placed t name l r.0 r.1 r.4 (omega arith)) ∙ then_is _ _ r.1 (onward_is at r.1 forward) ∙ bindings_placed more name l n r.1 after r.5 (omega arith) (omega arith)
   bindings_placed UnreadBinding name l n at after r h f = absurd r

@@ -1,6 +1,5 @@
 -- Whatever the reading reads is a tree of the relation, of at most so many levels.
-use Rattle.std.proofs.Common.{◌≡◌, ℕ, zero, suc, ◌+◌, ◌≤◌, ◌<◌, Bool, true, false, List, Option, Some, None, cond, nat_lt, length, refl, ap, sym, subst, arith}
-use Rattle.std.proofs.lemmas.Bool.Decides.{nat_tests}
+use Rattle.std.proofs.Common.{◌≡◌, ℕ, zero, suc, ◌+◌, ◌≤◌, Bool, true, false, List, Option, Some, None, cond, nat_lt, length, refl, ap, sym, subst, arith}
 use Rattle.binfarce_names.specs.Base62.{◌>>=◌}
 use Rattle.binfarce_names.specs.Identifier.{Identifier, Label, label, identifier}
 use Rattle.binfarce_names.specs.Forms.{Lifetime, stands, lifetime, path_form, type_form, const_form, PathForm, NoPathForm, CrateRoot, NestedIn, InherentImpl, TraitImpl, TraitDefinition, WithArguments, BackToPath, TypeForm, NoTypeForm, BasicType, ReferenceTo, UnreadReference, PointerTo, SliceOf, ArrayOf, TupleOf, FunctionOf, UnreadAbi, DynOf, UnreadDyn, BackToType, PathType, ConstForm, NoConstForm, PlaceholderConst, DigitsConst, UnreadConst, BackToConst}
@@ -54,12 +53,12 @@ pub between : {A : Type 0} (o : Option A) (f : A → Option ℕ) (after : ℕ) �
 between None f after e = cc
 between (Some mid) f after e = record { mid = mid; first = refl; second = e }
 
-onward_below : (at mid after : ℕ) → onward at mid ≡ Some after → (at < mid) × (mid ≡ after)
-onward_below at mid after e = by (nat_lt at mid) refl e
+onward_same : (at mid after : ℕ) → onward at mid ≡ Some after → mid ≡ after
+onward_same at mid after e = by (nat_lt at mid) e
   where
-    by : (b : Bool) → nat_lt at mid ≡ b → cond b (Some mid) None ≡ Some after → (at < mid) × (mid ≡ after)
-    by true t e = (grind (arith, nat_tests), cc)
-    by false t e = cc
+    by : (b : Bool) → cond b (Some mid) None ≡ Some after → mid ≡ after
+    by true e = cc
+    by false e = cc
 
 pub const_read : (name : List ℕ) (left at after : ℕ) (form : ConstForm) → const_form name (Some at) ≡ form → const_place form ≡ Some after → ConstRead name (suc left) at after
 unfolding const_place ReadsConst
@@ -83,12 +82,12 @@ bindings_read name left R H (suc n) at after e =
     bound M t (Some i) ei e =
         let b = between (R.ty i.1) (λ mid. onward at mid >>= bindings_place name R n) after e in
         let c = between (onward at b.mid) (bindings_place name R n) after b.second in
-        let on = onward_below at b.mid c.mid c.first in
+        let same = onward_same at b.mid c.mid c.first in
         let f = H.ty i.1 b.mid b.first in
         let m = M c.mid after c.second in
         record {
           tree = Binding i.0 f.tree m.tree;
-          reads = (i.1, b.mid, t, ei, f.reads, on.0, subst (λ x. ReadsBindings name m.tree x after) (sym on.1) m.reads);
+          reads = (i.1, b.mid, t, ei, f.reads, subst (λ x. ReadsBindings name m.tree x after) (sym same) m.reads);
           height = omega arith;
         }
 
@@ -134,12 +133,12 @@ items_read name left R H listed (suc n) at after e =
     by M false t e =
         let b = between (item_place name R listed at) (λ mid. onward at mid >>= items_place name R listed n) after e in
         let c = between (onward at b.mid) (items_place name R listed n) after b.second in
-        let on = onward_below at b.mid c.mid c.first in
+        let same = onward_same at b.mid c.mid c.first in
         let f = item_read name left R H listed at b.mid b.first in
         let m = M c.mid after c.second in
         record {
           tree = ItemThen f.tree m.tree;
-          reads = (b.mid, t, f.reads, on.0, subst (λ x. ReadsItems name listed m.tree x after) (sym on.1) m.reads);
+          reads = (b.mid, t, f.reads, subst (λ x. ReadsItems name listed m.tree x after) (sym same) m.reads);
           height = omega arith;
         }
 

@@ -7,6 +7,7 @@ use Rattle.binfarce_names.specs.Tree.{PathTree, TypeTree, ConstTree, Item, Items
 use Rattle.binfarce_names.specs.Unfolding.{Listed, Arguments, Types, Traits}
 use Rattle.binfarce_names.specs.Reading.{ReadsConst, ReadsPath, ReadsType, ReadsItem, ReadsItems, ReadsBindings}
 use Rattle.binfarce_names.proofs.ReadingComplete.{if_so, if_not, suc-one, within, items_within}
+use Rattle.binfarce_names.proofs.ReadingForward.{item_forward, bound_forward}
 
 -- the readers of one level less
 record Trees : Type 0 where
@@ -175,8 +176,9 @@ mutual
   items_found NoItems name l listed (suc n) at after r h f = if_so _ _ _ r.0 ∙ rw r.1 refl
   items_found (ItemThen i items) name l listed zero at after r h f = absurd (omega arith)
   items_found (ItemThen i items) name l listed (suc n) at after r h f =
-      let below = items_within items name listed r.0 after r.4 in
-      if_not _ _ _ r.1 ∙ on _ _ _ (item_found i name l listed at r.0 r.2 (omega arith)) ∙ on _ _ _ (items_found items name l listed n r.0 after r.4 (omega arith) (omega arith))
+      let below = items_within items name listed r.0 after r.3 in
+      let forward = item_forward i name listed at r.0 r.2 in
+      if_not _ _ _ r.1 ∙ on _ _ _ (item_found i name l listed at r.0 r.2 (omega arith)) ∙ on _ _ _ (items_found items name l listed n r.0 after r.3 (omega arith) (omega arith))
 
   bindings_found : (bound : Bindings) (name : List ℕ) (l n at after : ℕ) → ReadsBindings name bound at after → bindings_height bound ≤ l → length name - at < n → bindings_tree name (trees name l) n at ≡ Some (bound, after)
   bindings_found NoBindings name l zero at after r h f = absurd (omega arith)
@@ -184,7 +186,8 @@ mutual
   bindings_found (Binding i t more) name l zero at after r h f = absurd (omega arith)
   bindings_found (Binding i t more) name l (suc n) at after r h f =
       let here = within name 111 at r.2 in
-      if_so _ _ _ r.2 ∙ on _ _ _ r.3 ∙ on _ _ _ (type_found t name l r.0 r.1 r.4 (omega arith)) ∙ on _ _ _ (bindings_found more name l n r.1 after r.6 (omega arith) (omega arith))
+      let forward = bound_forward i t name at r.0 r.1 r.3 r.4 in
+      if_so _ _ _ r.2 ∙ on _ _ _ r.3 ∙ on _ _ _ (type_found t name l r.0 r.1 r.4 (omega arith)) ∙ on _ _ _ (bindings_found more name l n r.1 after r.5 (omega arith) (omega arith))
   bindings_found UnreadBinding name l n at after r h f = absurd r
 
 same_pair : (t u : PathTree) (a b : ℕ) → ◌≡◌ {A = Option (PathTree × ℕ)} (Some (t, a)) (Some (u, b)) → (t ≡ u) × (a ≡ b)

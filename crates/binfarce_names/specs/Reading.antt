@@ -1,6 +1,6 @@
 -- Reading a v0 name by the grammar alone (RFC 2603, "Symbol grammar summary"): a place reads to a tree up to the place behind it.
 -- A back reference is a leaf that names an earlier place; what stands there isn't looked at, nor is it looked at what a lifetime's index means.
-use Rattle.std.specs.Prelude.{◌≡◌, ℕ, ◌+◌, ◌<◌, List, Some, true, false}
+use Rattle.std.specs.Prelude.{◌≡◌, ℕ, ◌+◌, List, Some, true, false}
 use Rattle.binfarce_names.specs.Identifier.{label, identifier}
 use Rattle.binfarce_names.specs.Forms.{stands, lifetime, path_form, type_form, const_form, CrateRoot, NestedIn, InherentImpl, TraitImpl, TraitDefinition, WithArguments, BackToPath, BasicType, ReferenceTo, PointerTo, SliceOf, ArrayOf, TupleOf, FunctionOf, DynOf, BackToType, PathType, PlaceholderConst, DigitsConst, BackToConst}
 use Rattle.binfarce_names.specs.Tree.{PathTree, TypeTree, ConstTree, Item, Items, Bindings, Placeholder, Number, ConstPlace, Crate, Nested, OfType, OfImpl, OfTrait, Generic, PathPlace, Basic, Reference, Pointer, Slice, Array, Tuple, Function, FunctionTo, Dyn, Named, TypePlace, LifetimeItem, TypeItem, ConstItem, TraitItem, NoItems, ItemThen, NoBindings, Binding, UnreadBinding}
@@ -65,10 +65,10 @@ unfoldable mutual
   pub ReadsItems : List ℕ → Listed → Items → ℕ → ℕ → Type 0
   ReadsItems name listed NoItems at after = (stands name 69 (Some at) ≡ true) × (after ≡ at + 1)
   ReadsItems name listed (ItemThen i items) at after =
-      (mid : ℕ) × (stands name 69 (Some at) ≡ false) × ReadsItem name listed i at mid × (at < mid) × ReadsItems name listed items mid after
+      (mid : ℕ) × (stands name 69 (Some at) ≡ false) × ReadsItem name listed i at mid × ReadsItems name listed items mid after
 
   pub ReadsBindings : List ℕ → Bindings → ℕ → ℕ → Type 0
   ReadsBindings name NoBindings at after = (stands name 112 (Some at) ≡ false) × (after ≡ at)
   ReadsBindings name (Binding i t bindings) at after =
-      (q : ℕ) × (mid : ℕ) × (stands name 112 (Some at) ≡ true) × (identifier name (at + 1) ≡ Some (i, q)) × ReadsType name t q mid × (at < mid) × ReadsBindings name bindings mid after
+      (q : ℕ) × (mid : ℕ) × (stands name 112 (Some at) ≡ true) × (identifier name (at + 1) ≡ Some (i, q)) × ReadsType name t q mid × ReadsBindings name bindings mid after
   ReadsBindings name UnreadBinding at after = ⊥

@@ -1,5 +1,5 @@
 -- Where a section's name stands.
-use Rattle.std.proofs.Common.{◌≡◌, ℕ, ◌<◌, ◌≤◌, List, length, Option, Some, None, refl, sym, ap, ◌∙◌, arith, cond, ◌+◌, IfSome, Bool, true, false, leb}
+use Rattle.std.proofs.Common.{◌≡◌, ℕ, List, length, Option, Some, None, refl, sym, ap, ◌∙◌, cond, ◌+◌, IfSome, Bool, true, false, leb}
 use Rattle.binfarce.specs.Number.{bytes_at}
 use Rattle.binfarce.specs.Steps.{◌>>=◌}
 use Rattle.binfarce.specs.Text.{text_at}

@@ -1,5 +1,5 @@
 -- The rows of a PE file's symbol table, as a loop goes over them, and what is kept of them.
-use Rattle.std.proofs.Common.{◌≡◌, ◌≢◌, ℕ, zero, suc, ◌+◌, ◌-◌, ◌<◌, ◌≤◌, Bool, true, false, cond, List, [], ◌∷◌, ◌++◌, length, get_or, take, map, All, Contains, Option, Some, None, refl, sym, ap, subst, ◌∙◌, append_assoc, arith, nat_lt, nat_eq, IsPermutation}
+use Rattle.std.proofs.Common.{◌≡◌, ◌≢◌, ℕ, zero, suc, ◌+◌, ◌-◌, ◌<◌, ◌≤◌, Bool, true, false, cond, List, [], ◌∷◌, ◌++◌, length, get_or, take, map, All, Option, Some, None, refl, sym, ap, subst, ◌∙◌, append_assoc, arith, nat_lt, nat_eq, IsPermutation}
 use Rattle.std.specs.Prelude.{unwrap_or, if◌then◌else◌, filter, IfSome}
 use Rattle.std.specs.Option.{option_map}
 use Rattle.std.specs.List.{filter_map, cons_option, AllZip}
@@ -12,7 +12,7 @@ use Rattle.binfarce.specs.declared.sizes.RowAddress.{RowAddress}
 use Rattle.binfarce.specs.Sizes.{arranged, addresses_of, least, least_of, least_above, LeastAbove}
 use Rattle.binfarce_names.specs.declared.demangle.SymbolData.{SymbolData}
 use Rattle.binfarce.specs.Symbol.{Entry, AreSymbolsOf, IsNotEmpty}
-use Rattle.binfarce.specs.PeSymbols.{SymbolTable, SymbolRecord, record_of, rows_from, row_numbers, name_of, function_name, is_function_of, kept_row, kept_rows, size_among, size_members, entry_of, entries_of, EqualAddressesEqualSizes}
+use Rattle.binfarce.specs.PeSymbols.{SymbolTable, SymbolRecord, record_of, rows_from, name_of, function_name, is_function_of, kept_row, kept_rows, size_among, size_members, entry_of, entries_of, EqualAddressesEqualSizes}
 use Rattle.binfarce.proofs.Arranging.{arranged_same}
 use Rattle.binfarce.proofs.Above.{arranged_above, least_above_is}
 

@@ -1,7 +1,6 @@
 -- The walk over the section headers of a PE file, as a loop goes over it.
-use Rattle.std.proofs.Common.{◌≡◌, ℕ, ◌+◌, ◌-◌, ◌*◌, ◌/◌, ◌<◌, ◌≤◌, Bool, true, false, List, [], ◌∷◌, ◌++◌, length, take, All, Option, Some, None, refl, sym, ap, ◌∙◌, arith, min, ltb, ◌&&◌, Result, Ok, Err, IsErr}
+use Rattle.std.proofs.Common.{◌≡◌, ℕ, ◌+◌, ◌-◌, ◌*◌, ◌/◌, ◌<◌, ◌≤◌, Bool, true, false, List, [], length, take, All, Option, Some, None, refl, ap, ◌∙◌, arith, min, ltb, ◌&&◌, Result, Ok, Err, IsErr}
 use Rattle.std.specs.Prelude.{unwrap_or}
-use Rattle.std.specs.Option.{option_map}
 use Rattle.std.specs.Str.{IsUtf8, is_utf8}
 use Rattle.std.proofs.lemmas.Str.{IsUtf8-from_is_utf8, is_utf8-from_IsUtf8}
 use Rattle.std.proofs.lemmas.Bool.{le-ltb, lt-ltb, le-leb, lt-leb}
@@ -10,7 +9,7 @@ use Rattle.std.proofs.lemmas.Nat.{le-div, div_below}
 use Rattle.binfarce.specs.Refusal.{unexpected_eof}
 use Rattle.binfarce.specs.Text.{nul_at}
 use Rattle.binfarce.specs.Walk.{Walk, Answered, MayBeAsked, IsFirstAccepted, NoneAccepted, FirstAccepted}
-use Rattle.binfarce.specs.Pe.{Section, short_name, header_of, sections_place, section_of, section_at, readable_headers, walk}
+use Rattle.binfarce.specs.Pe.{Section, short_name, header_of, sections_place, section_of, readable_headers, walk}
 use Rattle.binfarce.proofs.Numbered.{held_below, behind_held, held_may_be_asked}
 
 pub short_name_is : (bytes : List ℕ) (n : ℕ) → n ≡ unwrap_or (nul_at bytes) (length bytes) → IsUtf8 (take n bytes) → short_name bytes ≡ Some (take n bytes)

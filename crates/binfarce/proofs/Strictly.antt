@@ -1,13 +1,12 @@
 -- Rows whose numbers rise, once arranged, rise strictly.
-use Rattle.std.proofs.Common.{◌≡◌, ◌≢◌, ℕ, zero, suc, ◌+◌, ◌-◌, ◌<◌, ◌≤◌, Bool, true, false, cond, ◌&&◌, ◌||◌, List, [], ◌∷◌, length, get_or, All, Option, Some, None, refl, sym, ap, arith, nat_lt, nat_eq}
+use Rattle.std.proofs.Common.{◌≡◌, ℕ, zero, suc, ◌+◌, ◌<◌, ◌≤◌, Bool, true, false, cond, ◌&&◌, ◌||◌, List, [], ◌∷◌, length, get_or, All, Option, Some, None, refl, sym, ap, arith, nat_lt, nat_eq}
 use Rattle.std.specs.List.{filter_map, cons_option}
 use Rattle.std.specs.Option.{option_map}
-use Rattle.std.proofs.lemmas.Bool.{ltb-true}
 use Rattle.std.proofs.lemmas.Bool.Decides.{nat_tests}
 use Rattle.std.proofs.lemmas.List.Elements.{All-nil, All-cons, All-head, All-tail, All-weaker}
 use Rattle.std.proofs.lemmas.List.Sorted.{All-permutation}
 use Rattle.binfarce.specs.declared.sizes.RowAddress.{RowAddress}
-use Rattle.binfarce.specs.Sizes.{comes_before, put_in, arranged, RisesStrictly, IsArrangementOf}
+use Rattle.binfarce.specs.Sizes.{comes_before, put_in, arranged, IsArrangementOf}
 use Rattle.binfarce.specs.PeSymbols.{SymbolTable, record_of, rows_from, kept_row, kept_rows, function_name, ArrangesRows}
 use Rattle.binfarce.proofs.Arranging.{arranged_same, is_order}
 use Rattle.binfarce.proofs.PeRows.{behind}

@@ -1,5 +1,5 @@
 -- PE files (Microsoft PE Format): what stands where in the file header and the section table. Every number is little endian.
-use Rattle.std.specs.Prelude.{ℕ, ◌+◌, ◌-◌, ◌*◌, ◌/◌, Bool, true, false, ◌&&◌, List, length, take, Option, Some, None, nat_lt, nat_le, min, max, unwrap_or, if◌then◌else◌}
+use Rattle.std.specs.Prelude.{ℕ, ◌+◌, ◌-◌, ◌*◌, ◌/◌, ◌&&◌, List, length, take, Option, Some, None, nat_lt, nat_le, min, max, unwrap_or, if◌then◌else◌}
 use Rattle.std.specs.Option.{option_map}
 use Rattle.std.specs.List.{range_with_len, filter_map}
 use Rattle.std.specs.Str.{is_utf8}

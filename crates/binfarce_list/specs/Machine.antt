@@ -1,7 +1,7 @@
 -- What private contracts cite.
 use Rattle.binfarce_tools.specs.declared.list.ListError.TheVariants.{OutOfMemory}
 use Rattle.binfarce_list.specs.declared.program.Fault.{Fault}
-use Rattle.binfarce_list.specs.declared.program.Fault.TheVariants.{Usage, File, List}
+use Rattle.binfarce_list.specs.declared.program.Fault.TheVariants.{File, List}
 
 -- a fault that reading the file can have
 abbrev pub IsOfReading : Fault → Type 0

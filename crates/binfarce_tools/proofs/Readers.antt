@@ -1,5 +1,5 @@
 -- What a reader's contract tells of what it returns.
-use Rattle.std.proofs.Common.{◌≡◌, ℕ, Result, Ok, Err, inl, inr}
+use Rattle.std.proofs.Common.{ℕ, Result, Ok, Err, inl}
 use Rattle.std.specs.Global.{Vec}
 use Rattle.binfarce_names.specs.declared.demangle.SymbolData.{SymbolData}
 use Rattle.binfarce.specs.declared.error.ParseError.{ParseError}

@@ -1,6 +1,6 @@
-use Rattle.std.proofs.Common.{◌≡◌, ◌+◌, ◌*◌, ◌<◌, ◌≤◌, length, Some, None, sym, ap, ◌∙◌, arith, refl}
+use Rattle.std.proofs.Common.{◌≡◌, ◌<◌, ◌≤◌, length, Some, None, sym, ap, ◌∙◌, arith, refl}
 use Rattle.std.specs.Option.{option_map}
-use Rattle.binfarce.specs.Pe.{sections_place, section_of, section_at, readable_headers, walk}
+use Rattle.binfarce.specs.Pe.{sections_place, section_of, readable_headers}
 use Rattle.binfarce.specs.PeSeen.{section_seen}
 use Rattle.binfarce.proofs.Numbered.{held_refused, held_none}
 use Rattle.binfarce.proofs.PeWalks.{is_readable, is_cut, outside, may_be_asked, accepted_at, cut_at, none_left, refused_by}

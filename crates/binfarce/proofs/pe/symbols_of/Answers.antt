@@ -1,5 +1,4 @@
-use Rattle.std.proofs.Common.{◌≡◌, ◌<◌, length, get_or, Some, None, sym, ap, ◌∙◌, arith, refl}
-use Rattle.std.specs.Option.{option_map}
+use Rattle.std.proofs.Common.{◌≡◌, get_or, Some, None, ◌∙◌, refl}
 use Rattle.binfarce.specs.Symbol.{IsSymbolOf}
 use Rattle.binfarce.specs.Sizes.{addresses_of, least_above}
 use Rattle.binfarce.specs.PeSymbols.{entry_of, size_members, size_among}

@@ -1,5 +1,5 @@
-// Each request for memory is refused in turn by a loop over N, from 1 on, until a run has none refused:
-// `rt try --fail-alloc N -- data/e-elf64-little.bin` prints the usage, `out of memory` or the whole listing.
+// Each request for memory is refused in turn by `bench/refuse-memory.sh`: the program prints the usage, `out of memory`
+// or the whole listing.
 
 use crate::program::{Fault, run, status, words};
 use binfarce_tools::list::Out;

@@ -50,11 +50,10 @@ def least_time(command, runs):
     least = math.inf
     for _ in range(runs):
         start = time.perf_counter()
-        try:
-            subprocess.run(command, stdout=subprocess.DEVNULL, stderr=subprocess.DEVNULL, timeout=10, check=True)
-        except (subprocess.TimeoutExpired, subprocess.CalledProcessError):
-            return math.inf
+        done = subprocess.run(["timeout", "10", *command], stdout=subprocess.DEVNULL, stderr=subprocess.DEVNULL)
         least = min(least, time.perf_counter() - start)
+        if done.returncode != 0:
+            return math.inf
     return least
 
 

@@ -23,15 +23,17 @@ __attribute__((noinline, section(".text.elsewhere"))) int elsewhere(int a) { ret
 int main(int count, char **words) { return printf("%d %s\n", elsewhere(count), words[0]) > 0 ? 0 : 1; }
 C
 
+# A line for each number of a row or a column, which stands for each & of the line.
+numbered() {
+    seq 0 $((side - 1)) | sed "s/.*/$1/"
+}
+
 # A grid of instances: for each row and column a generic function, a closure in it and a trait's method.
 grid() {
     echo 'pub trait Weight { fn weight(&self, k: u64) -> u64; }'
     echo 'pub struct Cell<const R: usize, T>(pub T);'
-    k=0
-    while [ $k -lt "$side" ]; do
-        echo "pub mod column_$k { #[derive(Default)] pub struct Column_$k(pub Vec<(u8, Option<u$((8 << (k % 4)))>)>); }"
-        k=$((k + 1))
-    done
+    seq 0 $((side - 1)) | awk '{
+        printf "pub mod column_%d { #[derive(Default)] pub struct Column_%d(pub Vec<(u8, Option<u%d>)>); }\n", $1, $1, 8 * 2 ^ ($1 % 4) }'
     cat <<'RUST'
 impl<const R: usize, T> Weight for Cell<R, T> {
     #[inline(never)] fn weight(&self, k: u64) -> u64 { R as u64 ^ k.rotate_left(3) ^ std::mem::size_of::<T>() as u64 }
@@ -43,23 +45,11 @@ impl<const R: usize, T> Weight for Cell<R, T> {
 }
 RUST
     echo "macro_rules! row { (\$n:ident, \$r:literal) => { pub fn \$n(mut k: u64) -> u64 {"
-    k=0
-    while [ $k -lt "$side" ]; do
-        echo "k += weigh::<\$r, column_$k::Column_$k>(k);"
-        k=$((k + 1))
-    done
+    numbered 'k += weigh::<$r, column_&::Column_&>(k);'
     echo 'k } } }'
-    k=0
-    while [ $k -lt "$side" ]; do
-        echo "row!(row_$k, $k);"
-        k=$((k + 1))
-    done
+    numbered 'row!(row_&, &);'
     echo 'fn main() { let mut k = std::env::args().count() as u64;'
-    k=0
-    while [ $k -lt "$side" ]; do
-        echo "k += row_$k(k);"
-        k=$((k + 1))
-    done
+    numbered 'k += row_&(k);'
     echo 'println!("{}", k); }'
 }
 grid >"$out/grid.rs"

@@ -1,8 +1,8 @@
 -- Which format a file's first bytes name (gABI, "ELF Identification"; the magic numbers of PE and Mach-O).
 use Rattle.std.specs.Prelude.{ℕ, Bool, ◌||◌, List, [], ◌∷◌, length, nat_lt, nat_eq, slice_index, if◌then◌else◌}
 use Rattle.std.specs.List.{starts_with}
-use Rattle.binfarce.specs.declared.ByteOrder.{ByteOrder}
-use Rattle.binfarce.specs.declared.ByteOrder.TheVariants.{LittleEndian, BigEndian}
+use Rattle.binfarce_bytes.specs.declared.ByteOrder.{ByteOrder}
+use Rattle.binfarce_bytes.specs.declared.ByteOrder.TheVariants.{LittleEndian, BigEndian}
 use Rattle.binfarce.specs.declared.Format.{Format}
 use Rattle.binfarce.specs.declared.Format.TheVariants.{Elf32, Elf64, Macho, PE, Unknown}
 

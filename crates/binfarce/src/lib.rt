@@ -4,27 +4,11 @@
 ghost use Rattle.std.specs.Prelude.{◌≡◌};
 ghost use Rattle.binfarce.specs.Format.{format_of, elf_format_of, begins_macho};
 
-mod elf;
-pub mod elf32;
-pub mod elf64;
-mod error;
-pub mod macho;
-mod parser;
-pub mod pe;
-mod sizes;
-
-pub use crate::error::ParseError;
-pub use crate::parser::UnexpectedEof;
+pub use binfarce_bytes::{ByteOrder, ParseError, UnexpectedEof};
+pub use binfarce_elf::{elf32, elf64};
+pub use binfarce_macho::macho;
 pub use binfarce_names::demangle;
-
-/// The order of a number's bytes in a file.
-#[derive(Clone, Copy, PartialEq, Debug)]
-pub enum ByteOrder {
-    /// The first byte has the least weight.
-    LittleEndian,
-    /// The first byte has the greatest weight.
-    BigEndian,
-}
+pub use binfarce_pe::pe;
 
 /// What a file's first bytes say that it is.
 #[derive(PartialEq, Debug, Drop)]

@@ -2,7 +2,7 @@ mod bench_file;
 
 use self::bench_file::{ELF32_BIG, ELF32_LITTLE, ELF64_BIG, ELF64_LITTLE};
 use crate::demangle::Kind;
-use crate::parser::Stream;
+use binfarce_bytes::parser::Stream;
 use crate::{ByteOrder, Format, ParseError, detect_format, elf32, elf64};
 use std::alloc::{AllocError, Global};
 use std::test::Fail;

@@ -1,0 +1,4 @@
+pub mod Texts
+pub mod Firsts
+pub mod Signed
+pub mod Nuls

@@ -1,0 +1,118 @@
+-- What a run of bytes is as a text.
+use Rattle.std.proofs.Common.{◌≡◌, ◌≢◌, ℕ, suc, ◌+◌, ◌-◌, ◌<◌, Bool, true, false, cond, ◌&&◌, eqb, ltb, List, [], ◌∷◌, ◌++◌, length, get_or, take, drop, Option, Some, None, refl, sym, ap, subst, ◌∙◌, arith}
+use Rattle.std.specs.Option.{option_and_then}
+use Rattle.std.specs.List.{position_or_len}
+use Rattle.std.specs.Str.{IsUtf8, is_utf8}
+use Rattle.std.proofs.Math.Seq.{drop-cons}
+use Rattle.std.proofs.lemmas.Str.{IsUtf8-from_is_utf8, is_utf8-from_IsUtf8}
+use Rattle.std.proofs.lemmas.Bool.{lt-ltb, ltb-true, eqb-true, eq-eqb, false≢true}
+use Rattle.std.proofs.lemmas.List.{take-append-drop, length-take, length-append, get_or-take, get_or_default, take_at, take-take, drop-drop, drop-take, length-drop, get_or_append_left, get_or-append_right}
+use Rattle.std.proofs.lemmas.List.Quantifiers.{position-Some}
+use Rattle.std.proofs.lemmas.List.Sums.{position_or_len_is}
+use Rattle.std.proofs.lemmas.List.Elements.{All-same}
+use Rattle.binfarce_bytes.specs.Number.{bytes_at}
+use Rattle.binfarce_bytes.specs.Text.{nul_at, text_of, text_at, IsTextAt, FindsText}
+
+pub text_of_is : (bytes : List ℕ) (n : ℕ) → 0 < n → IsUtf8 (take n bytes) → text_of bytes n ≡ Some (take n bytes)
+text_of_is bytes n some utf8 = rw (lt-ltb 0 n some, is_utf8-from_IsUtf8 (take n bytes) utf8) refl
+
+not_utf8 : (bytes : List ℕ) (b : Bool) → is_utf8 bytes ≡ b → ¬ (IsUtf8 bytes) → b ≡ false
+not_utf8 bytes true e h = absurd (h (IsUtf8-from_is_utf8 bytes e))
+not_utf8 bytes false e h = refl
+
+pub text_of_none : (bytes : List ℕ) (n : ℕ) → 0 < n → ¬ (IsUtf8 (take n bytes)) → text_of bytes n ≡ None
+text_of_none bytes n some h = rw (lt-ltb 0 n some, not_utf8 (take n bytes) (is_utf8 (take n bytes)) refl h) refl
+
+abbrev is_nul : ℕ → Bool
+is_nul b = eqb b 0
+
+taken : (bytes : List ℕ) (n : ℕ) (text : List ℕ) → text_of bytes n ≡ Some text → (text ≡ take n bytes) × (0 < n) × IsUtf8 (take n bytes)
+taken bytes n text e = by_tests (ltb 0 n) (is_utf8 (take n bytes)) refl refl e
+  where
+    by_tests : (some utf8 : Bool) → ltb 0 n ≡ some → is_utf8 (take n bytes) ≡ utf8 → cond (some && utf8) (Some (take n bytes)) None ≡ Some text → (text ≡ take n bytes) × (0 < n) × IsUtf8 (take n bytes)
+    by_tests true true s u e = (cc, ltb-true 0 n s, IsUtf8-from_is_utf8 (take n bytes) u)
+    by_tests true false s u e = absurd cc
+    by_tests false utf8 s u e = absurd cc
+
+not_nul : (b : ℕ) → is_nul b ≡ false → b ≢ 0
+not_nul b e z = absurd (false≢true (sym e ∙ eq-eqb b 0 z))
+
+nul_not : (b : ℕ) → b ≢ 0 → is_nul b ≡ false
+nul_not b ne = by_test (is_nul b) refl
+  where
+    by_test : (t : Bool) → is_nul b ≡ t → t ≡ false
+    by_test true e = absurd (ne (eqb-true b 0 e))
+    by_test false e = refl
+
+-- what stands up to the first NUL stands there as a text
+stands_to_nul : (bytes : List ℕ) (start n : ℕ) (text : List ℕ) → nul_at (drop start bytes) ≡ Some n → text_of (drop start bytes) n ≡ Some text → IsTextAt bytes start text
+stands_to_nul bytes start n text at e =
+    let xs = drop start bytes in
+    let p = position-Some is_nul xs n 1 at in
+    let t = taken xs n text e in
+    let nul : get_or xs n 1 ≡ 0 = eqb-true (get_or xs n 1) 0 p.1 in
+    let whole : xs ≡ take n xs ++ 0 ∷ drop (suc n) xs = sym (take-append-drop n xs) ∙ ap (λ (ys : List ℕ). take n xs ++ ys) (drop-cons xs n 1 p.0 ∙ ap (λ (b : ℕ). b ∷ drop (suc n) xs) nul) in
+    record {
+      stands = (drop (suc n) xs, whole ∙ ap (λ (ys : List ℕ). ys ++ 0 ∷ drop (suc n) xs) (sym t.0));
+      no_nul = All-same (λ (b : ℕ). b ≢ 0) text (take n xs) t.0 (λ k d lt. let below : k < n = omega (arith, length-take n xs) in not_nul (get_or (take n xs) k d) (rw (get_or-take n xs k d below) (rw (get_or_default xs k d 1 (omega arith)) (p.2 k below))));
+      utf8 = subst IsUtf8 (sym t.0) t.2;
+      some = λ empty. absurd (omega (arith, ap length (sym t.0 ∙ empty), length-take n xs));
+    }
+
+-- the text that stands there is the one that is found
+pub only_text : (bytes : List ℕ) (start : ℕ) (text : List ℕ) → IsTextAt bytes start text → text_at bytes start ≡ Some text
+unfolding text_at
+only_text bytes start text h =
+    let xs = drop start bytes in
+    let n = length text in
+    let rest = h.stands.0 in
+    let whole : xs ≡ text ++ 0 ∷ rest = h.stands.1 in
+    let long : n < length xs = omega (arith, ap length whole, length-append text (0 ∷ rest)) in
+    let before : (k : ℕ) → k < n → is_nul (get_or xs k 1) ≡ false =
+    λ k lt. nul_not (get_or xs k 1) (rw whole (rw (get_or_append_left text (0 ∷ rest) 1 k lt) (h.no_nul k 1 lt))) in
+    let at_end : get_or xs n 1 ≡ 0 = ap (λ (ys : List ℕ). get_or ys n 1) whole ∙ get_or-append_right text (0 ∷ rest) n n 1 refl (omega arith) ∙ ap (λ (k : ℕ). get_or (0 ∷ rest) k 1) (nothing n) in
+    let first : position_or_len is_nul xs ≡ n = position_or_len_is is_nul xs n 1 (omega arith) before (λ _. eq-eqb (get_or xs n 1) 0 at_end) in
+    let at : nul_at xs ≡ Some n = rw (first, lt-ltb n (length xs) long) refl in
+    let taken_is : take n xs ≡ text = ap (take n) whole ∙ take_at text (0 ∷ rest) n refl in
+    let some : 0 < n = positive text h.some in
+    ap (option_and_then (text_of xs)) at ∙ text_of_is xs n some (subst IsUtf8 (sym taken_is) h.utf8) ∙ ap (λ (t : List ℕ). Some t) taken_is
+  where
+    nothing : (k : ℕ) → k - k ≡ 0
+    nothing k = omega arith
+
+    positive : (t : List ℕ) → t ≢ [] → 0 < length t
+    positive [] ne = absurd (ne refl)
+    positive (b ∷ t) ne = omega arith
+
+-- what is found stands there
+pub found_text : (bytes : List ℕ) (start : ℕ) (text : List ℕ) → text_at bytes start ≡ Some text → IsTextAt bytes start text
+unfolding text_at
+found_text bytes start text e = by_place (nul_at (drop start bytes)) refl e
+  where
+    by_place : (o : Option ℕ) → nul_at (drop start bytes) ≡ o → option_and_then (text_of (drop start bytes)) o ≡ Some text → IsTextAt bytes start text
+    by_place (Some n) at e = stands_to_nul bytes start n text at e
+    by_place None at e = absurd cc
+
+pub finds_text : (bytes : List ℕ) (start : ℕ) (o : Option (List ℕ)) → o ≡ text_at bytes start → FindsText bytes start o
+finds_text bytes start (Some text) e = found_text bytes start text (sym e)
+finds_text bytes start None e = λ text h. cc (e, only_text bytes start text h)
+
+-- a text in a part of a file stands in the file
+pub part_stands : (file : List ℕ) (at size start : ℕ) (text : List ℕ) → IsTextAt (bytes_at file at size) start text → bytes_at file (at + start) (length text) ≡ text
+part_stands file at size start text h =
+    let n = length text in
+    let rest = h.stands.0 in
+    let whole : drop start (take size (drop at file)) ≡ text ++ 0 ∷ rest = h.stands.1 in
+    let some : 0 < n = positive text h.some in
+    let long : start + n < size = omega (arith, ap length whole, length-append text (0 ∷ rest), length-drop start (take size (drop at file)), length-take size (drop at file)) in
+    let xs = drop at file in
+    let m = size - start in
+    let split : start + m ≡ size = omega (arith, length-drop at file, length-take size xs) in
+    ap (take n) (sym (drop-drop start at file))
+    ∙ sym (take-take n m (drop start xs) (omega arith))
+    ∙ ap (take n) (sym (drop-take start m xs) ∙ ap (λ (k : ℕ). drop start (take k xs)) split ∙ whole)
+    ∙ take_at text (0 ∷ rest) n refl
+  where
+    positive : (t : List ℕ) → t ≢ [] → 0 < length t
+    positive [] ne = absurd (ne refl)
+    positive (b ∷ t) ne = omega arith

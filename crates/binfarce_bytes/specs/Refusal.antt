@@ -1,0 +1,47 @@
+-- Why a file can't be read, as data, and the words that are printed.
+use Rattle.std.specs.Prelude.{◌≡◌, ℕ, List, ◌++◌, codes, Option, Some, None, Result, Ok, Err}
+use Rattle.std.specs.Fmt.{decimal}
+use Rattle.binfarce_bytes.specs.declared.error.ParseError.{ParseError}
+use Rattle.binfarce_bytes.specs.declared.error.ParseError.TheVariants.{SymbolsSectionIsMissing, SectionIsMissing, UnexpectedSectionType, MalformedInput, UnexpectedEof, OutOfMemory}
+
+pub data Refusal : Type 0 where
+  symbols_section_is_missing : Refusal
+  section_is_missing : List ℕ → Refusal
+  unexpected_section_type : ℕ → ℕ → Refusal
+  malformed_input : Refusal
+  unexpected_eof : Refusal
+  out_of_memory : Refusal
+
+-- the refusal that a `ParseError` is
+abbrev pub refusal_of : ParseError → Refusal
+refusal_of SymbolsSectionIsMissing = symbols_section_is_missing
+refusal_of (SectionIsMissing name) = section_is_missing name.now
+refusal_of (UnexpectedSectionType expected actual) = unexpected_section_type expected actual
+refusal_of MalformedInput = malformed_input
+refusal_of UnexpectedEof = unexpected_eof
+refusal_of OutOfMemory = out_of_memory
+
+-- what is printed
+abbrev pub words : Refusal → List ℕ
+words symbols_section_is_missing = codes "symbols section is missing"
+words (section_is_missing name) = codes "section " ++ (name ++ codes " is missing")
+words (unexpected_section_type expected actual) = codes "expected section type " ++ (decimal expected ++ (codes " but found " ++ decimal actual))
+words malformed_input = codes "malformed input file"
+words unexpected_eof = codes "unexpected end of file"
+words out_of_memory = codes "out of memory"
+
+-- steps of which the first refusal is the answer, for `do`
+infixl 10 ◌>>=◌
+abbrev pub ◌>>=◌ : {A B : Type 0} → Result A Refusal → (A → Result B Refusal) → Result B Refusal
+(Ok x) >>= f = f x
+(Err r) >>= f = Err r
+
+-- what was looked for, or else the refusal
+abbrev pub required : {A : Type 0} → Refusal → Option A → Result A Refusal
+required refusal None = Err refusal
+required refusal (Some x) = Ok x
+
+-- what a call returned is this answer: its value seen by view, its error by why
+abbrev pub Gives : {X Y E : Type 0} → (E → Refusal) → (X → Y) → Result X E → Result Y Refusal → Type 0
+Gives why view (Ok x) answer = answer ≡ Ok (view x)
+Gives why view (Err e) answer = answer ≡ Err (why e)

@@ -1,0 +1,77 @@
+//! Why a file could not be read.
+
+ghost use Rattle.std.specs.Prelude.{◌≡◌, Some};
+
+use crate::parser::UnexpectedEof;
+use std::alloc::AllocError;
+use std::error::Error;
+use std::fmt;
+use std::num::TryFromIntError;
+
+/// Why a file could not be read.
+#[derive(Debug, Clone, Copy, PartialEq)]
+pub enum ParseError {
+    /// No section has the name that was asked for.
+    SymbolsSectionIsMissing,
+    /// A section that the symbols need is missing: the one named.
+    SectionIsMissing(&'static str),
+    /// A section isn't of the kind that its use needs.
+    UnexpectedSectionType { expected: u32, actual: u32 },
+    /// A number in the file fits nothing that the file could mean.
+    MalformedInput,
+    /// The file ends before what it should hold.
+    UnexpectedEof,
+    /// A growth of memory was refused.
+    OutOfMemory,
+}
+
+impl fmt::Display for ParseError {
+    ghost use Rattle.binfarce_bytes.specs.Refusal.{refusal_of, words};
+
+    ghost output = { λ e. Some (words (refusal_of e)) };
+
+    fn fmt<W: fmt::Write>(&self, f: &mut fmt::Formatter<W>) -> fmt::Result {
+        match self {
+            ParseError::SymbolsSectionIsMissing => write!(f, "symbols section is missing"),
+            ParseError::SectionIsMissing(name) => write!(f, "section {name} is missing"),
+            ParseError::UnexpectedSectionType { expected, actual } => {
+                write!(f, "expected section type {expected} but found {actual}")
+            }
+            ParseError::MalformedInput => write!(f, "malformed input file"),
+            ParseError::UnexpectedEof => write!(f, "unexpected end of file"),
+            ParseError::OutOfMemory => write!(f, "out of memory"),
+        }
+    }
+}
+
+impl Error for ParseError {}
+
+impl From<TryFromIntError> for ParseError {
+    ghost use Rattle.binfarce_bytes.specs.declared.error.ParseError.TheVariants.{MalformedInput};
+
+    ghost from_gives = { λ _ e. e ≡ MalformedInput };
+
+    fn from(_: TryFromIntError) -> Self {
+        ParseError::MalformedInput
+    }
+}
+
+impl From<UnexpectedEof> for ParseError {
+    ghost use Rattle.binfarce_bytes.specs.declared.error.ParseError.TheVariants as errors;
+
+    ghost from_gives = { λ _ e. e ≡ errors.UnexpectedEof };
+
+    fn from(_: UnexpectedEof) -> Self {
+        ParseError::UnexpectedEof
+    }
+}
+
+impl From<AllocError> for ParseError {
+    ghost use Rattle.binfarce_bytes.specs.declared.error.ParseError.TheVariants.{OutOfMemory};
+
+    ghost from_gives = { λ _ e. e ≡ OutOfMemory };
+
+    fn from(_: AllocError) -> Self {
+        ParseError::OutOfMemory
+    }
+}

@@ -1,0 +1,12 @@
+use Rattle.std.proofs.Common.{rules}
+use Rattle.std.specs.Prelude.{nat_eq}
+use Rattle.binfarce_bytes.specs.Refusal.{unexpected_eof}
+use Rattle.binfarce_elf.specs.Elf.{walk}
+use Rattle.binfarce_elf.specs.RawElf.{raw_table}
+use Rattle.binfarce_bytes.proofs.Firsts.{first_is}
+use Rattle.binfarce_elf.proofs.elf.section_of_kind.Goals as goal
+
+pub returns : goal.returns
+returns g c =
+    first_is (λ _. unexpected_eof) g.C.Class.seen _ (λ s. nat_eq s.kind c.args.kind) (walk g.C.Class.table (raw_table c.args.table)) c.first_section.result
+    (λ value answer told. search rules) c.first_section.ensures

@@ -1,0 +1,89 @@
+-- The function symbols of one section of an ELF file (System V gABI, "Symbol Table").
+use Rattle.std.specs.Prelude.{ℕ, ◌+◌, ◌*◌, ◌/◌, ◌%◌, ◌^◌, Bool, false, ◌&&◌, List, length, Option, Some, None, Result, Ok, Err, nat_eq, nat_le, nat_lt, not, codes, if◌then◌else◌}
+use Rattle.std.specs.Option.{option_map}
+use Rattle.std.specs.List.{range_with_len, filter_map}
+use Rattle.std.specs.Str.{bytes_eq}
+use Rattle.binfarce_bytes.specs.declared.ByteOrder.{ByteOrder}
+use Rattle.binfarce_bytes.specs.Number.{bytes_at}
+use Rattle.binfarce_bytes.specs.Text.{text_at}
+use Rattle.binfarce_bytes.specs.Refusal.{◌>>=◌, Refusal, required, symbols_section_is_missing, section_is_missing, unexpected_section_type, malformed_input, unexpected_eof}
+use Rattle.binfarce_bytes.specs.Walk.{Walk, first}
+use Rattle.binfarce_bytes.specs.Field.{value_at}
+use Rattle.binfarce_elf.specs.Elf.{ElfClass, SectionTable, Section, SymbolRow, walk, name_of}
+use Rattle.binfarce_symbols.specs.Symbol.{Entry, Listed}
+
+-- the row that begins at start
+unfoldable pub symbol_at : ElfClass → ByteOrder → List ℕ → ℕ → SymbolRow ℕ
+symbol_at class order rows start = record {
+  name = value_at order rows start class.symbol.name;
+  value = value_at order rows start class.symbol.value;
+  size = value_at order rows start class.symbol.size;
+  info = value_at order rows start class.symbol.info;
+  other = value_at order rows start class.symbol.other;
+  section = value_at order rows start class.symbol.section;
+}
+
+-- a function (STT_FUNC, the low four bits of info) of the section, with a size and a name offset
+abbrev pub is_function_of : ℕ → SymbolRow ℕ → Bool
+is_function_of index row = nat_eq row.section index && not (nat_eq row.size 0) && not (nat_eq row.name 0) && nat_eq (row.info % 16) 2
+
+-- the name of such a function, where it reads
+unfoldable pub function_name : List ℕ → ℕ → SymbolRow ℕ → Option (List ℕ)
+function_name strings index row = if is_function_of index row then text_at strings row.name else None
+
+-- the row's entry, where it has one
+abbrev pub entry_of : List ℕ → ℕ → SymbolRow ℕ → Option Entry
+entry_of strings index row = option_map (λ name. record { name = name; address = row.value; size = row.size }) (function_name strings index row)
+
+-- the entries of the rows numbered below n, in table order
+abbrev pub entries_of : ElfClass → ByteOrder → List ℕ → ℕ → List ℕ → ℕ → List Entry
+entries_of class order strings index rows n =
+    filter_map (λ k. entry_of strings index (symbol_at class order rows (k * class.symbol_length))) (range_with_len 0 n)
+
+-- the section has this name
+abbrev pub is_name : List ℕ → Option (List ℕ) → Bool
+is_name text None = false
+is_name text (Some name) = bytes_eq name text
+
+-- the first such section, or the refusal where there is none
+abbrev pub sought : Refusal → (Section → Bool) → Walk Section → Result Section Refusal
+sought refusal accepts sections = first accepts sections >>= required refusal
+
+-- the bytes of a section: its end fits an address, and lies in the file
+unfoldable pub part_of : List ℕ → Section → Result (List ℕ) Refusal
+part_of file section =
+    if nat_le (2 ^ 64) (section.offset + section.size) then Err malformed_input
+    else if nat_lt (length file) (section.offset + section.size) then Err unexpected_eof
+    else Ok (bytes_at file section.offset section.size)
+
+-- SHT_STRTAB
+abbrev pub string_table_kind : Section → Result Section Refusal
+string_table_kind section = if nat_eq section.kind 3 then Ok section else Err (unexpected_section_type 3 section.kind)
+
+-- the rows, of which none is cut
+abbrev pub whole_rows : ElfClass → List ℕ → Result (List ℕ) Refusal
+whole_rows class rows = if nat_eq (length rows % class.symbol_length) 0 then Ok rows else Err unexpected_eof
+
+-- the section that was asked for, the string table's bytes, and the symbol table's
+pub record Located : Type 0 where
+  pub text : Section
+  pub strings : List ℕ
+  pub rows : List ℕ
+
+-- the refusals in order; else where the symbols stand
+unfoldable pub located : ElfClass → SectionTable → List ℕ → Result Located Refusal
+located class table name = do
+  text ← sought symbols_section_is_missing (λ section. is_name name (name_of class table section)) (walk class table)
+  symbols ← sought (section_is_missing (codes ".symtab")) (λ section. nat_eq section.kind 2) (walk class table)
+  linked ← sought (section_is_missing (codes ".strtab")) (λ section. nat_eq section.index symbols.link) (walk class table)
+  string_table ← string_table_kind linked
+  strings ← part_of table.file string_table
+  part ← part_of table.file symbols
+  rows ← whole_rows class part
+  Ok (record { text = text; strings = strings; rows = rows })
+
+-- the entries of the rows, and the size of the section that was asked for
+unfoldable pub elf_answer : ElfClass → SectionTable → List ℕ → Result Listed Refusal
+elf_answer class table name = do
+  found ← located class table name
+  Ok (record { entries = entries_of class table.order found.strings found.text.index found.rows (length found.rows / class.symbol_length); section_size = found.text.size })

@@ -1,0 +1,6 @@
+//! ELF files of both classes and both byte orders (System V gABI).
+#![tactic(auto)]
+
+mod elf;
+pub mod elf32;
+pub mod elf64;

@@ -1,0 +1,222 @@
+-- The sections of a Mach-O file, as loops go over the commands and over one segment's structures.
+use Rattle.std.proofs.Common.{◌≡◌, ◌≢◌, ℕ, get_or, ◌+◌, ◌-◌, ◌<◌, ◌≤◌, Bool, true, false, cond, List, [], ◌∷◌, ◌++◌, length, map, All, Contains, Option, Some, None, Result, Ok, Err, IsErr, min, nat_le, refl, sym, ap, ◌∙◌, append_assoc, arith}
+use Rattle.std.specs.List.{range_with_len, filter_map, cons_option}
+use Rattle.std.proofs.lemmas.Bool.{lt-ltb, le-ltb, le-leb, lt-leb, eq-eqb, ne_eqb}
+use Rattle.std.proofs.lemmas.Nat.{le-div, div_below}
+use Rattle.std.proofs.lemmas.List.{append-nil}
+use Rattle.std.proofs.lemmas.List.Elements.{All-nil, All-push, All-append, All-same, All-contains, Contains-append_right, Contains-append_left, filter_map-append, Contains-get_or}
+use Rattle.binfarce_bytes.specs.Refusal.{Refusal, unexpected_eof}
+use Rattle.binfarce_bytes.specs.Walk.{Walk, Answered, MayBeAsked, IsFirstAccepted, NoneAccepted, FirstAccepted}
+use Rattle.binfarce_bytes.specs.Field.{field, number_in}
+use Rattle.binfarce_macho.specs.Macho.{Command, Section, section_at, section_place, whole_sections, sections_below, segment, ended, ahead_of, and_then, sections_of, body_of, walk, commands}
+use Rattle.binfarce_elf.proofs.Walks.{behind}
+use Rattle.binfarce_symbols.proofs.Rows.{one_more}
+
+All-from_contains : {X : Type 0} {P : X → Type 0} (xs : List X) → ((x : X) → Contains xs x → P x) → All P xs
+All-from_contains xs here k d lt = here (get_or xs k d) (Contains-get_or xs k d lt)
+
+-- a structure whose fields are there is one of those that the file has room for
+pub is_whole : (file : List ℕ) (body i : ℕ) → section_place body i + 52 ≤ length file → i < whole_sections file body
+is_whole file body i fits = omega (arith, le-div (i + 1) (length file + 28 - (body + 64)) 80 (omega arith) (omega arith))
+
+-- one that is cut is none of them
+pub is_cut : (file : List ℕ) (body i : ℕ) → length file < section_place body i + 52 → whole_sections file body ≤ i
+is_cut file body i cut = omega (arith, div_below (length file + 28 - (body + 64)) 80 (i + 1) (omega arith) (omega arith))
+
+-- the count is cut
+pub segment_cut : (file : List ℕ) (body : ℕ) → length file < body + 60 → segment file body ≡ ended (Some unexpected_eof)
+unfolding segment
+segment_cut file body cut = rw (lt-ltb (length file) (body + 60) cut) refl
+
+-- a segment whose count is cut has no section
+pub count_cut : {T : Type 0} (seen : T → Section) (post : T → Bool → Type 0) (file : List ℕ) (body : ℕ) → length file < body + 60 → NoneAccepted seen post (segment file body) (Some unexpected_eof)
+count_cut seen post file body cut = rw (segment_cut file body cut) (record { refused = All-nil (Answered seen post false); end_is = refl })
+
+-- the sections where the count is there
+pub segment_sections : (file : List ℕ) (body count n : ℕ) → body + 60 ≤ length file → count ≡ number_in file body (field 56 4) → min count (whole_sections file body) ≡ n → (segment file body).sections ≡ sections_below file body n
+unfolding segment
+segment_sections file body count n whole is least = rw (le-ltb (length file) (body + 60) whole, ← is, least) refl
+
+segment_refusal : (file : List ℕ) (body count : ℕ) → body + 60 ≤ length file → count ≡ number_in file body (field 56 4) → (segment file body).refusal ≡ cond (nat_le count (whole_sections file body)) None (Some unexpected_eof)
+unfolding segment
+segment_refusal file body count whole is = rw (le-ltb (length file) (body + 60) whole, ← is) refl
+
+-- a filtered list is that of the numbered answers
+kept_of_answers : {X : Type 0} (f : ℕ → Option X) (xs : List ℕ) → filter_map f xs ≡ filter_map (λ o. o) (map f xs)
+kept_of_answers f [] = refl
+kept_of_answers f (x ∷ xs) = ap (cons_option (f x)) (kept_of_answers f xs)
+
+-- what is kept of numbered things goes on behind those below i with what i gives
+pub kept_behind : {X : Type 0} (f : ℕ → Option X) (n i : ℕ) → i < n → (after : List X) × (filter_map f (range_with_len 0 n) ≡ filter_map f (range_with_len 0 i) ++ cons_option (f i) after)
+kept_behind f n i lt =
+    let b = behind f n i lt in (
+      filter_map (λ o. o) b.0,
+      kept_of_answers f (range_with_len 0 n)
+          ∙ ap (filter_map (λ o. o)) b.1
+          ∙ filter_map-append (λ o. o) (map f (range_with_len 0 i)) (f i ∷ b.0)
+          ∙ ap (λ (xs : List _). xs ++ cons_option (f i) (filter_map (λ o. o) b.0)) (sym (kept_of_answers f (range_with_len 0 i))),
+    )
+
+module _ {T : Type 0} (seen : T → Section) (file : List ℕ) (body count : ℕ) (whole : body + 60 ≤ length file) (is : count ≡ number_in file body (field 56 4)) where
+  -- what the callback is handed is a section of the walk
+  pub may_be_asked : (pre : T → Type 0) (i : ℕ) (value : T) → All (MayBeAsked seen pre) (segment file body).sections → i < count → i < whole_sections file body
+      → Some (seen value) ≡ section_at file (section_place body i) → pre value
+  may_be_asked pre i value all lt room at =
+      let n = min count (whole_sections file body) in
+      let b = kept_behind (λ i. section_at file (section_place body i)) n i (omega arith) in
+      let stands : (segment file body).sections ≡ sections_below file body i ++ seen value ∷ b.0 =
+      segment_sections file body count n whole is refl ∙ b.1 ∙ ap (λ (o : Option Section). sections_below file body i ++ cons_option o b.0) (sym at) in
+      let found : Contains (sections_below file body i ++ seen value ∷ b.0) (seen value) = Contains-append_right (sections_below file body i) (seen value ∷ b.0) (seen value) (0, omega arith, refl) in
+      All-contains (MayBeAsked seen pre) (sections_below file body i ++ seen value ∷ b.0) (seen value) (All-same (MayBeAsked seen pre) (sections_below file body i ++ seen value ∷ b.0) (segment file body).sections (sym stands) all) found value refl
+
+  -- the callback accepted section i, and refused those before it
+  pub accepted_at : (post : T → Bool → Type 0) (i : ℕ) (value : T) → i < count → i < whole_sections file body
+      → Some (seen value) ≡ section_at file (section_place body i) → post value true
+      → All (Answered seen post false) (sections_below file body i) → IsFirstAccepted seen post (segment file body) value
+  accepted_at post i value lt room at accepted refused =
+      let n = min count (whole_sections file body) in
+      let b = kept_behind (λ i. section_at file (section_place body i)) n i (omega arith) in
+      record {
+        before = sections_below file body i;
+        after = b.0;
+        stands = segment_sections file body count n whole is refl ∙ b.1 ∙ ap (λ (o : Option Section). sections_below file body i ++ cons_option o b.0) (sym at);
+        accepted = accepted;
+        refused = refused;
+      }
+
+  -- structure i is cut, and the callback refused the sections before it
+  pub cut_at : (post : T → Bool → Type 0) (i : ℕ) → i < count → i ≤ whole_sections file body → whole_sections file body ≤ i
+      → All (Answered seen post false) (sections_below file body i) → NoneAccepted seen post (segment file body) (Some unexpected_eof)
+  cut_at post i lt room cut refused =
+      record {
+        refused = All-same (Answered seen post false) (segment file body).sections (sections_below file body i) (segment_sections file body count i whole is (omega arith)) refused;
+        end_is = segment_refusal file body count whole is ∙ rw (lt-leb count (whole_sections file body) (omega arith)) refl;
+      }
+
+  -- the callback refused all
+  pub none_left : (post : T → Bool → Type 0) → count ≤ whole_sections file body
+      → All (Answered seen post false) (sections_below file body count) → NoneAccepted seen post (segment file body) None
+  none_left post room refused =
+      record {
+        refused = All-same (Answered seen post false) (segment file body).sections (sections_below file body count) (segment_sections file body count count whole is (omega arith)) refused;
+        end_is = segment_refusal file body count whole is ∙ rw (le-leb count (whole_sections file body) room) refl;
+      }
+
+-- a structure without two names gives no section
+pub passed_over : (P : Section → Type 0) (file : List ℕ) (body i : ℕ) → None ≡ section_at file (section_place body i) → All P (sections_below file body i) → All P (sections_below file body (i + 1))
+passed_over P file body i none all =
+    let f = λ (i : ℕ). section_at file (section_place body i) in
+    All-same P (sections_below file body (i + 1)) (sections_below file body i) (one_more f i ∙ rw (← none) (append-nil (sections_below file body i))) all
+
+-- the callback refused section i too
+pub refused_more : (P : Section → Type 0) (file : List ℕ) (body i : ℕ) (s : Section) → Some s ≡ section_at file (section_place body i) → P s → All P (sections_below file body i) → All P (sections_below file body (i + 1))
+refused_more P file body i s some p all =
+    let f = λ (i : ℕ). section_at file (section_place body i) in
+    All-same P (sections_below file body (i + 1)) (sections_below file body i ++ s ∷ []) (one_more f i ∙ rw (← some) refl) (All-push P (sections_below file body i) s all p)
+
+-- a search that ends with the walk's refusal
+pub refused_by : {T E : Type 0} (why : Refusal) (seen : T → Section) (post : T → Bool → Type 0) (sections : Walk Section) (result : Result (Option T) E)
+    → IsErr result → NoneAccepted seen post sections (Some why) → FirstAccepted (λ _. why) seen post sections result
+refused_by why seen post sections (Ok found) is_err none = absurd cc
+refused_by why seen post sections (Err e) is_err none = none
+
+-- a walk as a loop goes over it: what is left of it, and before that sections that the callback refused
+pub record Reaches {T : Type 0} (seen : T → Section) (post : T → Bool → Type 0) (whole left : Walk Section) : Type 0 where
+  pub before : List Section
+  pub stands : whole.sections ≡ before ++ left.sections
+  pub ends : whole.refusal ≡ left.refusal
+  pub refused : All (Answered seen post false) before
+
+module _ {T : Type 0} (seen : T → Section) (post : T → Bool → Type 0) (whole : Walk Section) where
+  pub reaches_start : Reaches seen post whole whole
+  reaches_start = record { before = []; stands = refl; ends = refl; refused = All-nil (Answered seen post false) }
+
+  pub reaches_same : (left same : Walk Section) → left ≡ same → Reaches seen post whole left → Reaches seen post whole same
+  reaches_same left same e r = record { before = r.before; stands = r.stands ∙ ap (λ (w : Walk Section). r.before ++ w.sections) e; ends = r.ends ∙ ap (λ (w : Walk Section). w.refusal) e; refused = r.refused }
+
+  -- the callback refused all of a part without a refusal
+  pub reaches_behind : (part : Walk Section) (left : Walk Section) → NoneAccepted seen post part None → Reaches seen post whole (and_then part.sections part.refusal left) → Reaches seen post whole left
+  reaches_behind part left none r =
+      let there : and_then part.sections part.refusal left ≡ and_then part.sections None left = ap (λ (o : Option Refusal). and_then part.sections o left) none.end_is in
+      let r' = reaches_same (and_then part.sections part.refusal left) (and_then part.sections None left) there r in
+      record {
+        before = r'.before ++ part.sections;
+        stands = r'.stands ∙ sym (append_assoc r'.before part.sections left.sections);
+        ends = r'.ends;
+        refused = All-append (Answered seen post false) r'.before part.sections r'.refused none.refused;
+      }
+
+  -- the callback accepted a section of a part
+  pub accepted_behind : (part left : Walk Section) (value : T) → IsFirstAccepted seen post part value → Reaches seen post whole (and_then part.sections part.refusal left) → IsFirstAccepted seen post whole value
+  accepted_behind part left value f r = by_end part.refusal refl
+    where
+      stands_so : (rest : List Section) → r.before ++ (part.sections ++ rest) ≡ (r.before ++ f.before) ++ seen value ∷ (f.after ++ rest)
+      stands_so rest =
+          ap (λ (xs : List Section). r.before ++ (xs ++ rest)) f.stands
+          ∙ ap (λ (xs : List Section). r.before ++ xs) (append_assoc f.before (seen value ∷ f.after) rest)
+          ∙ sym (append_assoc r.before f.before (seen value ∷ (f.after ++ rest)))
+
+      by_end : (o : Option Refusal) → part.refusal ≡ o → IsFirstAccepted seen post whole value
+      by_end None e = record {
+        before = r.before ++ f.before;
+        after = f.after ++ left.sections;
+        stands = r.stands ∙ ap (λ (o : Option Refusal). r.before ++ (and_then part.sections o left).sections) e ∙ stands_so left.sections;
+        accepted = f.accepted;
+        refused = All-append (Answered seen post false) r.before f.before r.refused f.refused;
+      }
+      by_end (Some why) e = record {
+        before = r.before ++ f.before;
+        after = f.after;
+        stands = r.stands ∙ ap (λ (o : Option Refusal). r.before ++ (and_then part.sections o left).sections) e ∙ ap (λ (xs : List Section). r.before ++ xs) f.stands ∙ sym (append_assoc r.before f.before (seen value ∷ f.after));
+        accepted = f.accepted;
+        refused = All-append (Answered seen post false) r.before f.before r.refused f.refused;
+      }
+
+  -- the part has a refusal, and the callback refused what stands before it
+  pub refused_behind : (part left : Walk Section) (why : Refusal) → NoneAccepted seen post part (Some why) → Reaches seen post whole (and_then part.sections part.refusal left) → NoneAccepted seen post whole (Some why)
+  refused_behind part left why none r =
+      let there : and_then part.sections part.refusal left ≡ and_then part.sections (Some why) left = ap (λ (o : Option Refusal). and_then part.sections o left) none.end_is in
+      let r' = reaches_same (and_then part.sections part.refusal left) (and_then part.sections (Some why) left) there r in
+      record {
+        refused = All-same (Answered seen post false) whole.sections (r'.before ++ part.sections) r'.stands (All-append (Answered seen post false) r'.before part.sections r'.refused none.refused);
+        end_is = r'.ends;
+      }
+
+  -- nothing is left
+  pub reaches_end : (end : Option Refusal) → Reaches seen post whole (ended end) → NoneAccepted seen post whole end
+  reaches_end end r = record {
+    refused = All-same (Answered seen post false) whole.sections r.before (r.stands ∙ append-nil r.before) r.refused;
+    end_is = r.ends;
+  }
+
+  -- what may be asked of the whole may be asked of a part
+  pub part_asked : (P : Section → Type 0) (part left : Walk Section) → All P whole.sections → Reaches seen post whole (and_then part.sections part.refusal left) → All P part.sections
+  part_asked P part left all r = by_end part.refusal refl
+    where
+      of_part : (rest : List Section) → whole.sections ≡ r.before ++ (part.sections ++ rest) → All P part.sections
+      of_part rest e = All-from_contains part.sections (λ s found. All-contains P (r.before ++ (part.sections ++ rest)) s (All-same P (r.before ++ (part.sections ++ rest)) whole.sections (sym e) all) (Contains-append_right r.before (part.sections ++ rest) s (Contains-append_left part.sections rest s found)))
+
+      by_end : (o : Option Refusal) → part.refusal ≡ o → All P part.sections
+      by_end None e = of_part left.sections (r.stands ∙ ap (λ (o : Option Refusal). r.before ++ (and_then part.sections o left).sections) e)
+      by_end (Some why) e = of_part [] (r.stands ∙ ap (λ (o : Option Refusal). r.before ++ (and_then part.sections o left).sections) e ∙ ap (λ (xs : List Section). r.before ++ xs) (sym (append-nil part.sections)))
+
+-- the sections that commands have left
+abbrev pub sections_left : List ℕ → Walk Command → Walk Section
+sections_left file commands = sections_of file commands.sections commands.refusal
+
+pub segment_left : (file : List ℕ) (command : Command) (left : Walk Command) → command.kind ≡ 0x19
+    → sections_left file (ahead_of command left) ≡ and_then (segment file (body_of command)).sections (segment file (body_of command)).refusal (sections_left file left)
+unfolding sections_of
+segment_left file command left e = rw (eq-eqb command.kind 0x19 e) refl
+
+pub other_left : (file : List ℕ) (command : Command) (left : Walk Command) → command.kind ≢ 0x19 → sections_left file (ahead_of command left) ≡ sections_left file left
+unfolding sections_of
+other_left file command left e = rw (ne_eqb command.kind 0x19 e) refl
+
+pub no_left : (file : List ℕ) (end : Option Refusal) → sections_left file (ended end) ≡ ended end
+unfolding sections_of
+no_left file end = refl
+
+pub walk_is : (file : List ℕ) → walk file ≡ sections_left file (commands file)
+unfolding walk
+walk_is file = refl

@@ -1,0 +1,30 @@
+use Rattle.std.proofs.Common.{◌≡◌, ◌∙◌, ap, sym, ◌/◌, length, List, ◌++◌, [], ◌∷◌}
+use Rattle.binfarce_symbols.specs.declared.sizes.RowAddress.{RowAddress}
+use Rattle.binfarce_macho.specs.MachoSymbols.{address_of, symbol_of}
+use Rattle.binfarce_symbols.proofs.Rows.{match_ok, on_err}
+use Rattle.binfarce_macho.proofs.Kept.{some_kept, added_some, added_none, address_some, address_none}
+use Rattle.binfarce_macho.proofs.macho.row_addresses.Goals as goal
+use Rattle.binfarce_macho.proofs.macho.row_addresses.Goals.{then-has_address+in_ok-push, else-has_address}
+
+pub returns-in_err-push-clause-memory : goal.returns-in_err-push-clause-memory
+returns-in_err-push-clause-memory c =
+    let rows = c.args.rows.now in
+    let at = match_ok c.symbol_at.result c.unwrap-row.result _ _ c.unwrap-row.ensures c.symbol_at.ensures in
+    let value : c.unwrap-row.result.value ≡ (symbol_of rows c.loop-k.k).value = ap (λ s. s.value) at.1 in
+    on_err c.from_residual.result _ (some_kept (address_of rows) (length rows / 16) c.loop-k.k (record { address = c.unwrap-row.result.value; row = c.loop-k.k })
+    (address_some rows c.loop-k.k c.unwrap-row.result.value value (sym c.has_address.ensures ∙ c.if-has_address.true)) c.loop-k-test.true)
+
+pub loop-k-preserved : goal.loop-k-preserved
+loop-k-preserved c =
+    let rows = c.args.rows.now in
+    let at = match_ok c.symbol_at.result c.unwrap-row.result _ _ c.unwrap-row.ensures c.symbol_at.ensures in
+    let value : c.unwrap-row.result.value ≡ (symbol_of rows c.loop-k.k).value = ap (λ s. s.value) at.1 in
+    let x : RowAddress = record { address = c.unwrap-row.result.value; row = c.loop-k.k } in
+    elim c.if-has_address.branch [
+      | then-has_address+in_ok-push w ↦
+          ap (λ v. v.items) w.addresses-is ∙ w.in_ok-push.ensures.items ∙ ap (λ (xs : List RowAddress). xs ++ x ∷ []) c.loop-k.invariant
+          ∙ sym (added_some (address_of rows) c.loop-k.k x (address_some rows c.loop-k.k c.unwrap-row.result.value value (sym c.has_address.ensures ∙ w.if-has_address.true)))
+      | else-has_address w ↦
+          ap (λ v. v.items) w.addresses-is ∙ c.loop-k.invariant
+          ∙ sym (added_none (address_of rows) c.loop-k.k (address_none rows c.loop-k.k c.unwrap-row.result.value value (sym c.has_address.ensures ∙ w.if-has_address.false)))
+    ]

@@ -1,0 +1,181 @@
+-- The function symbols of a Mach-O file (Apple's <mach-o/nlist.h>), with sizes that the table's addresses give.
+use Rattle.std.specs.Prelude.{◌≡◌, ◌≢◌, ℕ, ◌+◌, ◌*◌, ◌/◌, ◌^◌, Bool, ◌&&◌, ◌⊎◌, List, [], ◌∷◌, length, codes, Option, Some, None, Result, Ok, Err, nat_eq, nat_le, nat_lt, not, bit_and, if◌then◌else◌, ◌<◌, ◌≤◌, All}
+use Rattle.std.specs.List.{range_with_len, filter_map, cons_option}
+use Rattle.std.specs.Global.{Vec}
+use Rattle.binfarce_names.specs.declared.demangle.SymbolData.{SymbolData}
+use Rattle.binfarce_bytes.specs.declared.error.ParseError.{ParseError}
+use Rattle.binfarce_symbols.specs.declared.sizes.RowAddress.{RowAddress}
+use Rattle.binfarce_bytes.specs.Number.{bytes_at}
+use Rattle.binfarce_bytes.specs.Text.{text_at}
+use Rattle.binfarce_bytes.specs.Refusal.{◌>>=◌, Refusal, refusal_of, required, symbols_section_is_missing, malformed_input, unexpected_eof, out_of_memory}
+use Rattle.binfarce_bytes.specs.Walk.{first}
+use Rattle.binfarce_bytes.specs.Field.{Field, field, number_in}
+use Rattle.binfarce_macho.specs.Macho.{Command, body_of, commands, Section, walk, is_named}
+use Rattle.binfarce_symbols.specs.Sizes.{arranged, addresses_of, macho_size}
+use Rattle.binfarce_symbols.specs.Symbol.{Entry, Listed, AreSymbolsOf}
+
+-- symtab_command, in its body: one A for each field
+pub record SymbolTable (A : Type 0) : Type 0 where
+  pub symbol_offset : A
+  pub row_count : A
+  pub strings_offset : A
+  pub strings_size : A
+
+unfoldable pub symbol_table_fields : SymbolTable Field
+symbol_table_fields = record {
+  symbol_offset = field 0 4;
+  row_count = field 4 4;
+  strings_offset = field 8 4;
+  strings_size = field 12 4;
+}
+
+unfoldable pub symbol_table_at : List ℕ → ℕ → SymbolTable ℕ
+symbol_table_at file body = record {
+  symbol_offset = number_in file body symbol_table_fields.symbol_offset;
+  row_count = number_in file body symbol_table_fields.row_count;
+  strings_offset = number_in file body symbol_table_fields.strings_offset;
+  strings_size = number_in file body symbol_table_fields.strings_size;
+}
+
+-- nlist_64: one A for each field that is read
+pub record SymbolRow (A : Type 0) : Type 0 where
+  pub name : A
+  pub kind : A
+  pub section : A
+  pub value : A
+
+unfoldable pub symbol_fields : SymbolRow Field
+symbol_fields = record {
+  name = field 0 4;
+  kind = field 4 1;
+  section = field 5 1;
+  value = field 8 8;
+}
+
+-- the row that begins at start
+unfoldable pub symbol_at : List ℕ → ℕ → SymbolRow ℕ
+symbol_at rows start = record {
+  name = number_in rows start symbol_fields.name;
+  kind = number_in rows start symbol_fields.kind;
+  section = number_in rows start symbol_fields.section;
+  value = number_in rows start symbol_fields.value;
+}
+
+-- row k of a table's rows, 16 bytes each
+abbrev pub symbol_of : List ℕ → ℕ → SymbolRow ℕ
+symbol_of rows k = symbol_at rows (k * 16)
+
+-- bytes that lie in the file
+abbrev pub part_at : List ℕ → ℕ → ℕ → Result (List ℕ) Refusal
+part_at file offset size = if nat_le (offset + size) (length file) then Ok (bytes_at file offset size) else Err unexpected_eof
+
+-- the section of the program's code
+abbrev pub text_section : List ℕ → Result Section Refusal
+text_section file = first (λ section. is_named (codes "__TEXT") (codes "__text") section) (walk file) >>= required symbols_section_is_missing
+
+abbrev pub some_size : Section → Result Section Refusal
+some_size section = if nat_eq section.size 0 then Err malformed_input else Ok section
+
+-- LC_SYMTAB: the first such command, or none; a bad command before it is refused
+abbrev pub symbol_command : List ℕ → Result (Option Command) Refusal
+symbol_command file = first (λ command. nat_eq command.kind 2) (commands file)
+
+-- the body of that command, whole
+abbrev pub whole_table : List ℕ → Command → Result (SymbolTable ℕ) Refusal
+whole_table file command =
+    if nat_le (body_of command + 16) (length file) then Ok (symbol_table_at file (body_of command)) else Err unexpected_eof
+
+-- where the text ends: it fits an address
+abbrev pub text_end_of : Section → Result ℕ Refusal
+text_end_of text = if nat_lt (text.address + text.size) (2 ^ 64) then Ok (text.address + text.size) else Err malformed_input
+
+-- the text's end and size, the strings, and the rows, of which none is cut
+pub record Located : Type 0 where
+  pub text_end : ℕ
+  pub text_size : ℕ
+  pub strings : List ℕ
+  pub rows : List ℕ
+
+-- what the command of the symbol table names; an offset past the file is refused even where nothing is read there
+unfoldable pub located_by : List ℕ → Section → Option Command → Result (Option Located) Refusal
+located_by file text None = Ok None
+located_by file text (Some command) = do
+  table ← whole_table file command
+  strings ← part_at file table.strings_offset table.strings_size
+  rows ← part_at file table.symbol_offset (16 * table.row_count)
+  text_end ← text_end_of text
+  Ok (Some (record { text_end = text_end; text_size = text.size; strings = strings; rows = rows }))
+
+-- the refusals in order; else where the symbols stand, or that the file has no symbol table
+unfoldable pub located : List ℕ → Result (Option Located) Refusal
+located file = do
+  found ← text_section file
+  text ← some_size found
+  command ← symbol_command file
+  located_by file text command
+
+-- the row's value, where it isn't 0, and the row's number
+abbrev pub address_of : List ℕ → ℕ → Option RowAddress
+address_of rows k = if nat_eq (symbol_of rows k).value 0 then None else Some (record { address = (symbol_of rows k).value; row = k })
+
+-- the addresses of a table: the values that aren't 0, of any section or kind, in table order
+abbrev pub row_addresses : List ℕ → List RowAddress
+row_addresses rows = filter_map (address_of rows) (range_with_len 0 (length rows / 16))
+
+-- a row with a name offset, one of the two bits of its type, and section 1, which is the program's code
+abbrev pub is_candidate : SymbolRow ℕ → Bool
+is_candidate row = not (nat_eq row.name 0) && not (nat_eq (bit_and row.kind 0x0A) 0) && nat_eq row.section 1
+
+-- the entry, where there is a size and the name reads
+abbrev pub sized_entry : ℕ → Option ℕ → Option (List ℕ) → Option Entry
+sized_entry address None name = None
+sized_entry address (Some size) None = None
+sized_entry address (Some size) (Some name) = Some (record { name = name; address = address; size = size })
+
+-- a candidate's entry: the refusal of its size comes whether or not its name reads
+abbrev pub candidate_entry : Located → ℕ → ℕ → Result (Option Entry) Refusal
+candidate_entry found address name = do
+  size ← macho_size (addresses_of (row_addresses found.rows)) found.text_end address
+  Ok (sized_entry address size (text_at found.strings name))
+
+-- what a row with an address gives: nothing, its entry, or a refusal
+unfoldable pub entry_of : Located → RowAddress → Result (Option Entry) Refusal
+entry_of found at =
+    if is_candidate (symbol_of found.rows at.row) then candidate_entry found at.address (symbol_of found.rows at.row).name
+    else Ok None
+
+-- what is kept of each, unless one is refused
+unfoldable pub kept : {X Y : Type 0} → (X → Result (Option Y) Refusal) → List X → Result (List Y) Refusal
+kept f [] = Ok []
+kept f (x ∷ xs) = do
+  y ← f x
+  ys ← kept f xs
+  Ok (cons_option y ys)
+
+-- the entries in the order of (address, row number), and the size of the text
+unfoldable pub answer_of : Option Located → Result Listed Refusal
+answer_of None = Ok (record { entries = []; section_size = 0 })
+answer_of (Some found) = do
+  entries ← kept (entry_of found) (arranged (row_addresses found.rows))
+  Ok (record { entries = entries; section_size = found.text_size })
+
+unfoldable pub macho_answer : List ℕ → Result Listed Refusal
+macho_answer file = located file >>= answer_of
+
+-- laws of sizes over a table's addresses: no address lies strictly inside an entry's range, and entries of one address have one size
+pub record AreSized (addresses : List ℕ) (entries : List Entry) : Type 0 where
+  pub apart : All (λ e. All (λ a. e.address < a → e.address + e.size ≤ a) addresses) entries
+  pub agree : All (λ e. All (λ f. e.address ≡ f.address → e.size ≡ f.size) entries) entries
+
+-- the symbol table is there, and has a value that isn't 0
+pub record HasAddress (file : List ℕ) : Type 0 where
+  pub found : Located
+  pub is_located : located file ≡ Ok (Some found)
+  pub some : row_addresses found.rows ≢ []
+
+-- what a call answers whose growths may be refused exactly where Memory holds: there want of memory may stand in place of any answer
+abbrev pub AnswersOr : Type 0 → Result Listed Refusal → Result (Vec SymbolData × ℕ) ParseError → Type 0
+AnswersOr Memory (Ok listed) (Ok answer) = AreSymbolsOf listed.entries answer.0.items × (answer.1 ≡ listed.section_size)
+AnswersOr Memory (Ok listed) (Err e) = (refusal_of e ≡ out_of_memory) × Memory
+AnswersOr Memory (Err refusal) (Ok answer) = ⊥
+AnswersOr Memory (Err refusal) (Err e) = (refusal_of e ≡ refusal) ⊎ ((refusal_of e ≡ out_of_memory) × Memory)

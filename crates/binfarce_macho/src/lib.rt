@@ -1,0 +1,4 @@
+//! 64-bit Mach-O files (Apple's `<mach-o/loader.h>` and `<mach-o/nlist.h>`).
+#![tactic(auto)]
+
+pub mod macho;

@@ -1,0 +1,706 @@
+//! 64-bit Mach-O files, which are little endian (Apple's `<mach-o/loader.h>` and `<mach-o/nlist.h>`).
+
+ghost use Rattle.std.specs.Prelude.{◌≡◌, ◌≢◌, ℕ, List, ◌+◌, ◌*◌, ◌<◌, ◌≤◌, ◌^◌, [], length, map, nat_eq, not, All, IfOk, OnErr, MatchResult};
+ghost use Rattle.std.specs.Option.{option_map};
+ghost use Rattle.std.specs.Iterator.{UpTo};
+ghost use Rattle.binfarce_bytes.specs.Number.{bytes_at};
+ghost use Rattle.binfarce_bytes.specs.Refusal.{Gives, refusal_of, malformed_input, unexpected_eof};
+ghost use Rattle.binfarce_bytes.specs.Walk.{MayBeAsked, FirstAccepted, first};
+ghost use Rattle.binfarce_macho.specs.Macho.{header_at, command_at, body_of, commands, walk, segment, section_at, is_named};
+ghost use Rattle.binfarce_macho.specs.MachoSymbols.{AnswersOr, AreSized, Located, HasAddress, macho_answer, located, located_by, text_section, some_size, symbol_command, symbol_table_at, part_at, text_end_of, whole_table, row_addresses, symbol_at, is_candidate, sized_entry, entry_of, kept};
+ghost use Rattle.binfarce_symbols.specs.Sizes.{RisesStrictly, addresses_of, arranged, least_above, size_up_to};
+ghost use Rattle.binfarce_symbols.specs.Symbol.{Listed};
+ghost use Rattle.binfarce_macho.specs.MachoTypes.{header_seen, section_seen};
+ghost use Rattle.binfarce_macho.specs.RawMacho.{command_seen, damage_refusal, commands_left, found_seen, raw_symbol, raw_symbol_table, entry_seen, ListsKept};
+
+use binfarce_bytes::parser::{Stream, UnexpectedEof, number_at, parse_null_string};
+use binfarce_symbols::sizes::{RowAddress, arrange, sweep};
+use binfarce_bytes::{ByteOrder, ParseError};
+use binfarce_names::demangle::{SymbolData, SymbolName};
+use std::alloc::{AllocError, Global};
+use std::marker::Model;
+use std::ops::Range;
+
+const LC_SYMTAB: u32 = 0x2;
+
+const LC_SEGMENT_64: u32 = 0x19;
+
+/// How many bytes the header has, behind which the load commands stand.
+const HEADER_LENGTH: usize = 32;
+
+/// How many bytes a load command has before its body.
+const COMMAND_HEAD: u32 = 8;
+
+const SECTION_LENGTH: usize = 80;
+
+const SYMBOL_LENGTH: usize = 16;
+
+/// A section's names, its address, and the place of its bytes. The names are parts of the file.
+#[derive(Debug, Clone, Copy)]
+pub struct Section<'a> {
+    segment_name: &'a str,
+    section_name: &'a str,
+    address: u64,
+    offset: u32,
+    size: u64,
+}
+
+impl Section<'_> {
+    /// The bytes of the file that the section has; `MalformedInput` where its end passes `usize`.
+    ///
+    /// The range isn't held against the file's length.
+    pub fn range(&self) -> Result<Range<usize>, ParseError>
+        ensures { let s = section_seen self.now in MatchResult result
+            (λ r. (r.start ≡ s.offset) × (r.end ≡ s.offset + s.size))
+            (λ e. (2 ^ 64 ≤ s.offset + s.size) × (refusal_of e ≡ malformed_input)) }
+    {
+        let start = self.offset as usize;
+        match start.checked_add(self.size as usize) {
+            Some(end) => Ok(start..end),
+            None => Err(ParseError::MalformedInput),
+        }
+    }
+}
+
+/// The file header.
+#[derive(Debug, Clone, Copy)]
+pub struct MachoHeader {
+    cputype: u32,
+    cpusubtype: u32,
+    /// The type of the file: an object, a program, a library.
+    filetype: u32,
+    /// How many load commands there are.
+    ncmds: u32,
+    /// How many bytes they have.
+    sizeofcmds: u32,
+    flags: u32,
+}
+
+/// A Mach-O file. It borrows the file's bytes.
+#[derive(Debug, Clone, Drop)]
+pub struct Macho<'a> {
+    data: &'a [u8],
+    header: MachoHeader,
+}
+
+impl<'a> Model for Macho<'a> {
+    ghost use Rattle.std.specs.Prelude.{◌≡◌, ℕ, List};
+    ghost use Rattle.binfarce_macho.specs.Macho.{header_at};
+    ghost use Rattle.binfarce_macho.specs.MachoTypes.{header_seen};
+
+    ghost Value = { List ℕ };
+
+    ghost view = { λ m. m.data.now };
+
+    ghost invariant = { λ m. header_seen m.header ≡ header_at m.data.now };
+}
+
+/// Reads the header of a Mach-O file, without a look at the magic number.
+///
+/// `UnexpectedEof` for fewer than 28 bytes.
+pub fn parse(data: &[u8]) -> Result<Macho<'_>, ParseError>
+    ensures { MatchResult result
+        (λ m. (28 ≤ length data.now) × (m ≡ data.now))
+        (λ e. (length data.now < 28) × (refusal_of e ≡ unexpected_eof)) }
+{
+    match parse_macho_header(data) {
+        Err(_) => Err(ParseError::UnexpectedEof),
+        Ok(header) => Ok(Macho { data, header }),
+    }
+}
+
+impl<'a> Macho<'a> {
+    /// The file header.
+    pub fn header(&self) -> MachoHeader
+        ensures { header_seen result ≡ header_at self.now }
+    {
+        self.header
+    }
+
+    /// The first section that the callback accepts, in file order.
+    ///
+    /// The sections are those of the segment commands whose segment and section name both read in their own 16
+    /// bytes. `UnexpectedEof` where a segment command or a section is cut, `MalformedInput` where a load command's
+    /// size is below 8; what stands before is asked first. The section borrows from the file and may outlive the reader.
+    pub fn find_section<F: Fn(Section<'_>) -> bool>(
+        &self,
+        callback: F,
+    ) -> Result<Option<Section<'a>>, ParseError>
+        requires { All (MayBeAsked section_seen (F.pre callback)) (walk self.now).sections }
+        ensures { FirstAccepted refusal_of section_seen (F.post callback) (walk self.now) result }
+    {
+        match self.first_section(callback) {
+            Err(damage) => Err(refused(damage)),
+            Ok(found) => Ok(found),
+        }
+    }
+
+    /// The first section with these two names; refused as `find_section` is.
+    pub fn section_with_name(
+        &self,
+        segment_name: &str,
+        section_name: &str,
+    ) -> Result<Option<Section<'a>>, ParseError>
+        ensures { Gives refusal_of (option_map section_seen) result
+            (first (λ s. is_named segment_name.now section_name.now s) (walk self.now)) }
+    {
+        match self.named_section(segment_name, section_name) {
+            Err(damage) => Err(refused(damage)),
+            Ok(found) => Ok(found),
+        }
+    }
+
+    fn named_section(
+        &self,
+        segment_name: &str,
+        section_name: &str,
+    ) -> Result<Option<Section<'a>>, Damage>
+        ensures { Gives damage_refusal (option_map section_seen) result
+            (first (λ s. is_named segment_name.now section_name.now s) (walk self.now)) }
+    {
+        self.first_section(|section| {
+            section.segment_name == segment_name && section.section_name == section_name
+        })
+    }
+
+    fn first_section<F: Fn(Section<'_>) -> bool>(
+        &self,
+        callback: F,
+    ) -> Result<Option<Section<'a>>, Damage>
+        requires { All (MayBeAsked section_seen (F.pre callback)) (walk self.now).sections }
+        ensures { FirstAccepted damage_refusal section_seen (F.post callback) (walk self.now) result }
+    {
+        for item in self.commands() {
+            let command = match item {
+                Err(damage) => return Err(damage),
+                Ok(command) => command,
+            };
+            if command.kind == LC_SEGMENT_64 {
+                match first_in_segment(self.data, command.place + 8, &callback) {
+                    Err(_) => return Err(Damage::Cut),
+                    Ok(None) => {}
+                    Ok(Some(section)) => return Ok(Some(section)),
+                }
+            }
+        }
+        Ok(None)
+    }
+
+    /// The function symbols of the first section, in the order of their addresses, and the size of the text.
+    ///
+    /// A symbol's size is the distance to the least greater address in the whole table, or to the text's end where
+    /// there is none. Kept are rows with a value, a name offset, one of the type bits 0x0A and section 1, that have
+    /// a size and a name that reads; rows of one address stand in table order. Without a symbol table the answer is
+    /// an empty list and 0. Refused, in this order: as `find_section`; `SymbolsSectionIsMissing` without a section
+    /// `__text` of `__TEXT`; `MalformedInput` where that is empty, or for a bad load command before the symbol
+    /// table's; `UnexpectedEof` where that command, the strings or the rows are cut; `MalformedInput` where the
+    /// text's end passes an address, or a row that would be kept lies past that end with no address above it.
+    /// `OutOfMemory` comes only where the table has a value that isn't 0, and may stand in place of the last refusal.
+    pub fn symbols(&self, alloc: Global) -> Result<(Vec<SymbolData>, u64), ParseError>
+        ensures answer { AnswersOr (HasAddress self.now) (macho_answer self.now) result }
+        // A law of that answer: ranges hold no address of the table, and equal addresses have equal sizes.
+        ensures sized { (found : Located) (listed : Listed) → located self.now ≡ Ok (Some found) → macho_answer self.now ≡ Ok listed
+            → AreSized (addresses_of (row_addresses found.rows)) listed.entries }
+        // The order is strict: each row's address and number are past those of the row before it.
+        ensures strict { (rows : List ℕ) → RisesStrictly (arranged (row_addresses rows)) }
+    {
+        match self.locate() {
+            Err(error) => Err(error),
+            Ok(None) => Ok((Vec::new(alloc), 0)),
+            Ok(Some(found)) => match parse_symbols(alloc, found) {
+                Err(error) => Err(error),
+                Ok(symbols) => Ok((symbols, found.text_size)),
+            },
+        }
+    }
+
+    #[tactic(auto, unfolding(crate::specs::MachoSymbols::located))]
+    fn locate(&self) -> Result<Option<Found<'a>>, ParseError>
+        ensures { Gives refusal_of (option_map found_seen) result (located self.now) }
+    {
+        let found = self.text_section()?;
+        let text = some_size(found)?;
+        let command = self.symbol_command()?;
+        located_by(self.data, text, command)
+    }
+
+    fn text_section(&self) -> Result<Section<'a>, ParseError>
+        ensures { Gives refusal_of section_seen result (text_section self.now) }
+    {
+        match self.named_section("__TEXT", "__text") {
+            Err(damage) => Err(refused(damage)),
+            Ok(None) => Err(ParseError::SymbolsSectionIsMissing),
+            Ok(Some(section)) => Ok(section),
+        }
+    }
+
+    // The first command that names a symbol table.
+    fn symbol_command(&self) -> Result<Option<Command>, ParseError>
+        ensures { Gives refusal_of (option_map command_seen) result (symbol_command self.now) }
+    {
+        for item in self.commands() {
+            let command = match item {
+                Err(damage) => return Err(refused(damage)),
+                Ok(command) => command,
+            };
+            if command.kind == LC_SYMTAB {
+                return Ok(Some(command));
+            }
+        }
+        Ok(None)
+    }
+
+    fn commands(&self) -> MachoCommandsIterator<'a>
+        ensures bytes { result.bytes.now ≡ self.now }
+        ensures left { commands_left result ≡ commands self.now }
+        // No more items come than the header has commands, and then they end.
+        ensures at_most { UpTo (⟦<MachoCommandsIterator<'static> as Iterator>⟧.remaining result) (header_at self.now).ncmds }
+    {
+        MachoCommandsIterator {
+            bytes: self.data,
+            place: HEADER_LENGTH,
+            left: self.header.ncmds,
+        }
+    }
+}
+
+/// Why a walk ends before its end.
+#[derive(Clone, Copy)]
+enum Damage {
+    Malformed,
+    Cut,
+}
+
+fn refused(damage: Damage) -> ParseError
+    ensures { refusal_of result ≡ damage_refusal damage }
+{
+    match damage {
+        Damage::Malformed => ParseError::MalformedInput,
+        Damage::Cut => ParseError::UnexpectedEof,
+    }
+}
+
+/// A load command: where it begins, its kind and its size.
+#[derive(Clone, Copy)]
+struct Command {
+    place: usize,
+    kind: u32,
+    size: u32,
+}
+
+/// The load commands, at most as many as are left. A command whose size is below 8 ends them with an error.
+#[derive(Drop)]
+struct MachoCommandsIterator<'a> {
+    bytes: &'a [u8],
+    place: usize,
+    left: u32,
+}
+
+impl Iterator for MachoCommandsIterator<'_> {
+    ghost use Rattle.std.specs.Prelude.{◌≡◌};
+    ghost use Rattle.std.specs.Iterator.{at_most};
+    ghost use Rattle.binfarce_macho.specs.RawMacho.{Takes, commands_left};
+
+    type Item = Result<Command, Damage>;
+
+    ghost next_gives = { λ before result after. (after.bytes.now ≡ before.bytes.now) × Takes (commands_left before) result (commands_left after) };
+
+    ghost remaining = { λ it. at_most it.left };
+
+    fn next(&mut self) -> Option<Result<Command, Damage>> {
+        if self.left == 0 {
+            return None;
+        }
+        match command_at(self.bytes, self.place) {
+            Err(_) => None,
+            Ok(command) => {
+                if command.size < COMMAND_HEAD {
+                    self.left = 0;
+                    return Some(Err(Damage::Malformed));
+                }
+                self.left -= 1;
+                self.place += command.size as usize;
+                Some(Ok(command))
+            }
+        }
+    }
+}
+
+/// The load command that begins at `place`; refused where its head is cut.
+#[tactic(auto)]
+fn command_at(bytes: &[u8], place: usize) -> Result<Command, UnexpectedEof>
+    ensures { MatchResult result
+        (λ c. (place + 8 ≤ length bytes.now) × (command_seen c ≡ command_at bytes.now place))
+        (λ _. length bytes.now < place + 8) }
+{
+    let mut s = Stream::new_at(bytes, place, ByteOrder::LittleEndian)?;
+    let kind = s.read()?;
+    let size = s.read()?;
+    Ok(Command { place, kind, size })
+}
+
+/// The first section of a segment command that the callback accepts.
+fn first_in_segment<'a, F: Fn(Section<'_>) -> bool>(
+    bytes: &'a [u8],
+    body: usize,
+    callback: &F,
+) -> Result<Option<Section<'a>>, UnexpectedEof>
+    requires asked { All (MayBeAsked section_seen (F.pre callback.now)) (segment bytes.now body).sections }
+    requires inside { body ≤ length bytes.now }
+    ensures { FirstAccepted (λ _. unexpected_eof) section_seen (F.post callback.now) (segment bytes.entry.now body) result }
+{
+    let count: u32 = number_at(bytes, body + 56, ByteOrder::LittleEndian)?;
+    for index in 0..count {
+        let start = body + 64 + index as usize * SECTION_LENGTH;
+        let found = section_at(bytes, start)?;
+        match found {
+            None => {}
+            Some(section) => {
+                if callback(section) {
+                    return Ok(Some(section));
+                }
+            }
+        }
+    }
+    Ok(None)
+}
+
+/// The section whose structure begins at `start`, where both its names read; refused where a field is cut.
+#[tactic(auto, unfolding(crate::specs::Macho::section_at, crate::specs::Macho::section_fields))]
+fn section_at(bytes: &[u8], start: usize) -> Result<Option<Section<'_>>, UnexpectedEof>
+    ensures { MatchResult result
+        (λ s. (start + 52 ≤ length bytes.now) × (option_map section_seen s ≡ section_at bytes.now start))
+        (λ _. length bytes.now < start + 52) }
+{
+    let mut s = Stream::new_at(bytes, start, ByteOrder::LittleEndian)?;
+    let section_name = s.read_bytes(16)?;
+    let segment_name = s.read_bytes(16)?;
+    let address = s.read()?;
+    let size = s.read()?;
+    let offset = s.read()?;
+    match parse_null_string(section_name, 0) {
+        None => Ok(None),
+        Some(section_name) => match parse_null_string(segment_name, 0) {
+            None => Ok(None),
+            Some(segment_name) => Ok(Some(Section {
+                segment_name,
+                section_name,
+                address,
+                offset,
+                size,
+            })),
+        },
+    }
+}
+
+#[tactic(auto, unfolding(crate::specs::Macho::header_at, crate::specs::Macho::header_fields))]
+fn parse_macho_header(data: &[u8]) -> Result<MachoHeader, UnexpectedEof>
+    ensures { MatchResult result
+        (λ h. (28 ≤ length data.now) × (header_seen h ≡ header_at data.now))
+        (λ _. length data.now < 28) }
+{
+    let order = ByteOrder::LittleEndian;
+    Ok(MachoHeader {
+        cputype: number_at(data, 4, order)?,
+        cpusubtype: number_at(data, 8, order)?,
+        filetype: number_at(data, 12, order)?,
+        ncmds: number_at(data, 16, order)?,
+        sizeofcmds: number_at(data, 20, order)?,
+        flags: number_at(data, 24, order)?,
+    })
+}
+
+fn some_size(section: Section<'_>) -> Result<Section<'_>, ParseError>
+    ensures { Gives refusal_of section_seen result (some_size (section_seen section.entry)) }
+{
+    if section.size == 0 {
+        Err(ParseError::MalformedInput)
+    } else {
+        Ok(section)
+    }
+}
+
+/// Where the symbols of a file stand, and where its text ends.
+#[derive(Clone, Copy)]
+struct Found<'a> {
+    text_end: u64,
+    text_size: u64,
+    strings: &'a [u8],
+    rows: &'a [u8],
+}
+
+#[tactic(auto, unfolding(crate::specs::MachoSymbols::located_by))]
+fn located_by<'a>(
+    bytes: &'a [u8],
+    text: Section<'_>,
+    command: Option<Command>,
+) -> Result<Option<Found<'a>>, ParseError>
+    ensures { Gives refusal_of (option_map found_seen) result
+        (located_by bytes.entry.now (section_seen text.entry) (option_map command_seen command)) }
+{
+    match command {
+        None => Ok(None),
+        Some(command) => {
+            let table = whole_table(bytes, command)?;
+            let strings = part_at(
+                bytes,
+                table.strings_offset as usize,
+                table.strings_size as usize,
+            )?;
+            let rows = part_at(
+                bytes,
+                table.symbol_offset as usize,
+                SYMBOL_LENGTH * table.row_count as usize,
+            )?;
+            let text_end = text_end(text)?;
+            Ok(Some(Found {
+                text_end,
+                text_size: text.size,
+                strings,
+                rows,
+            }))
+        }
+    }
+}
+
+/// The places that the body of a symbol table's command names.
+#[derive(Clone, Copy)]
+struct RawSymbolTable {
+    symbol_offset: u32,
+    row_count: u32,
+    strings_offset: u32,
+    strings_size: u32,
+}
+
+fn whole_table(bytes: &[u8], command: Command) -> Result<RawSymbolTable, ParseError>
+    ensures { Gives refusal_of raw_symbol_table result (whole_table bytes.now (command_seen command)) }
+{
+    match symbol_table_at(bytes, command) {
+        Err(_) => Err(ParseError::UnexpectedEof),
+        Ok(table) => Ok(table),
+    }
+}
+
+#[tactic(auto, unfolding(crate::specs::MachoSymbols::symbol_table_at, crate::specs::MachoSymbols::symbol_table_fields))]
+fn symbol_table_at(bytes: &[u8], command: Command) -> Result<RawSymbolTable, UnexpectedEof>
+    ensures { let body = body_of (command_seen command) in MatchResult result
+        (λ t. (body + 16 ≤ length bytes.now) × (raw_symbol_table t ≡ symbol_table_at bytes.now body))
+        (λ _. length bytes.now < body + 16) }
+{
+    let body = command.place.checked_add(8).ok_or(UnexpectedEof {})?;
+    let mut s = Stream::new_at(bytes, body, ByteOrder::LittleEndian)?;
+    let symbol_offset = s.read()?;
+    let row_count = s.read()?;
+    let strings_offset = s.read()?;
+    let strings_size = s.read()?;
+    Ok(RawSymbolTable {
+        symbol_offset,
+        row_count,
+        strings_offset,
+        strings_size,
+    })
+}
+
+fn part_at(bytes: &[u8], offset: usize, size: usize) -> Result<&[u8], ParseError>
+    ensures { Gives refusal_of (λ b. b.now) result (part_at bytes.now offset size) }
+{
+    match offset.checked_add(size) {
+        None => Err(ParseError::UnexpectedEof),
+        Some(end) => match bytes.get(offset..end) {
+            None => Err(ParseError::UnexpectedEof),
+            Some(part) => Ok(part),
+        },
+    }
+}
+
+fn text_end(text: Section<'_>) -> Result<u64, ParseError>
+    ensures { Gives refusal_of (λ n. n) result (text_end_of (section_seen text.entry)) }
+{
+    match text.address.checked_add(text.size) {
+        None => Err(ParseError::MalformedInput),
+        Some(end) => Ok(end),
+    }
+}
+
+/// A symbol table entry's values.
+#[derive(Clone, Copy)]
+struct RawSymbol {
+    name: u32,
+    kind: u8,
+    section: u8,
+    value: u64,
+}
+
+#[inline]
+#[tactic(auto, unfolding(crate::specs::MachoSymbols::symbol_at, crate::specs::MachoSymbols::symbol_fields))]
+fn symbol_at(rows: &[u8], start: usize) -> Result<RawSymbol, UnexpectedEof>
+    ensures { MatchResult result
+        (λ s. (start + 16 ≤ length rows.now) × (raw_symbol s ≡ symbol_at rows.now start))
+        (λ _. length rows.now < start + 16) }
+{
+    let mut s = Stream::new_at(rows, start, ByteOrder::LittleEndian)?;
+    let name = s.read()?;
+    let kind = s.read()?;
+    let section = s.read()?;
+    s.skip::<u16>()?; // description
+    let value = s.read()?;
+    Ok(RawSymbol {
+        name,
+        kind,
+        section,
+        value,
+    })
+}
+
+/// A symbol's entry, with its name as it stands in the file.
+#[derive(Clone, Copy)]
+struct RawEntry<'a> {
+    name: &'a str,
+    address: u64,
+    size: u64,
+}
+
+/// The symbols of a table. Its addresses are arranged once, and one walk over them finds what is above each.
+fn parse_symbols(alloc: Global, found: Found<'_>) -> Result<Vec<SymbolData>, ParseError>
+    ensures kept { ListsKept (kept (entry_of (found_seen found.entry)) (arranged (row_addresses found.entry.rows.now))) result }
+    ensures some { OnErr result (row_addresses found.entry.rows.now ≢ []) }
+{
+    let mut rows = match row_addresses(alloc, found.rows) {
+        Err(_) => return Err(ParseError::OutOfMemory),
+        Ok(rows) => rows,
+    };
+    if rows.is_empty() {
+        return Ok(Vec::new(alloc));
+    }
+    arrange(&mut rows);
+    match sweep(alloc, &rows) {
+        Err(_) => Err(ParseError::OutOfMemory),
+        Ok(swept) => list_symbols(alloc, found, &rows, &swept.above),
+    }
+}
+
+// The addresses of the rows that have one.
+fn row_addresses(alloc: Global, rows: &[u8]) -> Result<Vec<RowAddress>, AllocError>
+    ensures items { IfOk result (λ v. v.items ≡ row_addresses rows.now) }
+    ensures memory { OnErr result (row_addresses rows.now ≢ []) }
+{
+    let mut addresses = Vec::new(alloc);
+    for k in 0..rows.len() / SYMBOL_LENGTH {
+        let row = symbol_at(rows, k * SYMBOL_LENGTH).unwrap();
+        if has_address(row) {
+            addresses.push(RowAddress {
+                address: row.value,
+                row: k,
+            })?;
+        }
+    }
+    Ok(addresses)
+}
+
+// The symbols of the rows in the order that they stand in, given what is above each.
+fn list_symbols(
+    alloc: Global,
+    found: Found<'_>,
+    rows: &[RowAddress],
+    above: &[Option<u64>],
+) -> Result<Vec<SymbolData>, ParseError>
+    requires above { above.now ≡ map (λ r. least_above (addresses_of (row_addresses found.rows.now)) r.address) rows.now }
+    requires inside { All (λ r. r.row * 16 + 16 ≤ length found.rows.now) rows.now }
+    ensures { ListsKept (kept (entry_of (found_seen found.entry)) rows.now) result }
+{
+    let mut symbols = Vec::new(alloc);
+    for k in 0..rows.len() {
+        let entry = match entry_of(found, rows[k], above[k]) {
+            Err(error) => return Err(error),
+            Ok(None) => continue,
+            Ok(Some(entry)) => entry,
+        };
+        let name = match SymbolName::demangle(alloc, entry.name) {
+            Err(_) => return Err(ParseError::OutOfMemory),
+            Ok(name) => name,
+        };
+        match symbols.push(SymbolData {
+            name,
+            address: entry.address,
+            size: entry.size,
+        }) {
+            Err(_) => return Err(ParseError::OutOfMemory),
+            Ok(()) => {}
+        }
+    }
+    Ok(symbols)
+}
+
+// The entry of a row, given what is above its address.
+#[tactic(auto, unfolding(crate::specs::MachoSymbols::entry_of, binfarce_symbols::specs::Sizes::macho_size))]
+fn entry_of<'a>(
+    found: Found<'a>,
+    at: RowAddress,
+    above: Option<u64>,
+) -> Result<Option<RawEntry<'a>>, ParseError>
+    requires above { above ≡ least_above (addresses_of (row_addresses found.rows.now)) at.address }
+    requires inside { at.row * 16 + 16 ≤ length found.rows.now }
+    ensures { Gives refusal_of (option_map entry_seen) result (entry_of (found_seen found.entry) at) }
+{
+    let row = symbol_at(found.rows, at.row * SYMBOL_LENGTH).unwrap();
+    if !is_candidate(row) {
+        return Ok(None);
+    }
+    match size_up_to(above, found.text_end, at.address) {
+        Err(error) => Err(error),
+        Ok(size) => Ok(sized_entry(
+            at.address,
+            size,
+            parse_null_string(found.strings, row.name as usize),
+        )),
+    }
+}
+
+fn has_address(row: RawSymbol) -> bool
+    ensures { result ≡ not (nat_eq (raw_symbol row).value 0) }
+{
+    row.value != 0
+}
+
+fn is_candidate(row: RawSymbol) -> bool
+    ensures { result ≡ is_candidate (raw_symbol row) }
+{
+    row.name != 0 && row.kind & 0x0A != 0 && row.section == 1
+}
+
+fn size_up_to(above: Option<u64>, text_end: u64, address: u64) -> Result<Option<u64>, ParseError>
+    requires { (n : ℕ) → above ≡ Some n → address < n }
+    ensures { Gives refusal_of (λ o. o) result (size_up_to above text_end address) }
+{
+    match above {
+        Some(above) => Ok(Some(above - address)),
+        None => {
+            if address < text_end {
+                Ok(Some(text_end - address))
+            } else if address == text_end {
+                Ok(None)
+            } else {
+                Err(ParseError::MalformedInput)
+            }
+        }
+    }
+}
+
+fn sized_entry(address: u64, size: Option<u64>, name: Option<&str>) -> Option<RawEntry<'_>>
+    ensures { option_map entry_seen result ≡ sized_entry address size (option_map (λ t. t.now) name.entry) }
+{
+    match size {
+        None => None,
+        Some(size) => match name {
+            None => None,
+            Some(name) => Some(RawEntry {
+                name,
+                address,
+                size,
+            }),
+        },
+    }
+}
+
+#[cfg(test)]
+mod tests;

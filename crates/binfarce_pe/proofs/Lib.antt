@@ -1,0 +1,4 @@
+pub mod Numbered
+pub mod PeWalks
+pub mod PeRows
+pub mod Strictly

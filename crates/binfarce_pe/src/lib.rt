@@ -1,0 +1,4 @@
+//! PE files with COFF symbols (Microsoft PE Format).
+#![tactic(auto)]
+
+pub mod pe;

@@ -1,0 +1,71 @@
+-- Rows arranged by address, and the sizes that the addresses of a table give where a format stores none.
+use Rattle.std.specs.Prelude.{◌≡◌, ℕ, ◌+◌, ◌-◌, ◌<◌, ◌≤◌, Bool, true, ◌&&◌, ◌||◌, List, [], ◌∷◌, length, map, filter, All, Contains, min, Option, Some, None, Result, Ok, Err, nat_lt, nat_eq, slice_index_or, if◌then◌else◌}
+use Rattle.std.specs.List.Sorted.{IsPermutation}
+use Rattle.binfarce_symbols.specs.declared.sizes.RowAddress.{RowAddress}
+use Rattle.binfarce_bytes.specs.Refusal.{Refusal, malformed_input}
+
+-- by address, and at equal addresses by the number of the row
+abbrev pub comes_before : RowAddress → RowAddress → Bool
+comes_before x y = nat_lt x.address y.address || (nat_eq x.address y.address && nat_lt x.row y.row)
+
+-- one row more, behind those that come before it
+abbrev pub put_in : RowAddress → List RowAddress → List RowAddress
+put_in x [] = x ∷ []
+put_in x (y ∷ ys) = if comes_before y x then y ∷ put_in x ys else x ∷ y ∷ ys
+
+-- the rows in the order of (address, row number)
+unfoldable pub arranged : List RowAddress → List RowAddress
+arranged [] = []
+arranged (x ∷ xs) = put_in x (arranged xs)
+
+-- (address, row number) rises strictly
+abbrev pub RisesStrictly : List RowAddress → Type 0
+RisesStrictly rows = (k : ℕ) (d : RowAddress) → k + 1 < length rows → comes_before (slice_index_or rows k d) (slice_index_or rows (k + 1) d) ≡ true
+
+-- the same rows, in strictly rising order
+pub record IsArrangementOf (rows in_order : List RowAddress) : Type 0 where
+  pub same : IsPermutation rows in_order
+  pub rises : RisesStrictly in_order
+
+abbrev pub addresses_of : List RowAddress → List ℕ
+addresses_of rows = map (λ r. r.address) rows
+
+-- x, or the member where it is less
+abbrev pub least_of : ℕ → Option ℕ → ℕ
+least_of x None = x
+least_of x (Some member) = min x member
+
+-- the least member of a set, which a list of its members gives in any order
+abbrev pub least : List ℕ → Option ℕ
+least [] = None
+least (x ∷ xs) = Some (least_of x (least xs))
+
+-- the least member of the set above a
+unfoldable pub least_above : List ℕ → ℕ → Option ℕ
+least_above members a = least (filter (λ b. nat_lt a b) members)
+
+-- b is a member above a, and no member above a is less
+pub record IsLeastAbove (members : List ℕ) (a b : ℕ) : Type 0 where
+  pub member : Contains members b
+  pub above : a < b
+  pub least : All (λ c. a < c → b ≤ c) members
+
+-- what `least_above` says: the least member above a, or that there is none
+abbrev pub LeastAbove : List ℕ → ℕ → Option ℕ → Type 0
+LeastAbove members a (Some b) = IsLeastAbove members a b
+LeastAbove members a None = All (λ c. c ≤ a) members
+
+-- up to the text's end: no size at that end, and a refusal past it
+abbrev pub size_to_end : ℕ → ℕ → Result (Option ℕ) Refusal
+size_to_end text_end address =
+    if nat_lt address text_end then Ok (Some (text_end - address))
+    else if nat_eq address text_end then Ok None
+    else Err malformed_input
+
+abbrev pub size_up_to : Option ℕ → ℕ → ℕ → Result (Option ℕ) Refusal
+size_up_to (Some above) text_end address = Ok (Some (above - address))
+size_up_to None text_end address = size_to_end text_end address
+
+-- the size of a Mach-O symbol: up to the least address above its own, in whatever section that lies, and with none above up to the text's end
+unfoldable pub macho_size : List ℕ → ℕ → ℕ → Result (Option ℕ) Refusal
+macho_size members text_end address = size_up_to (least_above members address) text_end address

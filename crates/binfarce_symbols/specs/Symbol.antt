@@ -1,0 +1,40 @@
+-- The answer of `symbols`: one symbol for each entry, in order.
+use Rattle.std.specs.Prelude.{◌≡◌, ℕ, List, ◌∷◌, Result, Ok, Err}
+use Rattle.std.specs.Global.{Vec}
+use Rattle.std.specs.List.{AllZip}
+use Rattle.binfarce_names.specs.declared.demangle.SymbolData.{SymbolData}
+use Rattle.binfarce_names.specs.Name.{name_seen}
+use Rattle.binfarce_names.specs.Named.{IsNamed}
+use Rattle.binfarce_bytes.specs.declared.error.ParseError.{ParseError}
+use Rattle.binfarce_bytes.specs.Refusal.{Refusal, refusal_of, out_of_memory}
+
+-- a function symbol that the file holds: its name as it is stored, its address, and its size in bytes
+pub record Entry : Type 0 where
+  pub name : List ℕ
+  pub address : ℕ
+  pub size : ℕ
+
+-- the entries, and the size of the section that they lie in
+pub record Listed : Type 0 where
+  pub entries : List Entry
+  pub section_size : ℕ
+
+-- the symbol has the entry's address and size, and its name is the answer of the entry's name
+pub record IsSymbolOf (entry : Entry) (symbol : SymbolData) : Type 0 where
+  pub name : IsNamed entry.name (name_seen symbol.name)
+  pub address : symbol.address ≡ entry.address
+  pub size : symbol.size ≡ entry.size
+
+-- one symbol for each entry, in order, and no other
+abbrev pub AreSymbolsOf : List Entry → List SymbolData → Type 0
+AreSymbolsOf entries symbols = AllZip IsSymbolOf entries symbols
+
+abbrev pub IsNotEmpty : List Entry → Type 0
+IsNotEmpty entries = (entry : Entry) × (others : List Entry) × (entries ≡ entry ∷ others)
+
+-- what `symbols` answers where the file's answer is this: want of memory may stand in place of a list that isn't empty, and of nothing else
+abbrev pub Answers : Result Listed Refusal → Result (Vec SymbolData × ℕ) ParseError → Type 0
+Answers (Ok listed) (Ok answer) = AreSymbolsOf listed.entries answer.0.items × (answer.1 ≡ listed.section_size)
+Answers (Ok listed) (Err e) = (refusal_of e ≡ out_of_memory) × IsNotEmpty listed.entries
+Answers (Err refusal) (Ok answer) = ⊥
+Answers (Err refusal) (Err e) = refusal_of e ≡ refusal

@@ -1,2 +1,3 @@
 pub mod Symbol
+pub mod SymbolSeen
 pub mod Sizes

@@ -3,7 +3,7 @@ use Rattle.std.specs.Prelude.{ℕ, ◌-◌, ◌^◌, List, [], ◌∷◌, ◌++�
 use Rattle.std.specs.Fmt.{decimal, digits, format_spec, padded_integral}
 use Rattle.std.specs.List.{flat_map}
 use Rattle.std.specs.String.{string_bytes}
-use Rattle.binfarce_names.specs.declared.demangle.SymbolData.{SymbolData}
+use Rattle.binfarce.specs.declared.demangle.SymbolData.{SymbolData}
 
 -- `{:016x}`: 16 hexadecimal digits, with leading zeros
 abbrev pub address_text : ℕ → List ℕ

@@ -1,2 +1,3 @@
+pub mod Pads
 pub mod Told
 pub mod Listings

@@ -171,6 +171,7 @@ pub fn list<S: Sink>(
 }
 
 // The whole listing.
+#[tactic(auto, using(crate::proofs::Pads::address_padded, crate::proofs::Pads::size_padded))]
 fn listing(alloc: Global, symbols: &[SymbolData], size: u64) -> Result<String, AllocError>
     ensures { IfOk result (λ t. string_bytes t ≡ listing symbols.now size) }
 {

@@ -6,6 +6,7 @@ pub use Rattle.binfarce_bytes.specs.Text
 pub use Rattle.binfarce_bytes.specs.Refusal
 pub use Rattle.binfarce_bytes.specs.Walk
 pub use Rattle.binfarce_symbols.specs.Symbol
+pub use Rattle.binfarce_symbols.specs.SymbolSeen
 pub use Rattle.binfarce_symbols.specs.Sizes
 pub use Rattle.binfarce_elf.specs.Elf
 pub use Rattle.binfarce_elf.specs.ElfSymbols

@@ -1,5 +1,5 @@
 -- The answer of `symbols`: one symbol for each entry, in order.
-use Rattle.std.specs.Prelude.{◌≡◌, ℕ, List, ◌∷◌, Result, Ok, Err}
+use Rattle.std.specs.Prelude.{◌≡◌, ◌⊎◌, ℕ, List, ◌∷◌, Result, Ok, Err}
 use Rattle.std.specs.Global.{Vec}
 use Rattle.std.specs.List.{AllZip}
 use Rattle.binfarce_names.specs.declared.demangle.SymbolData.{SymbolData}
@@ -32,9 +32,18 @@ AreSymbolsOf entries symbols = AllZip IsSymbolOf entries symbols
 abbrev pub IsNotEmpty : List Entry → Type 0
 IsNotEmpty entries = (entry : Entry) × (others : List Entry) × (entries ≡ entry ∷ others)
 
--- what `symbols` answers where the file's answer is this: want of memory may stand in place of a list that isn't empty, and of nothing else
-abbrev pub Answers : Result Listed Refusal → Result (Vec SymbolData × ℕ) ParseError → Type 0
-Answers (Ok listed) (Ok answer) = AreSymbolsOf listed.entries answer.0.items × (answer.1 ≡ listed.section_size)
-Answers (Ok listed) (Err e) = (refusal_of e ≡ out_of_memory) × IsNotEmpty listed.entries
-Answers (Err refusal) (Ok answer) = ⊥
-Answers (Err refusal) (Err e) = refusal_of e ≡ refusal
+-- the value is the symbols of these entries, and the size of their section
+abbrev pub HoldsSymbols : Listed → Vec SymbolData × ℕ → Type 0
+HoldsSymbols listed answer = AreSymbolsOf listed.entries answer.0.items × (answer.1 ≡ listed.section_size)
+
+-- the answer is a list that isn't empty
+abbrev pub ListsSome : Result Listed Refusal → Type 0
+ListsSome (Ok listed) = IsNotEmpty listed.entries
+ListsSome (Err refusal) = ⊥
+
+-- what a call returns where the file's answer is this: a value that holds what is listed, or the refusal. In place of an answer that needs memory, and of no other, it may return that an allocation was refused
+abbrev pub Answers : {X : Type 0} → (Listed → X → Type 0) → (Result Listed Refusal → Type 0) → Result Listed Refusal → Result X ParseError → Type 0
+Answers Holds NeedsMemory (Ok listed) (Ok value) = Holds listed value
+Answers Holds NeedsMemory (Ok listed) (Err e) = (refusal_of e ≡ out_of_memory) × NeedsMemory (Ok listed)
+Answers Holds NeedsMemory (Err refusal) (Ok value) = ⊥
+Answers Holds NeedsMemory (Err refusal) (Err e) = (refusal_of e ≡ refusal) ⊎ ((refusal_of e ≡ out_of_memory) × NeedsMemory (Err refusal))

@@ -1,4 +1,4 @@
--- What private contracts cite.
+-- What reading a file can fail with.
 use Rattle.binfarce_tools.specs.declared.list.ListError.TheVariants.{OutOfMemory}
 use Rattle.binfarce_list.specs.declared.program.Fault.{Fault}
 use Rattle.binfarce_list.specs.declared.program.Fault.TheVariants.{File, List}

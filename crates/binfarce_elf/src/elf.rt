@@ -4,18 +4,19 @@ ghost use Rattle.std.specs.Prelude.{◌≡◌, ◌+◌, ◌<◌, ◌≤◌, ◌^
 ghost use Rattle.std.specs.Option.{option_map};
 ghost use Rattle.binfarce_bytes.specs.Refusal.{Gives, refusal_of, malformed_input, unexpected_eof};
 ghost use Rattle.binfarce_bytes.specs.Walk.{MayBeAsked, FirstAccepted, first};
-ghost use Rattle.binfarce_symbols.specs.Symbol.{Answers};
+ghost use Rattle.binfarce_symbols.specs.Symbol.{Answers, HoldsSymbols, ListsSome};
 ghost use Rattle.binfarce_elf.specs.Elf.{header_at, section_table, walk, name_of, entry_count, NameStands};
 ghost use Rattle.binfarce_elf.specs.ElfSymbols.{is_name, elf_answer};
-ghost use Rattle.binfarce_elf.specs.ElfSeen.{header_seen, section_seen};
+ghost use Rattle.binfarce_elf.specs.ElfSeen.{header_seen, section_seen, functions_seen};
 ghost use Rattle.binfarce_elf.specs.machine.RawElf.{table_seen};
 
 use crate::class::Class;
 use crate::sections::{self, Table};
-use crate::symbols;
+use crate::symbols::{self, Functions};
 use binfarce_bytes::parser::{UnexpectedEof, number_at, range};
 use binfarce_bytes::{ByteOrder, ParseError};
 use binfarce_names::demangle::SymbolData;
+use binfarce_symbols::functions::symbols_of;
 use std::alloc::Global;
 use std::marker::Model;
 use std::ops::Range;
@@ -130,10 +131,7 @@ pub(crate) fn parse<C: Class>(bytes: &[u8], byte_order: ByteOrder) -> Result<Elf
     })
 }
 
-fn parse_header<C: Class>(
-    bytes: &[u8],
-    byte_order: ByteOrder,
-) -> Result<Header<C>, UnexpectedEof>
+fn parse_header<C: Class>(bytes: &[u8], byte_order: ByteOrder) -> Result<Header<C>, UnexpectedEof>
     ensures { MatchResult result
         (λ h. (C.table.header_length ≤ length bytes.now) × (header_seen C.number_of h ≡ header_at C.table byte_order bytes.now))
         (λ _. length bytes.now < C.table.header_length) }
@@ -189,21 +187,33 @@ impl<'a, C: Class> Elf<'a, C> {
         Ok(sections::section_with_name::<C>(self.table(), name)?)
     }
 
-    /// The function symbols of the section with this name, in the order of the symbol table, and the section's size.
+    /// The function symbols of the section with this name as the file stores them, in the order of the symbol table,
+    /// and the section's size in bytes. Nothing is allocated, and names stay mangled.
     ///
-    /// Kept are rows of type function that name the section by its index, and have a size and a valid name.
+    /// Kept are rows of type function (`STT_FUNC`) that name the section by its index, and have a size and a name.
     /// Refused, in this order: as `find_section`; `SymbolsSectionIsMissing`; `SectionIsMissing` of `.symtab` (the
-    /// first section of kind 2) and of `.strtab` (the section that it links to); `UnexpectedSectionType` where that
-    /// isn't of kind 3; `MalformedInput` and `UnexpectedEof` for the string table's and then the symbol table's
-    /// bytes; `UnexpectedEof` for a truncated last row. `OutOfMemory` stands only in place of a list that isn't empty.
+    /// first section of kind 2, `SHT_SYMTAB`) and of `.strtab` (the section that it links to); `UnexpectedSectionType`
+    /// where that isn't of kind 3 (`SHT_STRTAB`); `MalformedInput` and `UnexpectedEof` where the string table's and
+    /// then the symbol table's bytes end past `usize` and past the file; `UnexpectedEof` for a truncated last row.
+    pub fn functions(&self, section_name: &str) -> Result<(Functions<'a, C>, u64), ParseError>
+        ensures { Gives refusal_of (functions_seen C.table) result (elf_answer C.table (section_table C.table self.now) section_name.now) }
+    {
+        symbols::section_functions::<C>(self.table(), section_name)
+    }
+
+    /// The same functions as symbols, whose names are in readable form, and the section's size in bytes.
+    ///
+    /// Refused as `functions` is; `OutOfMemory` stands only in place of a list that isn't empty.
+    #[tactic(auto, using(crate::proofs::RowsLeft::symbols_are))]
     pub fn symbols(
         &self,
         alloc: Global,
         section_name: &str,
     ) -> Result<(Vec<SymbolData>, u64), ParseError>
-        ensures { Answers (elf_answer C.table (section_table C.table self.now) section_name.now) result }
+        ensures { Answers HoldsSymbols ListsSome (elf_answer C.table (section_table C.table self.now) section_name.now) result }
     {
-        symbols::symbols::<C>(alloc, self.table(), section_name)
+        let (functions, size) = self.functions(section_name)?;
+        Ok((symbols_of(alloc, functions)?, size))
     }
 
     #[tactic(auto, unfolding(crate::specs::Elf::section_table))]

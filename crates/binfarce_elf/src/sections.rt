@@ -104,10 +104,7 @@ fn is_name(found: Option<&str>, name: &str) -> bool
 
 /// A section's name, a part of the file.
 #[tactic(auto, unfolding(crate::specs::Elf::name_of))]
-pub(crate) fn section_name<'a, C: Class>(
-    table: Table<'a>,
-    section: Section<C>,
-) -> Option<&'a str>
+pub(crate) fn section_name<'a, C: Class>(table: Table<'a>, section: Section<C>) -> Option<&'a str>
     ensures { option_map (λ t. t.now) result ≡ name_of C.table (table_seen table.entry) (section_seen C.number_of section) }
 {
     name_at(names_bytes::<C>(table), section.name_offset)
@@ -124,7 +121,12 @@ fn names_bytes<'a, C: Class>(table: Table<'a>) -> Option<&'a [u8]>
     ensures { option_map (λ b. b.now) result ≡ names_bytes C.table (table_seen table.entry) }
 {
     let names = names_section::<C>(table)?;
-    part(table.bytes, names.offset.widened() as usize, names.size.widened() as usize).ok()
+    part(
+        table.bytes,
+        names.offset.widened() as usize,
+        names.size.widened() as usize,
+    )
+    .ok()
 }
 
 // The section of the section names, which isn't held against the count.

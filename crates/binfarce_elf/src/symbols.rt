@@ -1,13 +1,13 @@
 //! The function symbols of one section.
 
-ghost use Rattle.std.specs.Prelude.{◌≡◌, ◌/◌, length, IfOk, OnErr, nat_eq, codes};
+ghost use Rattle.std.specs.Prelude.{◌≡◌, ◌/◌, [], ◌∷◌, length, MatchOption, nat_eq, codes};
 ghost use Rattle.std.specs.Option.{option_map};
 ghost use Rattle.binfarce_bytes.specs.Refusal.{Gives, refusal_of, unexpected_eof, symbols_section_is_missing, section_is_missing};
 ghost use Rattle.binfarce_bytes.specs.Walk.{first};
-ghost use Rattle.binfarce_symbols.specs.Symbol.{Answers, AreSymbolsOf, IsNotEmpty};
+ghost use Rattle.binfarce_symbols.specs.SymbolSeen.{function_seen};
 ghost use Rattle.binfarce_elf.specs.Elf.{walk, name_of};
 ghost use Rattle.binfarce_elf.specs.ElfSymbols.{is_name, sought, string_table_kind, whole_rows, part_of, located, elf_answer, entries_of, function_name};
-ghost use Rattle.binfarce_elf.specs.ElfSeen.{section_seen};
+ghost use Rattle.binfarce_elf.specs.ElfSeen.{section_seen, functions_left, functions_seen};
 ghost use Rattle.binfarce_elf.specs.machine.RawElf.{row_seen, table_seen, found_seen};
 
 use crate::class::{Class, Row};
@@ -15,49 +15,39 @@ use crate::elf::Section;
 use crate::sections::{Table, first_section, section_with_name};
 use binfarce_bytes::parser::{UnexpectedEof, parse_null_string};
 use binfarce_bytes::{ByteOrder, ParseError};
-use binfarce_names::demangle::{SymbolData, SymbolName};
-use std::alloc::{AllocError, Global};
+use binfarce_symbols::functions::FunctionSymbol;
+use std::marker::PhantomData;
 
 const SHT_SYMTAB: u32 = 2;
 
 const SHT_STRTAB: u32 = 3;
 
-/// Where the symbols of a section are in the file.
+// Where the symbols of a section are in the file.
 #[derive(Clone, Copy)]
-pub(crate) struct Found<'a, C> {
-    pub(crate) text: Section<C>,
-    pub(crate) strings: &'a [u8],
-    pub(crate) rows: &'a [u8],
+struct Found<'a, C> {
+    text: Section<C>,
+    strings: &'a [u8],
+    rows: &'a [u8],
 }
 
 /// The function symbols of the section with this name, and the section's size.
-///
-/// All refusals but that of an allocation come before the first allocation.
 #[tactic(auto, unfolding(crate::specs::ElfSymbols::elf_answer))]
-pub(crate) fn symbols<C: Class>(
-    alloc: Global,
-    table: Table<'_>,
+pub(crate) fn section_functions<'a, C: Class>(
+    table: Table<'a>,
     section_name: &str,
-) -> Result<(Vec<SymbolData>, u64), ParseError>
-    ensures { Answers (elf_answer C.table (table_seen table.entry) section_name.now) result }
+) -> Result<(Functions<'a, C>, u64), ParseError>
+    ensures { Gives refusal_of (functions_seen C.table) result (elf_answer C.table (table_seen table.entry) section_name.now) }
 {
-    match locate::<C>(table, section_name) {
-        Err(error) => Err(error),
-        Ok(found) => {
-            match parse_symbols::<C>(
-                alloc,
-                found.rows,
-                table.byte_order,
-                found.strings,
-                found.text.index,
-            ) {
-                Err(_) => Err(ParseError::OutOfMemory),
-                Ok(symbols) => Ok((symbols, found.text.size.widened())),
-            }
-        }
-    }
+    let Found {
+        text,
+        strings,
+        rows,
+    } = locate::<C>(table, section_name)?;
+    let functions = Functions::new(rows, strings, table.byte_order, text.index);
+    Ok((functions, text.size.widened()))
 }
 
+// The section with this name, and the rows and the strings of the symbol table.
 #[tactic(auto, unfolding(crate::specs::ElfSymbols::located))]
 fn locate<'a, C: Class>(table: Table<'a>, section_name: &str) -> Result<Found<'a, C>, ParseError>
     ensures { Gives refusal_of (found_seen C.number_of) result (located C.table (table_seen table.entry) section_name.now) }
@@ -148,33 +138,77 @@ fn whole_rows<C: Class>(rows: &[u8]) -> Result<&[u8], ParseError>
     }
 }
 
-// The symbols of the whole rows that are kept.
-fn parse_symbols<C: Class>(
-    alloc: Global,
-    rows: &[u8],
+/// The function symbols of a section that are left, in the order of the symbol table.
+///
+/// Rows are read as they are asked for, and names stay in the file: nothing is allocated or copied.
+#[derive(Drop)]
+pub struct Functions<'a, C> {
+    rows: &'a [u8],
+    strings: &'a [u8],
     byte_order: ByteOrder,
-    strings: &[u8],
     index: u16,
-) -> Result<Vec<SymbolData>, AllocError>
-    ensures kept { IfOk result (λ v. AreSymbolsOf
-        (entries_of C.table byte_order strings.now index rows.now (length rows.now / C.table.symbol_length)) v.items) }
-    ensures memory { OnErr result (IsNotEmpty
-        (entries_of C.table byte_order strings.now index rows.now (length rows.now / C.table.symbol_length))) }
-{
-    let mut symbols = Vec::new(alloc);
-    for k in 0..rows.len() / C::SYMBOL_LENGTH {
-        let row = C::symbol(rows, k * C::SYMBOL_LENGTH, byte_order).unwrap();
-        let name = match function_name(strings, index, row) {
-            None => continue,
-            Some(name) => name,
-        };
-        symbols.push(SymbolData {
-            name: SymbolName::demangle(alloc, name)?,
-            address: row.value,
-            size: row.size,
-        })?;
+    next: usize,
+    class: PhantomData<C>,
+}
+
+impl<'a, C: Class> Functions<'a, C> {
+    // The functions of the section `index` in whole rows.
+    #[tactic(auto, using(crate::proofs::RowsLeft::from_first))]
+    fn new(rows: &'a [u8], strings: &'a [u8], byte_order: ByteOrder, index: u16) -> Self
+        ensures { functions_left C.table result ≡ entries_of C.table byte_order strings.entry.now index rows.entry.now (length rows.entry.now / C.table.symbol_length) }
+    {
+        Functions {
+            rows,
+            strings,
+            byte_order,
+            index,
+            next: 0,
+            class: PhantomData,
+        }
     }
-    Ok(symbols)
+
+    // The first function that is left, and the number of the row after it.
+    #[inline]
+    #[tactic(auto, using(crate::proofs::RowsLeft::passed, crate::proofs::RowsLeft::kept, crate::proofs::RowsLeft::ended))]
+    fn first_left(&self) -> Option<(FunctionSymbol<'a>, usize)>
+        ensures { MatchOption result (functions_left C.table self.now ≡ [])
+            (λ r. functions_left C.table self.now ≡ function_seen r.0 ∷ functions_left C.table (record self.now { next = r.1 })) }
+    {
+        for k in self.next..self.rows.len() / C::SYMBOL_LENGTH {
+            let row = C::symbol(self.rows, k * C::SYMBOL_LENGTH, self.byte_order).unwrap();
+            match function_name(self.strings, self.index, row) {
+                None => continue,
+                Some(name) => {
+                    let function = FunctionSymbol {
+                        name,
+                        address: row.value,
+                        size: row.size,
+                    };
+                    return Some((function, k + 1));
+                }
+            }
+        }
+        None
+    }
+}
+
+impl<'a, C: Class> Iterator for Functions<'a, C> {
+    ghost use Rattle.std.specs.Iterator.{YieldsFirstBy, item_count};
+    ghost use Rattle.binfarce_symbols.specs.SymbolSeen.{function_seen};
+    ghost use Rattle.binfarce_elf.specs.ElfSeen.{functions_left};
+
+    type Item = FunctionSymbol<'a>;
+
+    ghost next_gives = { YieldsFirstBy function_seen (functions_left C.table) };
+
+    ghost remaining = { item_count (functions_left C.table) };
+
+    #[inline]
+    fn next(&mut self) -> Option<FunctionSymbol<'a>> {
+        let (function, next) = self.first_left()?;
+        self.next = next;
+        Some(function)
+    }
 }
 
 // The name of a function of the section `index`, with a size and a name offset.

@@ -8,8 +8,7 @@ returns g c =
     let w = g.C.RawNumber.SIZE in
     let order = c.args.byte_order in
     let is : c.SIZE-word.result ≡ w = c.SIZE-word.ensures in
-    let number = g.C.Class.number_of in
-    (
+    let number = g.C.Class.number_of in (
       omega (arith, c.in_ok-number_at-13.ensures.0, g.met.C.Class.header_length, is),
       header_is g.C.Class.table w order c.args.bytes.now _ _ _ _ _ _ _ _ _ _ _ _ _ g.met.C.Class.header
           c.in_ok-number_at.ensures.1

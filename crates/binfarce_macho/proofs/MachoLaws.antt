@@ -6,8 +6,8 @@ use Rattle.binfarce_symbols.specs.declared.sizes.RowAddress.{RowAddress}
 use Rattle.binfarce_bytes.specs.Refusal.{◌>>=◌, Refusal}
 use Rattle.binfarce_symbols.specs.Symbol.{Entry, Listed}
 use Rattle.binfarce_bytes.specs.Text.{text_at}
-use Rattle.binfarce_symbols.specs.Sizes.{addresses_of, arranged, least_above, LeastAbove, size_up_to, macho_size}
-use Rattle.binfarce_macho.specs.MachoSymbols.{Located, located, symbol_of, is_candidate, sized_entry, entry_of, kept, row_addresses, answer_of, macho_answer, AreSized}
+use Rattle.binfarce_symbols.specs.Sizes.{addresses_of, arranged, least_above, LeastAbove}
+use Rattle.binfarce_macho.specs.MachoSymbols.{Located, located, symbol_of, is_candidate, size_up_to, macho_size, sized_entry, entry_of, kept, row_addresses, answer_of, macho_answer, AreSized}
 use Rattle.binfarce_symbols.proofs.Above.{least_above_is}
 
 -- the entry has the size that the rule gives at its address
@@ -39,11 +39,11 @@ kept_each {X} {Y} P f (x ∷ xs) ys each is = by_parts (f x) (kept f xs) refl re
     one (Some y) zs e all = All-cons P y zs (each x y e) all
 
     by_parts : (r : Result (Option Y) Refusal) (s : Result (List Y) Refusal) → f x ≡ r → kept f xs ≡ s → (r >>= λ y. s >>= λ zs. Ok (cons_option y zs)) ≡ Ok ys → ((zs : List Y) → kept f xs ≡ Ok zs → All P zs) → All P ys
-    by_parts (Err why) s fx rest is behind = absurd cc
-    by_parts (Ok o) (Err why) fx rest is behind = absurd cc
-    by_parts (Ok o) (Ok zs) fx rest is behind =
+    by_parts (Err why) s fx rest is after = absurd cc
+    by_parts (Ok o) (Err why) fx rest is after = absurd cc
+    by_parts (Ok o) (Ok zs) fx rest is after =
         let whole : cons_option o zs ≡ ys = cc in
-        subst (λ (zs : List Y). All P zs) whole (one o zs fx (behind zs rest))
+        subst (λ (zs : List Y). All P zs) whole (one o zs fx (after zs rest))
 
 -- every greater address is at or past the end of a sized range
 apart_at : (addresses : List ℕ) (a size text_end : ℕ) (o : Option ℕ) → LeastAbove addresses a o → size_up_to o text_end a ≡ Ok (Some size) → All (λ c. a < c → a + size ≤ c) addresses

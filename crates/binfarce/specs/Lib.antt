@@ -6,14 +6,14 @@ pub use Rattle.binfarce_bytes.specs.Text
 pub use Rattle.binfarce_bytes.specs.Refusal
 pub use Rattle.binfarce_bytes.specs.Walk
 pub use Rattle.binfarce_symbols.specs.Symbol
+pub use Rattle.binfarce_symbols.specs.SymbolSeen
 pub use Rattle.binfarce_symbols.specs.Sizes
 pub use Rattle.binfarce_elf.specs.Elf
 pub use Rattle.binfarce_elf.specs.ElfSymbols
-pub use Rattle.binfarce_elf.specs.Elf32
-pub use Rattle.binfarce_elf.specs.Elf64
+pub use Rattle.binfarce_elf.specs.ElfSeen
 pub use Rattle.binfarce_macho.specs.Macho
 pub use Rattle.binfarce_macho.specs.MachoSymbols
-pub use Rattle.binfarce_macho.specs.MachoTypes
+pub use Rattle.binfarce_macho.specs.MachoSeen
 pub use Rattle.binfarce_pe.specs.Pe
 pub use Rattle.binfarce_pe.specs.PeSymbols
 pub use Rattle.binfarce_pe.specs.PeSeen

@@ -9,18 +9,26 @@ pub use binfarce_elf::{elf32, elf64};
 pub use binfarce_macho::macho;
 pub use binfarce_names::demangle;
 pub use binfarce_pe::pe;
+pub use binfarce_symbols::functions::FunctionSymbol;
 
-/// What a file's first bytes say that it is.
+/// The format that a file's first bytes name.
 #[derive(PartialEq, Debug, Drop)]
 pub enum Format {
+    /// ELF of 32 bits (`ELFCLASS32`), in this byte order (`EI_DATA`): for [`elf32::parse`].
     Elf32 { byte_order: ByteOrder },
+    /// ELF of 64 bits (`ELFCLASS64`), in this byte order (`EI_DATA`): for [`elf64::parse`].
     Elf64 { byte_order: ByteOrder },
+    /// Mach-O of any kind. [`macho::parse`] reads each as one of 64 bits in little-endian order.
     Macho,
+    /// A file that begins with the MS-DOS stub of a PE file: for [`pe::parse`].
     PE,
+    /// None of these.
     Unknown,
 }
 
-/// Names the format of a file by its first 8 bytes, without memory. Fewer are `Unknown`.
+/// Names the format of a file by its first 8 bytes: ELF's `7F 45 4C 46` with its class and byte order (gABI, "ELF
+/// Identification"), PE's `4D 5A`, the five magic numbers of Mach-O. A file of fewer than 8 bytes is `Unknown`, and so
+/// is an ELF file of another class or order. No memory is taken.
 ///
 /// The readers themselves never look at a magic number.
 #[tactic(auto, unfolding(crate::specs::Format::format_of))]
@@ -67,6 +75,8 @@ fn elf_format(class: u8, order: u8) -> Format
         _ => Format::Unknown,
     }
 }
+
+mod laws;
 
 #[cfg(test)]
 mod tests;

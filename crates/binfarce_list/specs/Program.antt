@@ -23,12 +23,12 @@ status_of File = 1
 status_of (Listing e) = 1
 
 -- what is told of a file that has this answer: what its listing tells; a file that can't be read, and want of memory, may be told of any
-abbrev pub Tells : Type 0 → Option (Result Listed Refusal) → Result (Unit {0}) Fault → Type 0
-Tells memory answer (Ok x) = lists.Tells memory answer (Ok x)
-Tells memory answer (Err Usage) = ⊥
-Tells memory answer (Err File) = Unit {0}
-Tells memory answer (Err (Listing errors.OutOfMemory)) = Unit {0}
-Tells memory answer (Err (Listing e)) = lists.Tells memory answer (Err e)
+abbrev pub Tells : (Result Listed Refusal → Type 0) → Option (Result Listed Refusal) → Result (Unit {0}) Fault → Type 0
+Tells NeedsMemory answer (Ok x) = lists.Tells NeedsMemory answer (Ok x)
+Tells NeedsMemory answer (Err Usage) = ⊥
+Tells NeedsMemory answer (Err File) = Unit {0}
+Tells NeedsMemory answer (Err (Listing errors.OutOfMemory)) = Unit {0}
+Tells NeedsMemory answer (Err (Listing e)) = lists.Tells NeedsMemory answer (Err e)
 
 -- what the writer holds afterwards: what its listing wrote
 abbrev pub Takes : Option (Result Listed Refusal) → Option (List ℕ) → Option (List ℕ) → Result (Unit {0}) Fault → Type 0

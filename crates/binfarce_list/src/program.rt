@@ -3,10 +3,10 @@
 ghost use Rattle.std.specs.Prelude.{◌≡◌, map, Some, None, MatchResult, IfSome, IfOk, IfErr};
 ghost use Rattle.std.specs.String.{string_bytes};
 ghost use Rattle.binfarce.specs.Format.{format_of};
-ghost use Rattle.binfarce_tools.specs.Answer.{symbols_answer, MayWantMemory};
+ghost use Rattle.binfarce_tools.specs.Answer.{symbols_answer, NeedsMemory};
 ghost use Rattle.binfarce_tools.specs.Sink.{writer_of, has_failed};
 ghost use Rattle.binfarce_list.specs.Program.{words_of, status_of, Tells, Takes, Fails};
-ghost use Rattle.binfarce_list.specs.Machine.{IsOfReading};
+ghost use Rattle.binfarce_list.specs.machine.Reading.{IsOfReading};
 ghost use Rattle.binfarce_list.specs.declared.program.Fault.TheVariants.{Usage};
 
 use binfarce_tools::list::{ListError, Out, list};
@@ -51,15 +51,13 @@ pub fn run<R: Read, W: Write>(
     section: &str,
     out: &mut Out<W>,
 ) -> Result<(), Fault>
-    ensures tells { IfSome (R.remaining file.old) (λ bytes. Tells (MayWantMemory (format_of bytes) bytes) (symbols_answer (format_of bytes) bytes section.now) result) }
+    ensures tells { IfSome (R.remaining file.old) (λ bytes. Tells (NeedsMemory (format_of bytes) bytes) (symbols_answer (format_of bytes) bytes section.now) result) }
     ensures takes { IfSome (R.remaining file.old) (λ bytes. Takes (symbols_answer (format_of bytes) bytes section.now)
         (W.contents (writer_of out.old)) (W.contents (writer_of out.new)) result) }
     ensures fails { Fails out.old out.new result }
 {
-    match read_whole(alloc, file) {
-        Err(fault) => Err(fault),
-        Ok(bytes) => list(alloc, bytes.as_slice(), section, out).map_err(Fault::List),
-    }
+    let bytes = read_whole(alloc, file)?;
+    list(alloc, bytes.as_slice(), section, out).map_err(Fault::List)
 }
 
 // The bytes up to the reader's end.

@@ -15,10 +15,9 @@ use Rattle.binfarce_bytes.specs.declared.error.ParseError.{ParseError}
 use Rattle.binfarce_bytes.specs.declared.error.ParseError.TheVariants.{OutOfMemory}
 use Rattle.binfarce_bytes.specs.Refusal.{◌>>=◌, Refusal, refusal_of}
 use Rattle.binfarce_symbols.specs.declared.functions.FunctionSymbol.{FunctionSymbol}
-use Rattle.binfarce_symbols.specs.declared.sizes.RowAddress.{RowAddress}
 use Rattle.binfarce_symbols.specs.Symbol.{Entry, Listed, AreSymbolsOf, HoldsSymbols, Answers}
 use Rattle.binfarce_symbols.specs.SymbolSeen.{function_seen, HoldsFunctions}
-use Rattle.binfarce_symbols.specs.Sizes.{arranged}
+use Rattle.binfarce_symbols.specs.Sizes.{RowAddress, arranged}
 use Rattle.binfarce_macho.specs.MachoSymbols.{Located, located, answer_of, listed_of, macho_answer, entry_of, kept, row_addresses, HasAddress}
 
 module _ {X : Type 0} (Holds : Listed → X → Type 0) where

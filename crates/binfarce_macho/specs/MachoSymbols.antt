@@ -1,14 +1,13 @@
 -- The function symbols of a Mach-O file (Apple's <mach-o/nlist.h>), with sizes that the table's addresses give.
 use Rattle.std.specs.Prelude.{◌≡◌, ◌≢◌, ℕ, ◌+◌, ◌-◌, ◌*◌, ◌/◌, ◌^◌, Bool, ◌&&◌, List, [], ◌∷◌, length, codes, Option, Some, None, Result, Ok, Err, nat_eq, nat_le, nat_lt, not, bit_and, if◌then◌else◌, ◌<◌, ◌≤◌, All}
 use Rattle.std.specs.List.{range_with_len, filter_map, cons_option}
-use Rattle.binfarce_symbols.specs.declared.sizes.RowAddress.{RowAddress}
 use Rattle.binfarce_bytes.specs.Number.{bytes_at}
 use Rattle.binfarce_bytes.specs.Text.{text_at}
 use Rattle.binfarce_bytes.specs.Refusal.{◌>>=◌, Refusal, required, symbols_section_is_missing, malformed_input, unexpected_eof}
 use Rattle.binfarce_bytes.specs.Walk.{first}
 use Rattle.binfarce_bytes.specs.Field.{Field, field, number_in}
 use Rattle.binfarce_macho.specs.Macho.{Command, body_of, commands, Section, walk, is_named}
-use Rattle.binfarce_symbols.specs.Sizes.{arranged, addresses_of, least_above}
+use Rattle.binfarce_symbols.specs.Sizes.{RowAddress, arranged, addresses_of, least_above}
 use Rattle.binfarce_symbols.specs.Symbol.{Entry, Listed}
 
 -- symtab_command, in its body: one A for each field

@@ -6,8 +6,9 @@ ghost use Rattle.std.specs.Iterator.{UpTo};
 ghost use Rattle.binfarce_bytes.specs.Refusal.{Gives, refusal_of, malformed_input, unexpected_eof};
 ghost use Rattle.binfarce_bytes.specs.Walk.{MayBeAsked, FirstAccepted, first};
 ghost use Rattle.binfarce_macho.specs.Macho.{header_at, command_at, body_of, commands, walk, segment, section_at, is_named};
-ghost use Rattle.binfarce_macho.specs.MachoSymbols.{AreSized, Located, HasAddress, macho_answer, answer_of, listed_of, located, located_by, text_section, some_size, symbol_command, symbol_table_at, text_end_of, row_addresses, symbol_at, is_candidate, size_up_to, sized_entry, entry_of};
-ghost use Rattle.binfarce_symbols.specs.Sizes.{RisesStrictly, addresses_of, arranged, least_above};
+ghost use Rattle.binfarce_macho.specs.MachoSymbols.{AreSized, Located, HasAddress, macho_answer, answer_of, listed_of, located, located_by, text_section, some_size, symbol_command, symbol_table_at, text_end_of, row_addresses, symbol_at, is_candidate, size_up_to, sized_entry, entry_of, kept};
+ghost use Rattle.binfarce_symbols.specs.Sizes.{ListsArranged, addresses_of, least_above};
+ghost use Rattle.binfarce_symbols.specs.machine.Rows.{row_seen, rows_seen};
 ghost use Rattle.binfarce_symbols.specs.Symbol.{Listed, HoldsSymbols, Answers};
 ghost use Rattle.binfarce_symbols.specs.SymbolSeen.{function_seen, HoldsFunctions};
 ghost use Rattle.binfarce_macho.specs.MachoSeen.{header_seen, section_seen};
@@ -182,14 +183,15 @@ impl<'a> Macho<'a> {
     /// table's; `UnexpectedEof` where that command, the string table or the rows are truncated; `MalformedInput` where
     /// the text's end passes an address, or a row that would be kept lies past that end with no address above it.
     /// `OutOfMemory` comes only where the table has a value that isn't 0, and may stand in place of the last refusal.
-    #[tactic(auto, using(crate::proofs::MachoLaws::answer_sized, crate::proofs::Rising::rise))]
+    #[tactic(auto, using(crate::proofs::MachoLaws::answer_sized, crate::proofs::MachoLaws::answer_in_order))]
     pub fn symbols(&self, alloc: Global) -> Result<(Vec<SymbolData>, u64), ParseError>
         ensures answer { Answers HoldsSymbols (λ _. HasAddress self.now) (macho_answer self.now) result }
         // A law of that answer: ranges hold no address of the table, and equal addresses have equal sizes.
         ensures sized { (found : Located) (listed : Listed) → located self.now ≡ Ok (Some found) → macho_answer self.now ≡ Ok listed
             → AreSized (addresses_of (row_addresses found.rows)) listed.entries }
-        // The order is strict: each row's address and number are past those of the row before it.
-        ensures strict { (rows : List ℕ) → RisesStrictly (arranged (row_addresses rows)) }
+        // Another: its entries are what is kept of the table's rows with an address, in strictly rising order of (address, row number).
+        ensures order { (found : Located) (listed : Listed) → located self.now ≡ Ok (Some found) → macho_answer self.now ≡ Ok listed
+            → ListsArranged (row_addresses found.rows) (λ rows entries. kept (entry_of found) rows ≡ Ok entries) listed.entries }
     {
         let (functions, text_size) = self.functions(alloc)?;
         let symbols = symbols_of(alloc, functions.iter().copied())?;
@@ -552,7 +554,7 @@ fn functions_of<'a>(
 
 // The addresses of the rows that have one.
 fn row_addresses(alloc: Global, rows: &[u8]) -> Result<Vec<RowAddress>, AllocError>
-    ensures items { IfOk result (λ v. v.items ≡ row_addresses rows.now) }
+    ensures items { IfOk result (λ v. rows_seen v.items ≡ row_addresses rows.now) }
     ensures memory { OnErr result (row_addresses rows.now ≢ []) }
 {
     let mut addresses = Vec::new(alloc);
@@ -577,7 +579,7 @@ fn list_functions<'a>(
 ) -> Result<(Vec<FunctionSymbol<'a>>, u64), ParseError>
     requires above { above.now ≡ map (λ r. least_above (addresses_of (row_addresses found.rows.now)) r.address) rows.now }
     requires inside { All (λ r. r.row * 16 + 16 ≤ length found.rows.now) rows.now }
-    ensures { Answers HoldsFunctions (λ _. rows.now ≢ []) (listed_of (found_seen found.entry) rows.now) result }
+    ensures { Answers HoldsFunctions (λ _. rows.now ≢ []) (listed_of (found_seen found.entry) (rows_seen rows.now)) result }
 {
     let mut functions = Vec::with_capacity(alloc, rows.len())?;
     for k in 0..rows.len() {
@@ -598,7 +600,7 @@ fn entry_of<'a>(
 ) -> Result<Option<FunctionSymbol<'a>>, ParseError>
     requires above { above ≡ least_above (addresses_of (row_addresses found.rows.now)) at.address }
     requires inside { at.row * 16 + 16 ≤ length found.rows.now }
-    ensures { Gives refusal_of (option_map function_seen) result (entry_of (found_seen found.entry) at) }
+    ensures { Gives refusal_of (option_map function_seen) result (entry_of (found_seen found.entry) (row_seen at)) }
 {
     let row = symbol_at(found.rows, at.row * SYMBOL_LENGTH).unwrap();
     if !is_candidate(row) {

@@ -1,12 +1,9 @@
 -- The least member above: what it is, that it is one, and where it stands among addresses that rise.
-use Rattle.std.proofs.Common.{◌≡◌, ℕ, suc, ◌+◌, ◌<◌, ◌≤◌, Bool, true, false, cond, inl, inr, List, [], ◌∷◌, length, get_or, map, All, Contains, filter, Option, Some, None, min, nat_lt, refl, sym, ap, ◌∙◌, subst, arith, IsPermutation}
-use Rattle.std.specs.List.Sorted.{IsNonDecreasingBy}
+use Rattle.std.proofs.Common.{◌≡◌, ℕ, suc, ◌<◌, ◌≤◌, Bool, true, false, cond, inl, inr, List, [], ◌∷◌, All, Contains, filter, Option, Some, None, min, nat_lt, refl, sym, ap, subst, arith, IsPermutation}
 use Rattle.std.proofs.lemmas.Bool.{ltb-true, ltb-false, cases_lt}
-use Rattle.std.proofs.lemmas.List.{get_or-map, get_or_default, length-map, same_lists}
-use Rattle.std.proofs.lemmas.List.Elements.{All-nil, All-cons, All-weaker, All-contains, All-map, All-from_get_or, Contains-get_or}
+use Rattle.std.proofs.lemmas.List.Elements.{All-nil, All-cons, All-weaker, All-contains}
 use Rattle.std.proofs.lemmas.List.Sorted.{All-permutation, Contains-permutation, IsPermutation-map}
-use Rattle.binfarce_symbols.specs.declared.sizes.RowAddress.{RowAddress}
-use Rattle.binfarce_symbols.specs.Sizes.{arranged, addresses_of, least, least_of, least_above, IsLeastAbove, LeastAbove}
+use Rattle.binfarce_symbols.specs.Sizes.{RowAddress, arranged, addresses_of, least, least_of, least_above, IsLeastAbove, LeastAbove}
 use Rattle.binfarce_symbols.proofs.Arranging.{arranged_same}
 
 behind_first : (x b : ℕ) (xs : List ℕ) → Contains xs b → Contains (x ∷ xs) b
@@ -89,56 +86,3 @@ pub arranged_above : (rows : List RowAddress) (a : ℕ) → least_above (address
 arranged_above rows a =
     let same : IsPermutation (addresses_of rows) (addresses_of (arranged rows)) = IsPermutation-map (λ r. r.address) rows (arranged rows) (arranged_same rows) in
     sym (above_is (addresses_of (arranged rows)) a (least_above (addresses_of rows) a) (moved (addresses_of rows) (addresses_of (arranged rows)) a (least_above (addresses_of rows) a) same (least_above_is (addresses_of rows) a)))
-
--- what is read past the end
-abbrev pub past : RowAddress
-past = record { address = 0; row = 0 }
-
--- a list is known by what it has at each place
-pub filled_whole : (rows : List RowAddress) (f : RowAddress → Option ℕ) (xs : List (Option ℕ)) → length xs ≡ length rows
-    → ((k : ℕ) → k < length rows → get_or xs k None ≡ f (get_or rows k past)) → xs ≡ map f rows
-filled_whole rows f xs long here =
-    same_lists xs (map f rows) (long ∙ sym (length-map rows f))
-    (λ k d lt. get_or_default xs k d None lt ∙ here k (omega arith) ∙ sym (get_or-map f rows k past d (omega arith)))
-
-module _ (rows : List RowAddress) (rise : IsNonDecreasingBy (λ r. r.address) rows) where
-  -- what holds of each row's address holds of each address
-  each : (P : ℕ → Type 0) (d : RowAddress) → ((j : ℕ) → j < length rows → P (get_or rows j d).address) → All P (addresses_of rows)
-  each P d here = All-map P (λ r. r.address) rows (All-from_get_or (λ r. P r.address) rows d here)
-
-  holds_at : (k : ℕ) (d : RowAddress) → k < length rows → Contains (addresses_of rows) (get_or rows k d).address
-  holds_at k d lt =
-      let found : Contains (addresses_of rows) (get_or (addresses_of rows) k 0) = Contains-get_or (addresses_of rows) k 0 (omega (arith, length-map rows (λ r. r.address))) in
-      subst (λ (n : ℕ). Contains (addresses_of rows) n) (get_or-map (λ r. r.address) rows k d 0 lt) found
-
-  -- the last place has none above
-  pub last_above : (k : ℕ) (d : RowAddress) → k + 1 ≡ length rows → None ≡ least_above (addresses_of rows) (get_or rows k d).address
-  last_above k d e =
-      above_is (addresses_of rows) (get_or rows k d).address None (each (λ c. c ≤ (get_or rows k d).address) d (λ j lt. rise j k d (omega arith) (omega arith)))
-
-  -- where the next address is greater, it is the least
-  pub next_above : (k : ℕ) (d : RowAddress) → k + 1 < length rows → (get_or rows k d).address < (get_or rows (k + 1) d).address → Some ((get_or rows (k + 1) d).address) ≡ least_above (addresses_of rows) (get_or rows k d).address
-  next_above k d lt up =
-      above_is (addresses_of rows) (get_or rows k d).address (Some ((get_or rows (k + 1) d).address)) (record {
-        member = holds_at (k + 1) d lt;
-        above = up;
-        least = each (λ c. (get_or rows k d).address < c → (get_or rows (k + 1) d).address ≤ c) d (λ j lt' gt. elim (cases_lt j (k + 1)) [
-          | inl before ↦ let le = rise j k d (omega arith) (omega arith) in absurd (omega arith)
-          | inr behind ↦ rise (k + 1) j d behind lt'
-        ]);
-      })
-
-  -- where it isn't, the two have the same above
-  pub same_above : (k : ℕ) (d : RowAddress) → k + 1 < length rows → (get_or rows (k + 1) d).address ≤ (get_or rows k d).address → least_above (addresses_of rows) (get_or rows (k + 1) d).address ≡ least_above (addresses_of rows) (get_or rows k d).address
-  same_above k d lt same = ap (least_above (addresses_of rows)) (let le = rise k (k + 1) d (omega arith) lt in omega arith)
-
-map_same : {X Y : Type 0} (f g : X → Y) (xs : List X) → ((x : X) → f x ≡ g x) → map f xs ≡ map g xs
-map_same f g [] same = refl
-map_same f g (x ∷ xs) same = rw (same x, map_same f g xs same) refl
-
--- what one walk over the arranged rows finds is what is above in the table
-pub swept_is : (rows in_order : List RowAddress) (found : List (Option ℕ)) → in_order ≡ arranged rows → found ≡ map (λ r. least_above (addresses_of in_order) r.address) in_order
-    → found ≡ map (λ r. least_above (addresses_of rows) r.address) in_order
-swept_is rows in_order found is swept =
-    swept ∙ map_same (λ r. least_above (addresses_of in_order) r.address) (λ r. least_above (addresses_of rows) r.address) in_order
-    (λ r. ap (λ (xs : List RowAddress). least_above (addresses_of xs) r.address) is ∙ arranged_above rows r.address)

@@ -8,8 +8,7 @@ use Rattle.std.proofs.lemmas.Bool.Decides.{nat_tests}
 use Rattle.std.proofs.lemmas.List.Elements.{All-nil, All-cons, All-head, All-tail, All-weaker}
 use Rattle.std.proofs.lemmas.List.Sorted.{sorted_far, sum_by-IsPermutation, IsPermutation-refl, IsPermutation-sym, IsPermutation-cons, IsPermutation-trans, IsPermutation-middle}
 use Rattle.std.proofs.lemmas.List.Sums.{sum_by-cons}
-use Rattle.binfarce_symbols.specs.declared.sizes.RowAddress.{RowAddress}
-use Rattle.binfarce_symbols.specs.Sizes.{comes_before, put_in, arranged}
+use Rattle.binfarce_symbols.specs.Sizes.{RowAddress, comes_before, put_in, arranged}
 
 -- what the test says
 abbrev pub Before : RowAddress → RowAddress → Type 0
@@ -78,7 +77,7 @@ in_order_from (x ∷ xs) far =
 pub in_order : (xs : List RowAddress) → IsSortedBy comes_before xs → InOrder xs
 in_order xs up = in_order_from xs (sorted_far comes_before is_order xs up)
 
-put_in_all : (P : RowAddress → Type 0) (x : RowAddress) (ys : List RowAddress) → P x → All P ys → All P (put_in x ys)
+pub put_in_all : (P : RowAddress → Type 0) (x : RowAddress) (ys : List RowAddress) → P x → All P ys → All P (put_in x ys)
 put_in_all P x [] p all = All-cons P x [] p all
 put_in_all P x (y ∷ ys) p all = by_test (comes_before y x) (put_in_all P x ys p (All-tail P y ys all))
   where

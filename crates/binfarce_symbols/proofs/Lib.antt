@@ -1,4 +1,7 @@
 pub mod Rows
 pub mod Made
 pub mod Arranging
+pub mod Arrangement
 pub mod Above
+pub mod Sweeping
+pub mod Seen

@@ -1,12 +1,10 @@
 -- Symbols made of function symbols, one after the other.
-use Rattle.std.proofs.Common.{◌≡◌, List, [], ◌∷◌, ◌++◌, map, Option, Some, Result, refl, sym, ap, ◌∙◌}
+use Rattle.std.proofs.Common.{◌≡◌, List, [], ◌∷◌, ◌++◌, map, Option, Some, sym, ap, ◌∙◌}
 use Rattle.std.specs.Iterator.{Yields, YieldsFirstBy, Drains}
-use Rattle.std.specs.List.{AllZip}
 use Rattle.binfarce_names.specs.declared.demangle.SymbolData.{SymbolData}
 use Rattle.binfarce_symbols.specs.declared.functions.FunctionSymbol.{FunctionSymbol}
 use Rattle.binfarce_symbols.specs.Symbol.{IsSymbolOf, AreSymbolsOf}
 use Rattle.binfarce_symbols.specs.SymbolSeen.{function_seen}
-use Rattle.binfarce_symbols.proofs.Rows.{on_err}
 
 -- the symbol of one more function symbol
 pub one_more_symbol : (given : List FunctionSymbol) (symbols : List SymbolData) (function : FunctionSymbol) (symbol : SymbolData)

@@ -1,13 +1,18 @@
--- Rows arranged by address, and the sizes that the addresses of a table give where a format stores none.
+-- Rows arranged by address, and the least address above another: what sizes are made of where a format stores none.
 use Rattle.std.specs.Prelude.{◌≡◌, ℕ, ◌+◌, ◌<◌, ◌≤◌, Bool, true, ◌&&◌, ◌||◌, List, [], ◌∷◌, length, map, filter, All, Contains, min, Option, Some, None, nat_lt, nat_eq, slice_index_or, if◌then◌else◌}
 use Rattle.std.specs.List.Sorted.{IsPermutation}
-use Rattle.binfarce_symbols.specs.declared.sizes.RowAddress.{RowAddress}
+use Rattle.binfarce_symbols.specs.Symbol.{Entry}
+
+-- a row of a symbol table: the address that it holds, and its number
+pub record RowAddress : Type 0 where
+  pub address : ℕ
+  pub row : ℕ
 
 -- by address, and at equal addresses by the number of the row
 abbrev pub comes_before : RowAddress → RowAddress → Bool
 comes_before x y = nat_lt x.address y.address || (nat_eq x.address y.address && nat_lt x.row y.row)
 
--- one row more, behind those that come before it
+-- one row more, after those that come before it
 abbrev pub put_in : RowAddress → List RowAddress → List RowAddress
 put_in x [] = x ∷ []
 put_in x (y ∷ ys) = if comes_before y x then y ∷ put_in x ys else x ∷ y ∷ ys
@@ -25,6 +30,12 @@ RisesStrictly rows = (k : ℕ) (d : RowAddress) → k + 1 < length rows → come
 pub record IsArrangementOf (rows in_order : List RowAddress) : Type 0 where
   pub same : IsPermutation rows in_order
   pub rises : RisesStrictly in_order
+
+-- what a law of order says of an answer: its entries are what is given of the rows, once these are arranged
+pub record ListsArranged (rows : List RowAddress) (Given : List RowAddress → List Entry → Type 0) (entries : List Entry) : Type 0 where
+  pub in_order : List RowAddress
+  pub arrangement : IsArrangementOf rows in_order
+  pub given : Given in_order entries
 
 abbrev pub addresses_of : List RowAddress → List ℕ
 addresses_of rows = map (λ r. r.address) rows

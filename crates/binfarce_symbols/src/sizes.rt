@@ -3,6 +3,7 @@
 ghost use Rattle.std.specs.Prelude.{◌≡◌, length, map, IfOk, IsPermutation};
 ghost use Rattle.std.specs.List.Sorted.{IsNonDecreasingBy};
 ghost use Rattle.binfarce_symbols.specs.Sizes.{arranged, addresses_of, least_above};
+ghost use Rattle.binfarce_symbols.specs.machine.Rows.{rows_seen};
 
 use std::alloc::{AllocError, Global};
 
@@ -15,7 +16,7 @@ pub struct RowAddress {
 
 /// Puts the rows in the order of (address, row number), without memory.
 pub fn arrange(rows: &mut Vec<RowAddress>)
-    ensures arranged { rows.new.items ≡ arranged rows.old.items }
+    ensures arranged { rows_seen rows.new.items ≡ arranged (rows_seen rows.old.items) }
     ensures same { IsPermutation rows.old.items rows.new.items }
     ensures rises { IsNonDecreasingBy (λ r. r.address) rows.new.items }
 {
@@ -36,7 +37,7 @@ pub struct Swept {
 /// The walk remembers the least address that is greater than the one that it stands at.
 pub fn sweep(alloc: Global, rows: &[RowAddress]) -> Result<Swept, AllocError>
     requires { IsNonDecreasingBy (λ r. r.address) rows.now }
-    ensures above { IfOk result (λ s. s.above.items ≡ map (λ r. least_above (addresses_of rows.now) r.address) rows.now) }
+    ensures above { IfOk result (λ s. s.above.items ≡ map (λ r. least_above (addresses_of (rows_seen rows.now)) r.address) rows.now) }
     ensures visited { IfOk result (λ s. s.visited ≡ length rows.now) }
 {
     let mut above = vec![in alloc; None; rows.len()]?;

@@ -1,3 +1,3 @@
-pub mod Readers
+pub mod Pads
 pub mod Told
 pub mod Listings

@@ -5,20 +5,21 @@ use Rattle.std.specs.Global.{Vec}
 use Rattle.std.specs.Io.KnownBytes.{Appends, Keeps}
 use Rattle.std.proofs.lemmas.List.{take-append-drop, take_all, length-drop}
 use Rattle.std.proofs.Math.Seq.{take-add}
-use Rattle.binfarce_names.specs.declared.demangle.SymbolData.{SymbolData}
-use Rattle.binfarce.specs.declared.error.ParseError.{ParseError}
-use Rattle.binfarce.specs.declared.error.ParseError.TheVariants as errors
+use Rattle.binfarce.specs.declared.demangle.SymbolData.{SymbolData}
+use Rattle.binfarce.specs.declared.ParseError.{ParseError}
+use Rattle.binfarce.specs.declared.ParseError.TheVariants as errors
 use Rattle.binfarce.specs.Refusal.{Refusal, refusal_of, out_of_memory}
 use Rattle.binfarce.specs.Symbol.{Listed}
 use Rattle.binfarce_tools.specs.declared.list.ListError.{ListError}
 use Rattle.binfarce_tools.specs.declared.list.ListError.TheVariants.{Unknown, Parse, OutOfMemory, Write}
 use Rattle.binfarce_tools.specs.Listing.{listing}
 use Rattle.binfarce_tools.specs.Lists.{Tells, Takes, AppendsBeginning}
-use Rattle.binfarce_tools.specs.Machine.{Reads, told_as, Writes}
+use Rattle.binfarce_tools.specs.ListWords.{list_error_of}
+use Rattle.binfarce_tools.specs.machine.Lists.{Reads, Writes}
 use Rattle.binfarce_tools.proofs.Told.{is_told, ToldAnswer}
 
 -- want of memory is told as such
-as_memory : (e : ParseError) → refusal_of e ≡ out_of_memory → told_as e ≡ OutOfMemory
+as_memory : (e : ParseError) → refusal_of e ≡ out_of_memory → list_error_of e ≡ OutOfMemory
 as_memory errors.SymbolsSectionIsMissing is = absurd cc
 as_memory (errors.SectionIsMissing name) is = absurd cc
 as_memory (errors.UnexpectedSectionType expected actual) is = absurd cc
@@ -27,7 +28,7 @@ as_memory errors.UnexpectedEof is = absurd cc
 as_memory errors.OutOfMemory is = refl
 
 -- any other refusal is told with its words
-parse : (e : ParseError) → is_told (refusal_of e) ≡ true → told_as e ≡ Parse e
+parse : (e : ParseError) → is_told (refusal_of e) ≡ true → list_error_of e ≡ Parse e
 parse errors.SymbolsSectionIsMissing told = refl
 parse (errors.SectionIsMissing name) told = refl
 parse (errors.UnexpectedSectionType expected actual) told = refl
@@ -35,28 +36,28 @@ parse errors.MalformedInput told = refl
 parse errors.UnexpectedEof told = refl
 parse errors.OutOfMemory told = absurd cc
 
-tells : (memory : Type 0) (answer : Option (Result Listed Refusal)) (e : ParseError) → ToldAnswer answer → Reads memory answer (Some (Err e)) → Tells memory answer (Err (told_as e))
+tells : (memory : Result Listed Refusal → Type 0) (answer : Option (Result Listed Refusal)) (e : ParseError) → ToldAnswer answer → Reads memory answer (Some (Err e)) → Tells memory answer (Err (list_error_of e))
 tells memory None e told reads = absurd reads
-tells memory (Some (Ok listed)) e told reads = inr (inl (ap Err (as_memory e reads)))
+tells memory (Some (Ok listed)) e told reads = inr (inl (ap Err (as_memory e reads.0)))
 tells memory (Some (Err refusal)) e told (inl is) = inl (e, is, ap Err (parse e (ap is_told is ∙ told)))
 tells memory (Some (Err refusal)) e told (inr h) = inr (h.1, ap Err (as_memory e h.0))
 
 -- what a reader returned, where it came through a refusal of the format
-pub returned : (memory : Type 0) (answer : Option (Result Listed Refusal)) (from : Option (Result (Vec SymbolData × ℕ) ParseError)) (through : Result (Result (Vec SymbolData × ℕ) ParseError) ListError)
+pub returned : (memory : Result Listed Refusal → Type 0) (answer : Option (Result Listed Refusal)) (from : Option (Result (Vec SymbolData × ℕ) ParseError)) (through : Result (Result (Vec SymbolData × ℕ) ParseError) ListError)
     (inner value : Result (Vec SymbolData × ℕ) ParseError)
     → Reads memory answer from → from ≡ result_ok through → through ≡ Ok inner → inner ≡ value → Reads memory answer (Some value)
 returned memory answer from through inner value reads a b c =
     let P : Option (Result (Vec SymbolData × ℕ) ParseError) → Type 0 = λ r. Reads memory answer r in subst P (a ∙ ap result_ok b ∙ ap Some c) reads
 
 -- a reader's refusal is told
-pub refused : (memory : Type 0) (answer : Option (Result Listed Refusal)) (e : ParseError) (result : Result (Unit {0}) ListError)
-    → ToldAnswer answer → Reads memory answer (Some (Err e)) → IsErrAnd result (λ f. f ≡ told_as e) → Tells memory answer result
+pub refused : (memory : Result Listed Refusal → Type 0) (answer : Option (Result Listed Refusal)) (e : ParseError) (result : Result (Unit {0}) ListError)
+    → ToldAnswer answer → Reads memory answer (Some (Err e)) → IsErrAnd result (λ f. f ≡ list_error_of e) → Tells memory answer result
 refused memory answer e (Ok x) told reads is = absurd is
 refused memory answer e (Err f) told reads is =
     let P : ListError → Type 0 = λ f. Tells memory answer (Err f) in subst P (sym is) (tells memory answer e told reads)
 
 -- what was taken is the listing of what the reader returned, or a beginning of it
-pub takes : (memory : Type 0) (answer : Option (Result Listed Refusal)) (symbols : Vec SymbolData) (size : ℕ) (text : List ℕ) (old new : Option (List ℕ)) (result : Result (Unit {0}) ListError)
+pub takes : (memory : Result Listed Refusal → Type 0) (answer : Option (Result Listed Refusal)) (symbols : Vec SymbolData) (size : ℕ) (text : List ℕ) (old new : Option (List ℕ)) (result : Result (Unit {0}) ListError)
     → Reads memory answer (Some (Ok (symbols, size))) → text ≡ listing symbols.items size → Writes old new text result → Takes answer old new result
 takes memory None symbols size text old new result reads is written = absurd reads
 takes memory (Some (Err refusal)) symbols size text old new result reads is written = absurd reads

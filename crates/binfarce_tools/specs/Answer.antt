@@ -9,7 +9,7 @@ use Rattle.binfarce.specs.ElfSymbols.{elf_answer}
 use Rattle.binfarce.specs.MachoSymbols.{macho_answer, HasAddress}
 use Rattle.binfarce.specs.Pe.{least_length}
 use Rattle.binfarce.specs.PeSymbols.{pe_answer}
-use Rattle.binfarce.specs.Symbol.{Listed}
+use Rattle.binfarce.specs.Symbol.{Listed, ListsSome}
 
 -- what the reader of a class answers for a section: a file too short for its header ends before what it should hold
 abbrev pub elf_file_answer : ElfClass → ByteOrder → List ℕ → List ℕ → Result Listed Refusal
@@ -31,10 +31,10 @@ symbols_answer Macho file section = Some (macho_file_answer file)
 symbols_answer PE file section = Some (pe_file_answer file)
 symbols_answer Unknown file section = None
 
--- want of memory may stand in place of a refusal: of the last of a Mach-O file, whose table has an address then
-unfoldable pub MayWantMemory : Format → List ℕ → Type 0
-MayWantMemory (Elf32 order) file = ⊥
-MayWantMemory (Elf64 order) file = ⊥
-MayWantMemory Macho file = HasAddress file
-MayWantMemory PE file = ⊥
-MayWantMemory Unknown file = ⊥
+-- the answers that need memory, in whose place alone an allocation may be refused: a list that isn't empty, and of a Mach-O file whose table holds an address any
+unfoldable pub NeedsMemory : Format → List ℕ → Result Listed Refusal → Type 0
+NeedsMemory (Elf32 order) file answer = ListsSome answer
+NeedsMemory (Elf64 order) file answer = ListsSome answer
+NeedsMemory Macho file answer = HasAddress file
+NeedsMemory PE file answer = ListsSome answer
+NeedsMemory Unknown file answer = ⊥

@@ -2,5 +2,5 @@ pub mod Answer
 pub mod Listing
 pub mod Lists
 pub mod ListWords
-pub mod Machine
 pub mod Sink
+pub mod machine

@@ -1,17 +1,21 @@
 -- The text of a listing: a line for each symbol, and the size of the section that they lie in.
-use Rattle.std.specs.Prelude.{ℕ, ◌-◌, ◌^◌, List, [], ◌∷◌, ◌++◌, codes, false}
-use Rattle.std.specs.Fmt.{decimal, digits, format_spec, padded_integral}
+use Rattle.std.specs.Prelude.{ℕ, ◌-◌, List, [], ◌∷◌, ◌++◌, length, replicate, codes, false}
+use Rattle.std.specs.Fmt.{decimal, digits}
 use Rattle.std.specs.List.{flat_map}
 use Rattle.std.specs.String.{string_bytes}
-use Rattle.binfarce_names.specs.declared.demangle.SymbolData.{SymbolData}
+use Rattle.binfarce.specs.declared.demangle.SymbolData.{SymbolData}
 
--- `{:016x}`: 16 hexadecimal digits, with leading zeros
+-- a text, with as many of a character before it as it is short of the width
+abbrev pub pad_left : ℕ → ℕ → List ℕ → List ℕ
+pad_left fill width text = replicate (width - length text) fill ++ text
+
+-- 16 hexadecimal digits: zeros before them
 abbrev pub address_text : ℕ → List ℕ
-address_text address = padded_integral (format_spec 32 0 4 16 (2 ^ 64 - 1)) false [] (digits 16 false address)
+address_text address = pad_left 48 16 (digits 16 false address)
 
--- `{:>10}`: decimal, to the right of 10 places or more
+-- decimal, to the right of 10 columns: blanks before it
 abbrev pub size_text : ℕ → List ℕ
-size_text size = padded_integral (format_spec 32 3 0 10 (2 ^ 64 - 1)) false [] (decimal size)
+size_text size = pad_left 32 10 (decimal size)
 
 -- `{address:016x} {size:>10} {trimmed}`, and a line feed
 abbrev pub symbol_line : SymbolData → List ℕ

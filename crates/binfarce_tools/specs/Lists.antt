@@ -1,8 +1,8 @@
 -- What `list` answers, and what it writes.
 use Rattle.std.specs.Prelude.{◌≡◌, ◌++◌, ◌⊎◌, ℕ, List, [], Bool, true, Option, Some, None, Result, Ok, Err}
 use Rattle.std.specs.Io.KnownBytes.{Appends}
-use Rattle.binfarce_names.specs.declared.demangle.SymbolData.{SymbolData}
-use Rattle.binfarce.specs.declared.error.ParseError.{ParseError}
+use Rattle.binfarce.specs.declared.demangle.SymbolData.{SymbolData}
+use Rattle.binfarce.specs.declared.ParseError.{ParseError}
 use Rattle.binfarce.specs.Refusal.{Refusal, refusal_of}
 use Rattle.binfarce.specs.Symbol.{Listed, AreSymbolsOf}
 use Rattle.binfarce_tools.specs.declared.list.ListError.{ListError}
@@ -19,13 +19,13 @@ IsDue (Some (Ok listed)) text = IsListingOf listed text
 IsDue (Some (Err refusal)) text = ⊥
 IsDue None text = ⊥
 
--- what is told where the answer of the file is this: `Unknown` and `Parse` where the format or its reader refuses, and nowhere else; want of memory in place of a refusal only where it may be
-abbrev pub Tells : Type 0 → Option (Result Listed Refusal) → Result (Unit {0}) ListError → Type 0
-Tells memory None result = result ≡ Err Unknown
-Tells memory (Some (Err refusal)) result = ((e : ParseError) × (refusal_of e ≡ refusal) × (result ≡ Err (Parse e))) ⊎ (memory × (result ≡ Err OutOfMemory))
-Tells memory (Some (Ok listed)) result = (result ≡ Ok tt) ⊎ (result ≡ Err OutOfMemory) ⊎ (result ≡ Err Write)
+-- what is reported where the file's answer is this: `Unknown` and `Parse` where the format or its reader refuses, and nowhere else; in place of a refusal, that an allocation was refused only where that refusal needs memory
+abbrev pub Tells : (Result Listed Refusal → Type 0) → Option (Result Listed Refusal) → Result (Unit {0}) ListError → Type 0
+Tells NeedsMemory None result = result ≡ Err Unknown
+Tells NeedsMemory (Some (Err refusal)) result = ((e : ParseError) × (refusal_of e ≡ refusal) × (result ≡ Err (Parse e))) ⊎ (NeedsMemory (Err refusal) × (result ≡ Err OutOfMemory))
+Tells NeedsMemory (Some (Ok listed)) result = (result ≡ Ok tt) ⊎ (result ≡ Err OutOfMemory) ⊎ (result ≡ Err Write)
 
--- told bytes grow by the beginning of a text
+-- the bytes that were taken, where the sink tells them, grow by the beginning of a text
 abbrev pub AppendsBeginning : Option (List ℕ) → Option (List ℕ) → List ℕ → Type 0
 AppendsBeginning old new text = (beginning : List ℕ) × (others : List ℕ) × (text ≡ beginning ++ others) × Appends old new beginning
 

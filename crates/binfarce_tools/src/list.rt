@@ -4,10 +4,10 @@ ghost use Rattle.std.specs.Prelude.{◌≡◌, ◌<◌, ◌≤◌, ℕ, List, Bo
 ghost use Rattle.std.specs.String.{string_bytes};
 ghost use Rattle.std.specs.Io.KnownBytes.{Keeps, Appends};
 ghost use Rattle.binfarce.specs.Format.{format_of};
-ghost use Rattle.binfarce_tools.specs.Answer.{symbols_answer, MayWantMemory};
+ghost use Rattle.binfarce_tools.specs.Answer.{symbols_answer, NeedsMemory};
 ghost use Rattle.binfarce_tools.specs.Listing.{listing};
 ghost use Rattle.binfarce_tools.specs.Lists.{Tells, Takes, Fails, Leaves};
-ghost use Rattle.binfarce_tools.specs.Machine.{Writes};
+ghost use Rattle.binfarce_tools.specs.machine.Lists.{Writes};
 
 use crate::symbols::read_symbols;
 use binfarce::ParseError;
@@ -135,9 +135,9 @@ impl From<AllocError> for ListError {
 }
 
 impl From<ParseError> for ListError {
-    ghost use Rattle.binfarce_tools.specs.Machine.{told_as};
+    ghost use Rattle.binfarce_tools.specs.ListWords.{list_error_of};
 
-    ghost from_gives = { λ e l. l ≡ told_as e };
+    ghost from_gives = { λ e l. l ≡ list_error_of e };
 
     /// Want of memory is told as such, whichever call it comes from.
     fn from(e: ParseError) -> Self {
@@ -160,7 +160,7 @@ pub fn list<S: Sink>(
     section: &str,
     out: &mut S,
 ) -> Result<(), ListError>
-    ensures tells { Tells (MayWantMemory (format_of data.now) data.now) (symbols_answer (format_of data.now) data.now section.now) result }
+    ensures tells { Tells (NeedsMemory (format_of data.now) data.now) (symbols_answer (format_of data.now) data.now section.now) result }
     ensures takes { Takes (symbols_answer (format_of data.now) data.now section.now) (S.taken out.old) (S.taken out.new) result }
     ensures fails { Fails (S.has_failed out.old) (S.has_failed out.new) result }
     ensures leaves { Leaves out.old out.new result }
@@ -171,6 +171,7 @@ pub fn list<S: Sink>(
 }
 
 // The whole listing.
+#[tactic(auto, using(crate::proofs::Pads::address_padded, crate::proofs::Pads::size_padded))]
 fn listing(alloc: Global, symbols: &[SymbolData], size: u64) -> Result<String, AllocError>
     ensures { IfOk result (λ t. string_bytes t ≡ listing symbols.now size) }
 {

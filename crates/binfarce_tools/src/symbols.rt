@@ -2,23 +2,23 @@
 
 ghost use Rattle.binfarce.specs.Format.{format_of};
 ghost use Rattle.binfarce.specs.Elf.{elf32, elf64};
-ghost use Rattle.binfarce.specs.MachoSymbols.{AnswersOr, HasAddress};
-ghost use Rattle.binfarce.specs.Symbol.{Answers};
-ghost use Rattle.binfarce_tools.specs.Answer.{elf_file_answer, macho_file_answer, pe_file_answer, symbols_answer, MayWantMemory};
-ghost use Rattle.binfarce_tools.specs.Machine.{Reads};
+ghost use Rattle.binfarce.specs.MachoSymbols.{HasAddress};
+ghost use Rattle.binfarce.specs.Symbol.{HoldsSymbols, ListsSome, Answers};
+ghost use Rattle.binfarce_tools.specs.Answer.{elf_file_answer, macho_file_answer, pe_file_answer, symbols_answer, NeedsMemory};
+ghost use Rattle.binfarce_tools.specs.machine.Lists.{Reads};
 
 use binfarce::demangle::SymbolData;
 use binfarce::{ByteOrder, Format, ParseError, detect_format, elf32, elf64, macho, pe};
 use std::alloc::Global;
 
 // What the reader of the file's format returns; `None` where no reader reads it.
-#[tactic(auto, unfolding(crate::specs::Answer::symbols_answer, crate::specs::Answer::MayWantMemory), using(crate::proofs::Readers::answers, crate::proofs::Readers::answers_or))]
+#[tactic(auto, unfolding(crate::specs::Answer::symbols_answer, crate::specs::Answer::NeedsMemory))]
 pub(crate) fn read_symbols(
     alloc: Global,
     data: &[u8],
     section: &str,
 ) -> Option<Result<(Vec<SymbolData>, u64), ParseError>>
-    ensures { Reads (MayWantMemory (format_of data.now) data.now) (symbols_answer (format_of data.now) data.now section.now) result }
+    ensures { Reads (NeedsMemory (format_of data.now) data.now) (symbols_answer (format_of data.now) data.now section.now) result }
 {
     match detect_format(data) {
         Format::Elf32 { byte_order } => Some(read_elf32(alloc, data, byte_order, section)),
@@ -36,7 +36,7 @@ fn read_elf32(
     byte_order: ByteOrder,
     section: &str,
 ) -> Result<(Vec<SymbolData>, u64), ParseError>
-    ensures { Answers (elf_file_answer elf32 byte_order data.now section.now) result }
+    ensures { Answers HoldsSymbols ListsSome (elf_file_answer elf32 byte_order data.now section.now) result }
 {
     elf32::parse(data, byte_order)?.symbols(alloc, section)
 }
@@ -48,19 +48,19 @@ fn read_elf64(
     byte_order: ByteOrder,
     section: &str,
 ) -> Result<(Vec<SymbolData>, u64), ParseError>
-    ensures { Answers (elf_file_answer elf64 byte_order data.now section.now) result }
+    ensures { Answers HoldsSymbols ListsSome (elf_file_answer elf64 byte_order data.now section.now) result }
 {
     elf64::parse(data, byte_order)?.symbols(alloc, section)
 }
 
 fn read_macho(alloc: Global, data: &[u8]) -> Result<(Vec<SymbolData>, u64), ParseError>
-    ensures { AnswersOr (HasAddress data.now) (macho_file_answer data.now) result }
+    ensures { Answers HoldsSymbols (λ _. HasAddress data.now) (macho_file_answer data.now) result }
 {
     macho::parse(data)?.symbols(alloc)
 }
 
 fn read_pe(alloc: Global, data: &[u8]) -> Result<(Vec<SymbolData>, u64), ParseError>
-    ensures { Answers (pe_file_answer data.now) result }
+    ensures { Answers HoldsSymbols ListsSome (pe_file_answer data.now) result }
 {
     pe::parse(data)?.symbols(alloc)
 }

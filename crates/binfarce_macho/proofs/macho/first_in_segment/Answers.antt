@@ -35,7 +35,7 @@ callback-requires g c =
     let file = c.args.bytes.now in
     let inside : c.args.body + 60 ≤ length file = omega (arith, c.in_ok-count.ensures.0) in
     let room : c.loop-index.index < whole_sections file c.args.body = is_whole file c.args.body c.loop-index.index c.in_ok-found.ensures.0 in
-    let at : Some (section_seen c.in-Some.section) ≡ section_at file (section_offset c.args.body c.loop-index.index) = here (c.in_ok-found.found) (Some c.in-Some.section) c.in-Some.is c.in_ok-found.ensures.1 in
+    let at : Some (section_seen c.in-Some.section) ≡ section_at file (section_offset c.args.body c.loop-index.index) = here {s = section_at file (section_offset c.args.body c.loop-index.index)} c.in_ok-found.found (Some c.in-Some.section) c.in-Some.is c.in_ok-found.ensures.1 in
     may_be_asked section_seen file c.args.body c.in_ok-count.count inside c.in_ok-count.ensures.1 _ c.loop-index.index c.in-Some.section c.requires.asked c.loop-index-test.true room at
 
 pub returns-then-callback : goal.returns-then-callback
@@ -43,7 +43,7 @@ returns-then-callback g c =
     let file = c.args.bytes.now in
     let inside : c.args.body + 60 ≤ length file = omega (arith, c.in_ok-count.ensures.0) in
     let room : c.loop-index.index < whole_sections file c.args.body = is_whole file c.args.body c.loop-index.index c.in_ok-found.ensures.0 in
-    let at : Some (section_seen c.in-Some.section) ≡ section_at file (section_offset c.args.body c.loop-index.index) = here (c.in_ok-found.found) (Some c.in-Some.section) c.in-Some.is c.in_ok-found.ensures.1 in
+    let at : Some (section_seen c.in-Some.section) ≡ section_at file (section_offset c.args.body c.loop-index.index) = here {s = section_at file (section_offset c.args.body c.loop-index.index)} c.in_ok-found.found (Some c.in-Some.section) c.in-Some.is c.in_ok-found.ensures.1 in
     accepted_at section_seen file c.args.body c.in_ok-count.count inside c.in_ok-count.ensures.1 _ c.loop-index.index c.in-Some.section c.loop-index-test.true room at c.if-callback.ensures c.loop-index.invariant.1
 
 pub loop-index-preserved : goal.loop-index-preserved
@@ -53,9 +53,9 @@ loop-index-preserved g c =
       omega arith,
       elim c.match-found.branch [
         | in-None w ↦ passed_over (Answered section_seen (goal.F-post g c.args.callback.now) false) file c.args.body c.loop-index.index
-            (here c.in_ok-found.found None w.in-None.is c.in_ok-found.ensures.1) c.loop-index.invariant.1
+            (here {s = section_at file (section_offset c.args.body c.loop-index.index)} c.in_ok-found.found None w.in-None.is c.in_ok-found.ensures.1) c.loop-index.invariant.1
         | in-Some+else-callback w ↦ refused_more (Answered section_seen (goal.F-post g c.args.callback.now) false) file c.args.body c.loop-index.index (section_seen w.in-Some.section)
-            (here c.in_ok-found.found (Some w.in-Some.section) w.in-Some.is c.in_ok-found.ensures.1) (w.in-Some.section, refl, w.if-callback.ensures) c.loop-index.invariant.1
+            (here {s = section_at file (section_offset c.args.body c.loop-index.index)} c.in_ok-found.found (Some w.in-Some.section) w.in-Some.is c.in_ok-found.ensures.1) (w.in-Some.section, refl, w.if-callback.ensures) c.loop-index.invariant.1
       ],
     )
 

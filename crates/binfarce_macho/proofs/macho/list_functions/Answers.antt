@@ -1,13 +1,15 @@
-use Rattle.std.proofs.Common.{◌≢◌, ◌∙◌, ap, sym, arith, List, [], ◌∷◌, Ok, Some, None, map}
-use Rattle.std.proofs.lemmas.List.{append-nil, map-append}
+use Rattle.std.proofs.Common.{◌≡◌, ◌≢◌, ◌∙◌, ap, sym, arith, List, [], ◌∷◌, Ok, Some, None, map, take}
+use Rattle.std.proofs.lemmas.List.{append-nil, map-append, take_all}
 use Rattle.binfarce_bytes.specs.Refusal.{refusal_of}
 use Rattle.binfarce_symbols.specs.declared.functions.FunctionSymbol.{FunctionSymbol}
+use Rattle.binfarce_symbols.specs.declared.sizes.RowAddress.{RowAddress}
+use Rattle.binfarce_symbols.specs.machine.Rows.{row_seen, rows_seen}
 use Rattle.binfarce_symbols.specs.SymbolSeen.{function_seen, HoldsFunctions}
-use Rattle.binfarce_symbols.proofs.Above.{past}
+use Rattle.binfarce_symbols.proofs.Sweeping.{past}
 use Rattle.binfarce_macho.specs.MachoSymbols.{entry_of, kept, listed_of}
 use Rattle.binfarce_macho.specs.machine.RawMacho.{found_seen}
-use Rattle.binfarce_macho.proofs.Kept.{kept_more, kept_refused}
-use Rattle.binfarce_macho.proofs.MachoAnswers.{refusal_answers, row_refused}
+use Rattle.binfarce_macho.proofs.Kept.{kept_more, kept_refused, kept_seen}
+use Rattle.binfarce_macho.proofs.MachoAnswers.{refusal_answers, row_refused, rows_listed}
 use Rattle.binfarce_macho.proofs.macho.list_functions.Goals as goal
 use Rattle.binfarce_macho.proofs.macho.list_functions.Goals.{in-None, in-Some}
 
@@ -24,14 +26,14 @@ returns-in_err-entry_of c =
     let found = found_seen c.args.found in
     let rows = c.args.rows.now in
     let error = c.in_err-entry_of.field-0.0 in
-    refusal_answers HoldsFunctions (λ _. rows ≢ []) (listed_of found rows) error c.from_residual-in_err-entry_of.result
-    (row_refused found rows (refusal_of error)
-    (kept_refused (entry_of found) rows c.loop-k.k past (map function_seen c.loop-k.functions.items) (refusal_of error) c.loop-k-test.true c.loop-k.invariant.kept c.in_err-entry_of.ensures))
+    refusal_answers HoldsFunctions (λ _. rows ≢ []) (listed_of found (rows_seen rows)) error c.from_residual-in_err-entry_of.result
+    (row_refused found (rows_seen rows) (refusal_of error)
+    (kept_seen (entry_of found) row_seen rows ∙ kept_refused (λ r. entry_of found (row_seen r)) rows c.loop-k.k past (map function_seen c.loop-k.functions.items) (refusal_of error) c.loop-k-test.true c.loop-k.invariant.kept c.in_err-entry_of.ensures))
     c.from_residual-in_err-entry_of.ensures.1
 
 pub loop-k-preserved : goal.loop-k-preserved
 loop-k-preserved c =
-    let f = entry_of (found_seen c.args.found) in
+    let f = λ (r : RowAddress). entry_of (found_seen c.args.found) (row_seen r) in
     let rows = c.args.rows.now in
     let k = c.loop-k.k in
     let items = c.loop-k.functions.items in
@@ -49,3 +51,11 @@ loop-k-preserved c =
         room = omega (arith, c.loop-k.invariant.room, w.push_reserved.ensures.capacity, ap (λ v. v.cap) w.functions-is);
       }
     ]
+
+pub returns : goal.returns
+returns c =
+    let found = found_seen c.args.found in
+    let rows = c.args.rows.now in
+    let all : take c.loop-k.k rows ≡ rows = take_all c.loop-k.k rows (omega arith) in
+    rows_listed (λ _. rows ≢ []) found (rows_seen rows) c.loop-k.functions
+    (kept_seen (entry_of found) row_seen rows ∙ ap (kept (λ r. entry_of found (row_seen r))) (sym all) ∙ c.loop-k.invariant.kept)

@@ -1,16 +1,17 @@
 use Rattle.std.proofs.Common.{sym, ◌∙◌, get_or, ◌+◌}
 use Rattle.std.specs.List.Sorted.{IsSortedBy}
-use Rattle.binfarce_symbols.specs.Sizes.{comes_before}
-use Rattle.binfarce_symbols.proofs.Arranging.{lt_is, arrangement_is, addresses_rise}
+use Rattle.binfarce_symbols.specs.machine.Rows.{row_seen}
+use Rattle.binfarce_symbols.proofs.Arranging.{lt_is}
+use Rattle.binfarce_symbols.proofs.Seen.{before, arrangement_seen, addresses_rise_seen}
 use Rattle.binfarce_symbols.proofs.sizes.arrange.Goals as goal
 use Rattle.binfarce_symbols.proofs.sizes.arrange.Goals.{After-sort_unstable}
 
 -- the sort goes by the test
-by_test : (c : After-sort_unstable) → IsSortedBy comes_before c.sort_unstable.new.self.items
-by_test c k d low high = sym (lt_is (get_or c.sort_unstable.new.self.items (k + 1) d) (get_or c.sort_unstable.new.self.items k d)) ∙ c.sort_unstable.ensures.sorted k d low high
+by_test : (c : After-sort_unstable) → IsSortedBy before c.sort_unstable.new.self.items
+by_test c k d low high = sym (lt_is (row_seen (get_or c.sort_unstable.new.self.items (k + 1) d)) (row_seen (get_or c.sort_unstable.new.self.items k d))) ∙ c.sort_unstable.ensures.sorted k d low high
 
 pub returns-clause-arranged : goal.returns-clause-arranged
-returns-clause-arranged c = arrangement_is c.args.rows.now.items c.sort_unstable.new.self.items c.sort_unstable.ensures.permutation (by_test c)
+returns-clause-arranged c = arrangement_seen c.args.rows.now.items c.sort_unstable.new.self.items c.sort_unstable.ensures.permutation (by_test c)
 
 pub returns-clause-rises : goal.returns-clause-rises
-returns-clause-rises c = addresses_rise c.sort_unstable.new.self.items (by_test c)
+returns-clause-rises c = addresses_rise_seen c.sort_unstable.new.self.items (by_test c)

@@ -1,0 +1,23 @@
+-- What private contracts of `list` cite.
+use Rattle.std.specs.Prelude.{◌≡◌, ℕ, List, Option, Some, None, Result, Ok, Err}
+use Rattle.std.specs.Global.{Vec}
+use Rattle.std.specs.Io.KnownBytes.{Appends}
+use Rattle.binfarce.specs.declared.demangle.SymbolData.{SymbolData}
+use Rattle.binfarce.specs.declared.ParseError.{ParseError}
+use Rattle.binfarce.specs.Refusal.{Refusal}
+use Rattle.binfarce.specs.Symbol.{Listed, HoldsSymbols, Answers}
+use Rattle.binfarce_tools.specs.declared.list.ListError.{ListError}
+use Rattle.binfarce_tools.specs.declared.list.ListError.TheVariants.{Write}
+use Rattle.binfarce_tools.specs.Lists.{AppendsBeginning}
+
+-- what the reader of the format returns, if there is one
+abbrev pub Reads : (Result Listed Refusal → Type 0) → Option (Result Listed Refusal) → Option (Result (Vec SymbolData × ℕ) ParseError) → Type 0
+Reads NeedsMemory None None = Unit {0}
+Reads NeedsMemory None (Some result) = ⊥
+Reads NeedsMemory (Some answer) None = ⊥
+Reads NeedsMemory (Some answer) (Some result) = Answers HoldsSymbols NeedsMemory answer result
+
+-- what is taken of bytes that are written whole, or as far as the sink takes them
+abbrev pub Writes : Option (List ℕ) → Option (List ℕ) → List ℕ → Result (Unit {0}) ListError → Type 0
+Writes old new bytes (Ok _) = Appends old new bytes
+Writes old new bytes (Err e) = (e ≡ Write) × AppendsBeginning old new bytes

@@ -1,11 +1,11 @@
 //! Lists the function symbols of an executable, a line each.
 
-ghost use Rattle.std.specs.Prelude.{◌≡◌, ◌<◌, ◌≤◌, ℕ, List, Bool, true, false, length, take, Option, Some, None, IfSome, IfNone, IfOk};
+ghost use Rattle.std.specs.Prelude.{◌≡◌, ◌++◌, ◌<◌, ◌≤◌, ℕ, List, Bool, true, false, length, take, Option, Some, None, IfSome, IfNone, IfOk};
 ghost use Rattle.std.specs.String.{string_bytes};
 ghost use Rattle.std.specs.Io.KnownBytes.{Keeps, Appends};
 ghost use Rattle.binfarce.specs.Format.{format_of};
 ghost use Rattle.binfarce_tools.specs.Answer.{symbols_answer, NeedsMemory};
-ghost use Rattle.binfarce_tools.specs.Listing.{listing};
+ghost use Rattle.binfarce_tools.specs.Listing.{symbol_line, listing};
 ghost use Rattle.binfarce_tools.specs.Lists.{Tells, Takes, Fails, Leaves};
 ghost use Rattle.binfarce_tools.specs.machine.Lists.{Writes};
 
@@ -171,20 +171,26 @@ pub fn list<S: Sink>(
 }
 
 // The whole listing.
-#[tactic(auto, using(crate::proofs::Pads::address_padded, crate::proofs::Pads::size_padded))]
 fn listing(alloc: Global, symbols: &[SymbolData], size: u64) -> Result<String, AllocError>
     ensures { IfOk result (λ t. string_bytes t ≡ listing symbols.now size) }
 {
     let mut text = String::new(alloc);
     for symbol in symbols {
-        writeln!(
-            text,
-            "{:016x} {:>10} {}",
-            symbol.address, symbol.size, symbol.name.trimmed
-        )?;
+        push_line(&mut text, symbol)?;
     }
     writeln!(text, "text {size}")?;
     Ok(text)
+}
+
+#[tactic(auto, using(crate::proofs::Pads::address_padded, crate::proofs::Pads::size_padded))]
+fn push_line(text: &mut String, symbol: &SymbolData) -> Result<(), AllocError>
+    ensures { IfOk result (λ _. string_bytes text.new ≡ string_bytes text.old ++ symbol_line symbol.now) }
+{
+    writeln!(
+        text,
+        "{:016x} {:>10} {}",
+        symbol.address, symbol.size, symbol.name.trimmed
+    )
 }
 
 // Writes the bytes in as many calls as the sink needs.

@@ -1,7 +1,7 @@
 //! Rows of the Mach-O reader, worked out by hand from the format's description.
 
-use binfarce_bytes::ParseError;
 use crate::macho::{Macho, Section, parse};
+use binfarce_bytes::ParseError;
 use binfarce_symbols::sizes::{RowAddress, arrange, sweep};
 use std::alloc::{AllocError, Global};
 use std::process::Abort;
@@ -62,7 +62,7 @@ fn listed(alloc: Global, file: &[u8]) -> Result<String, AllocError> {
 }
 
 // What is changed, how, and what is listed or refused.
-const ROWS: [(&str, &[Patch<'static>], &str); 15] = [
+const ROWS: [(&str, &[Patch<'static>], &str); 16] = [
     (
         "as it stands",
         &[],
@@ -126,6 +126,11 @@ const ROWS: [(&str, &[Patch<'static>], &str); 15] = [
         &[(104, b"__tex\0")],
         "symbols section is missing",
     ),
+    (
+        "a section name of 16 full bytes",
+        &[(104, b"__objc_classlist"), (120, b"__DATA_CONST")],
+        "symbols section is missing",
+    ),
 ];
 
 #[test]
@@ -160,6 +165,69 @@ fn sections(rt: HostRuntime) -> Result<(), Fail> {
             .find_section(|_| true)
             .map(|section| section.is_some());
         assert_eq!(rt; found, *expected, "{what}");
+    }
+    Ok(())
+}
+
+// What is changed, which section is asked for, and the range that it has.
+type Named<'a> = (
+    &'a str,
+    &'a [Patch<'a>],
+    (&'a str, &'a str),
+    Option<(usize, usize)>,
+);
+
+const NAMES: [Named<'static>; 5] = [
+    (
+        "a section name of 16 full bytes",
+        &[(104, b"__objc_classlist"), (120, b"__DATA_CONST")],
+        ("__DATA_CONST", "__objc_classlist"),
+        Some((0, 256)),
+    ),
+    (
+        "both names of 16 full bytes",
+        &[(104, b"__objc_classlist__DATA_CONST_ABC")],
+        ("__DATA_CONST_ABC", "__objc_classlist"),
+        Some((0, 256)),
+    ),
+    (
+        "not read on into the segment name",
+        &[(104, b"__objc_classlist")],
+        ("__TEXT", "__objc_classlist__TEXT"),
+        None,
+    ),
+    (
+        "not less than all 16 bytes",
+        &[(104, b"__objc_classlist")],
+        ("__TEXT", "__objc_classlis"),
+        None,
+    ),
+    (
+        "no byte after the NUL",
+        &[(111, b"text")],
+        ("__TEXT", "__text"),
+        Some((0, 256)),
+    ),
+];
+
+#[test]
+fn names(rt: HostRuntime) -> Result<(), Fail> {
+    for (what, patches, (segment_name, section_name), expected) in &NAMES {
+        let file = patched(rt.alloc(), patches)?;
+        let range = match parse(&file)?.section_with_name(segment_name, section_name)? {
+            None => None,
+            Some(section) => Some(section.range()?),
+        };
+        assert_eq!(rt;
+            range.map(|range| (range.start, range.end)),
+            *expected,
+            "{what}"
+        );
+    }
+    for (what, first) in [("a byte that isn't UTF-8", 0xFF), ("an empty name", 0)] {
+        let file = patched(rt.alloc(), &[(104, &[first])])?;
+        let found = parse(&file)?.find_section(|_| true)?;
+        assert!(rt; found.is_none(), "{what}");
     }
     Ok(())
 }

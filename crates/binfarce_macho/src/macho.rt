@@ -701,6 +701,3 @@ fn sized_entry(address: u64, size: Option<u64>, name: Option<&str>) -> Option<Ra
         },
     }
 }
-
-#[cfg(test)]
-mod tests;

@@ -565,6 +565,3 @@ fn record_at(data: &[u8], start: usize) -> Result<SymbolRecord, UnexpectedEof>
         number_of_aux_symbols: s.read()?,
     })
 }
-
-#[cfg(test)]
-mod tests;

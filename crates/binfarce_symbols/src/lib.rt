@@ -2,3 +2,5 @@
 #![tactic(auto)]
 
 pub mod sizes;
+#[cfg(test)]
+mod tests;

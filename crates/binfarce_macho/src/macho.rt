@@ -670,6 +670,3 @@ fn sized_entry(address: u64, size: Option<u64>, name: Option<&str>) -> Option<Fu
         size,
     })
 }
-
-#[cfg(test)]
-mod tests;

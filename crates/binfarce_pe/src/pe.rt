@@ -316,6 +316,3 @@ pub(crate) fn short_name(bytes: &[u8]) -> Option<&str>
         Err(_) => None,
     }
 }
-
-#[cfg(test)]
-mod tests;

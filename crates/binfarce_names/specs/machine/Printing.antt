@@ -340,3 +340,14 @@ WithinLevels left depth = depth + 65536 * left ≤ 65536 * 500
 abbrev pub first_state : Bool → State
 first_state full =
     record { at = Some 0; room = 65536; least = 500; over = false; text = []; muted = false; full = full; outside = true; root = None }
+
+-- what clauses see of a printer: the name that it prints, which stays, and the state of the printing
+pub record Printing : Type 0 where
+  pub name : List ℕ
+  pub state : State
+
+abbrev pub with_state : State → Printing → Printing
+with_state s p = record p { state = s }
+
+abbrev pub first_printing : List ℕ → Bool → Printing
+first_printing name full = record { name = name; state = first_state full }

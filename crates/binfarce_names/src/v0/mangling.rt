@@ -116,8 +116,8 @@ pub fn print<'a>(
     requires { IsAscii name.now }
     ensures { IfOk result (λ p. MatchOption p ((tree : PathTree) → UnfoldsTo name.entry.now tree → ⊥) (λ p. Tells name.entry.now full (string_bytes p.text) (option_map identifier_seen p.root))) }
 {
-    let mut printer = Printer::new(alloc, name.len(), full)?;
-    printer.print_path(name, MAX_LEVELS, 0, Position::InValue)?;
+    let mut printer = Printer::new(alloc, name, full)?;
+    printer.print_path(MAX_LEVELS, 0, Position::InValue)?;
     Ok(printer.finish())
 }
 

@@ -1,6 +1,7 @@
 //! Printing a v0 name: it is read and written in one pass.
 
 ghost use Rattle.std.specs.Prelude.{◌≡◌, ◌+◌, ◌-◌, ◌≤◌, ◌^◌, ◌<◌, ◌↔◌, IfOk, OnOk, IsTrue, MatchOption, option_map, true, false, if◌then◌else◌, ◌&&◌, nat_le};
+ghost use Rattle.std.specs.Str.{IsAscii};
 ghost use Rattle.std.specs.String.{string_bytes};
 ghost use Rattle.binfarce_names.specs.Identifier.{identifier_text};
 ghost use Rattle.binfarce_names.specs.Tree.{
@@ -21,7 +22,8 @@ ghost use Rattle.binfarce_names.specs.machine.Seen.{
   signature_seen,
 };
 ghost use Rattle.binfarce_names.specs.machine.Printing.{
-  first_state,
+  with_state,
+  first_printing,
   say,
   go,
   faulted,
@@ -55,6 +57,8 @@ pub struct Printed<'a> {
 /// A printing.
 #[derive(Drop)]
 pub struct Printer<'a> {
+    /// What stands behind the prefix of a mangling.
+    pub name: &'a str,
     /// The place, None behind a fault.
     pub at: Option<usize>,
     /// The steps that are left.
@@ -77,24 +81,27 @@ pub struct Printer<'a> {
 impl<'a> Model for Printer<'a> {
     ghost use Rattle.std.specs.Prelude.{◌≤◌};
     ghost use Rattle.std.specs.Option.{option_map};
+    ghost use Rattle.std.specs.Str.{IsAscii};
     ghost use Rattle.std.specs.String.{string_bytes};
-    ghost use Rattle.binfarce_names.specs.machine.Printing.{State};
+    ghost use Rattle.binfarce_names.specs.machine.Printing.{Printing};
     ghost use Rattle.binfarce_names.specs.machine.Seen.{identifier_seen};
 
-    ghost Value = { State };
+    ghost Value = { Printing };
 
-    ghost view = { λ p. record { at = p.at; room = p.room; least = p.least; over = p.over; text = string_bytes p.text; muted = p.muted; full = p.full; outside = p.outside; root = option_map identifier_seen p.root } };
+    ghost view = { λ p. record { name = p.name.now; state = record { at = p.at; room = p.room; least = p.least; over = p.over; text = string_bytes p.text; muted = p.muted; full = p.full; outside = p.outside; root = option_map identifier_seen p.root } } };
 
-    ghost invariant = { λ p. p.room ≤ 65536 };
+    ghost invariant = { λ p. IsAscii p.name.now × (p.room ≤ 65536) };
 }
 
 impl<'a> Printer<'a> {
-    /// A printing that begins at the first place, with memory for a text of some bytes.
-    pub fn new(alloc: Global, bytes: usize, full: bool) -> Result<Printer<'a>, AllocError>
-        ensures { IfOk result (λ p. p ≡ first_state full) }
+    /// A printing of `name` that begins at its first place, with memory for a text of as many bytes.
+    pub fn new(alloc: Global, name: &'a str, full: bool) -> Result<Printer<'a>, AllocError>
+        requires { IsAscii name.now }
+        ensures { IfOk result (λ p. p ≡ first_printing name.entry.now full) }
     {
-        let text = String::with_capacity(alloc, bytes)?;
+        let text = String::with_capacity(alloc, name.len())?;
         Ok(Printer {
+            name,
             at: Some(0),
             room: MAX_STEPS,
             least: MAX_LEVELS,
@@ -109,9 +116,10 @@ impl<'a> Printer<'a> {
 
     /// What was printed, or None where a limit was passed.
     pub fn finish(self) -> Option<Printed<'a>>
-        ensures { MatchOption result (self.entry.over ≡ true) (λ p. (self.entry.over ≡ false) × (string_bytes p.text ≡ self.entry.text) × (option_map identifier_seen p.root ≡ self.entry.root)) }
+        ensures { MatchOption result (self.entry.state.over ≡ true) (λ p. (self.entry.state.over ≡ false) × (string_bytes p.text ≡ self.entry.state.text) × (option_map identifier_seen p.root ≡ self.entry.state.root)) }
     {
         let Printer {
+            name: _,
             at: _,
             room: _,
             least: _,
@@ -130,14 +138,14 @@ impl<'a> Printer<'a> {
 
     /// Goes on at a place.
     pub fn go(&mut self, at: Option<usize>)
-        ensures { self.new ≡ go at self.old }
+        ensures { self.new ≡ with_state (go at self.old.state) self.old }
     {
         self.at = at;
     }
 
     /// Passes a limit.
     pub fn stop(&mut self)
-        ensures { self.new ≡ stopped self.old }
+        ensures { self.new ≡ with_state (stopped self.old.state) self.old }
     {
         self.at = None;
         self.over = true;
@@ -145,8 +153,8 @@ impl<'a> Printer<'a> {
 
     /// Takes steps, where so many are left.
     pub fn take(&mut self, count: u64) -> bool
-        ensures took { self.new ≡ (if nat_le count self.old.room then take count self.old else stopped self.old) }
-        ensures enough { result ≡ nat_le count self.old.room }
+        ensures took { self.new ≡ with_state (if nat_le count self.old.state.room then take count self.old.state else stopped self.old.state) self.old }
+        ensures enough { result ≡ nat_le count self.old.state.room }
         ensures small { IsTrue result → count ≤ 65536 }
     {
         if count <= self.room as u64 {
@@ -160,8 +168,8 @@ impl<'a> Printer<'a> {
 
     /// Takes a level and a step, where there is one of each.
     pub fn enter(&mut self, left: usize) -> bool
-        ensures entered { self.new ≡ (if nat_le 1 left && nat_le 1 self.old.room then entered (left - 1) self.old else stopped self.old) }
-        ensures enough { result ≡ (nat_le 1 left && nat_le 1 self.old.room) }
+        ensures entered { self.new ≡ with_state (if nat_le 1 left && nat_le 1 self.old.state.room then entered (left - 1) self.old.state else stopped self.old.state) self.old }
+        ensures enough { result ≡ (nat_le 1 left && nat_le 1 self.old.state.room) }
     {
         if left == 0 || self.room == 0 {
             self.stop();
@@ -174,7 +182,7 @@ impl<'a> Printer<'a> {
 
     /// Writes a text.
     pub fn say(&mut self, part: &str) -> Result<(), AllocError>
-        ensures { OnOk result (self.new ≡ say part.now self.old) }
+        ensures { OnOk result (self.new ≡ with_state (say part.now self.old.state) self.old) }
     {
         if !self.muted {
             self.text.push_str(part)?;
@@ -184,7 +192,7 @@ impl<'a> Printer<'a> {
 
     /// Reads on at a back reference's target.
     pub fn enter_target(&mut self, target: usize)
-        ensures { self.new ≡ into target self.old }
+        ensures { self.new ≡ with_state (into target self.old.state) self.old }
     {
         self.at = Some(target);
         self.outside = false;
@@ -192,7 +200,7 @@ impl<'a> Printer<'a> {
 
     /// Reads on behind a back reference.
     pub fn leave_target(&mut self, after: usize, outside: bool)
-        ensures { self.new ≡ back_to after outside self.old }
+        ensures { self.new ≡ with_state (back_to after outside self.old.state) self.old }
     {
         self.at = if self.over { None } else { Some(after) };
         self.outside = outside;
@@ -200,14 +208,14 @@ impl<'a> Printer<'a> {
 
     /// Writes nothing, or writes again.
     pub fn mute(&mut self, muted: bool)
-        ensures { self.new ≡ unmute muted self.old }
+        ensures { self.new ≡ with_state (unmute muted self.old.state) self.old }
     {
         self.muted = muted;
     }
 
     /// Begins a fault.
     pub fn fault(&mut self) -> Result<(), AllocError>
-        ensures { OnOk result (self.new ≡ faulted self.old) }
+        ensures { OnOk result (self.new ≡ with_state (faulted self.old.state) self.old) }
     {
         self.go(None);
         self.say("?")
@@ -215,7 +223,7 @@ impl<'a> Printer<'a> {
 
     /// Keeps the first crate root.
     pub fn keep_root(&mut self, name: Identifier<'a>)
-        ensures { self.new ≡ rooted (identifier_seen name.entry) self.old }
+        ensures { self.new ≡ with_state (rooted (identifier_seen name.entry) self.old.state) self.old }
     {
         if self.outside && self.root.is_none() {
             self.root = Some(name);
@@ -224,7 +232,7 @@ impl<'a> Printer<'a> {
 
     /// Writes an identifier.
     pub fn say_identifier(&mut self, name: Identifier<'a>) -> Result<(), AllocError>
-        ensures { OnOk result (self.new ≡ say (identifier_text (identifier_seen name.entry)) self.old) }
+        ensures { OnOk result (self.new ≡ with_state (say (identifier_text (identifier_seen name.entry)) self.old.state) self.old) }
     {
         if !self.muted {
             push_identifier(&mut self.text, name)?;
@@ -234,7 +242,7 @@ impl<'a> Printer<'a> {
 
     /// Writes a crate's disambiguator, where that is asked for.
     pub fn say_disambiguator(&mut self, n: u64) -> Result<(), AllocError>
-        ensures { OnOk result (self.new ≡ say (disambiguator_text self.old.full n) self.old) }
+        ensures { OnOk result (self.new ≡ with_state (say (disambiguator_text self.old.state.full n) self.old.state) self.old) }
     {
         if self.full && !self.muted {
             push_disambiguator(&mut self.text, n)?;
@@ -244,7 +252,7 @@ impl<'a> Printer<'a> {
 
     /// Writes what a nested path adds to its parent.
     pub fn say_nested(&mut self, namespace: u8, label: Label<'a>) -> Result<(), AllocError>
-        ensures { OnOk result (self.new ≡ say (nested_text namespace (label_seen label.entry)) self.old) }
+        ensures { OnOk result (self.new ≡ with_state (say (nested_text namespace (label_seen label.entry)) self.old.state) self.old) }
     {
         if !self.muted {
             push_nested(&mut self.text, namespace, label)?;
@@ -254,7 +262,7 @@ impl<'a> Printer<'a> {
 
     /// Writes a lifetime by its index.
     pub fn say_lifetime(&mut self, depth: usize, index: u64) -> Result<(), AllocError>
-        ensures { OnOk result (self.new ≡ say (lifetime_text depth index) self.old) }
+        ensures { OnOk result (self.new ≡ with_state (say (lifetime_text depth index) self.old.state) self.old) }
     {
         if !self.muted {
             push_lifetime(&mut self.text, depth, index)?;
@@ -265,7 +273,7 @@ impl<'a> Printer<'a> {
     /// Writes the lifetimes that a binder announces.
     pub fn say_binder(&mut self, depth: usize, count: u64) -> Result<(), AllocError>
         requires { depth + count < 2 ^ 64 }
-        ensures { OnOk result (self.new ≡ say (binder_text depth count) self.old) }
+        ensures { OnOk result (self.new ≡ with_state (say (binder_text depth count) self.old.state) self.old) }
     {
         if !self.muted {
             push_binder(&mut self.text, depth, count as usize)?;
@@ -275,7 +283,7 @@ impl<'a> Printer<'a> {
 
     /// Writes the front of a function type.
     pub fn say_signature(&mut self, signature: Signature<'a>) -> Result<(), AllocError>
-        ensures { OnOk result (self.new ≡ say (signature_text (signature_seen signature.entry)) self.old) }
+        ensures { OnOk result (self.new ≡ with_state (say (signature_text (signature_seen signature.entry)) self.old.state) self.old) }
     {
         if !self.muted {
             push_signature(&mut self.text, signature)?;
@@ -285,7 +293,7 @@ impl<'a> Printer<'a> {
 
     /// Writes the number of a const.
     pub fn say_number(&mut self, hex: &str) -> Result<(), AllocError>
-        ensures { OnOk result (self.new ≡ say (number_text hex.now) self.old) }
+        ensures { OnOk result (self.new ≡ with_state (say (number_text hex.now) self.old.state) self.old) }
     {
         if !self.muted {
             push_number(&mut self.text, hex)?;
@@ -295,7 +303,7 @@ impl<'a> Printer<'a> {
 
     /// Writes the lifetime of an argument.
     pub fn say_argument_lifetime(&mut self, depth: usize, life: Lifetime) -> Result<(), AllocError>
-        ensures { OnOk result (self.new ≡ say (argument_lifetime depth (lifetime_seen life)) self.old) }
+        ensures { OnOk result (self.new ≡ with_state (say (argument_lifetime depth (lifetime_seen life)) self.old.state) self.old) }
     {
         match life {
             Lifetime::Indexed(index) => self.say_lifetime(depth, index),
@@ -306,7 +314,7 @@ impl<'a> Printer<'a> {
     /// Writes the lifetime of a reference.
     #[tactic(auto, using(crate::proofs::Says::says))]
     pub fn say_reference_lifetime(&mut self, depth: usize, life: Lifetime) -> Result<(), AllocError>
-        ensures { OnOk result (self.new ≡ say (reference_lifetime depth (lifetime_seen life)) self.old) }
+        ensures { OnOk result (self.new ≡ with_state (say (reference_lifetime depth (lifetime_seen life)) self.old.state) self.old) }
     {
         match life {
             Lifetime::Indexed(index) => {
@@ -323,7 +331,7 @@ impl<'a> Printer<'a> {
     /// Writes the lifetime of a dyn type.
     #[tactic(auto, using(crate::proofs::Says::says))]
     pub fn say_dyn_lifetime(&mut self, depth: usize, life: Lifetime) -> Result<(), AllocError>
-        ensures { OnOk result (self.new ≡ say (dyn_lifetime depth (lifetime_seen life)) self.old) }
+        ensures { OnOk result (self.new ≡ with_state (say (dyn_lifetime depth (lifetime_seen life)) self.old.state) self.old) }
     {
         match life {
             Lifetime::Indexed(index) => {

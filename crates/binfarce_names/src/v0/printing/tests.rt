@@ -14,10 +14,9 @@ fn check_counts(
     levels: usize,
     steps: usize,
 ) -> Result<(), AllocError> {
-    let mut printer = Printer::new(alloc, name.len(), true)?;
-    if name.is_ascii() {
-        printer.print_path(name, MAX_LEVELS, 0, Position::InValue)?;
-    }
+    assert!(rt; name.is_ascii(), "a name is ASCII: {name}");
+    let mut printer = Printer::new(alloc, name, true)?;
+    printer.print_path(MAX_LEVELS, 0, Position::InValue)?;
     assert!(rt; !printer.over, "within the limits: {name}");
     assert_eq!(rt;
         MAX_LEVELS.saturating_sub(printer.least),

@@ -1,6 +1,6 @@
 use Rattle.std.proofs.Common.{◌≡◌, ◌+◌, ◌-◌, ◌*◌, ◌==◌}
 use Rattle.binfarce_names.specs.machine.Seen.{listed_seen}
-use Rattle.binfarce_names.specs.machine.Printing.{readers, items_rule, items_from, items_count, bindings_rule}
+use Rattle.binfarce_names.specs.machine.Printing.{with_state, readers, items_rule, items_from, items_count, bindings_rule}
 use Rattle.binfarce_names.proofs.v0.printer.Printer.+printing.Given as goal
 
 abbrev pub decreases-print_path : goal.decreases-print_path
@@ -59,8 +59,8 @@ decreases-print_dyn l = 10 * l.left + 5
 
 abbrev pub invariant-print_bindings-loop-turn : goal.invariant-print_bindings-loop-turn
 invariant-print_bindings-loop-turn l =
-    (bindings_rule l.name (readers l.name l.left) l.depth (l.most - l._turn) l.opened l.self).1 ≡ (bindings_rule l.name (readers l.name l.left) l.depth l.most l.initial.opened l.initial.self).1
+    with_state (bindings_rule l.self.name (readers l.self.name l.left) l.depth (l.most - l._turn) l.opened l.self.state).1 l.self ≡ with_state (bindings_rule l.initial.self.name (readers l.initial.self.name l.left) l.depth l.most l.initial.opened l.initial.self.state).1 l.initial.self
 
 abbrev pub invariant-print_items-loop-count : goal.invariant-print_items-loop-count
 invariant-print_items-loop-count l =
-    ((items_rule l.name (readers l.name l.left) l.depth (listed_seen l.listed) l.between (l.most - l.count) (l.count == 0) l.self).1 ≡ (items_from l.name (readers l.name l.left) l.depth (listed_seen l.listed) l.between l.initial.self).1) × (l.count + items_count (items_rule l.name (readers l.name l.left) l.depth (listed_seen l.listed) l.between (l.most - l.count) (l.count == 0) l.self).0 ≡ items_count (items_from l.name (readers l.name l.left) l.depth (listed_seen l.listed) l.between l.initial.self).0)
+    (with_state (items_rule l.self.name (readers l.self.name l.left) l.depth (listed_seen l.listed) l.between (l.most - l.count) (l.count == 0) l.self.state).1 l.self ≡ with_state (items_from l.initial.self.name (readers l.initial.self.name l.left) l.depth (listed_seen l.listed) l.between l.initial.self.state).1 l.initial.self) × (l.count + items_count (items_rule l.self.name (readers l.self.name l.left) l.depth (listed_seen l.listed) l.between (l.most - l.count) (l.count == 0) l.self.state).0 ≡ items_count (items_from l.initial.self.name (readers l.initial.self.name l.left) l.depth (listed_seen l.listed) l.between l.initial.self.state).0)

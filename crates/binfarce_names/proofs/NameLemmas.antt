@@ -2,34 +2,16 @@
 use Rattle.std.proofs.Common.{◌≡◌, ℕ, List, Option, Some, Result, Ok, Err, true, false, drop, inl, inr, sym, ◌∙◌, subst}
 use Rattle.std.specs.Prelude.{IfOk}
 use Rattle.binfarce_names.specs.declared.demangle.Kind.TheVariants.{Unknown, V0}
-use Rattle.binfarce_names.specs.Endings.{without_llvm, is_allowed_rest}
-use Rattle.binfarce_names.specs.Mangling.{IsMangling, ReadsPaths}
+use Rattle.binfarce_text.specs.Suffixes.{without_llvm, is_allowed_rest}
+use Rattle.binfarce_v0.specs.Mangling.{IsMangling, ReadsPaths}
 use Rattle.binfarce_names.specs.Name.{Name, Mangled}
-use Rattle.binfarce_names.specs.Named.{IsV0, IsMangled, IsNamed, unknown}
-use Rattle.binfarce_names.specs.Tree.{PathTree}
-use Rattle.binfarce_names.specs.Unfolding.{UnfoldsTo}
-use Rattle.binfarce_names.proofs.Manglings.{read_paths_at, unfolds_once}
-use Rattle.binfarce_names.proofs.TextLemmas.{some_same}
-
-same_place : (a b : ℕ) → ◌≡◌ {A = Option ℕ} (Some a) (Some b) → a ≡ b
-same_place a b e = cc
-
--- a text is one v0 mangling
-pub one_part : (text p q : List ℕ) (a b : ℕ) → IsMangling text p a → IsMangling text q b → p ≡ q
-one_part text p q a b m n = some_same p q (sym m.behind ∙ n.behind)
-
-one_end : (text p q : List ℕ) (a b : ℕ) → IsMangling text p a → IsMangling text q b → a ≡ b
-one_end text p q a b m n =
-    let paths = subst (λ x. ReadsPaths x b) (sym (one_part text p q a b m n)) n.paths in
-    same_place a b (sym (read_paths_at p a m.paths) ∙ read_paths_at p b paths)
-
--- a mangling with another rest is no v0 name
-pub rest_not_allowed : (text p : List ℕ) (a : ℕ) → IsMangling text p a → is_allowed_rest (drop a p) ≡ false → (part : List ℕ) → IsV0 text part → ⊥
-rest_not_allowed text p a m e part v =
-    let same = one_part text p part a v.after m v.mangling in
-    let place = one_end text p part a v.after m v.mangling in
-    let allowed : is_allowed_rest (drop a p) ≡ true = rw (place, same) v.rest in
-    let both : true ≡ false = sym allowed ∙ e in cc
+use Rattle.binfarce_names.specs.Named.{IsMangled, IsNamed, unknown}
+use Rattle.binfarce_v0.specs.Mangling.{IsV0}
+use Rattle.binfarce_v0_grammar.specs.Tree.{PathTree}
+use Rattle.binfarce_v0_grammar.specs.Unfolding.{UnfoldsTo}
+use Rattle.binfarce_v0.proofs.Manglings.{unfolds_once}
+use Rattle.binfarce_v0.proofs.RestLemmas.{one_part}
+use Rattle.binfarce_text.proofs.TextLemmas.{some_same}
 
 -- a v0 name unfolds to one tree
 pub one_tree : (text p q : List ℕ) (t u : PathTree) → IsV0 text p → UnfoldsTo p t → IsV0 text q → UnfoldsTo q u → t ≡ u

@@ -1,12 +1,13 @@
 -- The laws of v0 names.
 use Rattle.std.proofs.Common.{◌≡◌, ℕ, ◌+◌, ◌<◌, Bool, true, false, List, [], Option, Some, None, cond, nat_lt, max, refl, ap, sym, ◌∙◌, arith}
 use Rattle.std.proofs.lemmas.Bool.Decides.{nat_tests}
-use Rattle.binfarce_names.specs.Base62.{◌>>=◌, number, back_reference}
-use Rattle.binfarce_names.specs.Tree.{path_height, path_steps, name_text, path_root, InValue}
+use Rattle.binfarce_text.specs.Steps.{◌>>=◌}
+use Rattle.binfarce_v0_grammar.specs.Base62.{number, back_reference}
+use Rattle.binfarce_v0_grammar.specs.Tree.{path_height, path_steps, name_text, path_root, InValue}
 use Rattle.binfarce_names.specs.V0Laws.{UnfoldsOneWay, ReadsOneWay, NamesAnEarlierPlace, KnowsNoLimit}
-use Rattle.binfarce_names.specs.machine.Printing.{State}
-use Rattle.binfarce_names.proofs.Complete.{path_complete}
-use Rattle.binfarce_names.proofs.ReadingTrees.{reads_one_tree}
+use Rattle.binfarce_v0.specs.machine.Printing.{State}
+use Rattle.binfarce_v0.proofs.Complete.{path_complete}
+use Rattle.binfarce_v0_grammar.proofs.ReadingTrees.{reads_one_tree}
 
 -- a printing from a place with some steps
 abbrev from : Option ℕ → ℕ → State

@@ -7,24 +7,25 @@ use Rattle.std.specs.Str.{IsAscii}
 use Rattle.std.proofs.lemmas.Bool.Decides.{nat_tests}
 use Rattle.std.specs.Fmt.{digits}
 use Rattle.binfarce_names.specs.declared.demangle.Kind.TheVariants.{V0}
-use Rattle.binfarce_names.specs.Base62.{digit_62, number, tagged, back_reference, hex_digits}
-use Rattle.binfarce_names.specs.Endings.{without_llvm, is_allowed_rest}
-use Rattle.binfarce_names.specs.Forms.{path_form_by, path_form, lifetime, basic_type, abi, type_form_by, type_form, unsigned_type, const_form}
-use Rattle.binfarce_names.specs.Identifier.{length_at, identifier_of, identifier_bytes, identifier, label, identifier_text}
-use Rattle.binfarce_names.specs.Legacy as legacy_names
-use Rattle.binfarce_names.specs.Legacy.{Element, IsLegacy}
-use Rattle.binfarce_names.specs.Mangling.{behind_prefix, is_upper_at, IsMangling}
+use Rattle.binfarce_v0_grammar.specs.Base62.{digit_62, number, tagged, back_reference, hex_digits}
+use Rattle.binfarce_text.specs.Suffixes.{without_llvm, is_allowed_rest}
+use Rattle.binfarce_v0_grammar.specs.Forms.{path_form_by, path_form, lifetime, basic_type, abi, type_form_by, type_form, unsigned_type, const_form}
+use Rattle.binfarce_v0_grammar.specs.Identifier.{length_at, identifier_of, identifier_bytes, identifier, label, identifier_text}
+use Rattle.binfarce_legacy.specs.Legacy as legacy_names
+use Rattle.binfarce_legacy.specs.Legacy.{Element, IsLegacy}
+use Rattle.binfarce_v0.specs.Mangling.{behind_prefix, is_upper_at, IsMangling}
 use Rattle.binfarce_names.specs.Name.{Name}
 use Rattle.binfarce_names.specs.Named.{IsNotLegacy, IsNamed, unknown}
-use Rattle.binfarce_names.specs.Tree.{path_height, path_steps, lifetime_text, binder_text, nested_text, signature_text, number_text, InValue}
-use Rattle.binfarce_names.specs.Unfolding.{UnfoldsTo, bound_place}
-use Rattle.binfarce_names.specs.Punycode.{digit_of, weight, integer, scaled_bias, adapted_bias, decoder_after, text_of, punycode_decoded}
+use Rattle.binfarce_v0_grammar.specs.Tree.{path_height, path_steps, lifetime_text, binder_text, nested_text, signature_text, number_text, InValue}
+use Rattle.binfarce_v0_grammar.specs.Unfolding.{UnfoldsTo, bound_place}
+use Rattle.binfarce_v0_grammar.specs.Punycode.{digit_of, weight, integer, scaled_bias, adapted_bias, decoder_after, text_of, punycode_decoded}
 use Rattle.binfarce_names.specs.V0Laws.{Counts}
-use Rattle.binfarce_names.specs.machine.Places.{const_place, bindings_place, item_place, items_place, type_place, path_place, places, paths_place}
-use Rattle.binfarce_names.specs.machine.Printing.{first_state, const_rule, bindings_rule, item_rule, items_rule, type_rule, path_rule, readers}
-use Rattle.binfarce_names.proofs.Manglings.{printed, printed_told, printed_over, paths_read, texts_tell}
-use Rattle.binfarce_names.proofs.SoundForms.{readers_sound}
-use Rattle.binfarce_names.proofs.TextLemmas.{some_same}
+use Rattle.binfarce_v0_grammar.specs.machine.Places.{const_place, bindings_place, item_place, items_place, type_place, path_place, places}
+use Rattle.binfarce_v0.specs.machine.Mangling.{paths_place}
+use Rattle.binfarce_v0.specs.machine.Printing.{first_state, const_rule, bindings_rule, item_rule, items_rule, type_rule, path_rule, readers}
+use Rattle.binfarce_v0.proofs.Manglings.{printed, printed_told, printed_over, paths_read, texts_tell}
+use Rattle.binfarce_v0.proofs.SoundForms.{readers_sound}
+use Rattle.binfarce_text.proofs.TextLemmas.{some_same}
 
 -- all that a worked name computes with
 unfoldable pub computing : ℕ

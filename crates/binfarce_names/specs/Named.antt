@@ -2,13 +2,13 @@
 use Rattle.std.specs.Prelude.{◌≡◌, ℕ, ◌⊎◌, List, None, true, false, drop, option_map}
 use Rattle.std.specs.Str.{encode_utf8_all}
 use Rattle.binfarce_names.specs.declared.demangle.Kind.TheVariants.{Unknown, Legacy, V0}
-use Rattle.binfarce_names.specs.Endings.{without_llvm, is_allowed_rest}
-use Rattle.binfarce_names.specs.Legacy.{Element, IsLegacy, legacy_chars, cut}
-use Rattle.binfarce_names.specs.Identifier.{identifier_text}
-use Rattle.binfarce_names.specs.Mangling.{IsMangling}
+use Rattle.binfarce_text.specs.Suffixes.{without_llvm, is_allowed_rest}
+use Rattle.binfarce_legacy.specs.Legacy.{Element, IsLegacy, legacy_chars, cut}
+use Rattle.binfarce_v0_grammar.specs.Identifier.{identifier_text}
+use Rattle.binfarce_v0.specs.Mangling.{IsV0}
 use Rattle.binfarce_names.specs.Name.{Name, Mangled}
-use Rattle.binfarce_names.specs.Tree.{PathTree, name_text, path_root}
-use Rattle.binfarce_names.specs.Unfolding.{UnfoldsTo}
+use Rattle.binfarce_v0_grammar.specs.Tree.{PathTree, name_text, path_root}
+use Rattle.binfarce_v0_grammar.specs.Unfolding.{UnfoldsTo}
 
 -- the name of a legacy mangling: complete, and without the last part of its path
 abbrev pub legacy : List Element → Name
@@ -28,12 +28,6 @@ abbrev pub IsNotLegacy : List ℕ → Type 0
 IsNotLegacy text =
     (part : List ℕ) (elements : List Element) (rest : List ℕ)
     → ¬ (IsLegacy (without_llvm text) part elements rest)
-
--- text is a v0 mangling, of which part is what stands behind the prefix
-pub record IsV0 (text part : List ℕ) : Type 0 where
-  pub after : ℕ
-  pub mangling : IsMangling text part after
-  pub rest : is_allowed_rest (drop after part) ≡ true
 
 -- the name of a v0 mangling: both texts are of one tree
 abbrev pub v0 : PathTree → Name

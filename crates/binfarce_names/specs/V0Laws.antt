@@ -1,10 +1,10 @@
 -- Laws of v0 names.
 use Rattle.std.specs.Prelude.{◌≡◌, ℕ, ◌≤◌, ◌<◌, List, Option, Some, Bool}
 use Rattle.binfarce_names.specs.declared.demangle.Kind.TheVariants.{V0}
-use Rattle.binfarce_names.specs.Base62.{back_reference}
-use Rattle.binfarce_names.specs.Tree.{PathTree, path_height, path_steps, name_text, path_root}
-use Rattle.binfarce_names.specs.Reading.{ReadsPath}
-use Rattle.binfarce_names.specs.Unfolding.{IsPath, UnfoldsTo}
+use Rattle.binfarce_v0_grammar.specs.Base62.{back_reference}
+use Rattle.binfarce_v0_grammar.specs.Tree.{PathTree, path_height, path_steps, name_text, path_root}
+use Rattle.binfarce_v0_grammar.specs.Reading.{ReadsPath}
+use Rattle.binfarce_v0_grammar.specs.Unfolding.{IsPath, UnfoldsTo}
 use Rattle.binfarce_names.specs.Named.{IsNamed}
 
 -- a place unfolds to at most one tree, and up to at most one place behind it

@@ -4,18 +4,12 @@ ghost use Rattle.std.specs.Prelude.{◌≡◌, IfOk};
 ghost use Rattle.binfarce_names.specs.Name.{mangled_seen, name_seen};
 ghost use Rattle.binfarce_names.specs.Named.{HasOneAnswer, IsMangled, unknown};
 
-use crate::endings::without_llvm;
-use crate::v0::Texts;
-use crate::{legacy, v0};
+use binfarce_legacy::legacy;
+use binfarce_text::suffixes::without_llvm;
+use binfarce_v0::mangling as v0;
+use binfarce_v0::mangling::Texts;
+pub use binfarce_v0::printer::{MAX_LEVELS, MAX_STEPS};
 use std::alloc::{AllocError, Global};
-
-/// How many levels of paths, types and consts within one another a v0 name may have, as it is read and as it is printed:
-/// what a back reference stands for lies a level below it. A name with more is `Kind::Unknown`.
-pub const MAX_LEVELS: usize = 500;
-
-/// How many steps the printing of a v0 name may take: one for each path, type, const and lifetime that it comes to, each
-/// time that it comes to it, and one for each lifetime that a binder announces. A name with more is `Kind::Unknown`.
-pub const MAX_STEPS: usize = 65_536;
 
 /// How a name was mangled.
 #[derive(Clone, Copy, PartialEq, Eq, Debug)]
@@ -142,6 +136,8 @@ fn has_one_answer(name: &str)
     let _ = name;
 }
 
+#[cfg(test)]
+mod legacy_real_tests;
 #[cfg(test)]
 mod tests;
 #[cfg(test)]

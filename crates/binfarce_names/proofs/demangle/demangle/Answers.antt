@@ -1,6 +1,7 @@
 use Rattle.std.proofs.Common.{ℕ, List, inl, inr, refl, subst}
-use Rattle.binfarce_names.specs.Legacy.{Element, IsLegacy}
-use Rattle.binfarce_names.specs.Named.{IsMangled, IsV0}
+use Rattle.binfarce_legacy.specs.Legacy.{Element, IsLegacy}
+use Rattle.binfarce_names.specs.Named.{IsMangled}
+use Rattle.binfarce_v0.specs.Mangling.{IsV0}
 use Rattle.binfarce_names.proofs.demangle.demangle.Goals as goal
 
 pub returns-in-Some-mangle_part : goal.returns-in-Some-mangle_part

@@ -1,10 +1,10 @@
 use Rattle.std.proofs.Common.{◌≡◌, ℕ, List, inl, inr, ap, sym, ◌∙◌}
-use Rattle.binfarce_names.specs.Endings.{without_llvm}
-use Rattle.binfarce_names.specs.Legacy.{Element, IsLegacy}
+use Rattle.binfarce_text.specs.Suffixes.{without_llvm}
+use Rattle.binfarce_legacy.specs.Legacy.{Element, IsLegacy}
 use Rattle.binfarce_names.specs.Named.{IsNamed, legacy, v0}
-use Rattle.binfarce_names.proofs.ElementLemmas.{reads_one_way}
+use Rattle.binfarce_legacy.proofs.ElementLemmas.{reads_one_way}
 use Rattle.binfarce_names.proofs.NameLemmas.{one_tree}
-use Rattle.binfarce_names.proofs.TextLemmas.{some_same}
+use Rattle.binfarce_text.proofs.TextLemmas.{some_same}
 use Rattle.binfarce_names.proofs.demangle.has_one_answer.Goals as goal
 
 -- a text is a legacy mangling of one list of elements

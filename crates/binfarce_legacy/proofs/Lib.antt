@@ -1,0 +1,4 @@
+pub mod CutLemmas
+pub mod ElementLemmas
+pub mod JoinLemmas
+pub mod PieceLemmas

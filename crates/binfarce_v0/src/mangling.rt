@@ -1,0 +1,177 @@
+//! A whole v0 mangling.
+
+ghost use Rattle.std.specs.Prelude.{
+  ◌≡◌,
+  ℕ,
+  ◌-◌,
+  ◌<◌,
+  ◌≤◌,
+  List,
+  IfOk,
+  IfSome,
+  MatchOption,
+  length,
+  slice_index,
+  option_map,
+  drop,
+};
+ghost use Rattle.std.specs.Str.{IsAscii};
+ghost use Rattle.std.specs.String.{string_bytes};
+ghost use Rattle.binfarce_v0_grammar.specs.Identifier.{identifier_text};
+ghost use Rattle.binfarce_v0_grammar.specs.Tree.{PathTree};
+ghost use Rattle.binfarce_v0_grammar.specs.Unfolding.{UnfoldsTo};
+ghost use Rattle.binfarce_v0_grammar.specs.machine.Seen.{identifier_seen};
+ghost use Rattle.binfarce_v0.specs.Mangling.{prefix_length, behind_prefix, is_upper_at, IsMangling, IsV0};
+ghost use Rattle.binfarce_v0.specs.machine.Mangling.{paths_place, Tells, TextsTell};
+
+use crate::printer::{MAX_LEVELS, Printed, Printer};
+use crate::text::push_identifier;
+use binfarce_text::suffixes::is_allowed_rest;
+use binfarce_v0_grammar::forms::{Identifier, Position};
+use binfarce_v0_grammar::numbers::byte_at;
+use binfarce_v0_grammar::reading::read_path;
+use std::alloc::{AllocError, Global};
+
+// How many bytes the prefix has.
+fn prefix_length(text: &[u8]) -> Option<usize>
+    ensures value { result ≡ prefix_length text.now }
+    ensures within { IfSome result (λ n. (0 < n) × (n ≤ length text.now) × (slice_index text.now (n - 1) ≡ 82)) }
+{
+    let first = byte_at(text, 0);
+    if first == b'R' {
+        return Some(1);
+    }
+    if first != b'_' {
+        return None;
+    }
+    let second = byte_at(text, 1);
+    if second == b'R' {
+        return Some(2);
+    }
+    if second == b'_' && byte_at(text, 2) == b'R' {
+        Some(3)
+    } else {
+        None
+    }
+}
+
+// What stands behind the prefix.
+#[tactic(auto, using(binfarce_v0_grammar::proofs::Cuts::behind_cuts), unfolding(crate::specs::Mangling::behind_prefix))]
+fn behind_prefix(text: &str) -> Option<&str>
+    ensures { option_map (λ n. n.now) result ≡ behind_prefix text.now }
+{
+    let length = prefix_length(text.as_bytes())?;
+    Some(&text[length..])
+}
+
+// Whether a path may begin at a place.
+fn is_upper_at(name: &[u8], at: usize) -> bool
+    ensures { result ≡ is_upper_at name.now at }
+{
+    byte_at(name, at).is_ascii_uppercase()
+}
+
+// The place behind the paths of a name.
+fn read_paths(name: &str) -> Option<usize>
+    requires ascii { IsAscii name.now }
+    ensures { result ≡ paths_place name.now }
+{
+    let mid = read_path(name, MAX_LEVELS, 0)?;
+    if is_upper_at(name.as_bytes(), mid) {
+        read_path(name, MAX_LEVELS, mid)
+    } else {
+        Some(mid)
+    }
+}
+
+/// The v0 mangling that `text` begins with: what stands behind its prefix, and the place there behind its paths.
+/// None where `text` begins with no v0 mangling whose reading has at most `MAX_LEVELS` levels. No memory is taken.
+pub fn read(text: &str) -> Option<(&str, usize)>
+    ensures { MatchOption result ((name : List ℕ) (after : ℕ) → IsMangling text.now name after → ⊥) (λ r. IsMangling text.now r.0.now r.1) }
+{
+    let name = behind_prefix(text)?;
+    if !is_upper_at(name.as_bytes(), 0) || !name.is_ascii() {
+        return None;
+    }
+    let after = read_paths(name)?;
+    Some((name, after))
+}
+
+/// The text of what `name`, which stands behind a prefix, unfolds to, with or without the disambiguators of crates.
+/// None where it unfolds to no tree of at most `MAX_LEVELS` levels and `MAX_STEPS` steps.
+pub fn print<'a>(
+    alloc: Global,
+    name: &'a str,
+    full: bool,
+) -> Result<Option<Printed<'a>>, AllocError>
+    requires { IsAscii name.now }
+    ensures { IfOk result (λ p. MatchOption p ((tree : PathTree) → UnfoldsTo name.entry.now tree → ⊥) (λ p. Tells name.entry.now full (string_bytes p.text) (option_map identifier_seen p.root))) }
+{
+    let mut printer = Printer::new(alloc, name, full)?;
+    printer.print_path(MAX_LEVELS, 0, Position::InValue)?;
+    Ok(printer.finish())
+}
+
+/// What stands behind the prefix of a v0 mangling, up to the end of `text`: places of the name may lie in all of it.
+/// None where `text` is no v0 mangling whose reading has at most `MAX_LEVELS` levels. No memory is taken.
+pub fn mangle_part(text: &str) -> Option<&str>
+    ensures { MatchOption result ((part : List ℕ) → IsV0 text.now part → ⊥) (λ p. IsV0 text.now p.now) }
+{
+    let (part, after) = read(text)?;
+    if is_allowed_rest(rest_from(part.as_bytes(), after)) {
+        Some(part)
+    } else {
+        None
+    }
+}
+
+// What stands from a place on.
+fn rest_from(name: &[u8], at: usize) -> &[u8]
+    ensures { result.now ≡ drop at name.now }
+{
+    if at <= name.len() { &name[at..] } else { &[] }
+}
+
+/// Both texts of a name, and its crate.
+#[derive(Drop)]
+pub struct Texts {
+    pub complete: String,
+    pub trimmed: String,
+    pub crate_name: Option<String>,
+}
+
+// The text of a crate's name.
+fn root_text(alloc: Global, root: Option<Identifier<'_>>) -> Result<Option<String>, AllocError>
+    ensures { IfOk result (λ t. option_map string_bytes t ≡ option_map identifier_text (option_map identifier_seen root.entry)) }
+{
+    let Some(name) = root else {
+        return Ok(None);
+    };
+    let mut text = String::new(alloc);
+    push_identifier(&mut text, name)?;
+    Ok(Some(text))
+}
+
+/// Both texts of what `name` unfolds to, and its crate. None where it unfolds to no tree within the limits.
+pub fn both_texts(alloc: Global, name: &str) -> Result<Option<Texts>, AllocError>
+    requires { IsAscii name.now }
+    ensures { IfOk result (λ t. MatchOption t ((tree : PathTree) → UnfoldsTo name.now tree → ⊥) (λ t. TextsTell name.now (string_bytes t.complete) (string_bytes t.trimmed) (option_map string_bytes t.crate_name))) }
+{
+    let Some(complete) = print(alloc, name, true)? else {
+        return Ok(None);
+    };
+    let Some(trimmed) = print(alloc, name, false)? else {
+        return Ok(None);
+    };
+    let Printed { text, root } = complete;
+    let crate_name = root_text(alloc, root)?;
+    let Printed {
+        text: short,
+        root: _,
+    } = trimmed;
+    Ok(Some(Texts {
+        complete: text,
+        trimmed: short,
+        crate_name,
+    }))
+}

@@ -1,0 +1,354 @@
+//! Printing a v0 name: it is read and written in one pass.
+
+ghost use Rattle.std.specs.Prelude.{◌≡◌, ◌+◌, ◌-◌, ◌≤◌, ◌^◌, ◌<◌, ◌↔◌, IfOk, OnOk, IsTrue, MatchOption, option_map, true, false, if◌then◌else◌, ◌&&◌, nat_le};
+ghost use Rattle.std.specs.Str.{IsAscii};
+ghost use Rattle.std.specs.String.{string_bytes};
+ghost use Rattle.binfarce_v0_grammar.specs.Identifier.{identifier_text};
+ghost use Rattle.binfarce_v0_grammar.specs.Tree.{
+  lifetime_text,
+  binder_text,
+  argument_lifetime,
+  reference_lifetime,
+  dyn_lifetime,
+  nested_text,
+  signature_text,
+  number_text,
+  disambiguator_text,
+};
+ghost use Rattle.binfarce_v0_grammar.specs.machine.Seen.{
+  identifier_seen,
+  label_seen,
+  lifetime_seen,
+  signature_seen,
+};
+ghost use Rattle.binfarce_v0.specs.machine.Printing.{
+  with_state,
+  first_printing,
+  say,
+  go,
+  faulted,
+  stopped,
+  take,
+  entered,
+  rooted,
+  into,
+  back_to,
+  unmute,
+};
+
+use crate::text::{
+    push_binder, push_disambiguator, push_identifier, push_lifetime, push_nested, push_number,
+    push_signature,
+};
+use binfarce_v0_grammar::forms::{Identifier, Label, Lifetime, Signature};
+use std::alloc::{AllocError, Global};
+use std::marker::Model;
+
+/// How many levels of paths, types and consts within one another a v0 name may have, as it is read and as it is printed:
+/// what a back reference stands for lies a level below it. A name with more is `Kind::Unknown`.
+pub const MAX_LEVELS: usize = 500;
+
+/// How many steps the printing of a v0 name may take: one for each path, type, const and lifetime that it comes to, each
+/// time that it comes to it, and one for each lifetime that a binder announces. A name with more is `Kind::Unknown`.
+pub const MAX_STEPS: usize = 65_536;
+
+/// What a name means, as a text.
+#[derive(Drop)]
+pub struct Printed<'a> {
+    /// The text of the tree.
+    pub text: String,
+    /// The name of the first crate root.
+    pub root: Option<Identifier<'a>>,
+}
+
+/// A printing.
+#[derive(Drop)]
+pub struct Printer<'a> {
+    /// What stands behind the prefix of a mangling.
+    pub name: &'a str,
+    /// The place, None behind a fault.
+    pub at: Option<usize>,
+    /// The steps that are left.
+    pub room: usize,
+    /// The least number of levels that were left so far.
+    pub least: usize,
+    /// A limit was passed.
+    pub over: bool,
+    /// What was written, unless it is muted.
+    pub text: String,
+    pub muted: bool,
+    /// Disambiguators of crates are written.
+    pub full: bool,
+    /// In no back reference.
+    pub outside: bool,
+    /// The first crate root.
+    pub root: Option<Identifier<'a>>,
+}
+
+impl<'a> Model for Printer<'a> {
+    ghost use Rattle.std.specs.Prelude.{◌≤◌};
+    ghost use Rattle.std.specs.Option.{option_map};
+    ghost use Rattle.std.specs.Str.{IsAscii};
+    ghost use Rattle.std.specs.String.{string_bytes};
+    ghost use Rattle.binfarce_v0.specs.machine.Printing.{Printing};
+    ghost use Rattle.binfarce_v0_grammar.specs.machine.Seen.{identifier_seen};
+
+    ghost Value = { Printing };
+
+    ghost view = { λ p. record { name = p.name.now; state = record { at = p.at; room = p.room; least = p.least; over = p.over; text = string_bytes p.text; muted = p.muted; full = p.full; outside = p.outside; root = option_map identifier_seen p.root } } };
+
+    ghost invariant = { λ p. IsAscii p.name.now × (p.room ≤ 65536) };
+}
+
+impl<'a> Printer<'a> {
+    /// A printing of `name` that begins at its first place, with memory for a text of as many bytes.
+    pub fn new(alloc: Global, name: &'a str, full: bool) -> Result<Printer<'a>, AllocError>
+        requires { IsAscii name.now }
+        ensures { IfOk result (λ p. p ≡ first_printing name.entry.now full) }
+    {
+        let text = String::with_capacity(alloc, name.len())?;
+        Ok(Printer {
+            name,
+            at: Some(0),
+            room: MAX_STEPS,
+            least: MAX_LEVELS,
+            over: false,
+            text,
+            muted: false,
+            full,
+            outside: true,
+            root: None,
+        })
+    }
+
+    /// What was printed, or None where a limit was passed.
+    pub fn finish(self) -> Option<Printed<'a>>
+        ensures { MatchOption result (self.entry.state.over ≡ true) (λ p. (self.entry.state.over ≡ false) × (string_bytes p.text ≡ self.entry.state.text) × (option_map identifier_seen p.root ≡ self.entry.state.root)) }
+    {
+        let Printer {
+            name: _,
+            at: _,
+            room: _,
+            least: _,
+            over,
+            text,
+            muted: _,
+            full: _,
+            outside: _,
+            root,
+        } = self;
+        if over {
+            return None;
+        }
+        Some(Printed { text, root })
+    }
+
+    /// Goes on at a place.
+    pub fn go(&mut self, at: Option<usize>)
+        ensures { self.new ≡ with_state (go at self.old.state) self.old }
+    {
+        self.at = at;
+    }
+
+    /// Passes a limit.
+    pub fn stop(&mut self)
+        ensures { self.new ≡ with_state (stopped self.old.state) self.old }
+    {
+        self.at = None;
+        self.over = true;
+    }
+
+    /// Takes steps, where so many are left.
+    pub fn take(&mut self, count: u64) -> bool
+        ensures took { self.new ≡ with_state (if nat_le count self.old.state.room then take count self.old.state else stopped self.old.state) self.old }
+        ensures enough { result ≡ nat_le count self.old.state.room }
+        ensures small { IsTrue result → count ≤ 65536 }
+    {
+        if count <= self.room as u64 {
+            self.room -= count as usize;
+            true
+        } else {
+            self.stop();
+            false
+        }
+    }
+
+    /// Takes a level and a step, where there is one of each.
+    pub fn enter(&mut self, left: usize) -> bool
+        ensures entered { self.new ≡ with_state (if nat_le 1 left && nat_le 1 self.old.state.room then entered (left - 1) self.old.state else stopped self.old.state) self.old }
+        ensures enough { result ≡ (nat_le 1 left && nat_le 1 self.old.state.room) }
+    {
+        if left == 0 || self.room == 0 {
+            self.stop();
+            return false;
+        }
+        self.room -= 1;
+        self.least = self.least.min(left - 1);
+        true
+    }
+
+    /// Writes a text.
+    pub fn say(&mut self, part: &str) -> Result<(), AllocError>
+        ensures { OnOk result (self.new ≡ with_state (say part.now self.old.state) self.old) }
+    {
+        if !self.muted {
+            self.text.push_str(part)?;
+        }
+        Ok(())
+    }
+
+    /// Reads on at a back reference's target.
+    pub fn enter_target(&mut self, target: usize)
+        ensures { self.new ≡ with_state (into target self.old.state) self.old }
+    {
+        self.at = Some(target);
+        self.outside = false;
+    }
+
+    /// Reads on behind a back reference.
+    pub fn leave_target(&mut self, after: usize, outside: bool)
+        ensures { self.new ≡ with_state (back_to after outside self.old.state) self.old }
+    {
+        self.at = if self.over { None } else { Some(after) };
+        self.outside = outside;
+    }
+
+    /// Writes nothing, or writes again.
+    pub fn mute(&mut self, muted: bool)
+        ensures { self.new ≡ with_state (unmute muted self.old.state) self.old }
+    {
+        self.muted = muted;
+    }
+
+    /// Begins a fault.
+    pub fn fault(&mut self) -> Result<(), AllocError>
+        ensures { OnOk result (self.new ≡ with_state (faulted self.old.state) self.old) }
+    {
+        self.go(None);
+        self.say("?")
+    }
+
+    /// Keeps the first crate root.
+    pub fn keep_root(&mut self, name: Identifier<'a>)
+        ensures { self.new ≡ with_state (rooted (identifier_seen name.entry) self.old.state) self.old }
+    {
+        if self.outside && self.root.is_none() {
+            self.root = Some(name);
+        }
+    }
+
+    /// Writes an identifier.
+    pub fn say_identifier(&mut self, name: Identifier<'a>) -> Result<(), AllocError>
+        ensures { OnOk result (self.new ≡ with_state (say (identifier_text (identifier_seen name.entry)) self.old.state) self.old) }
+    {
+        if !self.muted {
+            push_identifier(&mut self.text, name)?;
+        }
+        Ok(())
+    }
+
+    /// Writes a crate's disambiguator, where that is asked for.
+    pub fn say_disambiguator(&mut self, n: u64) -> Result<(), AllocError>
+        ensures { OnOk result (self.new ≡ with_state (say (disambiguator_text self.old.state.full n) self.old.state) self.old) }
+    {
+        if self.full && !self.muted {
+            push_disambiguator(&mut self.text, n)?;
+        }
+        Ok(())
+    }
+
+    /// Writes what a nested path adds to its parent.
+    pub fn say_nested(&mut self, namespace: u8, label: Label<'a>) -> Result<(), AllocError>
+        ensures { OnOk result (self.new ≡ with_state (say (nested_text namespace (label_seen label.entry)) self.old.state) self.old) }
+    {
+        if !self.muted {
+            push_nested(&mut self.text, namespace, label)?;
+        }
+        Ok(())
+    }
+
+    /// Writes a lifetime by its index.
+    pub fn say_lifetime(&mut self, depth: usize, index: u64) -> Result<(), AllocError>
+        ensures { OnOk result (self.new ≡ with_state (say (lifetime_text depth index) self.old.state) self.old) }
+    {
+        if !self.muted {
+            push_lifetime(&mut self.text, depth, index)?;
+        }
+        Ok(())
+    }
+
+    /// Writes the lifetimes that a binder announces.
+    pub fn say_binder(&mut self, depth: usize, count: u64) -> Result<(), AllocError>
+        requires { depth + count < 2 ^ 64 }
+        ensures { OnOk result (self.new ≡ with_state (say (binder_text depth count) self.old.state) self.old) }
+    {
+        if !self.muted {
+            push_binder(&mut self.text, depth, count as usize)?;
+        }
+        Ok(())
+    }
+
+    /// Writes the front of a function type.
+    pub fn say_signature(&mut self, signature: Signature<'a>) -> Result<(), AllocError>
+        ensures { OnOk result (self.new ≡ with_state (say (signature_text (signature_seen signature.entry)) self.old.state) self.old) }
+    {
+        if !self.muted {
+            push_signature(&mut self.text, signature)?;
+        }
+        Ok(())
+    }
+
+    /// Writes the number of a const.
+    pub fn say_number(&mut self, hex: &str) -> Result<(), AllocError>
+        ensures { OnOk result (self.new ≡ with_state (say (number_text hex.now) self.old.state) self.old) }
+    {
+        if !self.muted {
+            push_number(&mut self.text, hex)?;
+        }
+        Ok(())
+    }
+
+    /// Writes the lifetime of an argument.
+    pub fn say_argument_lifetime(&mut self, depth: usize, life: Lifetime) -> Result<(), AllocError>
+        ensures { OnOk result (self.new ≡ with_state (say (argument_lifetime depth (lifetime_seen life)) self.old.state) self.old) }
+    {
+        match life {
+            Lifetime::Indexed(index) => self.say_lifetime(depth, index),
+            _ => self.say("?"),
+        }
+    }
+
+    /// Writes the lifetime of a reference.
+    #[tactic(auto, using(crate::proofs::Says::says))]
+    pub fn say_reference_lifetime(&mut self, depth: usize, life: Lifetime) -> Result<(), AllocError>
+        ensures { OnOk result (self.new ≡ with_state (say (reference_lifetime depth (lifetime_seen life)) self.old.state) self.old) }
+    {
+        match life {
+            Lifetime::Indexed(index) => {
+                if index == 0 {
+                    return self.say("");
+                }
+                self.say_lifetime(depth, index)?;
+                self.say(" ")
+            }
+            _ => self.say(""),
+        }
+    }
+
+    /// Writes the lifetime of a dyn type.
+    #[tactic(auto, using(crate::proofs::Says::says))]
+    pub fn say_dyn_lifetime(&mut self, depth: usize, life: Lifetime) -> Result<(), AllocError>
+        ensures { OnOk result (self.new ≡ with_state (say (dyn_lifetime depth (lifetime_seen life)) self.old.state) self.old) }
+    {
+        match life {
+            Lifetime::Indexed(index) => {
+                if index == 0 {
+                    return self.say("");
+                }
+                self.say(" + ")?;
+                self.say_lifetime(depth, index)
+            }
+            _ => self.say("?"),
+        }
+    }
+}

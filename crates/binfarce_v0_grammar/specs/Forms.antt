@@ -1,0 +1,256 @@
+-- Which form of the grammar stands at a place of a v0 name: the front of each row, up to where it asks for a path, a type or a const
+-- (RFC 2603, "Syntax of mangled names"). A place is None behind a fault, where no form stands.
+use Rattle.std.specs.Prelude.{ℕ, ◌+◌, List, [], ◌∷◌, Option, Some, None, Bool, true, false, ◌||◌, if◌then◌else◌, ◌==◌, nat_lt, slice_index, length, codes}
+use Rattle.std.specs.Int.{is_in_range}
+use Rattle.binfarce_text.specs.Steps.{◌>>=◌}
+use Rattle.binfarce_v0_grammar.specs.Base62.{number, tagged, back_reference, hex_digits}
+use Rattle.binfarce_v0_grammar.specs.Identifier.{Identifier, identifier, Label, label, past}
+
+-- a byte stands at a place
+abbrev pub stands : List ℕ → ℕ → Option ℕ → Bool
+stands name byte None = false
+stands name byte (Some at) = slice_index name at == byte
+
+-- the place behind a byte that stands there
+abbrev pub behind : Option ℕ → Option ℕ
+behind None = None
+behind (Some at) = Some (at + 1)
+
+-- a label asked for at a place
+abbrev pub label_at : List ℕ → Option ℕ → Option (Label × ℕ)
+label_at name None = None
+label_at name (Some at) = label name at
+
+abbrev pub identifier_at : List ℕ → Option ℕ → Option (Identifier × ℕ)
+identifier_at name None = None
+identifier_at name (Some at) = identifier name at
+
+-- <path>
+pub data PathForm : Type 0 where
+  -- none of the forms, or one whose number, name or namespace doesn't read
+  NoPathForm : PathForm
+  -- "C" <identifier>
+  CrateRoot : (root : Label) (after : ℕ) → PathForm
+  -- "N" <namespace> ..
+  NestedIn : (namespace after : ℕ) → PathForm
+  -- "M" [<disambiguator>] ..
+  InherentImpl : (after : ℕ) → PathForm
+  -- "X" [<disambiguator>] ..
+  TraitImpl : (after : ℕ) → PathForm
+  -- "Y" ..
+  TraitDefinition : (after : ℕ) → PathForm
+  -- "I" ..
+  WithArguments : (after : ℕ) → PathForm
+  -- <backref>
+  BackToPath : (target after : ℕ) → PathForm
+
+abbrev pub crate_form : Option (Label × ℕ) → PathForm
+crate_form None = NoPathForm
+crate_form (Some l) = CrateRoot l.0 l.1
+
+abbrev pub impl_form : (ℕ → PathForm) → Option (ℕ × ℕ) → PathForm
+impl_form form None = NoPathForm
+impl_form form (Some d) = form d.1
+
+abbrev pub path_back_form : Option (ℕ × ℕ) → PathForm
+path_back_form None = NoPathForm
+path_back_form (Some b) = BackToPath b.0 b.1
+
+-- <namespace> = <a-zA-Z>
+abbrev pub is_letter : ℕ → Bool
+is_letter c = is_in_range 65 90 c || is_in_range 97 122 c
+
+abbrev pub nested_form : ℕ → ℕ → PathForm
+nested_form namespace after = if is_letter namespace then NestedIn namespace after else NoPathForm
+
+-- the form that a path's first byte announces
+unfoldable pub path_form_by : List ℕ → ℕ → ℕ → PathForm
+path_form_by name at tag =
+    if tag == 67 then crate_form (label name (at + 1)) else (
+    if tag == 78 then nested_form (slice_index name (at + 1)) (at + 2) else (
+    if tag == 77 then impl_form InherentImpl (tagged name 115 (at + 1)) else (
+    if tag == 88 then impl_form TraitImpl (tagged name 115 (at + 1)) else (
+    if tag == 89 then TraitDefinition (at + 1) else (
+    if tag == 73 then WithArguments (at + 1) else (
+    if tag == 66 then path_back_form (back_reference name at) else NoPathForm))))))
+
+unfoldable pub path_form : List ℕ → Option ℕ → PathForm
+path_form name None = NoPathForm
+path_form name (Some at) = path_form_by name at (slice_index name at)
+
+-- a lifetime that may stand at a place
+pub data Lifetime : Type 0 where
+  -- no "L"
+  NoLifetime : Lifetime
+  -- an "L" whose number doesn't read
+  UnreadLifetime : Lifetime
+  -- <lifetime> = "L" <base-62-number>
+  IndexedLifetime : (index : ℕ) → Lifetime
+
+abbrev pub indexed_lifetime : Option (ℕ × ℕ) → Lifetime × Option ℕ
+indexed_lifetime None = (UnreadLifetime, None)
+indexed_lifetime (Some n) = (IndexedLifetime n.0, Some n.1)
+
+unfoldable pub lifetime : List ℕ → Option ℕ → Lifetime × Option ℕ
+lifetime name None = (NoLifetime, None)
+lifetime name (Some at) =
+    if slice_index name at == 76 then indexed_lifetime (number name (at + 1)) else (NoLifetime, Some at)
+
+-- <basic-type>
+unfoldable pub basic_type : ℕ → Option (List ℕ)
+basic_type c =
+    if c == 98 then Some (codes "bool") else (
+    if c == 99 then Some (codes "char") else (
+    if c == 101 then Some (codes "str") else (
+    if c == 117 then Some (codes "()") else (
+    if c == 97 then Some (codes "i8") else (
+    if c == 115 then Some (codes "i16") else (
+    if c == 108 then Some (codes "i32") else (
+    if c == 120 then Some (codes "i64") else (
+    if c == 110 then Some (codes "i128") else (
+    if c == 105 then Some (codes "isize") else (
+    if c == 104 then Some (codes "u8") else (
+    if c == 116 then Some (codes "u16") else (
+    if c == 109 then Some (codes "u32") else (
+    if c == 121 then Some (codes "u64") else (
+    if c == 111 then Some (codes "u128") else (
+    if c == 106 then Some (codes "usize") else (
+    if c == 102 then Some (codes "f32") else (
+    if c == 100 then Some (codes "f64") else (
+    if c == 122 then Some (codes "!") else (
+    if c == 112 then Some (codes "_") else (
+    if c == 118 then Some (codes "...") else None))))))))))))))))))))
+
+-- the front of a <fn-sig>: [<binder>] ["U"] ["K" <abi>]
+pub record Signature : Type 0 where
+  pub binder : ℕ
+  pub is_unsafe : Bool
+  pub abi : Option (List ℕ)
+
+-- an <abi> that is an identifier has plain characters, and no Punycode
+abbrev pub abi_name : Identifier × ℕ → Option (Option (List ℕ) × ℕ)
+abi_name i = abi_of i.0.plain i.0.code i.1
+  where
+    abi_of : List ℕ → List ℕ → ℕ → Option (Option (List ℕ) × ℕ)
+    abi_of [] code after = None
+    abi_of (c ∷ plain) [] after = Some (Some (c ∷ plain), after)
+    abi_of (c ∷ plain) (d ∷ code) after = None
+
+-- ["K" <abi>], where <abi> = "C" | <undisambiguated-identifier>
+unfoldable pub abi : List ℕ → ℕ → Option (Option (List ℕ) × ℕ)
+abi name at =
+    if slice_index name at == 75 then (if slice_index name (at + 1) == 67 then Some (Some (codes "C"), at + 2) else (identifier name (at + 1) >>= abi_name)) else Some (None, at)
+
+-- <type>
+pub data TypeForm : Type 0 where
+  -- no byte, or a form whose binder or back reference doesn't read
+  NoTypeForm : TypeForm
+  -- <basic-type>, by its name
+  BasicType : (name : List ℕ) (after : ℕ) → TypeForm
+  -- "R" [<lifetime>] .. and "Q" [<lifetime>] ..
+  ReferenceTo : (mutable : Bool) (life : Lifetime) (after : ℕ) → TypeForm
+  -- the same with an "L" whose number doesn't read
+  UnreadReference : TypeForm
+  -- "P" .. and "O" ..
+  PointerTo : (mutable : Bool) (after : ℕ) → TypeForm
+  -- "S" ..
+  SliceOf : (after : ℕ) → TypeForm
+  -- "A" ..
+  ArrayOf : (after : ℕ) → TypeForm
+  -- "T" ..
+  TupleOf : (after : ℕ) → TypeForm
+  -- "F" and the front of a <fn-sig>
+  FunctionOf : (signature : Signature) (after : ℕ) → TypeForm
+  -- the same with an <abi> that doesn't read
+  UnreadAbi : (binder : ℕ) → TypeForm
+  -- "D" [<binder>] ..
+  DynOf : (binder after : ℕ) → TypeForm
+  -- the same with a binder that doesn't read
+  UnreadDyn : TypeForm
+  -- <backref>
+  BackToType : (target after : ℕ) → TypeForm
+  -- another byte: a path
+  PathType : TypeForm
+
+abbrev pub reference_form : Bool → Lifetime × Option ℕ → TypeForm
+reference_form mutable l = form_of l.0 l.1
+  where
+    form_of : Lifetime → Option ℕ → TypeForm
+    form_of life None = UnreadReference
+    form_of life (Some after) = ReferenceTo mutable life after
+
+abbrev pub signature_form : ℕ → Bool → Option (Option (List ℕ) × ℕ) → TypeForm
+signature_form binder is_unsafe None = UnreadAbi binder
+signature_form binder is_unsafe (Some a) =
+    FunctionOf (record { binder = binder; is_unsafe = is_unsafe; abi = a.0 }) a.1
+
+abbrev pub function_form : List ℕ → Option (ℕ × ℕ) → TypeForm
+function_form name None = NoTypeForm
+function_form name (Some b) = signature_form b.0 (slice_index name b.1 == 85) (abi name (past name 85 b.1))
+
+abbrev pub dyn_form : Option (ℕ × ℕ) → TypeForm
+dyn_form None = UnreadDyn
+dyn_form (Some b) = DynOf b.0 b.1
+
+abbrev pub type_back_form : Option (ℕ × ℕ) → TypeForm
+type_back_form None = NoTypeForm
+type_back_form (Some b) = BackToType b.0 b.1
+
+-- the form of a type that is no basic type
+unfoldable pub type_form_by : List ℕ → ℕ → ℕ → TypeForm
+type_form_by name at tag =
+    if tag == 82 then reference_form false (lifetime name (Some (at + 1))) else (
+    if tag == 81 then reference_form true (lifetime name (Some (at + 1))) else (
+    if tag == 80 then PointerTo false (at + 1) else (
+    if tag == 79 then PointerTo true (at + 1) else (
+    if tag == 83 then SliceOf (at + 1) else (
+    if tag == 65 then ArrayOf (at + 1) else (
+    if tag == 84 then TupleOf (at + 1) else (
+    if tag == 70 then function_form name (tagged name 71 (at + 1)) else (
+    if tag == 68 then dyn_form (tagged name 71 (at + 1)) else (
+    if tag == 66 then type_back_form (back_reference name at) else PathType)))))))))
+
+abbrev pub basic_form : Option (List ℕ) → ℕ → TypeForm → TypeForm
+basic_form None at other = other
+basic_form (Some text) at other = BasicType text (at + 1)
+
+unfoldable pub type_form : List ℕ → Option ℕ → TypeForm
+type_form name None = NoTypeForm
+type_form name (Some at) =
+    if nat_lt at (length name) then basic_form (basic_type (slice_index name at)) at (type_form_by name at (slice_index name at)) else NoTypeForm
+
+-- <const> of an unsigned integer
+pub data ConstForm : Type 0 where
+  -- another type, or a back reference that doesn't read
+  NoConstForm : ConstForm
+  -- <type> "p"
+  PlaceholderConst : (type_name : List ℕ) (after : ℕ) → ConstForm
+  -- <type> <const-data>
+  DigitsConst : (type_name digits : List ℕ) (after : ℕ) → ConstForm
+  -- the same with digits that don't read
+  UnreadConst : (type_name : List ℕ) → ConstForm
+  -- <backref>
+  BackToConst : (target after : ℕ) → ConstForm
+
+abbrev pub const_back_form : Option (ℕ × ℕ) → ConstForm
+const_back_form None = NoConstForm
+const_back_form (Some b) = BackToConst b.0 b.1
+
+abbrev pub digits_form : List ℕ → Option (List ℕ × ℕ) → ConstForm
+digits_form type_name None = UnreadConst type_name
+digits_form type_name (Some d) = DigitsConst type_name d.0 d.1
+
+-- the types of unsigned integers
+unfoldable pub unsigned_type : ℕ → Option (List ℕ)
+unsigned_type c =
+    if c == 104 || (c == 116 || (c == 109 || (c == 121 || (c == 111 || c == 106)))) then basic_type c else None
+
+abbrev pub typed_form : List ℕ → ℕ → Option (List ℕ) → ConstForm
+typed_form name at None = NoConstForm
+typed_form name at (Some type_name) =
+    if slice_index name at == 112 then PlaceholderConst type_name (at + 1) else digits_form type_name (hex_digits name at)
+
+unfoldable pub const_form : List ℕ → Option ℕ → ConstForm
+const_form name None = NoConstForm
+const_form name (Some at) =
+    if slice_index name at == 66 then const_back_form (back_reference name at) else typed_form name (at + 1) (unsigned_type (slice_index name at))

@@ -1,0 +1,9 @@
+pub mod Base62
+pub mod Identifier
+pub mod Punycode
+pub mod PunycodeText
+pub mod Forms
+pub mod Tree
+pub mod Unfolding
+pub mod Reading
+pub mod machine

@@ -1,0 +1,10 @@
+//! The grammar of Rust's v0 mangling (RFC 2603): its numbers, its identifiers with their Punycode (RFC 3492), its forms,
+//! and the reading of a name by the grammar alone.
+#![tactic(auto)]
+
+pub mod forms;
+pub mod leaves;
+pub mod numbers;
+pub mod places;
+pub mod punycode;
+pub mod reading;

@@ -1,0 +1,167 @@
+//! Numbers of a v0 name, from a place to the value and the place behind.
+
+ghost use Rattle.std.specs.Prelude.{◌≡◌, ◌+◌, ◌-◌, ◌*◌, ◌^◌, ◌<◌, ◌≤◌, IfSome, MatchOption, drop, if◌then◌else◌, length, slice_index};
+ghost use Rattle.std.specs.Int.{is_in_range};
+ghost use Rattle.std.specs.Option.{option_map};
+ghost use Rattle.binfarce_v0_grammar.specs.Base62.{
+  digit_62,
+  number_from,
+  number,
+  tagged,
+  back_reference,
+  hex_length,
+};
+ghost use Rattle.binfarce_v0_grammar.specs.Identifier.{length_from, length_at, past};
+
+/// The byte at a place, 0 behind the end.
+pub fn byte_at(name: &[u8], at: usize) -> u8
+    ensures value { result ≡ slice_index name.now at }
+    ensures within { 0 < result → at < length name.now }
+{
+    if at < name.len() { name[at] } else { 0 }
+}
+
+/// The place behind a byte that may stand at a place.
+pub fn past(name: &[u8], byte: u8, at: usize) -> usize
+    requires { 0 < byte }
+    ensures { result ≡ past name.now byte at }
+{
+    if byte_at(name, at) == byte {
+        at + 1
+    } else {
+        at
+    }
+}
+
+/// The value of a base-62 digit.
+#[tactic(auto, unfolding(crate::specs::Base62::digit_62))]
+fn digit_62(c: u8) -> Option<u8>
+    ensures { result ≡ digit_62 c }
+{
+    match c {
+        b'0'..=b'9' => Some(c - b'0'),
+        b'a'..=b'z' => Some(c - b'a' + 10),
+        b'A'..=b'Z' => Some(c - b'A' + 36),
+        _ => None,
+    }
+}
+
+// A number with one more digit behind, where it is below 2^64.
+fn with_digit(worth: u64, base: u64, digit: u8) -> Option<u64>
+    ensures { MatchOption result (2 ^ 64 ≤ worth * base + digit) (λ v. v ≡ worth * base + digit) }
+{
+    worth.checked_mul(base)?.checked_add(u64::from(digit))
+}
+
+/// Base-62 digits up to a `_`: one more than their value.
+#[tactic(auto, using(crate::proofs::NumberLemmas::number_from_step, crate::proofs::NumberLemmas::number_from_large, crate::proofs::NumberLemmas::number_from_over))]
+fn digits_62(name: &[u8], start: usize) -> Option<(u64, usize)>
+    ensures { result ≡ number_from (drop start name.now) 0 start }
+{
+    let mut worth: u64 = 0;
+    for at in start..name.len() {
+        let c = name[at];
+        if c == b'_' {
+            return Some((worth.checked_add(1)?, at + 1));
+        }
+        let digit = digit_62(c)?;
+        worth = with_digit(worth, 62, digit)?;
+    }
+    None
+}
+
+/// `<base-62-number>`
+#[tactic(auto, unfolding(crate::specs::Base62::number))]
+pub fn number(name: &[u8], at: usize) -> Option<(u64, usize)>
+    ensures { result ≡ number name.now at }
+{
+    if byte_at(name, at) == b'_' {
+        Some((0, at + 1))
+    } else {
+        digits_62(name, at)
+    }
+}
+
+/// A number behind a tag: 0 without the tag.
+#[tactic(auto, unfolding(crate::specs::Base62::tagged))]
+pub fn tagged(name: &[u8], tag: u8, at: usize) -> Option<(u64, usize)>
+    requires { 0 < tag }
+    ensures { result ≡ tagged name.now tag at }
+{
+    if byte_at(name, at) == tag {
+        let (value, after) = number(name, at + 1)?;
+        Some((value.checked_add(1)?, after))
+    } else {
+        Some((0, at))
+    }
+}
+
+/// `<backref>`, with its `B` at `at`: the place that it names.
+#[tactic(auto, unfolding(crate::specs::Base62::back_reference))]
+pub fn back_reference(name: &[u8], at: usize) -> Option<(usize, usize)>
+    requires { at < length name.now }
+    ensures { result ≡ back_reference name.now at }
+{
+    let (target, after) = number(name, at + 1)?;
+    let target = target as usize;
+    if target < at {
+        Some((target, after))
+    } else {
+        None
+    }
+}
+
+/// A decimal digit's value.
+fn decimal_digit(c: u8) -> Option<u8>
+    ensures { result ≡ (if is_in_range 48 57 c then Some (c - 48) else None) }
+{
+    match c {
+        b'0'..=b'9' => Some(c - b'0'),
+        _ => None,
+    }
+}
+
+/// The longest run of decimal digits.
+#[tactic(auto, using(crate::proofs::NumberLemmas::length_from_step, crate::proofs::NumberLemmas::length_from_large))]
+fn digits_10(name: &[u8], start: usize) -> Option<(u64, usize)>
+    ensures { result ≡ length_from (drop start name.now) 0 start }
+{
+    let mut worth: u64 = 0;
+    let mut after = start;
+    for at in start..name.len() {
+        let Some(digit) = decimal_digit(name[at]) else {
+            return Some((worth, at));
+        };
+        worth = with_digit(worth, 10, digit)?;
+        after = at + 1;
+    }
+    Some((worth, after))
+}
+
+/// `<decimal-number>`
+#[tactic(auto, unfolding(crate::specs::Identifier::length_at))]
+pub fn length_at(name: &[u8], at: usize) -> Option<(u64, usize)>
+    ensures { result ≡ length_at name.now at }
+{
+    match byte_at(name, at) {
+        b'0' => Some((0, at + 1)),
+        b'1'..=b'9' => digits_10(name, at),
+        _ => None,
+    }
+}
+
+/// Where lower-case hexadecimal digits end at a `_`.
+#[tactic(auto, using(crate::proofs::NumberLemmas::hex_length_step))]
+pub fn hex_end(name: &[u8], start: usize) -> Option<usize>
+    ensures value { result ≡ option_map (λ n. start + n) (hex_length (drop start name.now)) }
+    ensures within { IfSome result (λ end. (start ≤ end) × (end < length name.now)) }
+{
+    for at in start..name.len() {
+        match name[at] {
+            b'_' => return Some(at),
+            b'0'..=b'9' | b'a'..=b'f' => {}
+            _ => return None,
+        }
+    }
+    None
+}

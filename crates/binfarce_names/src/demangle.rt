@@ -2,13 +2,13 @@
 
 ghost use Rattle.std.specs.Prelude.{◌≡◌, IfOk};
 ghost use Rattle.binfarce_names.specs.Name.{mangled_seen, name_seen};
-ghost use Rattle.binfarce_names.specs.Named.{HasOneAnswer, IsMangled, unknown};
+ghost use Rattle.binfarce_names.specs.Named.{IsMangled, unknown};
 
 use binfarce_legacy::legacy;
 use binfarce_text::suffixes::without_llvm;
 use binfarce_v0::mangling as v0;
 use binfarce_v0::mangling::Texts;
-pub use binfarce_v0::printer::{MAX_LEVELS, MAX_STEPS};
+pub use binfarce_v0_grammar::limits::{MAX_LEVELS, MAX_STEPS};
 use std::alloc::{AllocError, Global};
 
 /// How a name was mangled.
@@ -126,14 +126,6 @@ pub fn demangle(name: &str) -> Demangled<'_>
             part: name,
         },
     }
-}
-
-/// A name has one answer.
-#[tactic(auto, unfolding(crate::specs::Named::IsNamed))]
-fn has_one_answer(name: &str)
-    ensures { HasOneAnswer name.now }
-{
-    let _ = name;
 }
 
 #[cfg(test)]

@@ -8,7 +8,8 @@ use Rattle.std.proofs.lemmas.List.{drop_all, append-nil}
 use Rattle.std.proofs.lemmas.List.Sums.{prefix_len-le-length}
 use Rattle.std.specs.List.{prefix_len, flat_map, take_while, starts_with}
 use Rattle.std.specs.Str.Parse.{digits_value}
-use Rattle.binfarce_legacy.specs.Legacy.{Piece, is_hex_digit, is_printed, numbered_escape, named_escape, first_piece, pieces, name_chars}
+use Rattle.binfarce_text.specs.Letters.{is_hex_digit}
+use Rattle.binfarce_legacy.specs.Legacy.{Piece, is_printed, numbered_escape, named_escape, first_piece, pieces, name_chars}
 use Rattle.binfarce_legacy.specs.machine.Reading.{is_plain, piece_or_all, chars_left}
 use Rattle.binfarce_text.proofs.TextLemmas.{begins-not, begins-from}
 

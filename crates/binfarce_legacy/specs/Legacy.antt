@@ -1,34 +1,33 @@
 -- The legacy mangling that `rustc` writes: `_ZN`, elements that are each counted, and `E`.
-use Rattle.std.specs.Prelude.{◌≡◌, ℕ, zero, suc, ◌+◌, ◌-◌, ◌<◌, Bool, ◌&&◌, ◌||◌, List, [], ◌∷◌, ◌++◌, length, take, drop, Option, Some, None, if◌then◌else◌, ◌==◌, nat_eq, nat_lt, nat_le, slice_index, codes, IsTrue, ⊤}
+use Rattle.std.specs.Prelude.{◌≡◌, ℕ, zero, suc, ◌+◌, ◌-◌, ◌<◌, Bool, ◌&&◌, not, List, [], ◌∷◌, ◌++◌, length, take, drop, Option, Some, None, if◌then◌else◌, ◌==◌, nat_eq, nat_lt, slice_index, codes, IsTrue, ⊤}
 use Rattle.std.specs.Option.{option_map, unwrap_or}
 use Rattle.std.specs.List.{find, flat_map, join_by, list_any, starts_with, take_while, before_last}
-use Rattle.std.specs.Char.{is_ascii_digit}
+use Rattle.std.specs.Char.{is_ascii_digit, is_control}
 use Rattle.std.specs.Str.{IsAscii}
 use Rattle.std.specs.Str.Parse.{digits_value}
+use Rattle.binfarce_text.specs.Letters.{'$', ':', is_hex_digit}
+use Rattle.binfarce_text.specs.Characters.{is_scalar}
+use Rattle.binfarce_text.specs.Prefixes.{after_prefix}
 use Rattle.binfarce_text.specs.Suffixes.{is_allowed_rest}
 
--- what stands behind the prefix: `_ZN`, `ZN` or `__ZN`
+-- what stands after the prefix: `_ZN`, `ZN` or `__ZN`
 unfoldable pub behind_prefix : List ℕ → Option (List ℕ)
-behind_prefix text =
-    if starts_with nat_eq text (codes "_ZN") then Some (drop 3 text)
-    else (if starts_with nat_eq text (codes "ZN") then Some (drop 2 text)
-    else (if starts_with nat_eq text (codes "__ZN") then Some (drop 4 text)
-    else None))
+behind_prefix text = after_prefix (codes "_ZN" ∷ codes "ZN" ∷ codes "__ZN" ∷ []) text
 
 -- an element: the digits of its length, and its name
 pub record Element : Type 0 where
   pub digits : List ℕ
   pub name : List ℕ
 
--- the bytes of the elements, `E`, and the rest behind it
+-- the bytes of the elements, `E`, and the rest after it
 abbrev pub print : List Element → List ℕ → List ℕ
 print [] rest = codes "E" ++ rest
 print (e ∷ elements) rest = e.digits ++ (e.name ++ print elements rest)
 
--- with these bytes behind it, e is counted: its digits are the longest run of decimal digits, and
+-- with these bytes after it, e is counted: its digits are the longest run of decimal digits, and
 -- the number that they write is the length of its name
-pub record IsCounted (e : Element) (behind : List ℕ) : Type 0 where
-  pub longest : e.digits ≡ take_while is_ascii_digit (e.digits ++ (e.name ++ behind))
+pub record IsCounted (e : Element) (after : List ℕ) : Type 0 where
+  pub longest : e.digits ≡ take_while is_ascii_digit (e.digits ++ (e.name ++ after))
   pub some : 0 < length e.digits
   pub counts : length e.name ≡ digits_value 10 e.digits
 
@@ -41,7 +40,7 @@ AreCounted (e ∷ elements) rest = IsCounted e (print elements rest) × AreCount
 abbrev pub Reads : List ℕ → List Element → List ℕ → Type 0
 Reads part elements rest = AreCounted elements rest × (part ≡ print elements rest)
 
--- text is a legacy mangling of these elements: part stands behind its prefix, and the rest behind
+-- text is a legacy mangling of these elements: part stands after its prefix, and the rest after
 -- its `E`
 pub record IsLegacy (text part : List ℕ) (elements : List Element) (rest : List ℕ) : Type 0 where
   pub prefix : behind_prefix text ≡ Some part
@@ -55,34 +54,27 @@ pub record Piece : Type 0 where
   pub chars : List ℕ
 
 -- the escapes that have a name, and the character that each stands for
-abbrev pub named_escapes : List (List ℕ × ℕ)
+abbrev pub named_escapes : List (List ℕ × List ℕ)
 named_escapes =
-    (codes "$LT$", 60) ∷ (codes "$GT$", 62) ∷ (codes "$RF$", 38) ∷ (codes "$C$", 44)
-    ∷ (codes "$LP$", 40) ∷ (codes "$RP$", 41) ∷ (codes "$BP$", 42) ∷ (codes "$SP$", 64) ∷ []
+    (codes "$LT$", codes "<") ∷ (codes "$GT$", codes ">") ∷ (codes "$RF$", codes "&") ∷ (codes "$C$", codes ",")
+    ∷ (codes "$LP$", codes "(") ∷ (codes "$RP$", codes ")") ∷ (codes "$BP$", codes "*") ∷ (codes "$SP$", codes "@") ∷ []
 
 -- the piece that such an escape makes where the name begins with it
 unfoldable pub named_escape : List ℕ → Option Piece
 named_escape name =
-    option_map (λ e. record { len = length e.0; chars = e.1 ∷ [] })
+    option_map (λ e. record { len = length e.0; chars = e.1 })
     (find (λ e. starts_with nat_eq name e.0) named_escapes)
 
--- a hexadecimal digit of a number: `0` to `9`, `a` to `f`
-abbrev pub is_hex_digit : ℕ → Bool
-is_hex_digit b = is_ascii_digit b || (nat_le 97 b && nat_le b 102)
-
--- a character that is printed: a scalar value outside the control characters, which are U+0000 to
--- U+001F and U+007F to U+009F
+-- a character that is printed: a scalar value that is no control character
 abbrev pub is_printed : ℕ → Bool
-is_printed c =
-    (nat_le 0x20 c && nat_le c 0x7E) || (nat_le 0xA0 c && nat_le c 0xD7FF)
-    || (nat_le 0xE000 c && nat_le c 0x10FFFF)
+is_printed c = is_scalar c && not (is_control c)
 
 -- the piece that `$u`, hexadecimal digits and `$` make where the name begins with them
 unfoldable pub numbered_escape : List ℕ → Option Piece
 numbered_escape name =
     let digits = take_while is_hex_digit (drop 2 name) in
     if starts_with nat_eq name (codes "$u") && nat_lt 0 (length digits)
-    && slice_index name (2 + length digits) == 36 && is_printed (digits_value 16 digits)
+    && slice_index name (2 + length digits) == '$' && is_printed (digits_value 16 digits)
     then Some (record { len = 3 + length digits; chars = digits_value 16 digits ∷ [] })
     else None
 
@@ -97,7 +89,8 @@ first_piece name =
     then unwrap_or (named_escape name) (record { len = length name; chars = name })
     else record { len = 1; chars = take 1 name }))
 
--- the pieces of a name from left to right, behind the first `skip` bytes
+-- the pieces of a name from left to right. The bytes of a piece after its first are skipped, and
+-- `skip` is how many are still to be skipped
 abbrev pub pieces : ℕ → List ℕ → List Piece
 pieces skip [] = []
 pieces (suc skip) (b ∷ name) = pieces skip name
@@ -116,6 +109,6 @@ legacy_chars elements = join_by (λ e. name_chars e.name) (codes "::") elements
 -- where there is no `:`
 unfoldable pub cut : List ℕ → List ℕ
 cut chars =
-    if list_any (λ c. c == 58) chars
-    then (let front = before_last (λ c. c == 58) chars in take (length front - 1) front)
+    if list_any (λ c. c == ':') chars
+    then (let front = before_last (λ c. c == ':') chars in take (length front - 1) front)
     else chars

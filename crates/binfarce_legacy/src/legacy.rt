@@ -7,13 +7,15 @@ ghost use Rattle.std.specs.Char.{is_ascii_digit, digit_value};
 ghost use Rattle.std.specs.Str.{IsAscii, encode_utf8_all};
 ghost use Rattle.std.specs.Str.Parse.{digits_value};
 ghost use Rattle.std.specs.String.{string_bytes};
-ghost use Rattle.binfarce_legacy.specs.Legacy.{Element, Reads, IsLegacy, behind_prefix, named_escape, numbered_escape, first_piece, name_chars, legacy_chars, is_hex_digit, is_printed, cut};
+ghost use Rattle.binfarce_text.specs.Letters.{is_hex_digit};
+ghost use Rattle.binfarce_legacy.specs.Legacy.{Element, Reads, IsLegacy, behind_prefix, named_escape, numbered_escape, first_piece, name_chars, legacy_chars, is_printed, cut};
 ghost use Rattle.binfarce_legacy.specs.machine.Reading.{is_plain, piece_of, piece_or_all, chars_left, name_start, name_end, HasElement};
 
+use binfarce_text::digits::hex_value;
 use binfarce_text::suffixes::is_allowed_rest;
 use std::alloc::{AllocError, Global};
 
-/// What stands behind the prefix of a legacy mangling.
+// What stands after the prefix of a legacy mangling.
 #[tactic(auto, unfolding(crate::specs::Legacy::behind_prefix))]
 fn behind_prefix(text: &str) -> Option<&str>
     ensures { option_copied result ≡ behind_prefix text.now }
@@ -30,8 +32,8 @@ fn behind_prefix(text: &str) -> Option<&str>
     }
 }
 
-/// How long the run of digits is that `text` begins with, and the number that they write, where it
-/// is below `usize::MAX`.
+// How long the run of digits is that `text` begins with, and the number that they write, where it
+// is below `usize::MAX`.
 fn count(text: &[u8]) -> (usize, usize)
     ensures digits { result.0 ≡ prefix_len is_ascii_digit text.now }
     ensures number { result.1 ≡ min (digits_value 10 (take result.0 text.now)) (2 ^ 64 - 1) }
@@ -46,25 +48,25 @@ fn count(text: &[u8]) -> (usize, usize)
     (digits, number)
 }
 
-/// Where the name of the element that stands at `at` begins and ends.
+// Where the name of the element that stands at `at` begins and ends.
 fn element(text: &[u8], at: usize) -> Option<(usize, usize)>
     requires { at ≤ length text.now }
     ensures { SomeIff result (HasElement (drop at text.now))
         (at + name_start (drop at text.now), at + name_end (drop at text.now)) }
 {
-    let behind = &text[at..];
-    let (digits, number) = count(behind);
+    let rest = &text[at..];
+    let (digits, number) = count(rest);
     if digits == 0 {
         return None;
     }
-    if behind.len() - digits < number {
+    if rest.len() - digits < number {
         return None;
     }
     let start = at + digits;
     Some((start, start + number))
 }
 
-/// Where the elements that `text` begins with end, behind their `E`.
+// Where the elements that `text` begins with end, after their `E`.
 fn elements_end(text: &[u8]) -> Option<usize>
     ensures { MatchOption result
         ((elements : List Element) (rest : List ℕ) → ¬ (Reads text.now elements rest))
@@ -81,8 +83,8 @@ fn elements_end(text: &[u8]) -> Option<usize>
     Some(at + 1)
 }
 
-/// What stands behind the prefix of `text`, where `text` is a legacy mangling that an allowed rest
-/// may follow.
+/// The mangling that `text` is, without its prefix and with what may follow its `E`. None where `text` is no legacy
+/// mangling. Nothing is copied.
 pub fn mangling(text: &str) -> Option<&str>
     ensures { MatchOption result
         ((part : List ℕ) (elements : List Element) (rest : List ℕ) → ¬ (IsLegacy text.now part elements rest))
@@ -100,7 +102,7 @@ pub fn mangling(text: &str) -> Option<&str>
     Some(part)
 }
 
-/// The character of the named escape that `name` begins with, and the escape's length.
+// The character of the named escape that `name` begins with, and the escape's length.
 #[tactic(auto, unfolding(crate::specs::Legacy::named_escape))]
 fn named_escape(name: &[u8]) -> Option<(char, usize)>
     ensures value { option_map piece_of result ≡ named_escape name.now }
@@ -127,19 +129,8 @@ fn named_escape(name: &[u8]) -> Option<(char, usize)>
     }
 }
 
-/// The value of a hexadecimal digit.
-fn hex_value(byte: u8) -> Option<u32>
-    ensures { SomeIff result (is_hex_digit byte ≡ true) (digit_value byte) }
-{
-    match byte {
-        b'0'..=b'9' => Some(u32::from(byte - b'0')),
-        b'a'..=b'f' => Some(u32::from(byte - b'a') + 10),
-        _ => None,
-    }
-}
-
-/// How long the run of hexadecimal digits is that `text` begins with, and the number that they
-/// write, where it is below 0x110000.
+// How long the run of hexadecimal digits is that `text` begins with, and the number that they
+// write, where it is below 0x110000.
 fn hex_count(text: &[u8]) -> (usize, u32)
     ensures digits { result.0 ≡ prefix_len is_hex_digit text.now }
     ensures number { result.1 ≡ min (digits_value 16 (take result.0 text.now)) 0x110000 }
@@ -150,20 +141,20 @@ fn hex_count(text: &[u8]) -> (usize, u32)
         let Some(value) = hex_value(text[digits]) else {
             break;
         };
-        number = (number * 16 + value).min(0x11_0000);
+        number = (number * 16 + u32::from(value)).min(0x11_0000);
         digits += 1;
     }
     (digits, number)
 }
 
-/// A character that is printed: a scalar value outside the control characters.
+// A character that is printed: a scalar value that is no control character.
 fn is_printed(code: u32) -> bool
     ensures { result ≡ is_printed code }
 {
     matches!(code, 0x20..=0x7E | 0xA0..=0xD7FF | 0xE000..=0x10_FFFF)
 }
 
-/// The character of the numbered escape that `name` begins with, and the escape's length.
+// The character of the numbered escape that `name` begins with, and the escape's length.
 fn numbered_escape(name: &[u8]) -> Option<(char, usize)>
     requires { starts_with nat_eq name.now (codes "$u") ≡ true }
     ensures value { option_map piece_of result ≡ numbered_escape name.now }
@@ -178,7 +169,7 @@ fn numbered_escape(name: &[u8]) -> Option<(char, usize)>
     }
 }
 
-/// Where the bytes from `at` on end that stand for themselves.
+// Where the bytes from `at` on end that stand for themselves.
 fn plain_end(name: &[u8], at: usize) -> usize
     requires { at ≤ length name.now }
     ensures value { result ≡ at + prefix_len is_plain (drop at name.now) }
@@ -192,7 +183,7 @@ fn plain_end(name: &[u8], at: usize) -> usize
     end
 }
 
-/// How long the mark is that is dropped at the front of `name`: `_` before a `$`.
+// How long the mark is that is dropped at the front of `name`: `_` before a `$`.
 fn mark_len(name: &[u8]) -> usize
     ensures within { result ≤ length name.now }
     ensures value { name_chars name.now ≡ chars_left (drop result name.now) }
@@ -200,8 +191,8 @@ fn mark_len(name: &[u8]) -> usize
     if name.starts_with(b"_$") { 1 } else { 0 }
 }
 
-/// The character of the escape that `name` begins with, and the escape's length, where its `$`
-/// begins one.
+// The character of the escape that `name` begins with, and the escape's length, where its `$`
+// begins one.
 fn escape(name: &[u8]) -> Option<(char, usize)>
     requires { slice_index name.now 0 ≡ 36 }
     ensures value { first_piece name.now ≡ piece_or_all name.now (option_map piece_of result) }
@@ -214,7 +205,7 @@ fn escape(name: &[u8]) -> Option<(char, usize)>
     }
 }
 
-/// Writes the piece that `name` begins with, and returns the piece's length.
+// Writes the piece that `name` begins with, and returns the piece's length.
 fn push_piece(text: &mut String, name: &str) -> Result<usize, AllocError>
     requires ascii { IsAscii name.now }
     requires some { 0 < length name.now }
@@ -245,7 +236,7 @@ fn push_piece(text: &mut String, name: &str) -> Result<usize, AllocError>
     }
 }
 
-/// Writes an element's name in readable form.
+// Writes an element's name in readable form.
 fn push_name(text: &mut String, name: &str) -> Result<(), AllocError>
     requires { IsAscii name.now }
     ensures { OnOk result (string_bytes text.new
@@ -264,7 +255,8 @@ fn push_name(text: &mut String, name: &str) -> Result<(), AllocError>
     Ok(())
 }
 
-/// The readable text of a mangling, of which `part` stands behind the prefix.
+/// The readable text of a mangling, of which `part` stands after the prefix. The only refusal is that an allocation was
+/// refused.
 pub fn complete(alloc: Global, part: &str) -> Result<String, AllocError>
     requires { IsAscii part.now }
     ensures { IfOk result (λ text. (elements : List Element) (rest : List ℕ)
@@ -282,7 +274,8 @@ pub fn complete(alloc: Global, part: &str) -> Result<String, AllocError>
     Ok(text)
 }
 
-/// A copy of `complete` up to the character that precedes its last `:`.
+/// A copy of `complete` without its last part, whether that is a hash or not: up to the character before its last `:`,
+/// and all of it where it has no `:`. The only refusal is that an allocation was refused.
 pub fn trimmed(alloc: Global, complete: &str) -> Result<String, AllocError>
     ensures { IfOk result (λ text. (chars : List ℕ)
         → complete.now ≡ encode_utf8_all chars → string_bytes text ≡ encode_utf8_all (cut chars)) }

@@ -1,4 +1,4 @@
--- Where the first `.llvm.` of a text stands, and what is left where it is cut.
+-- Where the first `.llvm.` of a text stands, and what is left where the text ends before it.
 use Rattle.std.proofs.Common.{◌≡◌, ℕ, zero, suc, ◌+◌, ◌-◌, ◌<◌, ◌≤◌, ◌⊎◌, inl, inr, Bool, true, false, cond, List, [], ◌∷◌, length, get_or, drop, take, nat_eq, refl, ap, sym, ◌∙◌, arith, codes, length-drop}
 use Rattle.std.proofs.lemmas.Bool.{both_ways, false≢true, cases_Bool, cases_eq, cases_lt, cond-true, cond-false}
 use Rattle.std.proofs.lemmas.List.{get_or-drop}

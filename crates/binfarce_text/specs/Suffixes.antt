@@ -1,14 +1,16 @@
--- What LLVM puts behind a mangled name: a number behind `.llvm.`, and other words that begin with `.`.
-use Rattle.std.specs.Prelude.{ℕ, Bool, true, ◌&&◌, ◌||◌, List, [], ◌∷◌, if◌then◌else◌, ◌==◌, nat_eq, nat_le, codes, drop}
+-- What LLVM adds to a mangled name: the `.llvm.` suffix, which is a number after `.llvm.`, and other words that begin with `.`.
+use Rattle.std.specs.Prelude.{ℕ, Bool, true, ◌&&◌, ◌||◌, List, [], ◌∷◌, if◌then◌else◌, ◌==◌, nat_eq, codes, drop}
 use Rattle.std.specs.List.{list_all, starts_with}
-use Rattle.std.specs.Char.{is_ascii_digit}
+use Rattle.std.specs.Char.{is_ascii_digit, is_ascii_graphic}
+use Rattle.std.specs.Int.{is_in_range}
+use Rattle.binfarce_text.specs.Letters.{dot, at_sign, 'A', 'F'}
 
--- a byte of the number behind `.llvm.`: `0` to `9`, `A` to `F` or `@`
+-- a byte of the number after `.llvm.`: `0` to `9`, `A` to `F` or `@`
 abbrev pub is_llvm_digit : ℕ → Bool
-is_llvm_digit b = is_ascii_digit b || (nat_le 65 b && nat_le b 70) || b == 64
+is_llvm_digit b = is_ascii_digit b || is_in_range 'A' 'F' b || b == at_sign
 
--- the text without its `.llvm.` ending: the first `.llvm.` and all behind it are cut where all
--- behind it are such bytes
+-- the text without its `.llvm.` suffix: the first `.llvm.` and all after it are left out where all
+-- after it are such bytes
 unfoldable pub without_llvm : List ℕ → List ℕ
 without_llvm [] = []
 without_llvm (b ∷ text) =
@@ -16,11 +18,7 @@ without_llvm (b ∷ text) =
     then (if list_all is_llvm_digit (drop 6 (b ∷ text)) then [] else b ∷ text)
     else b ∷ without_llvm text
 
--- a byte of a rest: 0x21 to 0x7E
-abbrev pub is_rest_byte : ℕ → Bool
-is_rest_byte b = nat_le 33 b && nat_le b 126
-
--- what may stand behind a mangling: nothing, or such bytes of which the first is `.`
+-- what may stand after a mangling: nothing, or printable ASCII without spaces of which the first is `.`
 unfoldable pub is_allowed_rest : List ℕ → Bool
 is_allowed_rest [] = true
-is_allowed_rest (b ∷ rest) = b == 46 && list_all is_rest_byte (b ∷ rest)
+is_allowed_rest (b ∷ rest) = b == dot && list_all is_ascii_graphic (b ∷ rest)

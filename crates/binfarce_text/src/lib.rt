@@ -1,4 +1,5 @@
-//! Texts around a mangled name of a Rust symbol, whichever mangling it is: what LLVM adds to it.
+//! Texts of Rust symbols that both manglings share: the digits of their numbers, and what LLVM adds to a mangled name.
 #![tactic(auto)]
 
+pub mod digits;
 pub mod suffixes;

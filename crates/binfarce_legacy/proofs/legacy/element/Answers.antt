@@ -14,9 +14,9 @@ returns-then-digits-eq0 c =
     let run : c.count-digits.result.0 ≡ name_start u = c.count-digits.ensures.digits ∙ ap (prefix_len is_ascii_digit) (take_rest c.args.text.now c.args.at) in
     λ h. omega (arith, run, h.0)
 
-pub returns-then-behind-digits : goal.returns-then-behind-digits
+pub returns-then-rest-digits : goal.returns-then-rest-digits
 unfolding name_start name_end
-returns-then-behind-digits c =
+returns-then-rest-digits c =
     let u : List ℕ = drop c.args.at c.args.text.now in
     let same = take_rest c.args.text.now c.args.at in
     let run : c.count-digits.result.0 ≡ name_start u = c.count-digits.ensures.digits ∙ ap (prefix_len is_ascii_digit) same in

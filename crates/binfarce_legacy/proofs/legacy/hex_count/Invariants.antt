@@ -1,7 +1,7 @@
 use Rattle.std.proofs.Common.{◌≡◌, ◌+◌, ◌-◌, ◌≤◌, length, take, drop, min}
 use Rattle.std.specs.List.{prefix_len}
 use Rattle.std.specs.Str.Parse.{digits_value}
-use Rattle.binfarce_legacy.specs.Legacy.{is_hex_digit}
+use Rattle.binfarce_text.specs.Letters.{is_hex_digit}
 use Rattle.binfarce_legacy.proofs.legacy.hex_count.Given as goal
 
 abbrev pub invariant-loop-digits : goal.invariant-loop-digits

@@ -3,7 +3,8 @@ use Rattle.std.proofs.lemmas.Bool.{both_ways}
 use Rattle.std.proofs.lemmas.List.{take_rest, get_or_past}
 use Rattle.std.specs.List.{prefix_len}
 use Rattle.std.specs.Str.Parse.{digits_value}
-use Rattle.binfarce_legacy.specs.Legacy.{Piece, is_hex_digit, is_printed}
+use Rattle.binfarce_text.specs.Letters.{is_hex_digit}
+use Rattle.binfarce_legacy.specs.Legacy.{Piece, is_printed}
 use Rattle.binfarce_legacy.proofs.PieceLemmas.{IsNumbered, numbered-some, numbered-none, printed_held, not_printed_held}
 use Rattle.binfarce_legacy.proofs.legacy.numbered_escape.Goals as goal
 use Rattle.binfarce_legacy.proofs.legacy.numbered_escape.Goals.{else-digits-gt0-via-then-digits-gt0+then-end-name+then-name-end-eq36+else-is_printed, else-digits-gt0-via-then-digits-gt0+then-end-name+else-name-end-eq36, else-digits-gt0-via-then-digits-gt0+else-end-name, else-digits-gt0-via-else-digits-gt0}

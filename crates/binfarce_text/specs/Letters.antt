@@ -13,6 +13,9 @@ dot = 46
 abbrev pub at_sign : ℕ
 at_sign = 64
 
+abbrev pub '-' : ℕ
+'-' = 45
+
 abbrev pub ':' : ℕ
 ':' = 58
 

@@ -1,7 +1,7 @@
 -- Rust's v0 manglings (RFC 2603, "Symbol name": <symbol-name> = "_R" <path> [<instantiating-crate>]).
 use Rattle.std.specs.Prelude.{◌≡◌, ℕ, ◌≤◌, List, Option, Some, None, Bool, true, false, ◌&&◌, if◌then◌else◌, ◌==◌, slice_index, drop}
 use Rattle.std.specs.Str.{IsAscii}
-use Rattle.std.specs.Int.{is_in_range}
+use Rattle.std.specs.Char.{is_ascii_uppercase}
 use Rattle.binfarce_text.specs.Suffixes.{is_allowed_rest}
 use Rattle.binfarce_text.specs.Steps.{◌>>=◌}
 use Rattle.binfarce_v0_grammar.specs.Tree.{PathTree, path_height}
@@ -21,7 +21,7 @@ behind_prefix text = prefix_length text >>= λ n. Some (drop n text)
 
 -- a path begins with an upper-case letter
 abbrev pub is_upper_at : List ℕ → ℕ → Bool
-is_upper_at name at = is_in_range 65 90 (slice_index name at)
+is_upper_at name at = is_ascii_uppercase (slice_index name at)
 
 -- a path of at most `MAX_LEVELS` levels reads from a place up to another
 pub record PathStands (name : List ℕ) (at after : ℕ) : Type 0 where

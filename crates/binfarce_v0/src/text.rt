@@ -19,6 +19,7 @@ ghost use Rattle.binfarce_v0_grammar.specs.Tree.{
 };
 ghost use Rattle.binfarce_v0_grammar.specs.machine.Seen.{identifier_seen, label_seen, signature_seen};
 
+use binfarce_text::digits::hex_value;
 use binfarce_v0_grammar::forms::{Identifier, Label, Signature};
 use binfarce_v0_grammar::punycode::decode;
 use std::alloc::AllocError;
@@ -137,10 +138,9 @@ fn hex_digit(c: u8) -> u64
     ensures value { result ≡ hex_digit c }
     ensures small { result < 16 }
 {
-    match c {
-        b'0'..=b'9' => u64::from(c - b'0'),
-        b'a'..=b'f' => u64::from(c - b'a' + 10),
-        _ => 0,
+    match hex_value(c) {
+        Some(value) => u64::from(value),
+        None => 0,
     }
 }
 

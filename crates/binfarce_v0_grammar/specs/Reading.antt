@@ -1,6 +1,7 @@
 -- Reading a v0 name by the grammar alone (RFC 2603, "Symbol grammar summary"): a place reads to a tree up to the place behind it.
 -- A back reference is a leaf that names an earlier place; what stands there isn't looked at, nor is it looked at what a lifetime's index means.
 use Rattle.std.specs.Prelude.{◌≡◌, ℕ, ◌+◌, List, Some, true, false}
+use Rattle.binfarce_text.specs.Letters.{'E', 'K', 'L', 'p', 'u'}
 use Rattle.binfarce_v0_grammar.specs.Identifier.{label, identifier}
 use Rattle.binfarce_v0_grammar.specs.Forms.{stands, lifetime, path_form, type_form, const_form, CrateRoot, NestedIn, InherentImpl, TraitImpl, TraitDefinition, WithArguments, BackToPath, BasicType, ReferenceTo, PointerTo, SliceOf, ArrayOf, TupleOf, FunctionOf, DynOf, BackToType, PathType, PlaceholderConst, DigitsConst, BackToConst}
 use Rattle.binfarce_v0_grammar.specs.Tree.{PathTree, TypeTree, ConstTree, Item, Items, Bindings, Placeholder, Number, ConstPlace, Crate, Nested, OfType, OfImpl, OfTrait, Generic, PathPlace, Basic, Reference, Pointer, Slice, Array, Tuple, Function, FunctionTo, Dyn, Named, TypePlace, LifetimeItem, TypeItem, ConstItem, TraitItem, NoItems, ItemThen, NoBindings, Binding, UnreadBinding, Listed, Arguments, Types, Traits}
@@ -40,34 +41,34 @@ unfoldable mutual
   ReadsType name (Tuple items) at after =
       (q : ℕ) × (type_form name (Some at) ≡ TupleOf q) × ReadsItems name Types items q after
   ReadsType name (Function signature items) at after =
-      (q : ℕ) × (end : ℕ) × (type_form name (Some at) ≡ FunctionOf signature q) × ReadsItems name Types items q end × (stands name 117 (Some end) ≡ true) × (after ≡ end + 1)
+      (q : ℕ) × (end : ℕ) × (type_form name (Some at) ≡ FunctionOf signature q) × ReadsItems name Types items q end × (stands name 'u' (Some end) ≡ true) × (after ≡ end + 1)
   ReadsType name (FunctionTo signature items t) at after =
-      (q : ℕ) × (end : ℕ) × (type_form name (Some at) ≡ FunctionOf signature q) × ReadsItems name Types items q end × (stands name 117 (Some end) ≡ false) × ReadsType name t end after
+      (q : ℕ) × (end : ℕ) × (type_form name (Some at) ≡ FunctionOf signature q) × ReadsItems name Types items q end × (stands name 'u' (Some end) ≡ false) × ReadsType name t end after
   ReadsType name (Dyn binder items life) at after =
-      (q : ℕ) × (end : ℕ) × (type_form name (Some at) ≡ DynOf binder q) × ReadsItems name Traits items q end × (stands name 76 (Some end) ≡ true) × (lifetime name (Some end) ≡ (life, Some after))
+      (q : ℕ) × (end : ℕ) × (type_form name (Some at) ≡ DynOf binder q) × ReadsItems name Traits items q end × (stands name 'L' (Some end) ≡ true) × (lifetime name (Some end) ≡ (life, Some after))
   ReadsType name (Named p) at after = (type_form name (Some at) ≡ PathType) × ReadsPath name p at after
   ReadsType name (TypePlace place) at after = type_form name (Some at) ≡ BackToType place after
   ReadsType name _ at after = ⊥
 
   pub ReadsItem : List ℕ → Listed → Item → ℕ → ℕ → Type 0
   ReadsItem name Arguments (LifetimeItem life) at after =
-      (stands name 76 (Some at) ≡ true) × (lifetime name (Some at) ≡ (life, Some after))
+      (stands name 'L' (Some at) ≡ true) × (lifetime name (Some at) ≡ (life, Some after))
   ReadsItem name Arguments (ConstItem c) at after =
-      (stands name 76 (Some at) ≡ false) × (stands name 75 (Some at) ≡ true) × ReadsConst name c (at + 1) after
+      (stands name 'L' (Some at) ≡ false) × (stands name 'K' (Some at) ≡ true) × ReadsConst name c (at + 1) after
   ReadsItem name Arguments (TypeItem t) at after =
-      (stands name 76 (Some at) ≡ false) × (stands name 75 (Some at) ≡ false) × ReadsType name t at after
+      (stands name 'L' (Some at) ≡ false) × (stands name 'K' (Some at) ≡ false) × ReadsType name t at after
   ReadsItem name Types (TypeItem t) at after = ReadsType name t at after
   ReadsItem name Traits (TraitItem p bindings) at after =
       (mid : ℕ) × ReadsPath name p at mid × ReadsBindings name bindings mid after
   ReadsItem name _ _ at after = ⊥
 
   pub ReadsItems : List ℕ → Listed → Items → ℕ → ℕ → Type 0
-  ReadsItems name listed NoItems at after = (stands name 69 (Some at) ≡ true) × (after ≡ at + 1)
+  ReadsItems name listed NoItems at after = (stands name 'E' (Some at) ≡ true) × (after ≡ at + 1)
   ReadsItems name listed (ItemThen i items) at after =
-      (mid : ℕ) × (stands name 69 (Some at) ≡ false) × ReadsItem name listed i at mid × ReadsItems name listed items mid after
+      (mid : ℕ) × (stands name 'E' (Some at) ≡ false) × ReadsItem name listed i at mid × ReadsItems name listed items mid after
 
   pub ReadsBindings : List ℕ → Bindings → ℕ → ℕ → Type 0
-  ReadsBindings name NoBindings at after = (stands name 112 (Some at) ≡ false) × (after ≡ at)
+  ReadsBindings name NoBindings at after = (stands name 'p' (Some at) ≡ false) × (after ≡ at)
   ReadsBindings name (Binding i t bindings) at after =
-      (q : ℕ) × (mid : ℕ) × (stands name 112 (Some at) ≡ true) × (identifier name (at + 1) ≡ Some (i, q)) × ReadsType name t q mid × ReadsBindings name bindings mid after
+      (q : ℕ) × (mid : ℕ) × (stands name 'p' (Some at) ≡ true) × (identifier name (at + 1) ≡ Some (i, q)) × ReadsType name t q mid × ReadsBindings name bindings mid after
   ReadsBindings name UnreadBinding at after = ⊥

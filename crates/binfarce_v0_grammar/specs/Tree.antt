@@ -1,7 +1,8 @@
 -- What a v0 name means: trees of paths, types and consts, and what is counted and shown of a tree. No byte of a name is seen here.
 use Rattle.std.specs.Prelude.{ℕ, zero, suc, ◌+◌, ◌-◌, ◌*◌, List, [], ◌∷◌, ◌++◌, Option, Some, None, Bool, true, false, if◌then◌else◌, nat_le, length, codes, max, map, ◌==◌, fold}
-use Rattle.std.specs.Int.{is_in_range}
+use Rattle.std.specs.Char.{is_ascii_uppercase, digit_value}
 use Rattle.std.specs.Fmt.{decimal, digits}
+use Rattle.binfarce_text.specs.Letters.{'a', 'C', 'S', '_', '-', is_hex_digit}
 use Rattle.binfarce_v0_grammar.specs.Identifier.{Identifier, Label, identifier_text, is_unnamed}
 use Rattle.binfarce_v0_grammar.specs.Forms.{Lifetime, NoLifetime, UnreadLifetime, IndexedLifetime, Signature}
 
@@ -264,7 +265,7 @@ is_announced depth index = nat_le index depth
 
 -- the lifetime of an index under a depth of binders: '_ for 0, a letter or a number for one that is announced, and '? for any other
 abbrev pub numbered_lifetime : ℕ → List ℕ
-numbered_lifetime n = if nat_le 26 n then codes "'_" ++ decimal n else 39 ∷ (97 + n) ∷ []
+numbered_lifetime n = if nat_le 26 n then codes "'_" ++ decimal n else codes "'" ++ ('a' + n) ∷ []
 
 unfoldable pub lifetime_text : ℕ → ℕ → List ℕ
 lifetime_text depth zero = codes "'_"
@@ -303,7 +304,7 @@ disambiguator_text true n = codes "[" ++ (digits 16 false n ++ codes "]")
 
 -- the words of a special namespace, as "closure"
 abbrev pub namespace_text : ℕ → List ℕ
-namespace_text c = if c == 67 then codes "closure" else (if c == 83 then codes "shim" else c ∷ [])
+namespace_text c = if c == 'C' then codes "closure" else (if c == 'S' then codes "shim" else c ∷ [])
 
 abbrev pub after_mark : List ℕ → Identifier → List ℕ
 after_mark mark name = if is_unnamed name then [] else mark ++ identifier_text name
@@ -311,7 +312,7 @@ after_mark mark name = if is_unnamed name then [] else mark ++ identifier_text n
 -- what a nested path adds to its parent: an upper-case namespace is a special one
 unfoldable pub nested_text : ℕ → Label → List ℕ
 nested_text c l =
-    if is_in_range 65 90 c then codes "::{" ++ (namespace_text c ++ (after_mark (codes ":") l.name ++ (codes "#" ++ (decimal l.disambiguator ++ codes "}")))) else after_mark (codes "::") l.name
+    if is_ascii_uppercase c then codes "::{" ++ (namespace_text c ++ (after_mark (codes ":") l.name ++ (codes "#" ++ (decimal l.disambiguator ++ codes "}")))) else after_mark (codes "::") l.name
 
 abbrev pub mutable_text : Bool → List ℕ → List ℕ → List ℕ
 mutable_text true mutable constant = mutable
@@ -320,7 +321,7 @@ mutable_text false mutable constant = constant
 -- the name of an ABI, in which "_" stands for "-"
 abbrev pub abi_text : Option (List ℕ) → List ℕ
 abi_text None = []
-abi_text (Some name) = codes "extern \"" ++ (map (λ c. if c == 95 then 45 else c) name ++ codes "\" ")
+abi_text (Some name) = codes "extern \"" ++ (map (λ c. if c == '_' then '-' else c) name ++ codes "\" ")
 
 -- "unsafe ", the ABI and "fn("
 unfoldable pub signature_text : Signature → List ℕ
@@ -328,7 +329,7 @@ signature_text s = mutable_text s.is_unsafe (codes "unsafe ") [] ++ (abi_text s.
 
 -- hexadecimal digits of at most 64 bits are shown in decimal
 abbrev pub hex_digit : ℕ → ℕ
-hex_digit c = if is_in_range 48 57 c then c - 48 else (if is_in_range 97 102 c then c - 97 + 10 else 0)
+hex_digit c = if is_hex_digit c then digit_value c else 0
 
 unfoldable pub number_text : List ℕ → List ℕ
 number_text hex =

@@ -2,6 +2,7 @@
 -- A place is None behind a fault. From there a path, a type or a const is a hole, a byte that may stand is not there, and a list ends.
 -- A tree is unfolded from a place, under a depth of binders, up to the place behind it.
 use Rattle.std.specs.Prelude.{◌≡◌, ℕ, ◌+◌, ◌≤◌, List, Option, Some, None, Bool, true, false, if◌then◌else◌}
+use Rattle.binfarce_text.specs.Letters.{'E', 'K', 'L', 'p', 'u'}
 use Rattle.binfarce_v0_grammar.specs.Forms.{Lifetime, NoLifetime, UnreadLifetime, IndexedLifetime, stands, behind, label_at, identifier_at, lifetime, path_form, type_form, const_form, NoPathForm, CrateRoot, NestedIn, InherentImpl, TraitImpl, TraitDefinition, WithArguments, BackToPath, NoTypeForm, BasicType, ReferenceTo, UnreadReference, PointerTo, SliceOf, ArrayOf, TupleOf, FunctionOf, UnreadAbi, DynOf, UnreadDyn, BackToType, PathType, NoConstForm, PlaceholderConst, DigitsConst, UnreadConst, BackToConst}
 use Rattle.binfarce_v0_grammar.specs.Tree.{PathTree, TypeTree, ConstTree, Item, Items, Bindings, NoConst, Placeholder, Number, UnreadNumber, BackConst, ConstPlace, NoPath, Crate, Nested, UnreadNested, OfType, OfImpl, OfTrait, Generic, BackPath, PathPlace, NoType, Basic, Reference, UnreadReferenceType, Pointer, Slice, Array, Tuple, Function, FunctionTo, UnreadFunction, Dyn, UnreadDynType, Named, BackType, TypePlace, LifetimeItem, TypeItem, ConstItem, TraitItem, NoItems, ItemThen, Listed, Arguments, Types, Traits, NoBindings, Binding, UnreadBinding, path_height, path_steps, is_announced}
 use Rattle.binfarce_v0_grammar.specs.declared.limits.TheConstants.{MAX_LEVELS, MAX_STEPS}
@@ -21,7 +22,7 @@ required_place depth (IndexedLifetime k) after = bound_place depth (IndexedLifet
 -- a list ends at an "E", and behind a fault
 abbrev pub list_goes_on : List ℕ → Option ℕ → Bool
 list_goes_on name None = false
-list_goes_on name (Some at) = if stands name 69 (Some at) then false else true
+list_goes_on name (Some at) = if stands name 'E' (Some at) then false else true
 
 unfoldable pub IsConst : List ℕ → ConstTree → Option ℕ → Option ℕ → Type 0
 IsConst name NoConst at after = (const_form name at ≡ NoConstForm) × (after ≡ None)
@@ -71,9 +72,9 @@ unfoldable mutual
   IsType name (Tuple items) at depth after =
       (q : ℕ) × (type_form name at ≡ TupleOf q) × AreItems name Types items (Some q) depth after
   IsType name (Function signature items) at depth after =
-      (q : ℕ) × (end : Option ℕ) × (type_form name at ≡ FunctionOf signature q) × AreItems name Types items (Some q) (depth + signature.binder) end × (stands name 117 end ≡ true) × (after ≡ behind end)
+      (q : ℕ) × (end : Option ℕ) × (type_form name at ≡ FunctionOf signature q) × AreItems name Types items (Some q) (depth + signature.binder) end × (stands name 'u' end ≡ true) × (after ≡ behind end)
   IsType name (FunctionTo signature items t) at depth after =
-      (q : ℕ) × (end : Option ℕ) × (type_form name at ≡ FunctionOf signature q) × AreItems name Types items (Some q) (depth + signature.binder) end × (stands name 117 end ≡ false) × IsType name t end (depth + signature.binder) after
+      (q : ℕ) × (end : Option ℕ) × (type_form name at ≡ FunctionOf signature q) × AreItems name Types items (Some q) (depth + signature.binder) end × (stands name 'u' end ≡ false) × IsType name t end (depth + signature.binder) after
   IsType name (UnreadFunction binder) at depth after = (type_form name at ≡ UnreadAbi binder) × (after ≡ None)
   IsType name (Dyn binder items life) at depth after =
       (q : ℕ) × (end : Option ℕ) × (last : Option ℕ) × (type_form name at ≡ DynOf binder q) × AreItems name Traits items (Some q) (depth + binder) end × (lifetime name end ≡ (life, last)) × (after ≡ required_place depth life last)
@@ -86,11 +87,11 @@ unfoldable mutual
   -- an item of a list, where the list goes on
   pub IsItem : List ℕ → Listed → Item → Option ℕ → ℕ → Option ℕ → Type 0
   IsItem name Arguments (LifetimeItem life) at depth after =
-      (last : Option ℕ) × (stands name 76 at ≡ true) × (lifetime name at ≡ (life, last)) × (after ≡ required_place depth life last)
+      (last : Option ℕ) × (stands name 'L' at ≡ true) × (lifetime name at ≡ (life, last)) × (after ≡ required_place depth life last)
   IsItem name Arguments (ConstItem c) at depth after =
-      (stands name 76 at ≡ false) × (stands name 75 at ≡ true) × IsConst name c (behind at) after
+      (stands name 'L' at ≡ false) × (stands name 'K' at ≡ true) × IsConst name c (behind at) after
   IsItem name Arguments (TypeItem t) at depth after =
-      (stands name 76 at ≡ false) × (stands name 75 at ≡ false) × IsType name t at depth after
+      (stands name 'L' at ≡ false) × (stands name 'K' at ≡ false) × IsType name t at depth after
   IsItem name Types (TypeItem t) at depth after = IsType name t at depth after
   IsItem name Traits (TraitItem p bindings) at depth after =
       (mid : Option ℕ) × IsPath name p at depth mid × AreBindings name bindings mid depth after
@@ -103,11 +104,11 @@ unfoldable mutual
       (mid : Option ℕ) × (list_goes_on name at ≡ true) × IsItem name listed i at depth mid × AreItems name listed items mid depth after
 
   pub AreBindings : List ℕ → Bindings → Option ℕ → ℕ → Option ℕ → Type 0
-  AreBindings name NoBindings at depth after = (stands name 112 at ≡ false) × (after ≡ at)
+  AreBindings name NoBindings at depth after = (stands name 'p' at ≡ false) × (after ≡ at)
   AreBindings name (Binding i t bindings) at depth after =
-      (q : ℕ) × (mid : Option ℕ) × (stands name 112 at ≡ true) × (identifier_at name (behind at) ≡ Some (i, q)) × IsType name t (Some q) depth mid × AreBindings name bindings mid depth after
+      (q : ℕ) × (mid : Option ℕ) × (stands name 'p' at ≡ true) × (identifier_at name (behind at) ≡ Some (i, q)) × IsType name t (Some q) depth mid × AreBindings name bindings mid depth after
   AreBindings name UnreadBinding at depth after =
-      (stands name 112 at ≡ true) × (identifier_at name (behind at) ≡ None) × (after ≡ None)
+      (stands name 'p' at ≡ true) × (identifier_at name (behind at) ≡ None) × (after ≡ None)
 
 -- a name unfolds to a tree within the limits
 pub record UnfoldsTo (name : List ℕ) (tree : PathTree) : Type 0 where

@@ -1,5 +1,6 @@
 -- The printer, step by step: a name is read and written in one pass. Each step gives the tree that it read, and the state that it leaves.
 use Rattle.std.specs.Prelude.{ℕ, zero, suc, ◌+◌, ◌-◌, ◌*◌, ◌≤◌, List, [], ◌++◌, Option, Some, None, Bool, true, false, if◌then◌else◌, nat_le, codes, min}
+use Rattle.binfarce_text.specs.Letters.{'K', 'L', 'p', 'u'}
 use Rattle.binfarce_v0_grammar.specs.Identifier.{Identifier, Label, identifier_text}
 use Rattle.binfarce_v0_grammar.specs.Forms.{Lifetime, NoLifetime, Signature, stands, behind, label_at, identifier_at, lifetime, path_form, type_form, const_form, PathForm, NoPathForm, CrateRoot, NestedIn, InherentImpl, TraitImpl, TraitDefinition, WithArguments, BackToPath, TypeForm, NoTypeForm, BasicType, ReferenceTo, UnreadReference, PointerTo, SliceOf, ArrayOf, TupleOf, FunctionOf, UnreadAbi, DynOf, UnreadDyn, BackToType, PathType, ConstForm, NoConstForm, PlaceholderConst, DigitsConst, UnreadConst, BackToConst}
 use Rattle.binfarce_v0_grammar.specs.Tree.{PathTree, TypeTree, ConstTree, Item, Items, Bindings, NoConst, Placeholder, Number, UnreadNumber, BackConst, NoPath, Crate, Nested, UnreadNested, OfType, OfImpl, OfTrait, Generic, BackPath, NoType, Basic, Reference, UnreadReferenceType, Pointer, Slice, Array, Tuple, Function, FunctionTo, UnreadFunction, Dyn, UnreadDynType, Named, BackType, LifetimeItem, TypeItem, ConstItem, TraitItem, NoItems, ItemThen, NoBindings, Binding, UnreadBinding, lifetime_steps, first_of, Position, InType, OpenTrait, parent_position, binder_text, reference_lifetime, argument_lifetime, dyn_lifetime, disambiguator_text, nested_text, mutable_text, signature_text, number_text, value_mark, closing, is_left_open, separator, single_mark, open_mark, close_mark, Listed, Arguments, Types, Traits}
@@ -135,7 +136,7 @@ binding_rule name R depth more is_open s false = (NoBindings, say (close_mark is
 unfoldable pub bindings_rule : List ℕ → Readers → ℕ → ℕ → Bool → State → Bindings × State
 bindings_rule name R depth zero is_open s = (NoBindings, stopped s)
 bindings_rule name R depth (suc n) is_open s =
-    binding_rule name R depth (bindings_rule name R depth n) is_open s (stands name 112 s.at)
+    binding_rule name R depth (bindings_rule name R depth n) is_open s (stands name 'p' s.at)
 
 abbrev pub trait_item : PathTree → Bindings × State → Item × State
 trait_item p r = (TraitItem p r.0, r.1)
@@ -145,7 +146,7 @@ trait_rule name R depth r =
     trait_item r.0 (bindings_rule name R depth (suc r.1.room) (is_left_open r.0 OpenTrait) r.1)
 
 unfoldable pub item_rule : List ℕ → Readers → ℕ → Listed → State → Item × State
-item_rule name R depth Arguments s = argument_rule name R depth s (stands name 76 s.at) (stands name 75 s.at)
+item_rule name R depth Arguments s = argument_rule name R depth s (stands name 'L' s.at) (stands name 'K' s.at)
 item_rule name R depth Types s = type_item (R.ty depth s)
 item_rule name R depth Traits s = trait_rule name R depth (R.path OpenTrait depth s)
 
@@ -197,7 +198,7 @@ returned name R depth signature items s false =
 
 abbrev pub function_end : List ℕ → Readers → ℕ → Signature → Items × State → TypeTree × State
 function_end name R depth signature r =
-    returned name R depth signature r.0 (say (codes ")") r.1) (stands name 117 r.1.at)
+    returned name R depth signature r.0 (say (codes ")") r.1) (stands name 'u' r.1.at)
 
 abbrev pub function_rule : List ℕ → Readers → ℕ → Signature → ℕ → State → TypeTree × State
 function_rule name R depth signature q s =

@@ -1,23 +1,16 @@
 -- Rust's v0 manglings (RFC 2603, "Symbol name": <symbol-name> = "_R" <path> [<instantiating-crate>]).
-use Rattle.std.specs.Prelude.{◌≡◌, ℕ, ◌≤◌, List, Option, Some, None, Bool, true, false, ◌&&◌, if◌then◌else◌, ◌==◌, slice_index, drop}
+use Rattle.std.specs.Prelude.{◌≡◌, ℕ, ◌≤◌, List, [], ◌∷◌, Option, Some, Bool, true, false, slice_index, drop, codes}
 use Rattle.std.specs.Str.{IsAscii}
 use Rattle.std.specs.Char.{is_ascii_uppercase}
 use Rattle.binfarce_text.specs.Suffixes.{is_allowed_rest}
-use Rattle.binfarce_text.specs.Steps.{◌>>=◌}
+use Rattle.binfarce_text.specs.Prefixes.{after_prefix}
 use Rattle.binfarce_v0_grammar.specs.Tree.{PathTree, path_height}
 use Rattle.binfarce_v0_grammar.specs.Reading.{ReadsPath}
 use Rattle.binfarce_v0_grammar.specs.declared.limits.TheConstants.{MAX_LEVELS}
 
--- "_R", or "R" or "__R" where a platform drops or adds a "_"
-abbrev pub prefix_length : List ℕ → Option ℕ
-prefix_length text =
-    if slice_index text 0 == 82 then Some 1 else (
-    if slice_index text 0 == 95 && slice_index text 1 == 82 then Some 2 else (
-    if slice_index text 0 == 95 && (slice_index text 1 == 95 && slice_index text 2 == 82) then Some 3 else None))
-
--- what stands behind the prefix: places are counted from there
+-- what stands after the prefix, "_R", or "R" or "__R" where a platform drops or adds a "_": positions are counted from there
 unfoldable pub behind_prefix : List ℕ → Option (List ℕ)
-behind_prefix text = prefix_length text >>= λ n. Some (drop n text)
+behind_prefix text = after_prefix (codes "_R" ∷ codes "R" ∷ codes "__R" ∷ []) text
 
 -- a path begins with an upper-case letter
 abbrev pub is_upper_at : List ℕ → ℕ → Bool

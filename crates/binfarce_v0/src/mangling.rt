@@ -15,13 +15,14 @@ ghost use Rattle.std.specs.Prelude.{
   option_map,
   drop,
 };
+ghost use Rattle.std.specs.Option.{option_copied};
 ghost use Rattle.std.specs.Str.{IsAscii};
 ghost use Rattle.std.specs.String.{string_bytes};
 ghost use Rattle.binfarce_v0_grammar.specs.Identifier.{identifier_text};
 ghost use Rattle.binfarce_v0_grammar.specs.Tree.{PathTree};
 ghost use Rattle.binfarce_v0_grammar.specs.Unfolding.{UnfoldsTo};
 ghost use Rattle.binfarce_v0_grammar.specs.machine.Seen.{identifier_seen};
-ghost use Rattle.binfarce_v0.specs.Mangling.{prefix_length, behind_prefix, is_upper_at, IsMangling, IsV0};
+ghost use Rattle.binfarce_v0.specs.Mangling.{behind_prefix, is_upper_at, IsMangling, IsV0};
 ghost use Rattle.binfarce_v0.specs.machine.Mangling.{paths_place};
 ghost use Rattle.binfarce_v0.specs.machine.Telling.{Tells, TextsTell, printed_seen};
 
@@ -34,36 +35,21 @@ use binfarce_v0_grammar::numbers::byte_at;
 use binfarce_v0_grammar::reading::read_path;
 use std::alloc::{AllocError, Global};
 
-// How many bytes the prefix has.
-fn prefix_length(text: &[u8]) -> Option<usize>
-    ensures value { result ≡ prefix_length text.now }
-    ensures within { IfSome result (λ n. (0 < n) × (n ≤ length text.now) × (slice_index text.now (n - 1) ≡ 82)) }
+// What stands after the prefix of a v0 mangling.
+#[tactic(auto, unfolding(crate::specs::Mangling::behind_prefix))]
+fn behind_prefix(text: &str) -> Option<&str>
+    ensures { option_copied result ≡ behind_prefix text.now }
 {
-    let first = byte_at(text, 0);
-    if first == b'R' {
-        return Some(1);
-    }
-    if first != b'_' {
-        return None;
-    }
-    let second = byte_at(text, 1);
-    if second == b'R' {
-        return Some(2);
-    }
-    if second == b'_' && byte_at(text, 2) == b'R' {
-        Some(3)
+    let bytes = text.as_bytes();
+    if bytes.starts_with(b"_R") {
+        Some(&text[2..])
+    } else if bytes.starts_with(b"R") {
+        Some(&text[1..])
+    } else if bytes.starts_with(b"__R") {
+        Some(&text[3..])
     } else {
         None
     }
-}
-
-// What stands behind the prefix.
-#[tactic(auto, using(binfarce_v0_grammar::proofs::Cuts::behind_cuts), unfolding(crate::specs::Mangling::behind_prefix))]
-fn behind_prefix(text: &str) -> Option<&str>
-    ensures { option_map (λ n. n.now) result ≡ behind_prefix text.now }
-{
-    let length = prefix_length(text.as_bytes())?;
-    Some(&text[length..])
 }
 
 // Whether a path may begin at a place.

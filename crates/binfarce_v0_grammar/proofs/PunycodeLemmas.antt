@@ -9,7 +9,8 @@ use Rattle.std.specs.List.{between}
 use borrow.Rule.Slice.PartMut.{put_mid}
 use Rattle.std.proofs.lemmas.Nat.{mul-le, le-div}
 use Rattle.std.proofs.lemmas.Option.{none-some}
-use Rattle.binfarce_v0_grammar.specs.Punycode.{digit_of, threshold, weight, integer, scaled_bias, adapted_bias, Decoder, decoder_after, is_scalar, text_of, punycode_decoded}
+use Rattle.binfarce_v0_grammar.specs.Punycode.{digit_of, threshold, weight, integer, scaled_bias, adapted_bias, Decoder, decoder_after, text_of, punycode_decoded}
+use Rattle.binfarce_text.specs.Characters.{is_scalar}
 
 -- ---- the loop of the adaptation
 

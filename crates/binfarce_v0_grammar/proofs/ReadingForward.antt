@@ -1,12 +1,15 @@
 -- What is read stands before the place behind it.
 use Rattle.std.proofs.Common.{◌≡◌, ℕ, ◌+◌, ◌*◌, ◌-◌, ◌^◌, ◌≤◌, ◌<◌, Bool, true, false, List, [], ◌∷◌, drop, Option, Some, None, cond, eqb, nat_lt, nat_le, length, get_or, refl, subst, arith}
 use Rattle.std.specs.Prelude.{⊤, codes}
-use Rattle.std.specs.Int.{is_in_range}
+use Rattle.std.specs.List.{take_while}
+use Rattle.std.specs.Char.{is_ascii_alphanumeric, is_ascii_alphabetic, is_ascii_digit}
+use Rattle.std.specs.Str.Parse.{digits_value}
 use Rattle.std.proofs.lemmas.Bool.{cond_both}
+use Rattle.binfarce_text.specs.Letters.{is_hex_digit}
 use Rattle.binfarce_text.specs.Steps.{◌>>=◌}
-use Rattle.binfarce_v0_grammar.specs.Base62.{digit_62, limited, number_from, number, tagged, back_reference, hex_length, hex_digits}
-use Rattle.binfarce_v0_grammar.specs.Identifier.{Identifier, Label, decimal_from, length_from, length_at, past, identifier_of, identifier_bytes, identifier, label}
-use Rattle.binfarce_v0_grammar.specs.Forms.{Lifetime, NoLifetime, stands, indexed_lifetime, lifetime, is_letter, basic_type, unsigned_type, abi_name, abi, path_form_by, path_form, crate_form, impl_form, path_back_form, type_form_by, type_form, reference_form, signature_form, function_form, dyn_form, type_back_form, basic_form, const_form, typed_form, digits_form, const_back_form, PathForm, NoPathForm, CrateRoot, NestedIn, InherentImpl, TraitImpl, TraitDefinition, WithArguments, BackToPath, TypeForm, NoTypeForm, BasicType, ReferenceTo, UnreadReference, PointerTo, SliceOf, ArrayOf, TupleOf, FunctionOf, UnreadAbi, DynOf, UnreadDyn, BackToType, PathType, ConstForm, NoConstForm, PlaceholderConst, DigitsConst, UnreadConst, BackToConst}
+use Rattle.binfarce_v0_grammar.specs.Base62.{limited, value_62, number, tagged, back_reference, hex_digits}
+use Rattle.binfarce_v0_grammar.specs.Identifier.{Identifier, Label, length_at, past, identifier_of, identifier_bytes, identifier, label}
+use Rattle.binfarce_v0_grammar.specs.Forms.{Lifetime, NoLifetime, stands, indexed_lifetime, lifetime, basic_type, unsigned_type, abi_name, abi, path_form_by, path_form, crate_form, impl_form, path_back_form, type_form_by, type_form, reference_form, signature_form, function_form, dyn_form, type_back_form, basic_form, const_form, typed_form, digits_form, const_back_form, PathForm, NoPathForm, CrateRoot, NestedIn, InherentImpl, TraitImpl, TraitDefinition, WithArguments, BackToPath, TypeForm, NoTypeForm, BasicType, ReferenceTo, UnreadReference, PointerTo, SliceOf, ArrayOf, TupleOf, FunctionOf, UnreadAbi, DynOf, UnreadDyn, BackToType, PathType, ConstForm, NoConstForm, PlaceholderConst, DigitsConst, UnreadConst, BackToConst}
 use Rattle.binfarce_v0_grammar.specs.Tree.{PathTree, TypeTree, ConstTree, Item, Items, Bindings, NoConst, Placeholder, Number, UnreadNumber, BackConst, ConstPlace, NoPath, Crate, Nested, UnreadNested, OfType, OfImpl, OfTrait, Generic, BackPath, PathPlace, NoType, Basic, Reference, UnreadReferenceType, Pointer, Slice, Array, Tuple, Function, FunctionTo, UnreadFunction, Dyn, UnreadDynType, Named, BackType, TypePlace, LifetimeItem, TypeItem, ConstItem, TraitItem, NoItems, ItemThen, NoBindings, Binding, UnreadBinding, Listed, Arguments, Types, Traits}
 use Rattle.binfarce_v0_grammar.specs.Reading.{ReadsConst, ReadsPath, ReadsType, ReadsItem, ReadsItems, ReadsBindings}
 
@@ -35,14 +38,13 @@ each P b x y h k = cond_both b x y P (λ e. h) (λ e. k)
 limited_behind : (value at : ℕ) → Behind at (limited value at)
 limited_behind value at = each (Behind at) (nat_lt value (2 ^ 64)) (Some (value, at)) None (omega arith) tt
 
-number_from_behind : (s : List ℕ) (worth at : ℕ) → Behind (at + 1) (number_from s worth at)
-number_from_behind [] worth at = tt
-number_from_behind (c ∷ s) worth at =
-    each (Behind (at + 1)) (eqb c 95) (limited (worth + 1) (at + 1)) _ (limited_behind (worth + 1) (at + 1)) (behind_then (at + 1) (digit_62 c) _ (λ d e. behind_less (at + 1) (at + 1 + 1) (number_from s (worth * 62 + d) (at + 1)) (omega arith) (number_from_behind s (worth * 62 + d) (at + 1))))
-
 number_behind : (name : List ℕ) (at : ℕ) → Behind (at + 1) (number name at)
 unfolding number
-number_behind name at = each (Behind (at + 1)) (eqb (get_or name at 0) 95) (Some (0, at + 1)) _ (omega arith) (number_from_behind (drop at name) 0 at)
+number_behind name at =
+    let digits : List ℕ = take_while is_ascii_alphanumeric (drop at name) in
+    let end : ℕ = at + length digits in
+    let value : ℕ = cond (eqb (length digits) 0) 0 (value_62 digits + 1) in
+    each (Behind (at + 1)) (eqb (get_or name end 0) 95) (limited value (end + 1)) None (behind_less (at + 1) (end + 1) (limited value (end + 1)) (omega arith) (limited_behind value (end + 1))) tt
 
 tagged_behind : (name : List ℕ) (tag at : ℕ) → Behind at (tagged name tag at)
 unfolding tagged
@@ -56,24 +58,20 @@ back_reference_behind name at =
 
 hex_digits_behind : (name : List ℕ) (at : ℕ) → Behind (at + 1) (hex_digits name at)
 unfolding hex_digits
-hex_digits_behind name at = behind_then (at + 1) (hex_length (drop at name)) _ (λ n e. omega arith)
+hex_digits_behind name at =
+    let digits : List ℕ = take_while is_hex_digit (drop at name) in
+    let end : ℕ = at + length digits in
+    each (Behind (at + 1)) (eqb (get_or name end 0) 95) (Some (digits, end + 1)) None (omega arith) tt
 
 -- Identifiers
-
-decimal_from_behind : (s : List ℕ) (worth at : ℕ) → at ≤ (decimal_from s worth at).1
-decimal_from_behind [] worth at = omega arith
-decimal_from_behind (c ∷ s) worth at =
-    each (λ (r : ℕ × ℕ). at ≤ r.1) (is_in_range 48 57 c) (decimal_from s (worth * 10 + (c - 48)) (at + 1)) (worth, at) (omega (arith, decimal_from_behind s (worth * 10 + (c - 48)) (at + 1))) (omega arith)
-
-length_from_behind : (s : List ℕ) (worth at : ℕ) → Behind at (length_from s worth at)
-length_from_behind s worth at =
-    let d = decimal_from s worth at in
-    behind_less at d.1 (limited d.0 d.1) (decimal_from_behind s worth at) (limited_behind d.0 d.1)
 
 length_at_behind : (name : List ℕ) (at : ℕ) → Behind at (length_at name at)
 unfolding length_at
 length_at_behind name at =
-    each (Behind at) (eqb (get_or name at 0) 48) (Some (0, at + 1)) _ (omega arith) (each (Behind at) (is_in_range 49 57 (get_or name at 0)) (length_from (drop at name) 0 at) None (length_from_behind (drop at name) 0 at) tt)
+    let digits : List ℕ = take_while is_ascii_digit (drop at name) in
+    let value : ℕ = digits_value 10 digits in
+    let more : Behind at (limited value (at + length digits)) = behind_less at (at + length digits) (limited value (at + length digits)) (omega arith) (limited_behind value (at + length digits)) in
+    each (Behind at) (eqb (get_or name at 0) 48) (Some (0, at + 1)) _ (omega arith) (each (Behind at) (eqb (length digits) 0) None (limited value (at + length digits)) tt more)
 
 past_behind : (name : List ℕ) (byte at : ℕ) → at ≤ past name byte at
 past_behind name byte at = each (λ (q : ℕ). at ≤ q) (eqb (get_or name at 0) byte) (at + 1) at (omega arith) (omega arith)
@@ -146,7 +144,7 @@ path_form_behind name at =
     let P = PathBehind at in
     let tag = get_or name at 0 in
     each P (eqb tag 67) _ _ (crate_behind at (label name (at + 1)) (label_behind name (at + 1))) (
-    each P (eqb tag 78) _ _ (each P (is_letter (get_or name (at + 1) 0)) (NestedIn (get_or name (at + 1) 0) (at + 2)) NoPathForm (omega arith) tt) (
+    each P (eqb tag 78) _ _ (each P (is_ascii_alphabetic (get_or name (at + 1) 0)) (NestedIn (get_or name (at + 1) 0) (at + 2)) NoPathForm (omega arith) tt) (
     each P (eqb tag 77) _ _ (impl_behind at InherentImpl (tagged name 115 (at + 1)) (λ q h. h) (tagged_behind name 115 (at + 1))) (
     each P (eqb tag 88) _ _ (impl_behind at TraitImpl (tagged name 115 (at + 1)) (λ q h. h) (tagged_behind name 115 (at + 1))) (
     each P (eqb tag 89) (TraitDefinition (at + 1)) _ (omega arith) (

@@ -1,7 +1,8 @@
 -- Which form of the grammar stands at a place of a v0 name: the front of each row, up to where it asks for a path, a type or a const
 -- (RFC 2603, "Syntax of mangled names"). A place is None behind a fault, where no form stands.
 use Rattle.std.specs.Prelude.{ℕ, ◌+◌, List, [], ◌∷◌, Option, Some, None, Bool, true, false, ◌||◌, if◌then◌else◌, ◌==◌, nat_lt, slice_index, length, codes}
-use Rattle.std.specs.Int.{is_in_range}
+use Rattle.std.specs.Char.{is_ascii_alphabetic}
+use Rattle.binfarce_text.specs.Letters.{'A', 'B', 'C', 'D', 'F', 'G', 'I', 'K', 'L', 'M', 'N', 'O', 'P', 'Q', 'R', 'S', 'T', 'U', 'X', 'Y', 'a', 'b', 'c', 'd', 'e', 'f', 'h', 'i', 'j', 'l', 'm', 'n', 'o', 'p', 's', 't', 'u', 'v', 'x', 'y', 'z'}
 use Rattle.binfarce_text.specs.Steps.{◌>>=◌}
 use Rattle.binfarce_v0_grammar.specs.Base62.{number, tagged, back_reference, hex_digits}
 use Rattle.binfarce_v0_grammar.specs.Identifier.{Identifier, identifier, Label, label, past}
@@ -57,22 +58,19 @@ path_back_form None = NoPathForm
 path_back_form (Some b) = BackToPath b.0 b.1
 
 -- <namespace> = <a-zA-Z>
-abbrev pub is_letter : ℕ → Bool
-is_letter c = is_in_range 65 90 c || is_in_range 97 122 c
-
 abbrev pub nested_form : ℕ → ℕ → PathForm
-nested_form namespace after = if is_letter namespace then NestedIn namespace after else NoPathForm
+nested_form namespace after = if is_ascii_alphabetic namespace then NestedIn namespace after else NoPathForm
 
 -- the form that a path's first byte announces
 unfoldable pub path_form_by : List ℕ → ℕ → ℕ → PathForm
 path_form_by name at tag =
-    if tag == 67 then crate_form (label name (at + 1)) else (
-    if tag == 78 then nested_form (slice_index name (at + 1)) (at + 2) else (
-    if tag == 77 then impl_form InherentImpl (tagged name 115 (at + 1)) else (
-    if tag == 88 then impl_form TraitImpl (tagged name 115 (at + 1)) else (
-    if tag == 89 then TraitDefinition (at + 1) else (
-    if tag == 73 then WithArguments (at + 1) else (
-    if tag == 66 then path_back_form (back_reference name at) else NoPathForm))))))
+    if tag == 'C' then crate_form (label name (at + 1)) else (
+    if tag == 'N' then nested_form (slice_index name (at + 1)) (at + 2) else (
+    if tag == 'M' then impl_form InherentImpl (tagged name 's' (at + 1)) else (
+    if tag == 'X' then impl_form TraitImpl (tagged name 's' (at + 1)) else (
+    if tag == 'Y' then TraitDefinition (at + 1) else (
+    if tag == 'I' then WithArguments (at + 1) else (
+    if tag == 'B' then path_back_form (back_reference name at) else NoPathForm))))))
 
 unfoldable pub path_form : List ℕ → Option ℕ → PathForm
 path_form name None = NoPathForm
@@ -94,32 +92,32 @@ indexed_lifetime (Some n) = (IndexedLifetime n.0, Some n.1)
 unfoldable pub lifetime : List ℕ → Option ℕ → Lifetime × Option ℕ
 lifetime name None = (NoLifetime, None)
 lifetime name (Some at) =
-    if slice_index name at == 76 then indexed_lifetime (number name (at + 1)) else (NoLifetime, Some at)
+    if slice_index name at == 'L' then indexed_lifetime (number name (at + 1)) else (NoLifetime, Some at)
 
 -- <basic-type>
 unfoldable pub basic_type : ℕ → Option (List ℕ)
 basic_type c =
-    if c == 98 then Some (codes "bool") else (
-    if c == 99 then Some (codes "char") else (
-    if c == 101 then Some (codes "str") else (
-    if c == 117 then Some (codes "()") else (
-    if c == 97 then Some (codes "i8") else (
-    if c == 115 then Some (codes "i16") else (
-    if c == 108 then Some (codes "i32") else (
-    if c == 120 then Some (codes "i64") else (
-    if c == 110 then Some (codes "i128") else (
-    if c == 105 then Some (codes "isize") else (
-    if c == 104 then Some (codes "u8") else (
-    if c == 116 then Some (codes "u16") else (
-    if c == 109 then Some (codes "u32") else (
-    if c == 121 then Some (codes "u64") else (
-    if c == 111 then Some (codes "u128") else (
-    if c == 106 then Some (codes "usize") else (
-    if c == 102 then Some (codes "f32") else (
-    if c == 100 then Some (codes "f64") else (
-    if c == 122 then Some (codes "!") else (
-    if c == 112 then Some (codes "_") else (
-    if c == 118 then Some (codes "...") else None))))))))))))))))))))
+    if c == 'b' then Some (codes "bool") else (
+    if c == 'c' then Some (codes "char") else (
+    if c == 'e' then Some (codes "str") else (
+    if c == 'u' then Some (codes "()") else (
+    if c == 'a' then Some (codes "i8") else (
+    if c == 's' then Some (codes "i16") else (
+    if c == 'l' then Some (codes "i32") else (
+    if c == 'x' then Some (codes "i64") else (
+    if c == 'n' then Some (codes "i128") else (
+    if c == 'i' then Some (codes "isize") else (
+    if c == 'h' then Some (codes "u8") else (
+    if c == 't' then Some (codes "u16") else (
+    if c == 'm' then Some (codes "u32") else (
+    if c == 'y' then Some (codes "u64") else (
+    if c == 'o' then Some (codes "u128") else (
+    if c == 'j' then Some (codes "usize") else (
+    if c == 'f' then Some (codes "f32") else (
+    if c == 'd' then Some (codes "f64") else (
+    if c == 'z' then Some (codes "!") else (
+    if c == 'p' then Some (codes "_") else (
+    if c == 'v' then Some (codes "...") else None))))))))))))))))))))
 
 -- the front of a <fn-sig>: [<binder>] ["U"] ["K" <abi>]
 pub record Signature : Type 0 where
@@ -139,7 +137,7 @@ abi_name i = abi_of i.0.plain i.0.code i.1
 -- ["K" <abi>], where <abi> = "C" | <undisambiguated-identifier>
 unfoldable pub abi : List ℕ → ℕ → Option (Option (List ℕ) × ℕ)
 abi name at =
-    if slice_index name at == 75 then (if slice_index name (at + 1) == 67 then Some (Some (codes "C"), at + 2) else (identifier name (at + 1) >>= abi_name)) else Some (None, at)
+    if slice_index name at == 'K' then (if slice_index name (at + 1) == 'C' then Some (Some (codes "C"), at + 2) else (identifier name (at + 1) >>= abi_name)) else Some (None, at)
 
 -- <type>
 pub data TypeForm : Type 0 where
@@ -186,7 +184,7 @@ signature_form binder is_unsafe (Some a) =
 
 abbrev pub function_form : List ℕ → Option (ℕ × ℕ) → TypeForm
 function_form name None = NoTypeForm
-function_form name (Some b) = signature_form b.0 (slice_index name b.1 == 85) (abi name (past name 85 b.1))
+function_form name (Some b) = signature_form b.0 (slice_index name b.1 == 'U') (abi name (past name 'U' b.1))
 
 abbrev pub dyn_form : Option (ℕ × ℕ) → TypeForm
 dyn_form None = UnreadDyn
@@ -199,16 +197,16 @@ type_back_form (Some b) = BackToType b.0 b.1
 -- the form of a type that is no basic type
 unfoldable pub type_form_by : List ℕ → ℕ → ℕ → TypeForm
 type_form_by name at tag =
-    if tag == 82 then reference_form false (lifetime name (Some (at + 1))) else (
-    if tag == 81 then reference_form true (lifetime name (Some (at + 1))) else (
-    if tag == 80 then PointerTo false (at + 1) else (
-    if tag == 79 then PointerTo true (at + 1) else (
-    if tag == 83 then SliceOf (at + 1) else (
-    if tag == 65 then ArrayOf (at + 1) else (
-    if tag == 84 then TupleOf (at + 1) else (
-    if tag == 70 then function_form name (tagged name 71 (at + 1)) else (
-    if tag == 68 then dyn_form (tagged name 71 (at + 1)) else (
-    if tag == 66 then type_back_form (back_reference name at) else PathType)))))))))
+    if tag == 'R' then reference_form false (lifetime name (Some (at + 1))) else (
+    if tag == 'Q' then reference_form true (lifetime name (Some (at + 1))) else (
+    if tag == 'P' then PointerTo false (at + 1) else (
+    if tag == 'O' then PointerTo true (at + 1) else (
+    if tag == 'S' then SliceOf (at + 1) else (
+    if tag == 'A' then ArrayOf (at + 1) else (
+    if tag == 'T' then TupleOf (at + 1) else (
+    if tag == 'F' then function_form name (tagged name 'G' (at + 1)) else (
+    if tag == 'D' then dyn_form (tagged name 'G' (at + 1)) else (
+    if tag == 'B' then type_back_form (back_reference name at) else PathType)))))))))
 
 abbrev pub basic_form : Option (List ℕ) → ℕ → TypeForm → TypeForm
 basic_form None at other = other
@@ -243,14 +241,14 @@ digits_form type_name (Some d) = DigitsConst type_name d.0 d.1
 -- the types of unsigned integers
 unfoldable pub unsigned_type : ℕ → Option (List ℕ)
 unsigned_type c =
-    if c == 104 || (c == 116 || (c == 109 || (c == 121 || (c == 111 || c == 106)))) then basic_type c else None
+    if c == 'h' || (c == 't' || (c == 'm' || (c == 'y' || (c == 'o' || c == 'j')))) then basic_type c else None
 
 abbrev pub typed_form : List ℕ → ℕ → Option (List ℕ) → ConstForm
 typed_form name at None = NoConstForm
 typed_form name at (Some type_name) =
-    if slice_index name at == 112 then PlaceholderConst type_name (at + 1) else digits_form type_name (hex_digits name at)
+    if slice_index name at == 'p' then PlaceholderConst type_name (at + 1) else digits_form type_name (hex_digits name at)
 
 unfoldable pub const_form : List ℕ → Option ℕ → ConstForm
 const_form name None = NoConstForm
 const_form name (Some at) =
-    if slice_index name at == 66 then const_back_form (back_reference name at) else typed_form name (at + 1) (unsigned_type (slice_index name at))
+    if slice_index name at == 'B' then const_back_form (back_reference name at) else typed_form name (at + 1) (unsigned_type (slice_index name at))

@@ -1,7 +1,6 @@
 pub mod Base62
 pub mod Identifier
 pub mod Punycode
-pub mod PunycodeText
 pub mod Forms
 pub mod Tree
 pub mod Unfolding

@@ -2,7 +2,8 @@
 -- characters. The comments begin with the RFC's sections. Numbers have no upper bound here, so nothing overflows (6.4).
 use Rattle.std.specs.Prelude.{ℕ, zero, suc, ◌+◌, ◌-◌, ◌*◌, ◌/◌, ◌%◌, min, max, Bool, ◌||◌, ◌==◌, nat_lt, nat_le, List, [], ◌∷◌, length, insert, Option, Some, None, option_map, option_and_then, if◌then◌else◌}
 use Rattle.std.specs.Char.{is_ascii_digit, is_ascii_lowercase}
-use Rattle.std.specs.Int.{is_in_range}
+use Rattle.binfarce_text.specs.Letters.{'0', 'a'}
+use Rattle.binfarce_text.specs.Characters.{is_scalar}
 
 -- 5: the parameters
 abbrev pub base : ℕ
@@ -33,8 +34,8 @@ most_characters = 128
 -- 5: `a` to `z` are the digits 0 to 25, and `0` to `9` the digits 26 to 35
 unfoldable pub digit_of : ℕ → Option ℕ
 digit_of byte =
-    if is_ascii_lowercase byte then Some (byte - 97)
-    else (if is_ascii_digit byte then Some (byte - 48 + 26) else None)
+    if is_ascii_lowercase byte then Some (byte - 'a')
+    else (if is_ascii_digit byte then Some (byte - '0' + 26) else None)
 
 -- 3.4: the threshold t(j), which is base * (j + 1) - bias, but at least tmin and at most tmax
 abbrev pub threshold : (bias j : ℕ) → ℕ
@@ -45,7 +46,7 @@ unfoldable pub weight : (bias j : ℕ) → ℕ
 weight bias zero = 1
 weight bias (suc j) = weight bias j * (base - threshold bias j)
 
--- 3.3: the integer whose digits from number j on begin the code, with the code behind it. It is the sum of each digit
+-- 3.3: the integer whose digits from number j on begin the code, with the code after it. It is the sum of each digit
 -- times its weight, up to the first digit that is below its threshold
 unfoldable pub integer : (bias j : ℕ) (code : List ℕ) → Option (ℕ × List ℕ)
 integer bias j [] = None
@@ -64,7 +65,7 @@ scaled_bias (suc turns) delta =
     let more = base + scaled_bias turns (delta / (base - tmin)) in
     if nat_lt ((base - tmin) * tmax / 2) delta then more else (base - tmin + 1) * delta / (delta + skew)
 
--- 6.1: the bias behind a delta, where the text then has this many characters
+-- 6.1: the bias after a delta, where the text then has this many characters. The first delta is damped more than the others
 unfoldable pub adapted_bias : (delta characters : ℕ) (first : Bool) → ℕ
 adapted_bias delta characters first =
     let damped = if first then delta / damp else delta / 2 in
@@ -78,8 +79,9 @@ pub record Decoder : Type 0 where
   pub bias : ℕ
   pub output : List ℕ
 
--- 6.2: delta moves i on. Each time that i would pass the place behind the output's last character, it begins again at
--- the first place, and n is one more. Then the character n is inserted at i, and i stands behind it
+-- 6.2: delta moves i on. Each time that i would pass the end of the output, it begins again at the front, and n is one
+-- more. Then the character n is inserted at i, and i stands after it. The RFC takes a delta for the first one where i
+-- was 0 before it, which it can be at no later delta
 unfoldable pub decoder_after : Decoder → (delta : ℕ) → Decoder
 decoder_after decoder delta =
     let characters = length decoder.output + 1 in
@@ -91,10 +93,6 @@ decoder_after decoder delta =
       bias = adapted_bias delta characters (decoder.i == 0);
       output = insert decoder.output i n;
     }
-
--- a Unicode scalar value
-abbrev pub is_scalar : ℕ → Bool
-is_scalar c = nat_lt c 0xD800 || is_in_range 0xE000 0x10_FFFF c
 
 -- 6.2: the text that the code's deltas make of the output, which has room for so many further characters
 unfoldable pub text_of : (room : ℕ) → Decoder → (code : List ℕ) → Option (List ℕ)

@@ -132,7 +132,7 @@ pub fn label<'a>(name: &'a str, at: usize) -> Option<(Label<'a>, usize)>
 }
 
 /// `<const-data>`
-#[tactic(auto, unfolding(crate::specs::Base62::hex_digits))]
+#[tactic(auto, using(crate::proofs::NumberLemmas::hex_digits_step))]
 fn hex_digits<'a>(name: &'a str, at: usize) -> Option<(&'a str, usize)>
     requires ascii { IsAscii name.now }
     ensures { option_map (λ d. (d.0.now, d.1)) result ≡ hex_digits name.now at }

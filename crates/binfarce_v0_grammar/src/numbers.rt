@@ -1,17 +1,11 @@
 //! Numbers of a v0 name, from a place to the value and the place behind.
 
-ghost use Rattle.std.specs.Prelude.{◌≡◌, ◌+◌, ◌-◌, ◌*◌, ◌^◌, ◌<◌, ◌≤◌, IfSome, MatchOption, drop, if◌then◌else◌, length, slice_index};
-ghost use Rattle.std.specs.Int.{is_in_range};
+ghost use Rattle.std.specs.Prelude.{◌≡◌, ◌+◌, ◌-◌, ◌*◌, ◌^◌, ◌<◌, ◌≤◌, IfSome, MatchOption, SomeIff, drop, length, slice_index, true};
+ghost use Rattle.std.specs.Char.{is_ascii_alphanumeric, is_ascii_digit};
 ghost use Rattle.std.specs.Option.{option_map};
-ghost use Rattle.binfarce_v0_grammar.specs.Base62.{
-  digit_62,
-  number_from,
-  number,
-  tagged,
-  back_reference,
-  hex_length,
-};
-ghost use Rattle.binfarce_v0_grammar.specs.Identifier.{length_from, length_at, past};
+ghost use Rattle.binfarce_v0_grammar.specs.Base62.{digit_62, number, tagged, back_reference};
+ghost use Rattle.binfarce_v0_grammar.specs.Identifier.{length_at, past};
+ghost use Rattle.binfarce_v0_grammar.specs.machine.Numbers.{number_from, length_from, hex_length};
 
 /// The byte at a place, 0 behind the end.
 pub fn byte_at(name: &[u8], at: usize) -> u8
@@ -36,7 +30,7 @@ pub fn past(name: &[u8], byte: u8, at: usize) -> usize
 /// The value of a base-62 digit.
 #[tactic(auto, unfolding(crate::specs::Base62::digit_62))]
 fn digit_62(c: u8) -> Option<u8>
-    ensures { result ≡ digit_62 c }
+    ensures { SomeIff result (is_ascii_alphanumeric c ≡ true) (digit_62 c) }
 {
     match c {
         b'0'..=b'9' => Some(c - b'0'),
@@ -71,7 +65,7 @@ fn digits_62(name: &[u8], start: usize) -> Option<(u64, usize)>
 }
 
 /// `<base-62-number>`
-#[tactic(auto, unfolding(crate::specs::Base62::number))]
+#[tactic(auto, using(crate::proofs::NumberLemmas::number_step))]
 pub fn number(name: &[u8], at: usize) -> Option<(u64, usize)>
     ensures { result ≡ number name.now at }
 {
@@ -113,7 +107,7 @@ pub fn back_reference(name: &[u8], at: usize) -> Option<(usize, usize)>
 
 /// A decimal digit's value.
 fn decimal_digit(c: u8) -> Option<u8>
-    ensures { result ≡ (if is_in_range 48 57 c then Some (c - 48) else None) }
+    ensures { SomeIff result (is_ascii_digit c ≡ true) (c - 48) }
 {
     match c {
         b'0'..=b'9' => Some(c - b'0'),
@@ -139,7 +133,7 @@ fn digits_10(name: &[u8], start: usize) -> Option<(u64, usize)>
 }
 
 /// `<decimal-number>`
-#[tactic(auto, unfolding(crate::specs::Identifier::length_at))]
+#[tactic(auto, using(crate::proofs::NumberLemmas::length_step))]
 pub fn length_at(name: &[u8], at: usize) -> Option<(u64, usize)>
     ensures { result ≡ length_at name.now at }
 {

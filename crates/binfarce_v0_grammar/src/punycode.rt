@@ -6,7 +6,8 @@ mod text;
 
 ghost use Rattle.std.specs.Prelude.{◌≡◌, ◌+◌, ◌-◌, ◌<◌, ◌≤◌, ◌∷◌, length, take, insert, option_map, true, false, Some, IfSome, IfNone, MatchOption};
 ghost use Rattle.binfarce_v0_grammar.specs.Punycode as spec;
-ghost use Rattle.binfarce_v0_grammar.specs.PunycodeText.{characters_of};
+ghost use Rattle.binfarce_text.specs.Characters.{is_scalar};
+ghost use Rattle.binfarce_v0_grammar.specs.machine.Decoded.{characters_of};
 
 pub use text::Decoded;
 use text::MOST_CHARACTERS;
@@ -148,7 +149,7 @@ fn adapted_bias(delta: usize, characters: usize, first: bool) -> usize
 
 /// The character of a code point.
 fn character(code_point: usize) -> Option<char>
-    ensures { MatchOption result (spec.is_scalar code_point ≡ false) (λ c. (spec.is_scalar code_point ≡ true) × (c ≡ code_point)) }
+    ensures { MatchOption result (is_scalar code_point ≡ false) (λ c. (is_scalar code_point ≡ true) × (c ≡ code_point)) }
 {
     char::from_u32(u32::try_from(code_point).ok()?)
 }

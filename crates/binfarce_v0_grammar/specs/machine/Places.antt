@@ -1,5 +1,6 @@
 -- The reading, step by step: from a place to the place behind what the grammar reads there, with some levels left.
 use Rattle.std.specs.Prelude.{ℕ, zero, suc, ◌+◌, List, Option, Some, None, if◌then◌else◌, nat_lt, length}
+use Rattle.binfarce_text.specs.Letters.{'E', 'K', 'L', 'p', 'u'}
 use Rattle.binfarce_text.specs.Steps.{◌>>=◌}
 use Rattle.binfarce_v0_grammar.specs.Identifier.{Identifier, Label, label, identifier}
 use Rattle.binfarce_v0_grammar.specs.Forms.{stands, lifetime, path_form, type_form, const_form, PathForm, NoPathForm, CrateRoot, NestedIn, InherentImpl, TraitImpl, TraitDefinition, WithArguments, BackToPath, TypeForm, NoTypeForm, BasicType, ReferenceTo, UnreadReference, PointerTo, SliceOf, ArrayOf, TupleOf, FunctionOf, UnreadAbi, DynOf, UnreadDyn, BackToType, PathType, ConstForm, NoConstForm, PlaceholderConst, DigitsConst, UnreadConst, BackToConst}
@@ -27,7 +28,7 @@ label_place None = None
 label_place (Some l) = Some l.1
 
 abbrev pub lifetime_place : List ℕ → ℕ → Option ℕ
-lifetime_place name at = if stands name 76 (Some at) then (lifetime name (Some at)).1 else None
+lifetime_place name at = if stands name 'L' (Some at) then (lifetime name (Some at)).1 else None
 
 abbrev pub bound_from : Places → (ℕ → Option ℕ) → ℕ → Option (Identifier × ℕ) → Option ℕ
 bound_from R more at None = None
@@ -36,11 +37,11 @@ bound_from R more at (Some i) = R.ty i.1 >>= λ mid. (onward at mid >>= more)
 unfoldable pub bindings_place : List ℕ → Places → ℕ → ℕ → Option ℕ
 bindings_place name R zero at = None
 bindings_place name R (suc n) at =
-    if stands name 112 (Some at) then bound_from R (bindings_place name R n) at (identifier name (at + 1)) else Some at
+    if stands name 'p' (Some at) then bound_from R (bindings_place name R n) at (identifier name (at + 1)) else Some at
 
 abbrev pub argument_place : List ℕ → Places → ℕ → Option ℕ
 argument_place name R at =
-    if stands name 76 (Some at) then (lifetime name (Some at)).1 else (if stands name 75 (Some at) then R.constant (at + 1) else R.ty at)
+    if stands name 'L' (Some at) then (lifetime name (Some at)).1 else (if stands name 'K' (Some at) then R.constant (at + 1) else R.ty at)
 
 unfoldable pub item_place : List ℕ → Places → Listed → ℕ → Option ℕ
 item_place name R Arguments at = argument_place name R at
@@ -50,13 +51,13 @@ item_place name R Traits at = R.path at >>= bindings_place name R (suc (length n
 unfoldable pub items_place : List ℕ → Places → Listed → ℕ → ℕ → Option ℕ
 items_place name R listed zero at = None
 items_place name R listed (suc n) at =
-    if stands name 69 (Some at) then Some (at + 1) else (item_place name R listed at >>= λ mid. (onward at mid >>= items_place name R listed n))
+    if stands name 'E' (Some at) then Some (at + 1) else (item_place name R listed at >>= λ mid. (onward at mid >>= items_place name R listed n))
 
 abbrev pub list_place : List ℕ → Places → Listed → ℕ → Option ℕ
 list_place name R listed at = items_place name R listed (suc (length name)) at
 
 abbrev pub return_place : List ℕ → Places → ℕ → Option ℕ
-return_place name R at = if stands name 117 (Some at) then Some (at + 1) else R.ty at
+return_place name R at = if stands name 'u' (Some at) then Some (at + 1) else R.ty at
 
 unfoldable pub type_place : List ℕ → Places → ℕ → TypeForm → Option ℕ
 type_place name R at NoTypeForm = None

@@ -15,7 +15,7 @@ pub struct Decoded {
 }
 
 impl Decoded {
-    ghost use Rattle.binfarce_v0_grammar.specs.PunycodeText.{characters_of};
+    ghost use Rattle.binfarce_v0_grammar.specs.machine.Decoded.{characters_of};
 
     /// The text of the first `count` characters.
     pub fn new(characters: [char; MOST_CHARACTERS], count: usize) -> Decoded

@@ -1,5 +1,5 @@
 use Rattle.std.proofs.Common.{◌≡◌, drop}
-use Rattle.binfarce_v0_grammar.specs.Base62.{number_from}
+use Rattle.binfarce_v0_grammar.specs.machine.Numbers.{number_from}
 use Rattle.binfarce_v0_grammar.proofs.numbers.digits_62.Given as goal
 
 abbrev pub invariant-loop-at : goal.invariant-loop-at

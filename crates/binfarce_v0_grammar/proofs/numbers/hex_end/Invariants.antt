@@ -1,6 +1,6 @@
 use Rattle.std.proofs.Common.{◌≡◌, ◌+◌, drop}
 use Rattle.std.specs.Option.{option_map}
-use Rattle.binfarce_v0_grammar.specs.Base62.{hex_length}
+use Rattle.binfarce_v0_grammar.specs.machine.Numbers.{hex_length}
 use Rattle.binfarce_v0_grammar.proofs.numbers.hex_end.Given as goal
 
 abbrev pub invariant-loop-at : goal.invariant-loop-at

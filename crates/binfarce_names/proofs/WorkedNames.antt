@@ -19,9 +19,11 @@ use Rattle.binfarce_names.specs.Named.{IsNotLegacy, IsNamed, unknown}
 use Rattle.binfarce_v0_grammar.specs.Tree.{path_height, path_steps, lifetime_text, binder_text, nested_text, signature_text, number_text, InValue}
 use Rattle.binfarce_v0_grammar.specs.Unfolding.{UnfoldsTo, bound_place}
 use Rattle.binfarce_v0_grammar.specs.Punycode.{digit_of, weight, integer, scaled_bias, adapted_bias, decoder_after, text_of, punycode_decoded}
-use Rattle.binfarce_names.specs.V0Laws.{Counts}
+use Rattle.binfarce_names.specs.machine.Laws.{Counts}
 use Rattle.binfarce_v0_grammar.specs.machine.Places.{const_place, bindings_place, item_place, items_place, type_place, path_place, places}
+use Rattle.binfarce_v0_grammar.specs.declared.limits.TheConstants.{MAX_LEVELS, MAX_STEPS}
 use Rattle.binfarce_v0.specs.machine.Mangling.{paths_place}
+use Rattle.binfarce_v0.specs.machine.Telling.{outcome_of}
 use Rattle.binfarce_v0.specs.machine.Printing.{first_state, const_rule, bindings_rule, item_rule, items_rule, type_rule, path_rule, readers}
 use Rattle.binfarce_v0.proofs.Manglings.{printed, printed_told, printed_over, paths_read, texts_tell}
 use Rattle.binfarce_v0.proofs.SoundForms.{readers_sound}
@@ -58,9 +60,9 @@ unfolding IsNamed
 means text part name l b p w o s e =
     let first = both (is_upper_at part 0) (list_all (λ c. nat_lt c 128) part && is_allowed_rest (drop (length part) part)) w in
     let second = both (list_all (λ c. nat_lt c 128) part) (is_allowed_rest (drop (length part) part)) first.1 in
-    let tells = texts_tell part (printed part true).1.text (printed part false).1.text (printed part true).1.root (printed part false).1.root (option_map identifier_text (printed part true).1.root) (printed_told part true o) (printed_told part false s) refl in
+    let tells = texts_tell part (outcome_of (printed part true).1) (outcome_of (printed part false).1) (option_map identifier_text (printed part true).1.root) (printed_told part true o) (printed_told part false s) refl in
     let mangling : IsMangling (without_llvm text) part (length part) = record { behind = b; begins = first.0; ascii = ascii part second.0; paths = paths_read part (length part) p } in
-    inr (not_legacy text l, inl (part, tells.tree, record { after = length part; mangling = mangling; rest = second.1 }, tells.unfolds, e ∙ λ i. record { complete = tells.complete_is i; trimmed = tells.trimmed_is i; crate_name = tells.crate_is i; kind = V0 }))
+    inr (inl (record { not_legacy = not_legacy text l; part = part; mangling = record { after = length part; mangling = mangling; rest = second.1 }; tree = tells.tree; unfolds = tells.unfolds; name_is = e ∙ λ i. record { complete = tells.complete_is i; trimmed = tells.trimmed_is i; crate_name = tells.crate_is i; kind = V0 } }))
 
 -- a text whose part behind the prefix passes a limit
 pub means_nothing : (text part : List ℕ) → legacy_names.behind_prefix (without_llvm text) ≡ None
@@ -68,14 +70,14 @@ pub means_nothing : (text part : List ℕ) → legacy_names.behind_prefix (witho
     → IsNamed text (unknown text)
 unfolding IsNamed
 means_nothing text part l b o =
-    inr (not_legacy text l, inr (λ other tree v u. printed_over part true o tree (subst (λ x. UnfoldsTo x tree) (some_same other part (sym v.mangling.behind ∙ b)) u), refl))
+    inr (inr (record { not_legacy = not_legacy text l; no_tree = λ other tree v u. printed_over part true o tree (subst (λ x. UnfoldsTo x tree) (some_same other part (sym v.mangling.behind ∙ b)) u); name_is = refl }))
 
 -- levels and steps of what stands behind a prefix
 pub counts : (part : List ℕ) (levels steps : ℕ) → (printed part true).1.over ≡ false
     → path_height (printed part true).0 ≡ levels → path_steps (printed part true).0 ≡ steps
     → Counts part levels steps
 counts part levels steps o h n =
-    let H = readers_sound part 500 in
+    let H = readers_sound part MAX_LEVELS in
     let f = H.path InValue 0 (first_state true) o in
-    let within : path_steps (printed part true).0 ≤ 65536 = omega arith in
+    let within : path_steps (printed part true).0 ≤ MAX_STEPS = omega arith in
     record { tree = (printed part true).0; unfolds = record { after = (printed part true).1.at; is_path = f.is; levels = f.height; steps = within }; levels_are = h; steps_are = n }

@@ -1,3 +1,3 @@
 pub mod Name
 pub mod Named
-pub mod V0Laws
+pub mod machine

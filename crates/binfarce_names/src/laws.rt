@@ -1,6 +1,8 @@
-//! Laws of v0 names, which their definitions keep.
+//! Laws of names, which their definitions keep.
 
-ghost use Rattle.binfarce_names.specs.V0Laws.{
+ghost use Rattle.binfarce_names.specs.machine.Laws.{
+  HasAnAnswer,
+  HasOneAnswer,
   UnfoldsOneWay,
   ReadsOneWay,
   NamesAnEarlierPlace,
@@ -8,8 +10,26 @@ ghost use Rattle.binfarce_names.specs.V0Laws.{
   Means,
   Counts,
 };
-ghost use Rattle.std.specs.Prelude.{Some, None, [], codes, encode_utf8_all};
+ghost use Rattle.std.specs.Prelude.{◌≡◌, ◌↔◌, IsTrue, Some, None, [], codes, encode_utf8_all};
 ghost use Rattle.binfarce_names.specs.Named.{IsNamed, unknown};
+
+use crate::demangle::{Kind, demangle};
+
+/// A text has an answer, and no more than one.
+#[tactic(auto, unfolding(crate::specs::Named::IsNamed))]
+pub fn has_one_answer(name: &str)
+    ensures some { HasAnAnswer name.now }
+    ensures one { HasOneAnswer name.now }
+{
+    let _demangled = demangle(name);
+}
+
+/// Kinds are equal where they are the same.
+pub fn kinds_compare(kind: Kind, other: Kind) -> bool
+    ensures { IsTrue result ↔ (kind ≡ other) }
+{
+    kind == other
+}
 
 /// A place unfolds to at most one tree.
 pub fn unfolds_one_way(name: &[u8])

@@ -4,8 +4,8 @@ use Rattle.std.proofs.lemmas.Bool.Decides.{nat_tests}
 use Rattle.std.specs.Prelude.{codes}
 use Rattle.binfarce_v0_grammar.specs.Identifier.{identifier_text}
 use Rattle.binfarce_v0_grammar.specs.Forms.{Lifetime, NoLifetime, stands, behind, lifetime, path_form, type_form, const_form, PathForm, NoPathForm, CrateRoot, NestedIn, InherentImpl, TraitImpl, TraitDefinition, WithArguments, BackToPath, TypeForm, NoTypeForm, BasicType, ReferenceTo, UnreadReference, PointerTo, SliceOf, ArrayOf, TupleOf, FunctionOf, UnreadAbi, DynOf, UnreadDyn, BackToType, PathType, ConstForm, NoConstForm, PlaceholderConst, DigitsConst, UnreadConst, BackToConst}
-use Rattle.binfarce_v0_grammar.specs.Tree.{PathTree, TypeTree, ConstTree, Item, Items, Bindings, NoConst, Placeholder, Number, UnreadNumber, BackConst, ConstPlace, NoPath, Crate, Nested, UnreadNested, OfType, OfImpl, OfTrait, Generic, BackPath, PathPlace, NoType, Basic, Reference, UnreadReferenceType, Pointer, Slice, Array, Tuple, Function, FunctionTo, UnreadFunction, Dyn, UnreadDynType, Named, BackType, TypePlace, LifetimeItem, TypeItem, ConstItem, TraitItem, NoItems, ItemThen, NoBindings, Binding, UnreadBinding, lifetime_steps, path_height, type_height, const_height, item_height, items_height, bindings_height, path_steps, type_steps, const_steps, item_steps, items_steps, bindings_steps, path_root, type_root, item_root, items_root, bindings_root, path_text, type_text, const_text, item_text, items_text, bindings_text, Position, InType, OpenTrait, parent_position, value_mark, closing, is_left_open, separator, single_mark, open_mark, close_mark, binder_text, signature_text, nested_text, number_text, disambiguator_text, reference_lifetime, argument_lifetime, dyn_lifetime, mutable_text}
-use Rattle.binfarce_v0_grammar.specs.Unfolding.{Listed, Arguments, Types, Traits, bound_place, required_place, IsConst, IsPath, IsType, IsItem, AreItems, AreBindings}
+use Rattle.binfarce_v0_grammar.specs.Tree.{PathTree, TypeTree, ConstTree, Item, Items, Bindings, NoConst, Placeholder, Number, UnreadNumber, BackConst, ConstPlace, NoPath, Crate, Nested, UnreadNested, OfType, OfImpl, OfTrait, Generic, BackPath, PathPlace, NoType, Basic, Reference, UnreadReferenceType, Pointer, Slice, Array, Tuple, Function, FunctionTo, UnreadFunction, Dyn, UnreadDynType, Named, BackType, TypePlace, LifetimeItem, TypeItem, ConstItem, TraitItem, NoItems, ItemThen, NoBindings, Binding, UnreadBinding, lifetime_steps, path_height, type_height, const_height, item_height, items_height, bindings_height, path_steps, type_steps, const_steps, item_steps, items_steps, bindings_steps, path_root, type_root, item_root, items_root, bindings_root, path_text, type_text, const_text, item_text, items_text, bindings_text, Position, InType, OpenTrait, parent_position, value_mark, closing, is_left_open, separator, single_mark, open_mark, close_mark, binder_text, signature_text, nested_text, number_text, disambiguator_text, reference_lifetime, argument_lifetime, dyn_lifetime, mutable_text, Listed, Arguments, Types, Traits}
+use Rattle.binfarce_v0_grammar.specs.Unfolding.{bound_place, required_place, IsConst, IsPath, IsType, IsItem, AreItems, AreBindings}
 use Rattle.binfarce_v0.specs.machine.Printing.{State, say, go, stopped, take, entered, into, mute, unmute, unmuted, taking, const_rule, const_item, type_item, lifetime_item, argument_rule, binding_then, binding_rule, bound_type, named_binding, bindings_rule, trait_item, trait_rule, item_rule, item_then, list_rule, items_behind, items_rule, type_then, type_as, array_rule, array_end, tuple_end, returned, function_end, function_rule, dyn_life, dyn_lifetime_rule, dyn_end, dyn_rule, reference_rule, unread_reference, unread_function, back_type, back_const, back_path, named_type, type_rule, nested_rule, of_type_rule, of_type_end, of_impl_rule, as_trait, path_then, generic_rule, generic_end, path_rule, readers}
 use Rattle.binfarce_v0.proofs.Sound.{lifetime_step}
 use Rattle.binfarce_v0.proofs.Levels.{path_at, type_at, constant_at}

@@ -2,8 +2,8 @@
 use Rattle.std.proofs.Common.{◌≡◌, ℕ, zero, suc, ◌-◌, ◌<◌, Bool, true, false, List, ◌==◌, if◌then◌else◌, refl, ap, arith}
 use Rattle.std.specs.Prelude.{codes, []}
 use Rattle.binfarce_v0_grammar.specs.Forms.{stands}
-use Rattle.binfarce_v0_grammar.specs.Tree.{Items, NoItems, ItemThen, NoBindings, single_mark, separator}
-use Rattle.binfarce_v0_grammar.specs.Unfolding.{Listed, list_goes_on}
+use Rattle.binfarce_v0_grammar.specs.Tree.{Items, NoItems, ItemThen, NoBindings, single_mark, separator, Listed}
+use Rattle.binfarce_v0_grammar.specs.Unfolding.{list_goes_on}
 use Rattle.binfarce_v0.specs.machine.Printing.{State, Readers, Printing, with_state, readers, items_rule, list_rule, items_count, bindings_rule, binding_rule, stopped, say, item_rule}
 use Rattle.std.proofs.lemmas.Bool.Decides.{nat_tests}
 

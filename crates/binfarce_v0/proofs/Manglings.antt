@@ -1,11 +1,13 @@
 -- What the reading and the printer do with a whole name.
-use Rattle.std.proofs.Common.{◌≡◌, ℕ, ◌≤◌, Bool, true, false, List, Option, Some, None, cond, refl, ap, sym, ◌∙◌, subst, arith}
+use Rattle.std.proofs.Common.{◌≡◌, ℕ, ◌≤◌, ◌-◌, min, Bool, true, false, List, Option, Some, None, cond, refl, ap, sym, ◌∙◌, subst, arith}
 use Rattle.std.specs.Option.{option_map}
-use Rattle.binfarce_v0_grammar.specs.Identifier.{Identifier, identifier_text}
-use Rattle.binfarce_v0_grammar.specs.Tree.{PathTree, path_steps, name_text, InValue}
+use Rattle.binfarce_v0_grammar.specs.Identifier.{identifier_text}
+use Rattle.binfarce_v0_grammar.specs.Tree.{PathTree, path_height, path_steps, name_text, InValue}
 use Rattle.binfarce_v0_grammar.specs.Unfolding.{UnfoldsTo}
+use Rattle.binfarce_v0_grammar.specs.declared.limits.TheConstants.{MAX_LEVELS, MAX_STEPS}
 use Rattle.binfarce_v0.specs.Mangling.{is_upper_at, PathStands, SecondPath, ReadsPaths, IsMangling, behind_prefix}
-use Rattle.binfarce_v0.specs.machine.Mangling.{paths_place, Tells, TextsTell}
+use Rattle.binfarce_v0.specs.machine.Mangling.{paths_place}
+use Rattle.binfarce_v0.specs.machine.Telling.{Outcome, outcome_of, Tells, TextsTell}
 use Rattle.binfarce_v0.specs.machine.Printing.{State, readers, first_state}
 use Rattle.binfarce_v0_grammar.specs.machine.Places.{places}
 use Rattle.std.specs.Prelude.{MatchOption}
@@ -16,48 +18,57 @@ use Rattle.binfarce_v0_grammar.proofs.ReadingComplete.{path_placed}
 
 -- the whole printing of a name
 abbrev pub printed : List ℕ → Bool → PathTree × State
-printed name full = (readers name 500).path InValue 0 (first_state full)
+printed name full = (readers name MAX_LEVELS).path InValue 0 (first_state full)
+
+-- what is no longer left of a limit was taken
+levels_taken : (levels : ℕ) → levels ≤ MAX_LEVELS → MAX_LEVELS - min MAX_LEVELS (MAX_LEVELS - levels) ≡ levels
+levels_taken levels h = omega arith
+
+steps_taken : (steps : ℕ) → steps ≤ MAX_STEPS → MAX_STEPS - (MAX_STEPS - steps) ≡ steps
+steps_taken steps h = omega arith
 
 -- a printing that passed no limit is that of the tree that the name unfolds to
-pub printed_told : (name : List ℕ) (full : Bool) → (printed name full).1.over ≡ false → Tells name full (printed name full).1.text (printed name full).1.root
+pub printed_told : (name : List ℕ) (full : Bool) → (printed name full).1.over ≡ false → Tells name full (outcome_of (printed name full).1)
 printed_told name full o =
-    let H = readers_sound name 500 in
+    let H = readers_sound name MAX_LEVELS in
     let f = H.path InValue 0 (first_state full) o in
-    let within : path_steps (printed name full).0 ≤ 65536 = omega arith in
-    let same = path_complete (printed name full).0 name 500 InValue 0 (first_state full) (printed name full).1.at refl f.is f.height within in
+    let within : path_steps (printed name full).0 ≤ MAX_STEPS = omega arith in
+    let same = path_complete (printed name full).0 name MAX_LEVELS InValue 0 (first_state full) (printed name full).1.at refl f.is f.height within in
     record {
       tree = (printed name full).0;
       unfolds = record { after = (printed name full).1.at; is_path = f.is; levels = f.height; steps = within };
       text_is = ap (λ r. r.1.text) same;
       root_is = ap (λ r. r.1.root) same;
+      levels_are = ap (λ r. MAX_LEVELS - r.1.least) same ∙ levels_taken (path_height (printed name full).0) f.height;
+      steps_are = ap (λ r. MAX_STEPS - r.1.room) same ∙ steps_taken (path_steps (printed name full).0) within;
     }
 
 pub printed_over : (name : List ℕ) (full : Bool) → (printed name full).1.over ≡ true → (tree : PathTree) → UnfoldsTo name tree → ⊥
 printed_over name full o tree u =
-    let same = path_complete tree name 500 InValue 0 (first_state full) u.after refl u.is_path u.levels u.steps in
+    let same = path_complete tree name MAX_LEVELS InValue 0 (first_state full) u.after refl u.is_path u.levels u.steps in
     let not_over : (printed name full).1.over ≡ false = ap (λ r. r.1.over) same in
     let both : true ≡ false = sym o ∙ not_over in cc
 
 -- a path that the reading reads
-pub path_stands : (name : List ℕ) (at after : ℕ) → (places name 500).path at ≡ Some after → PathStands name at after
+pub path_stands : (name : List ℕ) (at after : ℕ) → (places name MAX_LEVELS).path at ≡ Some after → PathStands name at after
 path_stands name at after e =
-    let H = places_read name 500 in
+    let H = places_read name MAX_LEVELS in
     let f = H.path at after e in record { tree = f.tree; reads = f.reads; levels = f.height }
 
-pub path_read_at : (name : List ℕ) (at after : ℕ) → PathStands name at after → (places name 500).path at ≡ Some after
-path_read_at name at after p = path_placed p.tree name 500 at after p.reads p.levels
+pub path_read_at : (name : List ℕ) (at after : ℕ) → PathStands name at after → (places name MAX_LEVELS).path at ≡ Some after
+path_read_at name at after p = path_placed p.tree name MAX_LEVELS at after p.reads p.levels
 
-second_path : (name : List ℕ) (at after : ℕ) (b : Bool) → (cond b ((places name 500).path at) (Some at)) ≡ Some after → SecondPath b name at after
+second_path : (name : List ℕ) (at after : ℕ) (b : Bool) → (cond b ((places name MAX_LEVELS).path at) (Some at)) ≡ Some after → SecondPath b name at after
 second_path name at after true e = path_stands name at after e
 second_path name at after false e = cc
 
-second_read : (name : List ℕ) (at after : ℕ) (b : Bool) → SecondPath b name at after → (cond b ((places name 500).path at) (Some at)) ≡ Some after
+second_read : (name : List ℕ) (at after : ℕ) (b : Bool) → SecondPath b name at after → (cond b ((places name MAX_LEVELS).path at) (Some at)) ≡ Some after
 second_read name at after true p = path_read_at name at after p
 second_read name at after false p = ap Some (sym p)
 
 pub paths_read : (name : List ℕ) (after : ℕ) → paths_place name ≡ Some after → ReadsPaths name after
 paths_read name after e =
-    let b = between ((places name 500).path 0) (λ mid. cond (is_upper_at name mid) ((places name 500).path mid) (Some mid)) after e in
+    let b = between ((places name MAX_LEVELS).path 0) (λ mid. cond (is_upper_at name mid) ((places name MAX_LEVELS).path mid) (Some mid)) after e in
     record {
       mid = b.mid;
       path = path_stands name 0 b.mid b.first;
@@ -75,28 +86,22 @@ not_mangling text read b e name after m =
     let paths = subst (λ n. ReadsPaths n after) (sym same) m.paths in
     let found = read_paths_at read after paths in cc
 
-pub print_tells : {P : Type 0} (text : P → List ℕ) (root : P → Option Identifier) (name : List ℕ) (full : Bool) (s : State) (r : Option P) → s ≡ (printed name full).1 → MatchOption r (s.over ≡ true) (λ p. (s.over ≡ false) × (text p ≡ s.text) × (root p ≡ s.root)) → MatchOption r ((tree : PathTree) → UnfoldsTo name tree → ⊥) (λ p. Tells name full (text p) (root p))
-print_tells text root name full s None e h =
+pub print_tells : {P : Type 0} (seen : P → Outcome) (name : List ℕ) (full : Bool) (s : State) (r : Option P) → s ≡ (printed name full).1 → MatchOption r (s.over ≡ true) (λ p. (s.over ≡ false) × (seen p ≡ outcome_of s)) → MatchOption r ((tree : PathTree) → UnfoldsTo name tree → ⊥) (λ p. Tells name full (seen p))
+print_tells seen name full s None e h =
     let over : (printed name full).1.over ≡ true = ap (λ (v : State). v.over) (sym e) ∙ h in printed_over name full over
-print_tells text root name full s (Some p) e h =
+print_tells seen name full s (Some p) e h =
     let on : (printed name full).1.over ≡ false = ap (λ (v : State). v.over) (sym e) ∙ h.0 in
-    let t = printed_told name full on in
-    record {
-      tree = t.tree;
-      unfolds = t.unfolds;
-      text_is = h.1 ∙ ap (λ (v : State). v.text) e ∙ t.text_is;
-      root_is = h.2 ∙ ap (λ (v : State). v.root) e ∙ t.root_is;
-    }
+    subst (Tells name full) (sym (h.1 ∙ ap outcome_of e)) (printed_told name full on)
 
 -- a name unfolds to one tree
 pub unfolds_once : (name : List ℕ) (t u : PathTree) → UnfoldsTo name t → UnfoldsTo name u → t ≡ u
 unfolds_once name t u a b =
-    let first = path_complete t name 500 InValue 0 (first_state true) a.after refl a.is_path a.levels a.steps in
-    let second = path_complete u name 500 InValue 0 (first_state true) b.after refl b.is_path b.levels b.steps in
+    let first = path_complete t name MAX_LEVELS InValue 0 (first_state true) a.after refl a.is_path a.levels a.steps in
+    let second = path_complete u name MAX_LEVELS InValue 0 (first_state true) b.after refl b.is_path b.levels b.steps in
     ap (λ r. r.0) (sym first ∙ second)
 
-pub texts_tell : (name complete trimmed : List ℕ) (root other : Option Identifier) (crate_name : Option (List ℕ)) → Tells name true complete root → Tells name false trimmed other → crate_name ≡ option_map identifier_text root → TextsTell name complete trimmed crate_name
-texts_tell name complete trimmed root other crate_name c t e =
+pub texts_tell : (name : List ℕ) (complete trimmed : Outcome) (crate_name : Option (List ℕ)) → Tells name true complete → Tells name false trimmed → crate_name ≡ option_map identifier_text complete.root → TextsTell name complete.text trimmed.text crate_name
+texts_tell name complete trimmed crate_name c t e =
     record {
       tree = c.tree;
       unfolds = c.unfolds;

@@ -4,8 +4,8 @@ use Rattle.std.proofs.lemmas.Bool.Decides.{nat_tests}
 use Rattle.binfarce_v0_grammar.specs.Identifier.{Identifier}
 use Rattle.binfarce_v0_grammar.specs.Forms.{NoLifetime, stands, behind, identifier_at, lifetime, indexed_lifetime, const_form, ConstForm, NoConstForm, PlaceholderConst, DigitsConst, UnreadConst, BackToConst}
 use Rattle.binfarce_v0_grammar.specs.Base62.{number}
-use Rattle.binfarce_v0_grammar.specs.Tree.{PathTree, TypeTree, ConstTree, Item, Items, Bindings, LifetimeItem, lifetime_steps, path_height, type_height, const_height, item_height, items_height, bindings_height, path_steps, type_steps, const_steps, item_steps, items_steps, bindings_steps, Position, OpenTrait, separator}
-use Rattle.binfarce_v0_grammar.specs.Unfolding.{Listed, Arguments, Types, Traits, list_goes_on, IsConst, IsPath, IsType, IsItem, AreItems, AreBindings}
+use Rattle.binfarce_v0_grammar.specs.Tree.{PathTree, TypeTree, ConstTree, Item, Items, Bindings, LifetimeItem, lifetime_steps, path_height, type_height, const_height, item_height, items_height, bindings_height, path_steps, type_steps, const_steps, item_steps, items_steps, bindings_steps, Position, OpenTrait, separator, Listed, Arguments, Types, Traits}
+use Rattle.binfarce_v0_grammar.specs.Unfolding.{list_goes_on, IsConst, IsPath, IsType, IsItem, AreItems, AreBindings}
 use Rattle.binfarce_v0.specs.machine.Printing.{State, Readers, say, go, stopped, take, into, taking, const_rule, lifetime_item, argument_rule, binding_rule, named_binding, bindings_rule, item_rule, list_rule, items_rule}
 
 pub record ConstFound (name : List ℕ) (left room : ℕ) (at : Option ℕ) (over : Bool) (r : ConstTree × State) : Type 0 where

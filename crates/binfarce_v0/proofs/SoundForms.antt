@@ -4,8 +4,8 @@ use Rattle.std.proofs.lemmas.Bool.Decides.{nat_tests}
 use Rattle.std.specs.Prelude.{codes}
 use Rattle.binfarce_v0_grammar.specs.Identifier.{Label}
 use Rattle.binfarce_v0_grammar.specs.Forms.{Lifetime, Signature, stands, label_at, lifetime, path_form, type_form, const_form, PathForm, NoPathForm, CrateRoot, NestedIn, InherentImpl, TraitImpl, TraitDefinition, WithArguments, BackToPath, TypeForm, NoTypeForm, BasicType, ReferenceTo, UnreadReference, PointerTo, SliceOf, ArrayOf, TupleOf, FunctionOf, UnreadAbi, DynOf, UnreadDyn, BackToType, PathType}
-use Rattle.binfarce_v0_grammar.specs.Tree.{PathTree, Items, NoPath, NoType, NoConst, lifetime_steps, path_height, type_height, path_steps, type_steps, Position, InType, parent_position}
-use Rattle.binfarce_v0_grammar.specs.Unfolding.{Arguments, Types, Traits, IsPath, IsType}
+use Rattle.binfarce_v0_grammar.specs.Tree.{PathTree, Items, NoPath, NoType, NoConst, lifetime_steps, path_height, type_height, path_steps, type_steps, Position, InType, parent_position, Arguments, Types, Traits}
+use Rattle.binfarce_v0_grammar.specs.Unfolding.{IsPath, IsType}
 use Rattle.binfarce_v0.specs.machine.Printing.{State, Readers, say, go, stopped, take, entered, into, mute, entering, named_tree, named_state, returned, function_rule, dyn_lifetime_rule, dyn_end, dyn_rule, reference_rule, unread_reference, unread_function, type_rule, path_rule, const_rule, readers}
 use Rattle.binfarce_v0.proofs.Sound.{Sound, PathFound, TypeFound, ConstFound, ItemsFound, taken, true_not_false, back_place, const_sound, items_sound}
 

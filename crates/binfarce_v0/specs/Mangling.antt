@@ -6,6 +6,7 @@ use Rattle.binfarce_text.specs.Suffixes.{is_allowed_rest}
 use Rattle.binfarce_text.specs.Steps.{◌>>=◌}
 use Rattle.binfarce_v0_grammar.specs.Tree.{PathTree, path_height}
 use Rattle.binfarce_v0_grammar.specs.Reading.{ReadsPath}
+use Rattle.binfarce_v0_grammar.specs.declared.limits.TheConstants.{MAX_LEVELS}
 
 -- "_R", or "R" or "__R" where a platform drops or adds a "_"
 abbrev pub prefix_length : List ℕ → Option ℕ
@@ -22,11 +23,11 @@ behind_prefix text = prefix_length text >>= λ n. Some (drop n text)
 abbrev pub is_upper_at : List ℕ → ℕ → Bool
 is_upper_at name at = is_in_range 65 90 (slice_index name at)
 
--- a path of at most 500 levels reads from a place up to another
+-- a path of at most `MAX_LEVELS` levels reads from a place up to another
 pub record PathStands (name : List ℕ) (at after : ℕ) : Type 0 where
   pub tree : PathTree
   pub reads : ReadsPath name tree at after
-  pub levels : path_height tree ≤ 500
+  pub levels : path_height tree ≤ MAX_LEVELS
 
 -- the path of the instantiating crate, where an upper-case letter stands
 abbrev pub SecondPath : Bool → List ℕ → ℕ → ℕ → Type 0

@@ -2,6 +2,6 @@
 #![tactic(auto)]
 
 pub mod mangling;
-pub mod printer;
-pub mod printing;
+pub mod print;
+pub mod state;
 pub mod text;

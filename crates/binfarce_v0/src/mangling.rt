@@ -22,12 +22,14 @@ ghost use Rattle.binfarce_v0_grammar.specs.Tree.{PathTree};
 ghost use Rattle.binfarce_v0_grammar.specs.Unfolding.{UnfoldsTo};
 ghost use Rattle.binfarce_v0_grammar.specs.machine.Seen.{identifier_seen};
 ghost use Rattle.binfarce_v0.specs.Mangling.{prefix_length, behind_prefix, is_upper_at, IsMangling, IsV0};
-ghost use Rattle.binfarce_v0.specs.machine.Mangling.{paths_place, Tells, TextsTell};
+ghost use Rattle.binfarce_v0.specs.machine.Mangling.{paths_place};
+ghost use Rattle.binfarce_v0.specs.machine.Telling.{Tells, TextsTell, printed_seen};
 
-use crate::printer::{MAX_LEVELS, Printed, Printer};
+use crate::state::{Printed, Printer};
 use crate::text::push_identifier;
 use binfarce_text::suffixes::is_allowed_rest;
 use binfarce_v0_grammar::forms::{Identifier, Position};
+use binfarce_v0_grammar::limits::MAX_LEVELS;
 use binfarce_v0_grammar::numbers::byte_at;
 use binfarce_v0_grammar::reading::read_path;
 use std::alloc::{AllocError, Global};
@@ -105,7 +107,7 @@ pub fn print<'a>(
     full: bool,
 ) -> Result<Option<Printed<'a>>, AllocError>
     requires { IsAscii name.now }
-    ensures { IfOk result (λ p. MatchOption p ((tree : PathTree) → UnfoldsTo name.entry.now tree → ⊥) (λ p. Tells name.entry.now full (string_bytes p.text) (option_map identifier_seen p.root))) }
+    ensures { IfOk result (λ p. MatchOption p ((tree : PathTree) → UnfoldsTo name.entry.now tree → ⊥) (λ p. Tells name.entry.now full (printed_seen p))) }
 {
     let mut printer = Printer::new(alloc, name, full)?;
     printer.print_path(MAX_LEVELS, 0, Position::InValue)?;
@@ -163,11 +165,18 @@ pub fn both_texts(alloc: Global, name: &str) -> Result<Option<Texts>, AllocError
     let Some(trimmed) = print(alloc, name, false)? else {
         return Ok(None);
     };
-    let Printed { text, root } = complete;
+    let Printed {
+        text,
+        root,
+        levels: _,
+        steps: _,
+    } = complete;
     let crate_name = root_text(alloc, root)?;
     let Printed {
         text: short,
         root: _,
+        levels: _,
+        steps: _,
     } = trimmed;
     Ok(Some(Texts {
         complete: text,

@@ -3,7 +3,7 @@ use Rattle.std.proofs.Common.{◌≡◌, ℕ, zero, suc, ◌+◌, ◌-◌, ◌<�
 use Rattle.binfarce_text.specs.Steps.{◌>>=◌}
 use Rattle.binfarce_v0_grammar.specs.Identifier.{Identifier, identifier}
 use Rattle.binfarce_v0_grammar.specs.Forms.{stands}
-use Rattle.binfarce_v0_grammar.specs.Unfolding.{Listed}
+use Rattle.binfarce_v0_grammar.specs.Tree.{Listed}
 use Rattle.binfarce_v0_grammar.specs.machine.Places.{Places, onward, items_place, item_place, bindings_place, bound_from}
 
 pub items_place_step : (name : List ℕ) (R : Places) (listed : Listed) (n at : ℕ) → 0 < n → items_place name R listed n at ≡ (if stands name 69 (Some at) then Some (at + 1) else (item_place name R listed at >>= λ mid. (onward at mid >>= items_place name R listed (n - 1))))

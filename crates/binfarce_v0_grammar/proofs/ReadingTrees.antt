@@ -3,8 +3,7 @@ use Rattle.std.proofs.Common.{◌≡◌, ℕ, zero, suc, ◌+◌, ◌-◌, ◌�
 use Rattle.binfarce_text.specs.Steps.{◌>>=◌}
 use Rattle.binfarce_v0_grammar.specs.Identifier.{label, identifier}
 use Rattle.binfarce_v0_grammar.specs.Forms.{stands, lifetime, path_form, type_form, const_form, PathForm, NoPathForm, CrateRoot, NestedIn, InherentImpl, TraitImpl, TraitDefinition, WithArguments, BackToPath, TypeForm, NoTypeForm, BasicType, ReferenceTo, UnreadReference, PointerTo, SliceOf, ArrayOf, TupleOf, FunctionOf, UnreadAbi, DynOf, UnreadDyn, BackToType, PathType, ConstForm, NoConstForm, PlaceholderConst, DigitsConst, UnreadConst, BackToConst}
-use Rattle.binfarce_v0_grammar.specs.Tree.{PathTree, TypeTree, ConstTree, Item, Items, Bindings, NoConst, Placeholder, Number, UnreadNumber, BackConst, ConstPlace, NoPath, Crate, Nested, UnreadNested, OfType, OfImpl, OfTrait, Generic, BackPath, PathPlace, NoType, Basic, Reference, UnreadReferenceType, Pointer, Slice, Array, Tuple, Function, FunctionTo, UnreadFunction, Dyn, UnreadDynType, Named, BackType, TypePlace, LifetimeItem, TypeItem, ConstItem, TraitItem, NoItems, ItemThen, NoBindings, Binding, UnreadBinding, path_height, type_height, const_height, item_height, items_height, bindings_height}
-use Rattle.binfarce_v0_grammar.specs.Unfolding.{Listed, Arguments, Types, Traits}
+use Rattle.binfarce_v0_grammar.specs.Tree.{PathTree, TypeTree, ConstTree, Item, Items, Bindings, NoConst, Placeholder, Number, UnreadNumber, BackConst, ConstPlace, NoPath, Crate, Nested, UnreadNested, OfType, OfImpl, OfTrait, Generic, BackPath, PathPlace, NoType, Basic, Reference, UnreadReferenceType, Pointer, Slice, Array, Tuple, Function, FunctionTo, UnreadFunction, Dyn, UnreadDynType, Named, BackType, TypePlace, LifetimeItem, TypeItem, ConstItem, TraitItem, NoItems, ItemThen, NoBindings, Binding, UnreadBinding, path_height, type_height, const_height, item_height, items_height, bindings_height, Listed, Arguments, Types, Traits}
 use Rattle.binfarce_v0_grammar.specs.Reading.{ReadsConst, ReadsPath, ReadsType, ReadsItem, ReadsItems, ReadsBindings}
 use Rattle.binfarce_v0_grammar.proofs.ReadingComplete.{if_so, if_not, suc-one, within, items_within}
 use Rattle.binfarce_v0_grammar.proofs.ReadingForward.{item_forward, bound_forward}

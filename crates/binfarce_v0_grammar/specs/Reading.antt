@@ -3,8 +3,7 @@
 use Rattle.std.specs.Prelude.{◌≡◌, ℕ, ◌+◌, List, Some, true, false}
 use Rattle.binfarce_v0_grammar.specs.Identifier.{label, identifier}
 use Rattle.binfarce_v0_grammar.specs.Forms.{stands, lifetime, path_form, type_form, const_form, CrateRoot, NestedIn, InherentImpl, TraitImpl, TraitDefinition, WithArguments, BackToPath, BasicType, ReferenceTo, PointerTo, SliceOf, ArrayOf, TupleOf, FunctionOf, DynOf, BackToType, PathType, PlaceholderConst, DigitsConst, BackToConst}
-use Rattle.binfarce_v0_grammar.specs.Tree.{PathTree, TypeTree, ConstTree, Item, Items, Bindings, Placeholder, Number, ConstPlace, Crate, Nested, OfType, OfImpl, OfTrait, Generic, PathPlace, Basic, Reference, Pointer, Slice, Array, Tuple, Function, FunctionTo, Dyn, Named, TypePlace, LifetimeItem, TypeItem, ConstItem, TraitItem, NoItems, ItemThen, NoBindings, Binding, UnreadBinding}
-use Rattle.binfarce_v0_grammar.specs.Unfolding.{Listed, Arguments, Types, Traits}
+use Rattle.binfarce_v0_grammar.specs.Tree.{PathTree, TypeTree, ConstTree, Item, Items, Bindings, Placeholder, Number, ConstPlace, Crate, Nested, OfType, OfImpl, OfTrait, Generic, PathPlace, Basic, Reference, Pointer, Slice, Array, Tuple, Function, FunctionTo, Dyn, Named, TypePlace, LifetimeItem, TypeItem, ConstItem, TraitItem, NoItems, ItemThen, NoBindings, Binding, UnreadBinding, Listed, Arguments, Types, Traits}
 
 unfoldable pub ReadsConst : List ℕ → ConstTree → ℕ → ℕ → Type 0
 ReadsConst name (Placeholder type_name) at after = const_form name (Some at) ≡ PlaceholderConst type_name after

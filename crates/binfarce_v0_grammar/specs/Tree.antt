@@ -31,7 +31,9 @@ mutual
     -- <T as Trait>
     OfTrait : (self_type : TypeTree) (trait_path : PathTree) → PathTree
     Generic : (path : PathTree) (arguments : Items) → PathTree
+    -- what a back reference stands for, in an unfolding
     BackPath : PathTree → PathTree
+    -- the place that a back reference names, in a reading
     PathPlace : ℕ → PathTree
 
   pub data TypeTree : Type 0 where
@@ -51,7 +53,9 @@ mutual
     Dyn : (binder : ℕ) (traits : Items) (life : Lifetime) → TypeTree
     UnreadDynType : TypeTree
     Named : PathTree → TypeTree
+    -- what a back reference stands for, in an unfolding
     BackType : TypeTree → TypeTree
+    -- the place that a back reference names, in a reading
     TypePlace : ℕ → TypeTree
 
   -- an item of a list: an argument, a type, or a trait with its bindings
@@ -70,6 +74,12 @@ mutual
     Binding : (name : Identifier) (bound : TypeTree) → Bindings → Bindings
     -- a binding whose name doesn't read
     UnreadBinding : Bindings
+
+-- what the items of a list are: arguments, types or traits
+pub data Listed : Type 0 where
+  Arguments : Listed
+  Types : Listed
+  Traits : Listed
 
 -- Levels and steps
 
@@ -248,13 +258,17 @@ parent_position InValue = InValue
 parent_position InType = InType
 parent_position OpenTrait = InType
 
--- the lifetime of an index under a depth of binders: '_ for 0, a letter or a number for one that is announced, and '? for none
+-- an index counts the lifetimes that the binders around it announce, from the innermost out; 0 is none of them
+abbrev pub is_announced : ℕ → ℕ → Bool
+is_announced depth index = nat_le index depth
+
+-- the lifetime of an index under a depth of binders: '_ for 0, a letter or a number for one that is announced, and '? for any other
 abbrev pub numbered_lifetime : ℕ → List ℕ
 numbered_lifetime n = if nat_le 26 n then codes "'_" ++ decimal n else 39 ∷ (97 + n) ∷ []
 
 unfoldable pub lifetime_text : ℕ → ℕ → List ℕ
 lifetime_text depth zero = codes "'_"
-lifetime_text depth (suc k) = if nat_le (suc k) depth then numbered_lifetime (depth - suc k) else codes "'?"
+lifetime_text depth (suc k) = if is_announced depth (suc k) then numbered_lifetime (depth - suc k) else codes "'?"
 
 -- the lifetimes that a binder announces, each printed as index 1 under the depth that it raises
 abbrev pub more_announced : ℕ → ℕ → List ℕ
@@ -326,6 +340,7 @@ const_text (Placeholder type_name) = codes "_" ++ (codes ": " ++ type_name)
 const_text (Number type_name hex) = number_text hex ++ (codes ": " ++ type_name)
 const_text (UnreadNumber type_name) = codes "?" ++ (codes ": " ++ type_name)
 const_text (BackConst c) = const_text c
+-- a place stands in readings alone, which are never shown
 const_text (ConstPlace at) = []
 
 -- "::" before the arguments of a value
@@ -387,6 +402,7 @@ unfoldable mutual
   path_text full (Generic p items) position depth =
       path_text full p (parent_position position) depth ++ (value_mark position ++ (codes "<" ++ (items_text full items (codes ", ") true depth ++ closing position)))
   path_text full (BackPath p) position depth = path_text full p position depth
+  -- a place stands in readings alone, which are never shown
   path_text full (PathPlace at) position depth = []
 
   pub type_text : Bool → TypeTree → ℕ → List ℕ
@@ -412,6 +428,7 @@ unfoldable mutual
   type_text full UnreadDynType depth = codes "dyn ??"
   type_text full (Named p) depth = path_text full p InType depth
   type_text full (BackType t) depth = type_text full t depth
+  -- a place stands in readings alone, which are never shown
   type_text full (TypePlace at) depth = []
 
   pub item_text : Bool → Item → ℕ → List ℕ

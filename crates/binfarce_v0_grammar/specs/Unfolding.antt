@@ -1,21 +1,16 @@
 -- What a place of a v0 name unfolds to (RFC 2603, "Symbol grammar summary" and "Compression/Substitution"), whatever the limits.
 -- A place is None behind a fault. From there a path, a type or a const is a hole, a byte that may stand is not there, and a list ends.
 -- A tree is unfolded from a place, under a depth of binders, up to the place behind it.
-use Rattle.std.specs.Prelude.{◌≡◌, ℕ, ◌+◌, ◌≤◌, List, Option, Some, None, Bool, true, false, if◌then◌else◌, nat_lt}
+use Rattle.std.specs.Prelude.{◌≡◌, ℕ, ◌+◌, ◌≤◌, List, Option, Some, None, Bool, true, false, if◌then◌else◌}
 use Rattle.binfarce_v0_grammar.specs.Forms.{Lifetime, NoLifetime, UnreadLifetime, IndexedLifetime, stands, behind, label_at, identifier_at, lifetime, path_form, type_form, const_form, NoPathForm, CrateRoot, NestedIn, InherentImpl, TraitImpl, TraitDefinition, WithArguments, BackToPath, NoTypeForm, BasicType, ReferenceTo, UnreadReference, PointerTo, SliceOf, ArrayOf, TupleOf, FunctionOf, UnreadAbi, DynOf, UnreadDyn, BackToType, PathType, NoConstForm, PlaceholderConst, DigitsConst, UnreadConst, BackToConst}
-use Rattle.binfarce_v0_grammar.specs.Tree.{PathTree, TypeTree, ConstTree, Item, Items, Bindings, NoConst, Placeholder, Number, UnreadNumber, BackConst, ConstPlace, NoPath, Crate, Nested, UnreadNested, OfType, OfImpl, OfTrait, Generic, BackPath, PathPlace, NoType, Basic, Reference, UnreadReferenceType, Pointer, Slice, Array, Tuple, Function, FunctionTo, UnreadFunction, Dyn, UnreadDynType, Named, BackType, TypePlace, LifetimeItem, TypeItem, ConstItem, TraitItem, NoItems, ItemThen, NoBindings, Binding, UnreadBinding, path_height, path_steps}
+use Rattle.binfarce_v0_grammar.specs.Tree.{PathTree, TypeTree, ConstTree, Item, Items, Bindings, NoConst, Placeholder, Number, UnreadNumber, BackConst, ConstPlace, NoPath, Crate, Nested, UnreadNested, OfType, OfImpl, OfTrait, Generic, BackPath, PathPlace, NoType, Basic, Reference, UnreadReferenceType, Pointer, Slice, Array, Tuple, Function, FunctionTo, UnreadFunction, Dyn, UnreadDynType, Named, BackType, TypePlace, LifetimeItem, TypeItem, ConstItem, TraitItem, NoItems, ItemThen, Listed, Arguments, Types, Traits, NoBindings, Binding, UnreadBinding, path_height, path_steps, is_announced}
+use Rattle.binfarce_v0_grammar.specs.declared.limits.TheConstants.{MAX_LEVELS, MAX_STEPS}
 
--- the items of a list: arguments, types or traits
-pub data Listed : Type 0 where
-  Arguments : Listed
-  Types : Listed
-  Traits : Listed
-
--- an index above the depth is a fault
+-- an index that no binder announces is a fault
 unfoldable pub bound_place : ℕ → Lifetime → Option ℕ → Option ℕ
 bound_place depth NoLifetime after = after
 bound_place depth UnreadLifetime after = None
-bound_place depth (IndexedLifetime k) after = if nat_lt depth k then None else after
+bound_place depth (IndexedLifetime k) after = if is_announced depth k then after else None
 
 -- a lifetime that has to stand at a place
 abbrev pub required_place : ℕ → Lifetime → Option ℕ → Option ℕ
@@ -118,5 +113,5 @@ unfoldable mutual
 pub record UnfoldsTo (name : List ℕ) (tree : PathTree) : Type 0 where
   pub after : Option ℕ
   pub is_path : IsPath name tree (Some 0) 0 after
-  pub levels : path_height tree ≤ 500
-  pub steps : path_steps tree ≤ 65536
+  pub levels : path_height tree ≤ MAX_LEVELS
+  pub steps : path_steps tree ≤ MAX_STEPS

@@ -4,6 +4,7 @@
 
 pub mod forms;
 pub mod leaves;
+pub mod limits;
 pub mod numbers;
 pub mod places;
 pub mod punycode;

@@ -2,6 +2,7 @@
 
 ghost use Rattle.std.specs.Prelude.{◌≡◌, ◌≤◌, length, suc};
 ghost use Rattle.std.specs.Str.{IsAscii};
+ghost use Rattle.binfarce_v0_grammar.specs.declared.limits.TheConstants.{MAX_LEVELS};
 ghost use Rattle.binfarce_v0_grammar.specs.machine.Seen.{listed_seen};
 ghost use Rattle.binfarce_v0_grammar.specs.machine.Places.{
   places,
@@ -22,7 +23,7 @@ use crate::places::eat;
 #[tactic(auto, using(crate::proofs::ReadingComplete::const_place_at, crate::proofs::ReadingComplete::const_place_none), unfolding(crate::specs::machine::Places::const_place))]
 fn read_const(name: &str, left: usize, at: usize) -> Option<usize>
     requires ascii { IsAscii name.now }
-    requires levels { left ≤ 500 }
+    requires levels { left ≤ MAX_LEVELS }
     ensures { result ≡ (places name.now left).constant at }
 {
     if left == 0 {
@@ -58,7 +59,7 @@ fn read_lifetime(name: &str, at: usize) -> Option<usize>
 #[tactic(auto, using(crate::proofs::ReadingComplete::path_place_at, crate::proofs::ReadingComplete::path_place_none), unfolding(crate::specs::machine::Places::path_place))]
 pub fn read_path(name: &str, left: usize, at: usize) -> Option<usize>
     requires ascii { IsAscii name.now }
-    requires levels { left ≤ 500 }
+    requires levels { left ≤ MAX_LEVELS }
     ensures { result ≡ (places name.now left).path at }
 {
     if left == 0 {
@@ -99,7 +100,7 @@ pub fn read_path(name: &str, left: usize, at: usize) -> Option<usize>
 #[tactic(auto, using(crate::proofs::ReadingComplete::type_place_at, crate::proofs::ReadingComplete::type_place_none), unfolding(crate::specs::machine::Places::type_place))]
 fn read_type(name: &str, left: usize, at: usize) -> Option<usize>
     requires ascii { IsAscii name.now }
-    requires levels { left ≤ 500 }
+    requires levels { left ≤ MAX_LEVELS }
     ensures { result ≡ (places name.now left).ty at }
 {
     if left == 0 {
@@ -135,7 +136,7 @@ fn read_type(name: &str, left: usize, at: usize) -> Option<usize>
 #[cycle(reading)]
 fn read_return(name: &str, left: usize, at: usize) -> Option<usize>
     requires ascii { IsAscii name.now }
-    requires levels { left ≤ 500 }
+    requires levels { left ≤ MAX_LEVELS }
     ensures { result ≡ return_place name.now (places name.now left) at }
 {
     match eat(name.as_bytes(), b'u', Some(at)) {
@@ -149,7 +150,7 @@ fn read_return(name: &str, left: usize, at: usize) -> Option<usize>
 #[tactic(auto, using(crate::proofs::ReadingLists::items_place_step, crate::proofs::ReadingLists::items_place_none, crate::proofs::ReadingLists::items_place_more))]
 fn read_items(name: &str, left: usize, listed: Listed, start: usize) -> Option<usize>
     requires ascii { IsAscii name.now }
-    requires levels { left ≤ 500 }
+    requires levels { left ≤ MAX_LEVELS }
     ensures { result ≡ list_place name.now (places name.now left) (listed_seen listed) start }
 {
     let bytes = name.as_bytes();
@@ -169,7 +170,7 @@ fn read_items(name: &str, left: usize, listed: Listed, start: usize) -> Option<u
 #[tactic(auto, unfolding(crate::specs::machine::Places::item_place))]
 fn read_item(name: &str, left: usize, listed: Listed, at: usize) -> Option<usize>
     requires ascii { IsAscii name.now }
-    requires levels { left ≤ 500 }
+    requires levels { left ≤ MAX_LEVELS }
     ensures { result ≡ item_place name.now (places name.now left) (listed_seen listed) at }
 {
     match listed {
@@ -186,7 +187,7 @@ fn read_item(name: &str, left: usize, listed: Listed, at: usize) -> Option<usize
 #[cycle(reading)]
 fn read_argument(name: &str, left: usize, at: usize) -> Option<usize>
     requires ascii { IsAscii name.now }
-    requires levels { left ≤ 500 }
+    requires levels { left ≤ MAX_LEVELS }
     ensures { result ≡ argument_place name.now (places name.now left) at }
 {
     let bytes = name.as_bytes();
@@ -205,7 +206,7 @@ fn read_argument(name: &str, left: usize, at: usize) -> Option<usize>
 #[tactic(auto, using(crate::proofs::ReadingLists::bindings_place_step, crate::proofs::ReadingLists::bindings_place_none, crate::proofs::ReadingLists::bindings_place_more))]
 fn read_bindings(name: &str, left: usize, start: usize) -> Option<usize>
     requires ascii { IsAscii name.now }
-    requires levels { left ≤ 500 }
+    requires levels { left ≤ MAX_LEVELS }
     ensures { result ≡ bindings_place name.now (places name.now left) (suc (length name.now)) start }
 {
     let bytes = name.as_bytes();

@@ -2,8 +2,9 @@
 use Rattle.std.specs.Prelude.{ℕ, zero, suc, ◌+◌, ◌-◌, ◌*◌, ◌≤◌, List, [], ◌++◌, Option, Some, None, Bool, true, false, if◌then◌else◌, nat_le, codes, min}
 use Rattle.binfarce_v0_grammar.specs.Identifier.{Identifier, Label, identifier_text}
 use Rattle.binfarce_v0_grammar.specs.Forms.{Lifetime, NoLifetime, Signature, stands, behind, label_at, identifier_at, lifetime, path_form, type_form, const_form, PathForm, NoPathForm, CrateRoot, NestedIn, InherentImpl, TraitImpl, TraitDefinition, WithArguments, BackToPath, TypeForm, NoTypeForm, BasicType, ReferenceTo, UnreadReference, PointerTo, SliceOf, ArrayOf, TupleOf, FunctionOf, UnreadAbi, DynOf, UnreadDyn, BackToType, PathType, ConstForm, NoConstForm, PlaceholderConst, DigitsConst, UnreadConst, BackToConst}
-use Rattle.binfarce_v0_grammar.specs.Tree.{PathTree, TypeTree, ConstTree, Item, Items, Bindings, NoConst, Placeholder, Number, UnreadNumber, BackConst, NoPath, Crate, Nested, UnreadNested, OfType, OfImpl, OfTrait, Generic, BackPath, NoType, Basic, Reference, UnreadReferenceType, Pointer, Slice, Array, Tuple, Function, FunctionTo, UnreadFunction, Dyn, UnreadDynType, Named, BackType, LifetimeItem, TypeItem, ConstItem, TraitItem, NoItems, ItemThen, NoBindings, Binding, UnreadBinding, lifetime_steps, first_of, Position, InType, OpenTrait, parent_position, binder_text, reference_lifetime, argument_lifetime, dyn_lifetime, disambiguator_text, nested_text, mutable_text, signature_text, number_text, value_mark, closing, is_left_open, separator, single_mark, open_mark, close_mark}
-use Rattle.binfarce_v0_grammar.specs.Unfolding.{Listed, Arguments, Types, Traits, bound_place, required_place, list_goes_on}
+use Rattle.binfarce_v0_grammar.specs.Tree.{PathTree, TypeTree, ConstTree, Item, Items, Bindings, NoConst, Placeholder, Number, UnreadNumber, BackConst, NoPath, Crate, Nested, UnreadNested, OfType, OfImpl, OfTrait, Generic, BackPath, NoType, Basic, Reference, UnreadReferenceType, Pointer, Slice, Array, Tuple, Function, FunctionTo, UnreadFunction, Dyn, UnreadDynType, Named, BackType, LifetimeItem, TypeItem, ConstItem, TraitItem, NoItems, ItemThen, NoBindings, Binding, UnreadBinding, lifetime_steps, first_of, Position, InType, OpenTrait, parent_position, binder_text, reference_lifetime, argument_lifetime, dyn_lifetime, disambiguator_text, nested_text, mutable_text, signature_text, number_text, value_mark, closing, is_left_open, separator, single_mark, open_mark, close_mark, Listed, Arguments, Types, Traits}
+use Rattle.binfarce_v0_grammar.specs.Unfolding.{bound_place, required_place, list_goes_on}
+use Rattle.binfarce_v0_grammar.specs.declared.limits.TheConstants.{MAX_LEVELS, MAX_STEPS}
 
 -- the state of a printing
 pub record State : Type 0 where
@@ -332,14 +333,14 @@ readers name zero =
 readers name (suc left) =
     record { path = λ position depth s. entering left NoPath s (λ e. path_rule name (readers name left) position depth e (path_form name s.at)); ty = λ depth s. entering left NoType s (λ e. type_rule name (readers name left) depth e (type_form name s.at)); constant = λ s. entering left NoConst s (λ e. const_rule (readers name left) e (const_form name s.at)) }
 
--- at most 500 levels are left, and those above have announced at most 65536 lifetimes each
+-- at most `MAX_LEVELS` levels are left, and the levels above them have announced at most `MAX_STEPS` lifetimes each
 abbrev pub WithinLevels : (left depth : ℕ) → Type 0
-WithinLevels left depth = depth + 65536 * left ≤ 65536 * 500
+WithinLevels left depth = (left ≤ MAX_LEVELS) × (depth ≤ MAX_STEPS * (MAX_LEVELS - left))
 
 -- a printing at its beginning
 abbrev pub first_state : Bool → State
 first_state full =
-    record { at = Some 0; room = 65536; least = 500; over = false; text = []; muted = false; full = full; outside = true; root = None }
+    record { at = Some 0; room = MAX_STEPS; least = MAX_LEVELS; over = false; text = []; muted = false; full = full; outside = true; root = None }
 
 -- what clauses see of a printer: the name that it prints, which stays, and the state of the printing
 pub record Printing : Type 0 where

@@ -5,7 +5,6 @@ use Rattle.binfarce_v0_grammar.specs.Identifier.{Label}
 use Rattle.binfarce_v0_grammar.specs.Forms.{Signature, NoLifetime, UnreadLifetime, IndexedLifetime, NoPathForm, NestedIn, InherentImpl, TraitImpl, TraitDefinition, WithArguments, BackToPath, NoTypeForm, BasicType, ReferenceTo, UnreadReference, PointerTo, SliceOf, ArrayOf, TupleOf, FunctionOf, UnreadAbi, DynOf, UnreadDyn, BackToType, PathType, NoConstForm, PlaceholderConst, DigitsConst, UnreadConst, BackToConst}
 use Rattle.binfarce_v0_grammar.specs.Forms as forms
 use Rattle.binfarce_v0_grammar.specs.Tree as tree
-use Rattle.binfarce_v0_grammar.specs.Unfolding as lists_of
 use Rattle.binfarce_v0_grammar.specs.declared.forms.Position as position
 use Rattle.binfarce_v0_grammar.specs.declared.forms.Position.TheVariants as positions
 use Rattle.binfarce_v0_grammar.specs.declared.forms.Listed as listed
@@ -74,7 +73,7 @@ position_seen positions.InValue = tree.InValue
 position_seen positions.InType = tree.InType
 position_seen positions.OpenTrait = tree.OpenTrait
 
-abbrev pub listed_seen : listed.Listed → lists_of.Listed
-listed_seen lists.Arguments = lists_of.Arguments
-listed_seen lists.Types = lists_of.Types
-listed_seen lists.Traits = lists_of.Traits
+abbrev pub listed_seen : listed.Listed → tree.Listed
+listed_seen lists.Arguments = tree.Arguments
+listed_seen lists.Types = tree.Types
+listed_seen lists.Traits = tree.Traits

@@ -1,7 +1,6 @@
 //! Levels and steps of names within the limits.
 
-use crate::printer::{MAX_LEVELS, MAX_STEPS, Printer};
-use binfarce_v0_grammar::forms::Position;
+use crate::mangling::print;
 use std::alloc::{AllocError, Global};
 use std::process::Abort;
 
@@ -14,15 +13,13 @@ fn check_counts(
     steps: usize,
 ) -> Result<(), AllocError> {
     assert!(rt; name.is_ascii(), "a name is ASCII: {name}");
-    let mut printer = Printer::new(alloc, name, true)?;
-    printer.print_path(MAX_LEVELS, 0, Position::InValue)?;
-    assert!(rt; !printer.over, "within the limits: {name}");
-    assert_eq!(rt;
-        MAX_LEVELS.saturating_sub(printer.least),
-        levels,
-        "levels: {name}"
-    );
-    assert_eq!(rt; MAX_STEPS - printer.room, steps, "steps: {name}");
+    match print(alloc, name, true)? {
+        Some(printed) => {
+            assert_eq!(rt; printed.levels, levels, "levels: {name}");
+            assert_eq!(rt; printed.steps, steps, "steps: {name}");
+        }
+        None => assert!(rt; false, "within the limits: {name}"),
+    }
     Ok(())
 }
 

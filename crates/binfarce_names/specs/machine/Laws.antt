@@ -1,11 +1,20 @@
--- Laws of v0 names.
+-- Laws of names, which their definitions keep.
 use Rattle.std.specs.Prelude.{◌≡◌, ℕ, ◌≤◌, ◌<◌, List, Option, Some, Bool}
 use Rattle.binfarce_names.specs.declared.demangle.Kind.TheVariants.{V0}
 use Rattle.binfarce_v0_grammar.specs.Base62.{back_reference}
 use Rattle.binfarce_v0_grammar.specs.Tree.{PathTree, path_height, path_steps, name_text, path_root}
 use Rattle.binfarce_v0_grammar.specs.Reading.{ReadsPath}
 use Rattle.binfarce_v0_grammar.specs.Unfolding.{IsPath, UnfoldsTo}
+use Rattle.binfarce_names.specs.Name.{Name}
 use Rattle.binfarce_names.specs.Named.{IsNamed}
+
+-- text has an answer
+abbrev pub HasAnAnswer : List ℕ → Type 0
+HasAnAnswer text = (name : Name) × IsNamed text name
+
+-- text has no more than one answer
+abbrev pub HasOneAnswer : List ℕ → Type 0
+HasOneAnswer text = (first second : Name) → IsNamed text first → IsNamed text second → first ≡ second
 
 -- a place unfolds to at most one tree, and up to at most one place behind it
 abbrev pub UnfoldsOneWay : List ℕ → Type 0

@@ -1,7 +1,7 @@
 use Rattle.std.proofs.Common.{◌≡◌, ◌+◌, ◌-◌, ◌*◌, ◌==◌}
 use Rattle.binfarce_v0_grammar.specs.machine.Seen.{listed_seen}
 use Rattle.binfarce_v0.specs.machine.Printing.{with_state, readers, items_rule, items_from, items_count, bindings_rule}
-use Rattle.binfarce_v0.proofs.printer.Printer.+printing.Given as goal
+use Rattle.binfarce_v0.proofs.state.Printer.+printing.Given as goal
 
 abbrev pub decreases-print_path : goal.decreases-print_path
 decreases-print_path l = 10 * l.left + 0

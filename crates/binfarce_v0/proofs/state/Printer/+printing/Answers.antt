@@ -5,8 +5,8 @@ use Rattle.binfarce_v0_grammar.specs.Unfolding.{list_goes_on}
 use Rattle.binfarce_v0_grammar.specs.machine.Seen.{listed_seen}
 use Rattle.binfarce_v0.specs.machine.Printing.{Printing, with_state, say}
 use Rattle.binfarce_v0.proofs.Lists.{items_next}
-use Rattle.binfarce_v0.proofs.printer.Printer.+printing.Goals as goal
-use Rattle.binfarce_v0.proofs.printer.Printer.+printing.Goals.{print_items-then-count-eq0, print_items-else-count-eq0}
+use Rattle.binfarce_v0.proofs.state.Printer.+printing.Goals as goal
+use Rattle.binfarce_v0.proofs.state.Printer.+printing.Goals.{print_items-then-count-eq0, print_items-else-count-eq0}
 
 pub print_items-loop-count-preserved : goal.print_items-loop-count-preserved
 print_items-loop-count-preserved t c =

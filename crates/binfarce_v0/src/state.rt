@@ -1,4 +1,4 @@
-//! Printing a v0 name: it is read and written in one pass.
+//! The state of a printing: where it reads, what it has counted, and what it has written.
 
 ghost use Rattle.std.specs.Prelude.{◌≡◌, ◌+◌, ◌-◌, ◌≤◌, ◌^◌, ◌<◌, ◌↔◌, IfOk, OnOk, IsTrue, MatchOption, option_map, true, false, if◌then◌else◌, ◌&&◌, nat_le};
 ghost use Rattle.std.specs.Str.{IsAscii};
@@ -41,16 +41,9 @@ use crate::text::{
     push_signature,
 };
 use binfarce_v0_grammar::forms::{Identifier, Label, Lifetime, Signature};
+use binfarce_v0_grammar::limits::{MAX_LEVELS, MAX_STEPS};
 use std::alloc::{AllocError, Global};
 use std::marker::Model;
-
-/// How many levels of paths, types and consts within one another a v0 name may have, as it is read and as it is printed:
-/// what a back reference stands for lies a level below it. A name with more is `Kind::Unknown`.
-pub const MAX_LEVELS: usize = 500;
-
-/// How many steps the printing of a v0 name may take: one for each path, type, const and lifetime that it comes to, each
-/// time that it comes to it, and one for each lifetime that a binder announces. A name with more is `Kind::Unknown`.
-pub const MAX_STEPS: usize = 65_536;
 
 /// What a name means, as a text.
 #[derive(Drop)]
@@ -59,6 +52,10 @@ pub struct Printed<'a> {
     pub text: String,
     /// The name of the first crate root.
     pub root: Option<Identifier<'a>>,
+    /// How many levels the tree has.
+    pub levels: usize,
+    /// How many steps the tree takes.
+    pub steps: usize,
 }
 
 /// A printing.
@@ -91,16 +88,19 @@ impl<'a> Model for Printer<'a> {
     ghost use Rattle.std.specs.Str.{IsAscii};
     ghost use Rattle.std.specs.String.{string_bytes};
     ghost use Rattle.binfarce_v0.specs.machine.Printing.{Printing};
+    ghost use Rattle.binfarce_v0_grammar.specs.declared.limits.TheConstants.{MAX_LEVELS, MAX_STEPS};
     ghost use Rattle.binfarce_v0_grammar.specs.machine.Seen.{identifier_seen};
 
     ghost Value = { Printing };
 
     ghost view = { λ p. record { name = p.name.now; state = record { at = p.at; room = p.room; least = p.least; over = p.over; text = string_bytes p.text; muted = p.muted; full = p.full; outside = p.outside; root = option_map identifier_seen p.root } } };
 
-    ghost invariant = { λ p. IsAscii p.name.now × (p.room ≤ 65536) };
+    ghost invariant = { λ p. IsAscii p.name.now × ((p.room ≤ MAX_STEPS) × (p.least ≤ MAX_LEVELS)) };
 }
 
 impl<'a> Printer<'a> {
+    ghost use Rattle.binfarce_v0.specs.machine.Telling.{outcome_of, printed_seen};
+
     /// A printing of `name` that begins at its first place, with memory for a text of as many bytes.
     pub fn new(alloc: Global, name: &'a str, full: bool) -> Result<Printer<'a>, AllocError>
         requires { IsAscii name.now }
@@ -123,13 +123,13 @@ impl<'a> Printer<'a> {
 
     /// What was printed, or None where a limit was passed.
     pub fn finish(self) -> Option<Printed<'a>>
-        ensures { MatchOption result (self.entry.state.over ≡ true) (λ p. (self.entry.state.over ≡ false) × (string_bytes p.text ≡ self.entry.state.text) × (option_map identifier_seen p.root ≡ self.entry.state.root)) }
+        ensures { MatchOption result (self.entry.state.over ≡ true) (λ p. (self.entry.state.over ≡ false) × (printed_seen p ≡ outcome_of self.entry.state)) }
     {
         let Printer {
             name: _,
             at: _,
-            room: _,
-            least: _,
+            room,
+            least,
             over,
             text,
             muted: _,
@@ -140,7 +140,12 @@ impl<'a> Printer<'a> {
         if over {
             return None;
         }
-        Some(Printed { text, root })
+        Some(Printed {
+            text,
+            root,
+            levels: MAX_LEVELS - least,
+            steps: MAX_STEPS - room,
+        })
     }
 
     /// Goes on at a place.
@@ -162,7 +167,7 @@ impl<'a> Printer<'a> {
     pub fn take(&mut self, count: u64) -> bool
         ensures took { self.new ≡ with_state (if nat_le count self.old.state.room then take count self.old.state else stopped self.old.state) self.old }
         ensures enough { result ≡ nat_le count self.old.state.room }
-        ensures small { IsTrue result → count ≤ 65536 }
+        ensures small { IsTrue result → count ≤ MAX_STEPS }
     {
         if count <= self.room as u64 {
             self.room -= count as usize;
@@ -173,18 +178,19 @@ impl<'a> Printer<'a> {
         }
     }
 
-    /// Takes a level and a step, where there is one of each.
-    pub fn enter(&mut self, left: usize) -> bool
+    /// Takes a level and a step, where there is one of each: how many levels are left below, one less.
+    pub fn enter(&mut self, left: usize) -> Option<usize>
         ensures entered { self.new ≡ with_state (if nat_le 1 left && nat_le 1 self.old.state.room then entered (left - 1) self.old.state else stopped self.old.state) self.old }
-        ensures enough { result ≡ (nat_le 1 left && nat_le 1 self.old.state.room) }
+        ensures below { MatchOption result ((nat_le 1 left && nat_le 1 self.old.state.room) ≡ false) (λ below. ((nat_le 1 left && nat_le 1 self.old.state.room) ≡ true) × (below ≡ left - 1)) }
     {
         if left == 0 || self.room == 0 {
             self.stop();
-            return false;
+            return None;
         }
+        let below = left - 1;
         self.room -= 1;
-        self.least = self.least.min(left - 1);
-        true
+        self.least = self.least.min(below);
+        Some(below)
     }
 
     /// Writes a text.

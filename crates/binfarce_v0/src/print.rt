@@ -1,18 +1,10 @@
-//! What a place of a v0 name unfolds to, written as it is read.
+//! Printing a v0 name: what an offset unfolds to is written as it is read, form by form.
 
 ghost use Rattle.std.specs.Prelude.{◌≡◌, ℕ, ◌+◌, ◌≤◌, ◌==◌, IfOk, OnOk, Some, None, [], if◌then◌else◌, codes, suc};
+ghost use Rattle.binfarce_v0_grammar.specs.declared.limits.TheConstants.{MAX_LEVELS};
 ghost use Rattle.binfarce_v0_grammar.specs.Forms.{label_at, lifetime};
 ghost use Rattle.binfarce_v0_grammar.specs.Tree as tree;
-ghost use Rattle.binfarce_v0_grammar.specs.Tree.{
-  Items,
-  NoType,
-  parent_position,
-  value_mark,
-  closing,
-  is_open_trait,
-  is_left_open,
-};
-ghost use Rattle.binfarce_v0_grammar.specs.Unfolding.{Arguments, Types};
+ghost use Rattle.binfarce_v0_grammar.specs.Tree.{Items, NoType, parent_position, value_mark, closing, is_open_trait, is_left_open, Arguments, Types};
 ghost use Rattle.binfarce_v0_grammar.specs.machine.Seen.{
   label_seen,
   path_seen,
@@ -54,7 +46,7 @@ ghost use Rattle.binfarce_v0.specs.machine.Printing.{
   unread_function,
 };
 
-use crate::printer::Printer;
+use crate::state::Printer;
 use binfarce_v0_grammar::forms::{
     ConstForm, Label, Lifetime, Listed, PathForm, Position, Signature, TypeForm,
 };
@@ -110,13 +102,13 @@ impl<'a> Printer<'a> {
     /// `<const>`
     #[tactic(auto, using(crate::proofs::Levels::constant_at), unfolding(crate::specs::machine::Printing::const_rule))]
     pub fn print_const(&mut self, left: usize) -> Result<(), AllocError>
-        requires levels { left ≤ 500 }
+        requires levels { left ≤ MAX_LEVELS }
         ensures { OnOk result (self.new ≡ with_state ((readers self.old.name left).constant self.old.state).1 self.old) }
     {
         let form = const_form(self.name, self.at);
-        if !self.enter(left) {
+        let Some(below) = self.enter(left) else {
             return Ok(());
-        }
+        };
         match form {
             ConstForm::Nothing => self.fault(),
             ConstForm::Placeholder(type_name, after) => {
@@ -139,7 +131,7 @@ impl<'a> Printer<'a> {
             ConstForm::Back(target, after) => {
                 let outside = self.outside;
                 self.enter_target(target);
-                self.print_const(left - 1)?;
+                self.print_const(below)?;
                 self.leave_target(after, outside);
                 Ok(())
             }
@@ -187,10 +179,10 @@ impl<'a> Printer<'a> {
         ensures opened { IfOk result (λ opened. opened ≡ is_left_open ((readers self.old.name left).path (position_seen position) depth self.old.state).0 (position_seen position)) }
     {
         let form = path_form(self.name, self.at);
-        if !self.enter(left) {
+        let Some(below) = self.enter(left) else {
             return Ok(false);
-        }
-        self.print_path_form(left - 1, depth, position, form)
+        };
+        self.print_path_form(below, depth, position, form)
     }
 
     // A path of a form.
@@ -422,10 +414,10 @@ impl<'a> Printer<'a> {
         ensures { OnOk result (self.new ≡ with_state (((readers self.old.name left).ty depth self.old.state).1) self.old) }
     {
         let form = type_form(self.name, self.at);
-        if !self.enter(left) {
+        let Some(below) = self.enter(left) else {
             return Ok(());
-        }
-        self.print_type_form(left - 1, depth, form)
+        };
+        self.print_type_form(below, depth, form)
     }
 
     // A type of a form.

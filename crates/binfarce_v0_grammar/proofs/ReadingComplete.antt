@@ -7,7 +7,7 @@ use Rattle.binfarce_v0_grammar.specs.Identifier.{label}
 use Rattle.binfarce_v0_grammar.specs.Forms.{stands, path_form, type_form, const_form}
 use Rattle.binfarce_v0_grammar.specs.Tree.{PathTree, TypeTree, ConstTree, Item, Items, Bindings, NoConst, Placeholder, Number, UnreadNumber, BackConst, ConstPlace, NoPath, Crate, Nested, UnreadNested, OfType, OfImpl, OfTrait, Generic, BackPath, PathPlace, NoType, Basic, Reference, UnreadReferenceType, Pointer, Slice, Array, Tuple, Function, FunctionTo, UnreadFunction, Dyn, UnreadDynType, Named, BackType, TypePlace, LifetimeItem, TypeItem, ConstItem, TraitItem, NoItems, ItemThen, NoBindings, Binding, UnreadBinding, path_height, type_height, const_height, item_height, items_height, bindings_height, Listed, Arguments, Types, Traits}
 use Rattle.binfarce_v0_grammar.specs.Reading.{ReadsConst, ReadsPath, ReadsType, ReadsItem, ReadsItems, ReadsBindings}
-use Rattle.binfarce_v0_grammar.specs.machine.Places.{onward, const_place, label_place, bound_from, bindings_place, item_place, items_place, type_place, path_place, places}
+use Rattle.binfarce_v0_grammar.specs.machine.Places.{const_place, label_place, bound_from, bindings_place, item_place, items_place, type_place, path_place, places}
 use Rattle.binfarce_v0_grammar.proofs.ReadingForward.{item_forward, bound_forward}
 
 pub suc-one : (l : ℕ) → suc l - 1 ≡ l
@@ -39,9 +39,6 @@ type_place_none name l at h = rw h refl
 pub const_place_none : (name : List ℕ) (l at : ℕ) → l ≡ 0 → (places name l).constant at ≡ None
 unfolding places
 const_place_none name l at h = rw h refl
-
-onward_is : (at mid : ℕ) → at < mid → onward at mid ≡ Some mid
-onward_is at mid h = let e : nat_lt at mid ≡ true = grind (arith, nat_tests) in rw e refl
 
 -- a byte that stands at a place is one of the name
 pub within : (name : List ℕ) (byte at : ℕ) → stands name (suc byte) (Some at) ≡ true → at < length name
@@ -144,7 +141,7 @@ mutual
   items_placed (ItemThen i items) name l listed (suc n) at after r h f =
       let below = items_within items name listed r.0 after r.3 in
       let forward = item_forward i name listed at r.0 r.2 in
-      if_not _ _ _ r.1 ∙ then_is _ _ r.0 (item_placed i name l listed at r.0 r.2 (omega arith)) ∙ then_is _ _ r.0 (onward_is at r.0 forward) ∙ items_placed items name l listed n r.0 after r.3 (omega arith) (omega arith)
+      if_not _ _ _ r.1 ∙ then_is _ _ r.0 (item_placed i name l listed at r.0 r.2 (omega arith)) ∙ items_placed items name l listed n r.0 after r.3 (omega arith) (omega arith)
 
   pub bindings_placed : (bindings : Bindings) (name : List ℕ) (l n at after : ℕ) → ReadsBindings name bindings at after → bindings_height bindings ≤ l → length name - at < n → bindings_place name (places name l) n at ≡ Some after
   bindings_placed NoBindings name l zero at after r h f = absurd (omega arith)
@@ -153,5 +150,5 @@ mutual
   bindings_placed (Binding i t more) name l (suc n) at after r h f =
       let here = within name 111 at r.2 in
       let forward = bound_forward i t name at r.0 r.1 r.3 r.4 in
-      if_so _ _ _ r.2 ∙ ap (bound_from (places name l) (bindings_place name (places name l) n) at) r.3 ∙ then_is _ _ r.1 (type_placed t name l r.0 r.1 r.4 (omega arith)) ∙ then_is _ _ r.1 (onward_is at r.1 forward) ∙ bindings_placed more name l n r.1 after r.5 (omega arith) (omega arith)
+      if_so _ _ _ r.2 ∙ ap (bound_from (places name l) (bindings_place name (places name l) n)) r.3 ∙ then_is _ _ r.1 (type_placed t name l r.0 r.1 r.4 (omega arith)) ∙ bindings_placed more name l n r.1 after r.5 (omega arith) (omega arith)
   bindings_placed UnreadBinding name l n at after r h f = absurd r

@@ -5,7 +5,7 @@ use Rattle.binfarce_v0_grammar.specs.Identifier.{Identifier, Label, label, ident
 use Rattle.binfarce_v0_grammar.specs.Forms.{Lifetime, stands, lifetime, path_form, type_form, const_form, PathForm, NoPathForm, CrateRoot, NestedIn, InherentImpl, TraitImpl, TraitDefinition, WithArguments, BackToPath, TypeForm, NoTypeForm, BasicType, ReferenceTo, UnreadReference, PointerTo, SliceOf, ArrayOf, TupleOf, FunctionOf, UnreadAbi, DynOf, UnreadDyn, BackToType, PathType, ConstForm, NoConstForm, PlaceholderConst, DigitsConst, UnreadConst, BackToConst}
 use Rattle.binfarce_v0_grammar.specs.Tree.{PathTree, TypeTree, ConstTree, Item, Items, Bindings, Placeholder, Number, ConstPlace, Crate, Nested, OfType, OfImpl, OfTrait, Generic, PathPlace, Basic, Reference, Pointer, Slice, Array, Tuple, Function, FunctionTo, Dyn, Named, TypePlace, LifetimeItem, TypeItem, ConstItem, TraitItem, NoItems, ItemThen, NoBindings, Binding, path_height, type_height, const_height, item_height, items_height, bindings_height, Listed, Arguments, Types, Traits}
 use Rattle.binfarce_v0_grammar.specs.Reading.{ReadsConst, ReadsPath, ReadsType, ReadsItem, ReadsItems, ReadsBindings}
-use Rattle.binfarce_v0_grammar.specs.machine.Places.{Places, onward, const_place, label_place, lifetime_place, bound_from, bindings_place, argument_place, item_place, items_place, list_place, return_place, type_place, path_place, places}
+use Rattle.binfarce_v0_grammar.specs.machine.Places.{Places, const_place, label_place, lifetime_place, bound_from, bindings_place, argument_place, item_place, items_place, list_place, return_place, type_place, path_place, places}
 
 pub record ConstRead (name : List ℕ) (left at after : ℕ) : Type 0 where
   pub tree : ConstTree
@@ -52,13 +52,6 @@ pub between : {A : Type 0} (o : Option A) (f : A → Option ℕ) (after : ℕ) �
 between None f after e = cc
 between (Some mid) f after e = record { mid = mid; first = refl; second = e }
 
-onward_same : (at mid after : ℕ) → onward at mid ≡ Some after → mid ≡ after
-onward_same at mid after e = by (nat_lt at mid) e
-  where
-    by : (b : Bool) → cond b (Some mid) None ≡ Some after → mid ≡ after
-    by true e = cc
-    by false e = cc
-
 pub const_read : (name : List ℕ) (left at after : ℕ) (form : ConstForm) → const_form name (Some at) ≡ form → const_place form ≡ Some after → ConstRead name (suc left) at after
 unfolding const_place ReadsConst
 const_read name left at after NoConstForm e p = cc
@@ -76,21 +69,19 @@ bindings_read name left R H zero at after e = cc
 bindings_read name left R H (suc n) at after e =
     by (bindings_read name left R H n) (stands name 112 (Some at)) refl e
   where
-    bound : ((at after : ℕ) → bindings_place name R n at ≡ Some after → BindingsRead name left at after) → stands name 112 (Some at) ≡ true → (i : Option (Identifier × ℕ)) → identifier name (at + 1) ≡ i → bound_from R (bindings_place name R n) at i ≡ Some after → BindingsRead name left at after
+    bound : ((at after : ℕ) → bindings_place name R n at ≡ Some after → BindingsRead name left at after) → stands name 112 (Some at) ≡ true → (i : Option (Identifier × ℕ)) → identifier name (at + 1) ≡ i → bound_from R (bindings_place name R n) i ≡ Some after → BindingsRead name left at after
     bound M t None ei e = cc
     bound M t (Some i) ei e =
-        let b = between (R.ty i.1) (λ mid. onward at mid >>= bindings_place name R n) after e in
-        let c = between (onward at b.mid) (bindings_place name R n) after b.second in
-        let same = onward_same at b.mid c.mid c.first in
+        let b = between (R.ty i.1) (bindings_place name R n) after e in
         let f = H.ty i.1 b.mid b.first in
-        let m = M c.mid after c.second in
+        let m = M b.mid after b.second in
         record {
           tree = Binding i.0 f.tree m.tree;
-          reads = (i.1, b.mid, t, ei, f.reads, subst (λ x. ReadsBindings name m.tree x after) (sym same) m.reads);
+          reads = (i.1, b.mid, t, ei, f.reads, m.reads);
           height = omega arith;
         }
 
-    by : ((at after : ℕ) → bindings_place name R n at ≡ Some after → BindingsRead name left at after) → (b : Bool) → stands name 112 (Some at) ≡ b → cond b (bound_from R (bindings_place name R n) at (identifier name (at + 1))) (Some at) ≡ Some after → BindingsRead name left at after
+    by : ((at after : ℕ) → bindings_place name R n at ≡ Some after → BindingsRead name left at after) → (b : Bool) → stands name 112 (Some at) ≡ b → cond b (bound_from R (bindings_place name R n) (identifier name (at + 1))) (Some at) ≡ Some after → BindingsRead name left at after
     by M true t e = bound M t (identifier name (at + 1)) refl e
     by M false t e =
         let here : after ≡ at = cc in record { tree = NoBindings; reads = (t, here); height = omega arith }
@@ -126,18 +117,16 @@ items_read name left R H listed zero at after e = cc
 items_read name left R H listed (suc n) at after e =
     by (items_read name left R H listed n) (stands name 69 (Some at)) refl e
   where
-    by : ((at after : ℕ) → items_place name R listed n at ≡ Some after → ItemsRead name listed left at after) → (b : Bool) → stands name 69 (Some at) ≡ b → cond b (Some (at + 1)) (item_place name R listed at >>= λ mid. (onward at mid >>= items_place name R listed n)) ≡ Some after → ItemsRead name listed left at after
+    by : ((at after : ℕ) → items_place name R listed n at ≡ Some after → ItemsRead name listed left at after) → (b : Bool) → stands name 69 (Some at) ≡ b → cond b (Some (at + 1)) (item_place name R listed at >>= items_place name R listed n) ≡ Some after → ItemsRead name listed left at after
     by M true t e =
         let here : after ≡ at + 1 = cc in record { tree = NoItems; reads = (t, here); height = omega arith }
     by M false t e =
-        let b = between (item_place name R listed at) (λ mid. onward at mid >>= items_place name R listed n) after e in
-        let c = between (onward at b.mid) (items_place name R listed n) after b.second in
-        let same = onward_same at b.mid c.mid c.first in
+        let b = between (item_place name R listed at) (items_place name R listed n) after e in
         let f = item_read name left R H listed at b.mid b.first in
-        let m = M c.mid after c.second in
+        let m = M b.mid after b.second in
         record {
           tree = ItemThen f.tree m.tree;
-          reads = (b.mid, t, f.reads, subst (λ x. ReadsItems name listed m.tree x after) (sym same) m.reads);
+          reads = (b.mid, t, f.reads, m.reads);
           height = omega arith;
         }
 

@@ -6,7 +6,6 @@ ghost use Rattle.binfarce_v0_grammar.specs.declared.limits.TheConstants.{MAX_LEV
 ghost use Rattle.binfarce_v0_grammar.specs.machine.Seen.{listed_seen};
 ghost use Rattle.binfarce_v0_grammar.specs.machine.Places.{
   places,
-  onward,
   bindings_place,
   item_place,
   list_place,
@@ -35,13 +34,6 @@ fn read_const(name: &str, left: usize, at: usize) -> Option<usize>
         ConstForm::Back(_, after) => Some(after),
         ConstForm::Nothing | ConstForm::Unread(_) => None,
     }
-}
-
-// The place behind what was read at a place.
-fn onward(at: usize, after: usize) -> Option<usize>
-    ensures { result ≡ onward at after }
-{
-    if at < after { Some(after) } else { None }
 }
 
 // The lifetime of a dyn type.
@@ -159,8 +151,7 @@ fn read_items(name: &str, left: usize, listed: Listed, start: usize) -> Option<u
         if let Some(after) = eat(bytes, b'E', Some(at)) {
             return Some(after);
         }
-        let mid = read_item(name, left, listed, at)?;
-        at = onward(at, mid)?;
+        at = read_item(name, left, listed, at)?;
     }
     None
 }
@@ -216,8 +207,7 @@ fn read_bindings(name: &str, left: usize, start: usize) -> Option<usize>
             return Some(at);
         };
         let (_name, bound) = identifier(name, binding)?;
-        let mid = read_type(name, left, bound)?;
-        at = onward(at, mid)?;
+        at = read_type(name, left, bound)?;
     }
     None
 }

@@ -1,5 +1,5 @@
 -- The reading, step by step: from a place to the place behind what the grammar reads there, with some levels left.
-use Rattle.std.specs.Prelude.{ℕ, zero, suc, ◌+◌, List, Option, Some, None, if◌then◌else◌, nat_lt, length}
+use Rattle.std.specs.Prelude.{ℕ, zero, suc, ◌+◌, List, Option, Some, None, if◌then◌else◌, length}
 use Rattle.binfarce_text.specs.Letters.{'E', 'K', 'L', 'p', 'u'}
 use Rattle.binfarce_text.specs.Steps.{◌>>=◌}
 use Rattle.binfarce_v0_grammar.specs.Identifier.{Identifier, Label, label, identifier}
@@ -11,10 +11,6 @@ pub record Places : Type 0 where
   pub path : ℕ → Option ℕ
   pub ty : ℕ → Option ℕ
   pub constant : ℕ → Option ℕ
-
--- what is read goes on from a place
-abbrev pub onward : ℕ → ℕ → Option ℕ
-onward at after = if nat_lt at after then Some after else None
 
 unfoldable pub const_place : ConstForm → Option ℕ
 const_place NoConstForm = None
@@ -30,14 +26,14 @@ label_place (Some l) = Some l.1
 abbrev pub lifetime_place : List ℕ → ℕ → Option ℕ
 lifetime_place name at = if stands name 'L' (Some at) then (lifetime name (Some at)).1 else None
 
-abbrev pub bound_from : Places → (ℕ → Option ℕ) → ℕ → Option (Identifier × ℕ) → Option ℕ
-bound_from R more at None = None
-bound_from R more at (Some i) = R.ty i.1 >>= λ mid. (onward at mid >>= more)
+abbrev pub bound_from : Places → (ℕ → Option ℕ) → Option (Identifier × ℕ) → Option ℕ
+bound_from R more None = None
+bound_from R more (Some i) = R.ty i.1 >>= more
 
 unfoldable pub bindings_place : List ℕ → Places → ℕ → ℕ → Option ℕ
 bindings_place name R zero at = None
 bindings_place name R (suc n) at =
-    if stands name 'p' (Some at) then bound_from R (bindings_place name R n) at (identifier name (at + 1)) else Some at
+    if stands name 'p' (Some at) then bound_from R (bindings_place name R n) (identifier name (at + 1)) else Some at
 
 abbrev pub argument_place : List ℕ → Places → ℕ → Option ℕ
 argument_place name R at =
@@ -51,7 +47,7 @@ item_place name R Traits at = R.path at >>= bindings_place name R (suc (length n
 unfoldable pub items_place : List ℕ → Places → Listed → ℕ → ℕ → Option ℕ
 items_place name R listed zero at = None
 items_place name R listed (suc n) at =
-    if stands name 'E' (Some at) then Some (at + 1) else (item_place name R listed at >>= λ mid. (onward at mid >>= items_place name R listed n))
+    if stands name 'E' (Some at) then Some (at + 1) else (item_place name R listed at >>= items_place name R listed n)
 
 abbrev pub list_place : List ℕ → Places → Listed → ℕ → Option ℕ
 list_place name R listed at = items_place name R listed (suc (length name)) at

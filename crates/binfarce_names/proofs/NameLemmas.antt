@@ -11,7 +11,7 @@ use Rattle.binfarce_names.specs.machine.Laws.{HasAnAnswer, HasOneAnswer}
 use Rattle.binfarce_v0.specs.Mangling.{IsV0}
 use Rattle.binfarce_v0_grammar.specs.Tree.{PathTree}
 use Rattle.binfarce_v0_grammar.specs.Unfolding.{UnfoldsTo}
-use Rattle.binfarce_v0.proofs.Manglings.{unfolds_once, printed, printed_told, printed_over}
+use Rattle.binfarce_v0.proofs.Manglings.{unfolds_once, printed, printed_is_outcome, printed_over}
 use Rattle.binfarce_v0.proofs.RestLemmas.{one_part}
 use Rattle.binfarce_text.proofs.TextLemmas.{some_same}
 
@@ -70,7 +70,7 @@ has_answer text m is = elim is [
     by v true o =
         (unknown text, named_past_limits text m (unknown text) is v.kind_is (λ tree u. printed_over m.part true o tree u) refl)
     by v false o =
-        let t = printed_told m.part true o in
+        let t = printed_is_outcome m.part true o in
         (v0 t.tree, inr (inl (record { not_legacy = v.not_legacy; part = m.part; mangling = v.mangling; tree = t.tree; unfolds = t.unfolds; name_is = refl })))
 
 -- a text is a legacy mangling of one list of elements

@@ -127,7 +127,7 @@ pub fn demangle(name: &str) -> Demangled<'_>
             part,
         };
     }
-    match v0::mangle_part(text) {
+    match v0::mangled_part(text) {
         Some(part) => Demangled {
             kind: Kind::V0,
             part,

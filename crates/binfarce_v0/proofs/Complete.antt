@@ -6,7 +6,7 @@ use Rattle.binfarce_v0_grammar.specs.Identifier.{identifier_text}
 use Rattle.binfarce_v0_grammar.specs.Forms.{Lifetime, NoLifetime, stands, behind, lifetime, path_form, type_form, const_form, PathForm, NoPathForm, CrateRoot, NestedIn, InherentImpl, TraitImpl, TraitDefinition, WithArguments, BackToPath, TypeForm, NoTypeForm, BasicType, ReferenceTo, UnreadReference, PointerTo, SliceOf, ArrayOf, TupleOf, FunctionOf, UnreadAbi, DynOf, UnreadDyn, BackToType, PathType, ConstForm, NoConstForm, PlaceholderConst, DigitsConst, UnreadConst, BackToConst}
 use Rattle.binfarce_v0_grammar.specs.Tree.{PathTree, TypeTree, ConstTree, Item, Items, Bindings, NoConst, Placeholder, Number, UnreadNumber, BackConst, ConstPlace, NoPath, Crate, Nested, UnreadNested, OfType, OfImpl, OfTrait, Generic, BackPath, PathPlace, NoType, Basic, Reference, UnreadReferenceType, Pointer, Slice, Array, Tuple, Function, FunctionTo, UnreadFunction, Dyn, UnreadDynType, Named, BackType, TypePlace, LifetimeItem, TypeItem, ConstItem, TraitItem, NoItems, ItemThen, NoBindings, Binding, UnreadBinding, lifetime_steps, path_height, type_height, const_height, item_height, items_height, bindings_height, path_steps, type_steps, const_steps, item_steps, items_steps, bindings_steps, path_root, type_root, item_root, items_root, bindings_root, path_text, type_text, const_text, item_text, items_text, bindings_text, Position, InType, OpenTrait, parent_position, value_mark, closing, is_left_open, separator, single_mark, open_mark, close_mark, binder_text, signature_text, nested_text, number_text, disambiguator_text, reference_lifetime, argument_lifetime, dyn_lifetime, mutable_text, Listed, Arguments, Types, Traits}
 use Rattle.binfarce_v0_grammar.specs.Unfolding.{bound_place, required_place, IsConst, IsPath, IsType, IsItem, AreItems, AreBindings}
-use Rattle.binfarce_v0.specs.machine.Printing.{State, say, go, stopped, take, entered, into, mute, unmute, unmuted, taking, const_rule, const_item, type_item, lifetime_item, argument_rule, binding_then, binding_rule, bound_type, named_binding, bindings_rule, trait_item, trait_rule, item_rule, item_then, list_rule, items_behind, items_rule, type_then, type_as, array_rule, array_end, tuple_end, returned, function_end, function_rule, dyn_life, dyn_lifetime_rule, dyn_end, dyn_rule, reference_rule, unread_reference, unread_function, back_type, back_const, back_path, named_type, type_rule, nested_rule, of_type_rule, of_type_end, of_impl_rule, as_trait, path_then, generic_rule, generic_end, path_rule, readers}
+use Rattle.binfarce_v0.specs.machine.Printing.{State, say, go, stopped, take, entered, into, mute, unmute, unmuted, taking, const_rule, const_item, type_item, lifetime_item, argument_rule, binding_then, binding_rule, bound_type, named_binding, bindings_rule, trait_item, trait_rule, item_rule, item_then, list_rule, items_after, items_rule, type_then, type_as, array_rule, array_end, tuple_end, returned, function_end, function_rule, dyn_life, dyn_lifetime_rule, dyn_end, dyn_rule, reference_rule, unread_reference, unread_function, back_type, back_const, back_path, named_type, type_rule, nested_rule, of_type_rule, of_type_end, of_impl_rule, as_trait, path_then, generic_rule, generic_end, path_rule, readers}
 use Rattle.binfarce_v0.proofs.Sound.{lifetime_step}
 use Rattle.binfarce_v0.proofs.Levels.{path_at, type_at, constant_at}
 use Rattle.binfarce_v0.proofs.States.{shown, shown_leaf, shown_three, shown_crate, shown_steps, shown_steps_fault, shown_named, shown_back, shown_then, shown_behind, shown_between, shown_tuple, shown_reference, shown_function, shown_dyn, shown_array, shown_function_to, shown_of_type, shown_of_impl, shown_of_trait, shown_generic, shown_end, shown_items, shown_lifetime, shown_trait, shown_bindings_end, shown_bindings_fault, shown_binding}
@@ -258,7 +258,7 @@ mutual
       let start = say (separator is_first between) s in
       let first = shown (item_text s.full i depth) (item_root i) (item_height i) (item_steps i) is.0 l start in
       let some = item_steps_some name listed i s.at depth is.0 is.2 in
-      ap (list_rule name R depth listed between (items_rule name R depth listed between fuel false) is_first s) is.1 ∙ ap (items_behind (items_rule name R depth listed between fuel false)) (item_complete i name l depth listed start is.0 o is.2 (omega arith) (omega arith) b) ∙ ap (item_then i) (items_complete items name l depth listed between fuel false first after o is.3 (omega arith) (omega arith) (omega arith) (omega arith)) ∙ at_tree _ _ _ (shown_items s l is.0 after (separator is_first between) (item_text s.full i depth) (items_text s.full items between false depth) (item_root i) (items_root items) (item_height i) (item_steps i) (items_height items) (items_steps items))
+      ap (list_rule name R depth listed between (items_rule name R depth listed between fuel false) is_first s) is.1 ∙ ap (items_after (items_rule name R depth listed between fuel false)) (item_complete i name l depth listed start is.0 o is.2 (omega arith) (omega arith) b) ∙ ap (item_then i) (items_complete items name l depth listed between fuel false first after o is.3 (omega arith) (omega arith) (omega arith) (omega arith)) ∙ at_tree _ _ _ (shown_items s l is.0 after (separator is_first between) (item_text s.full i depth) (items_text s.full items between false depth) (item_root i) (items_root items) (item_height i) (item_steps i) (items_height items) (items_steps items))
 
   pub bindings_complete : (bindings : Bindings) (name : List ℕ) (l depth fuel : ℕ) (is_open : Bool) (s : State) (after : Option ℕ) → s.over ≡ false → AreBindings name bindings s.at depth after → bindings_height bindings ≤ l → bindings_steps bindings ≤ s.room → bindings_steps bindings < fuel → s.least ≤ l → bindings_rule name (readers name l) depth fuel is_open s ≡ (bindings, shown (bindings_text s.full bindings is_open depth) (bindings_root bindings) (bindings_height bindings) (bindings_steps bindings) after l s)
   bindings_complete NoBindings name l depth zero is_open s after o is h n f b = absurd (omega arith)

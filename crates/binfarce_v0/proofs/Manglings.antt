@@ -5,9 +5,9 @@ use Rattle.binfarce_v0_grammar.specs.Identifier.{identifier_text}
 use Rattle.binfarce_v0_grammar.specs.Tree.{PathTree, path_height, path_steps, name_text, InValue}
 use Rattle.binfarce_v0_grammar.specs.Unfolding.{UnfoldsTo}
 use Rattle.binfarce_v0_grammar.specs.declared.limits.TheConstants.{MAX_LEVELS, MAX_STEPS}
-use Rattle.binfarce_v0.specs.Mangling.{is_upper_at, PathStands, SecondPath, ReadsPaths, IsMangling, behind_prefix}
+use Rattle.binfarce_v0.specs.Mangling.{is_upper_at, PathStands, SecondPath, ReadsPaths, IsMangling, part_after_prefix}
 use Rattle.binfarce_v0.specs.machine.Mangling.{paths_place}
-use Rattle.binfarce_v0.specs.machine.Telling.{Outcome, outcome_of, Tells, TextsTell}
+use Rattle.binfarce_v0.specs.machine.Outcome.{Outcome, outcome_of, IsOutcome, AreTexts}
 use Rattle.binfarce_v0.specs.machine.Printing.{State, readers, first_state}
 use Rattle.binfarce_v0_grammar.specs.machine.Places.{places}
 use Rattle.std.specs.Prelude.{MatchOption}
@@ -28,8 +28,8 @@ steps_taken : (steps : ℕ) → steps ≤ MAX_STEPS → MAX_STEPS - (MAX_STEPS -
 steps_taken steps h = omega arith
 
 -- a printing that passed no limit is that of the tree that the name unfolds to
-pub printed_told : (name : List ℕ) (full : Bool) → (printed name full).1.over ≡ false → Tells name full (outcome_of (printed name full).1)
-printed_told name full o =
+pub printed_is_outcome : (name : List ℕ) (full : Bool) → (printed name full).1.over ≡ false → IsOutcome name full (outcome_of (printed name full).1)
+printed_is_outcome name full o =
     let H = readers_sound name MAX_LEVELS in
     let f = H.path InValue 0 (first_state full) o in
     let within : path_steps (printed name full).0 ≤ MAX_STEPS = omega arith in
@@ -80,18 +80,18 @@ read_paths_at name after p =
     rw (path_read_at name 0 p.mid p.path) (second_read name p.mid after (is_upper_at name p.mid) p.instantiating_crate)
 
 -- where no paths are read there is no mangling
-pub not_mangling : (text read : List ℕ) → behind_prefix text ≡ Some read → paths_place read ≡ None → (name : List ℕ) (after : ℕ) → IsMangling text name after → ⊥
+pub not_mangling : (text read : List ℕ) → part_after_prefix text ≡ Some read → paths_place read ≡ None → (name : List ℕ) (after : ℕ) → IsMangling text name after → ⊥
 not_mangling text read b e name after m =
-    let same : read ≡ name = cc (b, m.behind) in
+    let same : read ≡ name = cc (b, m.prefix) in
     let paths = subst (λ n. ReadsPaths n after) (sym same) m.paths in
     let found = read_paths_at read after paths in cc
 
-pub print_tells : {P : Type 0} (seen : P → Outcome) (name : List ℕ) (full : Bool) (s : State) (r : Option P) → s ≡ (printed name full).1 → MatchOption r (s.over ≡ true) (λ p. (s.over ≡ false) × (seen p ≡ outcome_of s)) → MatchOption r ((tree : PathTree) → UnfoldsTo name tree → ⊥) (λ p. Tells name full (seen p))
-print_tells seen name full s None e h =
+pub print_gives_outcome : {P : Type 0} (seen : P → Outcome) (name : List ℕ) (full : Bool) (s : State) (r : Option P) → s ≡ (printed name full).1 → MatchOption r (s.over ≡ true) (λ p. (s.over ≡ false) × (seen p ≡ outcome_of s)) → MatchOption r ((tree : PathTree) → UnfoldsTo name tree → ⊥) (λ p. IsOutcome name full (seen p))
+print_gives_outcome seen name full s None e h =
     let over : (printed name full).1.over ≡ true = ap (λ (v : State). v.over) (sym e) ∙ h in printed_over name full over
-print_tells seen name full s (Some p) e h =
+print_gives_outcome seen name full s (Some p) e h =
     let on : (printed name full).1.over ≡ false = ap (λ (v : State). v.over) (sym e) ∙ h.0 in
-    subst (Tells name full) (sym (h.1 ∙ ap outcome_of e)) (printed_told name full on)
+    subst (IsOutcome name full) (sym (h.1 ∙ ap outcome_of e)) (printed_is_outcome name full on)
 
 -- a name unfolds to one tree
 pub unfolds_once : (name : List ℕ) (t u : PathTree) → UnfoldsTo name t → UnfoldsTo name u → t ≡ u
@@ -100,8 +100,8 @@ unfolds_once name t u a b =
     let second = path_complete u name MAX_LEVELS InValue 0 (first_state true) b.after refl b.is_path b.levels b.steps in
     ap (λ r. r.0) (sym first ∙ second)
 
-pub texts_tell : (name : List ℕ) (complete trimmed : Outcome) (crate_name : Option (List ℕ)) → Tells name true complete → Tells name false trimmed → crate_name ≡ option_map identifier_text complete.root → TextsTell name complete.text trimmed.text crate_name
-texts_tell name complete trimmed crate_name c t e =
+pub are_texts : (name : List ℕ) (complete trimmed : Outcome) (crate_name : Option (List ℕ)) → IsOutcome name true complete → IsOutcome name false trimmed → crate_name ≡ option_map identifier_text complete.root → AreTexts name complete.text trimmed.text crate_name
+are_texts name complete trimmed crate_name c t e =
     record {
       tree = c.tree;
       unfolds = c.unfolds;

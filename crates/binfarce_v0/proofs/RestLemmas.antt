@@ -11,7 +11,7 @@ same_place a b e = cc
 
 -- a text is one v0 mangling
 pub one_part : (text p q : List ℕ) (a b : ℕ) → IsMangling text p a → IsMangling text q b → p ≡ q
-one_part text p q a b m n = some_same p q (sym m.behind ∙ n.behind)
+one_part text p q a b m n = some_same p q (sym m.prefix ∙ n.prefix)
 
 one_end : (text p q : List ℕ) (a b : ℕ) → IsMangling text p a → IsMangling text q b → a ≡ b
 one_end text p q a b m n =

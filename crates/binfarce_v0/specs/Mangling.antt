@@ -9,8 +9,8 @@ use Rattle.binfarce_v0_grammar.specs.Reading.{ReadsPath}
 use Rattle.binfarce_v0_grammar.specs.declared.limits.TheConstants.{MAX_LEVELS}
 
 -- what stands after the prefix, "_R", or "R" or "__R" where a platform drops or adds a "_": positions are counted from there
-unfoldable pub behind_prefix : List ℕ → Option (List ℕ)
-behind_prefix text = after_prefix (codes "_R" ∷ codes "R" ∷ codes "__R" ∷ []) text
+unfoldable pub part_after_prefix : List ℕ → Option (List ℕ)
+part_after_prefix text = after_prefix (codes "_R" ∷ codes "R" ∷ codes "__R" ∷ []) text
 
 -- a path begins with an upper-case letter
 abbrev pub is_upper_at : List ℕ → ℕ → Bool
@@ -35,7 +35,7 @@ pub record ReadsPaths (name : List ℕ) (after : ℕ) : Type 0 where
 
 -- the v0 mangling that a text begins with: its name, and the place behind the paths of the name
 pub record IsMangling (text name : List ℕ) (after : ℕ) : Type 0 where
-  pub behind : behind_prefix text ≡ Some name
+  pub prefix : part_after_prefix text ≡ Some name
   pub begins : is_upper_at name 0 ≡ true
   pub ascii : IsAscii name
   pub paths : ReadsPaths name after

@@ -1,4 +1,4 @@
 -- Definitions that only private contracts cite.
 pub mod Mangling
 pub mod Printing
-pub mod Telling
+pub mod Outcome

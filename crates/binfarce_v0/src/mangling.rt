@@ -22,9 +22,9 @@ ghost use Rattle.binfarce_v0_grammar.specs.Identifier.{identifier_text};
 ghost use Rattle.binfarce_v0_grammar.specs.Tree.{PathTree};
 ghost use Rattle.binfarce_v0_grammar.specs.Unfolding.{UnfoldsTo};
 ghost use Rattle.binfarce_v0_grammar.specs.machine.Seen.{identifier_seen};
-ghost use Rattle.binfarce_v0.specs.Mangling.{behind_prefix, is_upper_at, IsMangling, IsV0};
+ghost use Rattle.binfarce_v0.specs.Mangling.{part_after_prefix, is_upper_at, IsMangling, IsV0};
 ghost use Rattle.binfarce_v0.specs.machine.Mangling.{paths_place};
-ghost use Rattle.binfarce_v0.specs.machine.Telling.{Tells, TextsTell, printed_seen};
+ghost use Rattle.binfarce_v0.specs.machine.Outcome.{IsOutcome, AreTexts, printed_seen};
 
 use crate::state::{Printed, Printer};
 use crate::text::push_identifier;
@@ -36,9 +36,9 @@ use binfarce_v0_grammar::reading::read_path;
 use std::alloc::{AllocError, Global};
 
 // What stands after the prefix of a v0 mangling.
-#[tactic(auto, unfolding(crate::specs::Mangling::behind_prefix))]
-fn behind_prefix(text: &str) -> Option<&str>
-    ensures { option_copied result ≡ behind_prefix text.now }
+#[tactic(auto, unfolding(crate::specs::Mangling::part_after_prefix))]
+fn part_after_prefix(text: &str) -> Option<&str>
+    ensures { option_copied result ≡ part_after_prefix text.now }
 {
     let bytes = text.as_bytes();
     if bytes.starts_with(b"_R") {
@@ -52,14 +52,14 @@ fn behind_prefix(text: &str) -> Option<&str>
     }
 }
 
-// Whether a path may begin at a place.
+// Whether a path may begin at a position.
 fn is_upper_at(name: &[u8], at: usize) -> bool
     ensures { result ≡ is_upper_at name.now at }
 {
     byte_at(name, at).is_ascii_uppercase()
 }
 
-// The place behind the paths of a name.
+// The position after the paths of a name.
 fn read_paths(name: &str) -> Option<usize>
     requires ascii { IsAscii name.now }
     ensures { result ≡ paths_place name.now }
@@ -77,7 +77,7 @@ fn read_paths(name: &str) -> Option<usize>
 pub fn read(text: &str) -> Option<(&str, usize)>
     ensures { MatchOption result ((name : List ℕ) (after : ℕ) → IsMangling text.now name after → ⊥) (λ r. IsMangling text.now r.0.now r.1) }
 {
-    let name = behind_prefix(text)?;
+    let name = part_after_prefix(text)?;
     if !is_upper_at(name.as_bytes(), 0) || !name.is_ascii() {
         return None;
     }
@@ -93,7 +93,7 @@ pub fn print<'a>(
     full: bool,
 ) -> Result<Option<Printed<'a>>, AllocError>
     requires { IsAscii name.now }
-    ensures { IfOk result (λ p. MatchOption p ((tree : PathTree) → UnfoldsTo name.entry.now tree → ⊥) (λ p. Tells name.entry.now full (printed_seen p))) }
+    ensures { IfOk result (λ p. MatchOption p ((tree : PathTree) → UnfoldsTo name.entry.now tree → ⊥) (λ p. IsOutcome name.entry.now full (printed_seen p))) }
 {
     let mut printer = Printer::new(alloc, name, full)?;
     printer.print_path(MAX_LEVELS, 0, Position::InValue)?;
@@ -102,7 +102,7 @@ pub fn print<'a>(
 
 /// What stands behind the prefix of a v0 mangling, up to the end of `text`: places of the name may lie in all of it.
 /// None where `text` is no v0 mangling whose reading has at most `MAX_LEVELS` levels. No memory is taken.
-pub fn mangle_part(text: &str) -> Option<&str>
+pub fn mangled_part(text: &str) -> Option<&str>
     ensures { MatchOption result ((part : List ℕ) → IsV0 text.now part → ⊥) (λ p. IsV0 text.now p.now) }
 {
     let (part, after) = read(text)?;
@@ -113,7 +113,7 @@ pub fn mangle_part(text: &str) -> Option<&str>
     }
 }
 
-// What stands from a place on.
+// What stands from a position on.
 fn rest_from(name: &[u8], at: usize) -> &[u8]
     ensures { result.now ≡ drop at name.now }
 {
@@ -143,7 +143,7 @@ fn root_text(alloc: Global, root: Option<Identifier<'_>>) -> Result<Option<Strin
 /// Both texts of what `name` unfolds to, and its crate. None where it unfolds to no tree within the limits.
 pub fn both_texts(alloc: Global, name: &str) -> Result<Option<Texts>, AllocError>
     requires { IsAscii name.now }
-    ensures { IfOk result (λ t. MatchOption t ((tree : PathTree) → UnfoldsTo name.now tree → ⊥) (λ t. TextsTell name.now (string_bytes t.complete) (string_bytes t.trimmed) (option_map string_bytes t.crate_name))) }
+    ensures { IfOk result (λ t. MatchOption t ((tree : PathTree) → UnfoldsTo name.now tree → ⊥) (λ t. AreTexts name.now (string_bytes t.complete) (string_bytes t.trimmed) (option_map string_bytes t.crate_name))) }
 {
     let Some(complete) = print(alloc, name, true)? else {
         return Ok(None);

@@ -54,7 +54,7 @@ use binfarce_v0_grammar::leaves::{const_form, identifier, label, lifetime, path_
 use binfarce_v0_grammar::places::{bound_place, eat, lifetime_steps, list_end, required_place};
 use std::alloc::AllocError;
 
-/// The position of a path's parent.
+// The position of a path's parent.
 fn parent(position: Position) -> Position
     ensures { position_seen result ≡ parent_position (position_seen position) }
 {
@@ -64,7 +64,7 @@ fn parent(position: Position) -> Position
     }
 }
 
-/// What stands before the arguments of a path.
+// What stands before the arguments of a path.
 fn value_mark(position: Position) -> &'static str
     ensures { result.now ≡ value_mark (position_seen position) }
 {
@@ -74,7 +74,7 @@ fn value_mark(position: Position) -> &'static str
     }
 }
 
-/// What stands behind the arguments of a path.
+// What stands behind the arguments of a path.
 fn closing(position: Position) -> &'static str
     ensures { result.now ≡ closing (position_seen position) }
 {
@@ -84,14 +84,14 @@ fn closing(position: Position) -> &'static str
     }
 }
 
-/// A position that leaves arguments open.
+// A position that leaves arguments open.
 fn is_open_trait(position: Position) -> bool
     ensures { result ≡ is_open_trait (position_seen position) }
 {
     matches!(position, Position::OpenTrait)
 }
 
-/// What stands behind the items of a tuple of so many.
+// What stands behind the items of a tuple of so many.
 fn single_mark(count: usize) -> &'static str
     ensures { result.now ≡ (if count == 1 then codes "," else []) }
 {

@@ -58,12 +58,12 @@ pub struct Printed<'a> {
     pub steps: usize,
 }
 
-/// A printing.
+/// A printing of a name: it is read and written in one pass.
 #[derive(Drop)]
 pub struct Printer<'a> {
-    /// What stands behind the prefix of a mangling.
+    /// What stands after the prefix of a mangling. It is ASCII, and stays.
     pub name: &'a str,
-    /// The place, None behind a fault.
+    /// The position in the name, None after a fault.
     pub at: Option<usize>,
     /// The steps that are left.
     pub room: usize,
@@ -73,6 +73,7 @@ pub struct Printer<'a> {
     pub over: bool,
     /// What was written, unless it is muted.
     pub text: String,
+    /// Nothing is written: the path of an impl is read and not shown.
     pub muted: bool,
     /// Disambiguators of crates are written.
     pub full: bool,
@@ -99,9 +100,9 @@ impl<'a> Model for Printer<'a> {
 }
 
 impl<'a> Printer<'a> {
-    ghost use Rattle.binfarce_v0.specs.machine.Telling.{outcome_of, printed_seen};
+    ghost use Rattle.binfarce_v0.specs.machine.Outcome.{outcome_of, printed_seen};
 
-    /// A printing of `name` that begins at its first place, with memory for a text of as many bytes.
+    /// A printing of `name` that begins at its first byte, with memory for a text of as many bytes.
     pub fn new(alloc: Global, name: &'a str, full: bool) -> Result<Printer<'a>, AllocError>
         requires { IsAscii name.now }
         ensures { IfOk result (λ p. p ≡ first_printing name.entry.now full) }
@@ -148,7 +149,7 @@ impl<'a> Printer<'a> {
         })
     }
 
-    /// Goes on at a place.
+    /// Goes on at a position, or nowhere after a fault.
     pub fn go(&mut self, at: Option<usize>)
         ensures { self.new ≡ with_state (go at self.old.state) self.old }
     {
@@ -211,7 +212,7 @@ impl<'a> Printer<'a> {
         self.outside = false;
     }
 
-    /// Reads on behind a back reference.
+    /// Reads on after a back reference.
     pub fn leave_target(&mut self, after: usize, outside: bool)
         ensures { self.new ≡ with_state (back_to after outside self.old.state) self.old }
     {

@@ -153,12 +153,12 @@ item_rule name R depth Traits s = trait_rule name R depth (R.path OpenTrait dept
 abbrev pub item_then : Item → Items × State → Items × State
 item_then i r = (ItemThen i r.0, r.1)
 
-abbrev pub items_behind : (State → Items × State) → Item × State → Items × State
-items_behind more r = item_then r.0 (more r.1)
+abbrev pub items_after : (State → Items × State) → Item × State → Items × State
+items_after more r = item_then r.0 (more r.1)
 
 abbrev pub list_rule : List ℕ → Readers → ℕ → Listed → List ℕ → (State → Items × State) → Bool → State → Bool → Items × State
 list_rule name R depth listed between more is_first s true =
-    items_behind more (item_rule name R depth listed (say (separator is_first between) s))
+    items_after more (item_rule name R depth listed (say (separator is_first between) s))
 list_rule name R depth listed between more is_first s false = (NoItems, go (behind s.at) s)
 
 unfoldable pub items_rule : List ℕ → Readers → ℕ → Listed → List ℕ → ℕ → Bool → State → Items × State

@@ -10,7 +10,7 @@ pub returns : goal.returns
 returns c =
     let paths = paths_read c.in_ok-name.name.now c.in_ok-after.after (sym c.read_paths.ensures ∙ c.in_ok-after.was) in
     record {
-      behind = sym c.in_ok-name.ensures;
+      prefix = sym c.in_ok-name.ensures;
       begins = rw (← c.as_bytes.ensures.value) (sym c.is_upper_at.ensures ∙ c.if-not-is_upper_at.false);
       ascii = search rules;
       paths = paths;

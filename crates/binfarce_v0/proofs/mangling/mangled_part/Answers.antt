@@ -1,6 +1,6 @@
 use Rattle.std.proofs.Common.{sym, ◌∙◌}
 use Rattle.binfarce_v0.proofs.RestLemmas.{rest_not_allowed}
-use Rattle.binfarce_v0.proofs.mangling.mangle_part.Goals as goal
+use Rattle.binfarce_v0.proofs.mangling.mangled_part.Goals as goal
 
 pub returns-in_err-part : goal.returns-in_err-part
 returns-in_err-part c =

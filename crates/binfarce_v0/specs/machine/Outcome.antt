@@ -28,7 +28,7 @@ outcome_of s =
     record { text = s.text; root = s.root; levels = MAX_LEVELS - s.least; steps = MAX_STEPS - s.room }
 
 -- they are the text, the crate root, the levels and the steps of the tree that a name unfolds to within the limits
-pub record Tells (name : List ℕ) (full : Bool) (outcome : Outcome) : Type 0 where
+pub record IsOutcome (name : List ℕ) (full : Bool) (outcome : Outcome) : Type 0 where
   pub tree : PathTree
   pub unfolds : UnfoldsTo name tree
   pub text_is : outcome.text ≡ name_text full tree
@@ -37,7 +37,7 @@ pub record Tells (name : List ℕ) (full : Bool) (outcome : Outcome) : Type 0 wh
   pub steps_are : outcome.steps ≡ path_steps tree
 
 -- both texts and the crate are those of one tree that a name unfolds to within the limits
-pub record TextsTell (name complete trimmed : List ℕ) (crate_name : Option (List ℕ)) : Type 0 where
+pub record AreTexts (name complete trimmed : List ℕ) (crate_name : Option (List ℕ)) : Type 0 where
   pub tree : PathTree
   pub unfolds : UnfoldsTo name tree
   pub complete_is : complete ≡ name_text true tree

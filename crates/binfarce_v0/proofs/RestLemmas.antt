@@ -22,6 +22,6 @@ one_end text p q a b m n =
 pub rest_not_allowed : (text p : List ℕ) (a : ℕ) → IsMangling text p a → is_allowed_rest (drop a p) ≡ false → (part : List ℕ) → IsV0 text part → ⊥
 rest_not_allowed text p a m e part v =
     let same = one_part text p part a v.after m v.mangling in
-    let place = one_end text p part a v.after m v.mangling in
-    let allowed : is_allowed_rest (drop a p) ≡ true = rw (place, same) v.rest in
+    let end = one_end text p part a v.after m v.mangling in
+    let allowed : is_allowed_rest (drop a p) ≡ true = rw (end, same) v.rest in
     let both : true ≡ false = sym allowed ∙ e in cc

@@ -15,7 +15,7 @@ prefix_length text =
     if slice_index text 0 == 95 && slice_index text 1 == 82 then Some 2 else (
     if slice_index text 0 == 95 && (slice_index text 1 == 95 && slice_index text 2 == 82) then Some 3 else None))
 
--- what stands behind the prefix: places are counted from there
+-- what stands after the prefix: positions are counted from there
 unfoldable pub behind_prefix : List ℕ → Option (List ℕ)
 behind_prefix text = prefix_length text >>= λ n. Some (drop n text)
 
@@ -23,7 +23,7 @@ behind_prefix text = prefix_length text >>= λ n. Some (drop n text)
 abbrev pub is_upper_at : List ℕ → ℕ → Bool
 is_upper_at name at = is_in_range 65 90 (slice_index name at)
 
--- a path of at most `MAX_LEVELS` levels reads from a place up to another
+-- a path of at most `MAX_LEVELS` levels reads from a position up to another
 pub record PathStands (name : List ℕ) (at after : ℕ) : Type 0 where
   pub tree : PathTree
   pub reads : ReadsPath name tree at after
@@ -40,14 +40,14 @@ pub record ReadsPaths (name : List ℕ) (after : ℕ) : Type 0 where
   pub path : PathStands name 0 mid
   pub instantiating_crate : SecondPath (is_upper_at name mid) name mid after
 
--- the v0 mangling that a text begins with: its name, and the place behind the paths of the name
+-- the v0 mangling that a text begins with: its name, and the position after the paths of the name
 pub record IsMangling (text name : List ℕ) (after : ℕ) : Type 0 where
   pub behind : behind_prefix text ≡ Some name
   pub begins : is_upper_at name 0 ≡ true
   pub ascii : IsAscii name
   pub paths : ReadsPaths name after
 
--- text is a v0 mangling, of which part is what stands behind the prefix
+-- text is a v0 mangling, of which part is what stands after the prefix
 pub record IsV0 (text part : List ℕ) : Type 0 where
   pub after : ℕ
   pub mangling : IsMangling text part after

@@ -17,18 +17,19 @@ ghost use Rattle.std.specs.Prelude.{
 };
 ghost use Rattle.std.specs.Str.{IsAscii};
 ghost use Rattle.std.specs.String.{string_bytes};
-ghost use Rattle.binfarce_v0_grammar.specs.Identifier.{identifier_text};
+ghost use Rattle.binfarce_v0_grammar.specs.Identifiers.{identifier_text};
 ghost use Rattle.binfarce_v0_grammar.specs.Tree.{PathTree};
 ghost use Rattle.binfarce_v0_grammar.specs.Unfolding.{UnfoldsTo};
-ghost use Rattle.binfarce_v0_grammar.specs.machine.Seen.{identifier_seen};
+ghost use Rattle.binfarce_v0_grammar.specs.machine.Seen.{undisambiguated_seen};
 ghost use Rattle.binfarce_v0.specs.Mangling.{prefix_length, behind_prefix, is_upper_at, IsMangling, IsV0};
-ghost use Rattle.binfarce_v0.specs.machine.Mangling.{paths_place};
+ghost use Rattle.binfarce_v0.specs.machine.Mangling.{paths_end};
 ghost use Rattle.binfarce_v0.specs.machine.Telling.{Tells, TextsTell, printed_seen};
 
 use crate::state::{Printed, Printer};
 use crate::text::push_identifier;
 use binfarce_text::suffixes::is_allowed_rest;
-use binfarce_v0_grammar::forms::{Identifier, Position};
+use binfarce_v0_grammar::forms::{Position};
+use binfarce_v0_grammar::identifiers::{UndisambiguatedIdentifier};
 use binfarce_v0_grammar::limits::MAX_LEVELS;
 use binfarce_v0_grammar::numbers::byte_at;
 use binfarce_v0_grammar::reading::read_path;
@@ -57,8 +58,8 @@ fn prefix_length(text: &[u8]) -> Option<usize>
     }
 }
 
-// What stands behind the prefix.
-#[tactic(auto, using(binfarce_v0_grammar::proofs::Cuts::behind_cuts), unfolding(crate::specs::Mangling::behind_prefix))]
+// What stands after the prefix.
+#[tactic(auto, using(binfarce_v0_grammar::proofs::TextLemmas::after_letter), unfolding(crate::specs::Mangling::behind_prefix))]
 fn behind_prefix(text: &str) -> Option<&str>
     ensures { option_map (λ n. n.now) result ≡ behind_prefix text.now }
 {
@@ -66,17 +67,17 @@ fn behind_prefix(text: &str) -> Option<&str>
     Some(&text[length..])
 }
 
-// Whether a path may begin at a place.
+// Whether a path may begin at a position.
 fn is_upper_at(name: &[u8], at: usize) -> bool
     ensures { result ≡ is_upper_at name.now at }
 {
     byte_at(name, at).is_ascii_uppercase()
 }
 
-// The place behind the paths of a name.
+// The position after the paths of a name.
 fn read_paths(name: &str) -> Option<usize>
     requires ascii { IsAscii name.now }
-    ensures { result ≡ paths_place name.now }
+    ensures { result ≡ paths_end name.now }
 {
     let mid = read_path(name, MAX_LEVELS, 0)?;
     if is_upper_at(name.as_bytes(), mid) {
@@ -86,7 +87,7 @@ fn read_paths(name: &str) -> Option<usize>
     }
 }
 
-/// The v0 mangling that `text` begins with: what stands behind its prefix, and the place there behind its paths.
+/// The v0 mangling that `text` begins with: what stands after its prefix, and the position there after its paths.
 /// None where `text` begins with no v0 mangling whose reading has at most `MAX_LEVELS` levels. No memory is taken.
 pub fn read(text: &str) -> Option<(&str, usize)>
     ensures { MatchOption result ((name : List ℕ) (after : ℕ) → IsMangling text.now name after → ⊥) (λ r. IsMangling text.now r.0.now r.1) }
@@ -99,7 +100,7 @@ pub fn read(text: &str) -> Option<(&str, usize)>
     Some((name, after))
 }
 
-/// The text of what `name`, which stands behind a prefix, unfolds to, with or without the disambiguators of crates.
+/// The text of what `name`, which stands after a prefix, unfolds to, with or without the disambiguators of crates.
 /// None where it unfolds to no tree of at most `MAX_LEVELS` levels and `MAX_STEPS` steps.
 pub fn print<'a>(
     alloc: Global,
@@ -114,7 +115,7 @@ pub fn print<'a>(
     Ok(printer.finish())
 }
 
-/// What stands behind the prefix of a v0 mangling, up to the end of `text`: places of the name may lie in all of it.
+/// What stands after the prefix of a v0 mangling, up to the end of `text`: positions of the name may lie in all of it.
 /// None where `text` is no v0 mangling whose reading has at most `MAX_LEVELS` levels. No memory is taken.
 pub fn mangle_part(text: &str) -> Option<&str>
     ensures { MatchOption result ((part : List ℕ) → IsV0 text.now part → ⊥) (λ p. IsV0 text.now p.now) }
@@ -127,7 +128,7 @@ pub fn mangle_part(text: &str) -> Option<&str>
     }
 }
 
-// What stands from a place on.
+// What stands from a position on.
 fn rest_from(name: &[u8], at: usize) -> &[u8]
     ensures { result.now ≡ drop at name.now }
 {
@@ -143,8 +144,8 @@ pub struct Texts {
 }
 
 // The text of a crate's name.
-fn root_text(alloc: Global, root: Option<Identifier<'_>>) -> Result<Option<String>, AllocError>
-    ensures { IfOk result (λ t. option_map string_bytes t ≡ option_map identifier_text (option_map identifier_seen root.entry)) }
+fn root_text(alloc: Global, root: Option<UndisambiguatedIdentifier<'_>>) -> Result<Option<String>, AllocError>
+    ensures { IfOk result (λ t. option_map string_bytes t ≡ option_map identifier_text (option_map undisambiguated_seen root.entry)) }
 {
     let Some(name) = root else {
         return Ok(None);

@@ -17,35 +17,35 @@ first text = record {
 }
 
 -- a counted element at the start of a text is that one
-pub record IsFirst (text : List ℕ) (e : Element) (behind : List ℕ) : Type 0 where
+pub record IsFirst (text : List ℕ) (e : Element) (after : List ℕ) : Type 0 where
   pub fits : HasElement text
   pub digits : e.digits ≡ take (name_start text) text
   pub name : e.name ≡ take (digits_value 10 (take (name_start text) text)) (drop (name_start text) text)
-  pub behind_is : behind ≡ drop (name_end text) text
+  pub after_is : after ≡ drop (name_end text) text
 
-pub first_is : (text : List ℕ) (e : Element) (behind : List ℕ) → IsCounted e behind
-    → text ≡ e.digits ++ (e.name ++ behind) → IsFirst text e behind
+pub first_is : (text : List ℕ) (e : Element) (after : List ℕ) → IsCounted e after
+    → text ≡ e.digits ++ (e.name ++ after) → IsFirst text e after
 unfolding name_start name_end
-first_is text e behind counted is =
+first_is text e after counted is =
     let n : ℕ = prefix_len is_ascii_digit text in
     let ds : e.digits ≡ take n text = counted.longest ∙ ap (take_while is_ascii_digit) (sym is) in
     let len : length e.digits ≡ n = ap length ds ∙ length-take-le n text (prefix_len-le-length is_ascii_digit text) in
-    let rest : drop n text ≡ e.name ++ behind = ap (drop n) is ∙ drop_at e.digits (e.name ++ behind) n len in
+    let rest : drop n text ≡ e.name ++ after = ap (drop n) is ∙ drop_at e.digits (e.name ++ after) n len in
     let v : length e.name ≡ digits_value 10 (take n text) = counted.counts ∙ ap (digits_value 10) ds in
-    let all : length text ≡ length e.digits + (length e.name + length behind) =
-    ap length is ∙ length-append e.digits (e.name ++ behind) ∙ ap (λ k. length e.digits + k) (length-append e.name behind) in
+    let all : length text ≡ length e.digits + (length e.name + length after) =
+    ap length is ∙ length-append e.digits (e.name ++ after) ∙ ap (λ k. length e.digits + k) (length-append e.name after) in
     record {
       fits = (omega (arith, counted.some, len), omega (arith, all, len, v));
       digits = ds;
-      name = sym (ap (take (digits_value 10 (take n text))) rest ∙ take_at e.name behind (digits_value 10 (take n text)) v);
-      behind_is = sym (sym (drop-drop (digits_value 10 (take n text)) n text) ∙ ap (drop (digits_value 10 (take n text))) rest ∙ drop_at e.name behind (digits_value 10 (take n text)) v);
+      name = sym (ap (take (digits_value 10 (take n text))) rest ∙ take_at e.name after (digits_value 10 (take n text)) v);
+      after_is = sym (sym (drop-drop (digits_value 10 (take n text)) n text) ∙ ap (drop (digits_value 10 (take n text))) rest ∙ drop_at e.name after (digits_value 10 (take n text)) v);
     }
 
--- what stands behind a first element reads as the others
-pub reads_behind : (text : List ℕ) (e : Element) (elements : List Element) (rest : List ℕ)
+-- what stands after a first element reads as the others
+pub reads_after : (text : List ℕ) (e : Element) (elements : List Element) (rest : List ℕ)
     → Reads text (e ∷ elements) rest → Reads (drop (name_end text) text) elements rest
-reads_behind text e elements rest r =
-    (r.0.1, sym (first_is text e (print elements rest) r.0.0 r.1).behind_is)
+reads_after text e elements rest r =
+    (r.0.1, sym (first_is text e (print elements rest) r.0.0 r.1).after_is)
 
 pub reads_fits : (text : List ℕ) (e : Element) (elements : List Element) (rest : List ℕ)
     → Reads text (e ∷ elements) rest → HasElement text
@@ -63,9 +63,9 @@ unfolding name_start name_end first
 reads_more text elements rest fits r =
     let n : ℕ = prefix_len is_ascii_digit text in
     let v : ℕ = digits_value 10 (take n text) in
-    let behind : drop v (drop n text) ≡ print elements rest = drop-drop v n text ∙ r.1 in
+    let after : drop v (drop n text) ≡ print elements rest = drop-drop v n text ∙ r.1 in
     let is : text ≡ take n text ++ (take v (drop n text) ++ print elements rest) =
-    sym (take-append-drop n text) ∙ ap (λ (x : List ℕ). take n text ++ x) (sym (take-append-drop v (drop n text)) ∙ ap (λ (x : List ℕ). take v (drop n text) ++ x) behind) in (
+    sym (take-append-drop n text) ∙ ap (λ (x : List ℕ). take n text ++ x) (sym (take-append-drop v (drop n text)) ∙ ap (λ (x : List ℕ). take v (drop n text) ++ x) after) in (
       (
         record {
           longest = ap (take_while is_ascii_digit) is;
@@ -92,7 +92,7 @@ pub reads_end_from : (text : List ℕ) → get_or text 0 0 ≡ 69 → Reads text
 reads_end_from [] e = absurd (omega (arith, e))
 reads_end_from (b ∷ text) e = (tt, ap (λ (x : ℕ). x ∷ text) e)
 
--- with no `E` in its place there is an element
+-- with no `E` in its position there is an element
 pub reads_element : (text : List ℕ) (elements : List Element) (rest : List ℕ) → (get_or text 0 0 ≡ 69 → ⊥)
     → Reads text elements rest → HasElement text
 reads_element text [] rest ne r = absurd (ne (ap (λ (x : List ℕ). get_or x 0 0) r.1))
@@ -108,7 +108,7 @@ same_element x y d n =
     let make : List ℕ → List ℕ → Element = λ ds ns. record { digits = ds; name = ns } in
     ap (λ ds. make ds x.name) d ∙ ap (λ ns. make y.digits ns) n
 
--- the elements of a text, and what stands behind them, are told by the text
+-- the elements of a text, and what stands after them, are told by the text
 pub reads_one_way : (text : List ℕ) (xs ys : List Element) (r s : List ℕ) → Reads text xs r → Reads text ys s → (xs ≡ ys) × (r ≡ s)
 reads_one_way text [] ys r s a b =
     let e = reads_end text ys s (ap (λ (x : List ℕ). get_or x 0 0) a.1) b in
@@ -116,14 +116,14 @@ reads_one_way text [] ys r s a b =
 reads_one_way text (x ∷ xs) [] r s a b =
     let e = reads_end text (x ∷ xs) r (ap (λ (x : List ℕ). get_or x 0 0) b.1) a in cc
 reads_one_way text (x ∷ xs) (y ∷ ys) r s a b =
-    let others = reads_one_way (drop (name_end text) text) xs ys r s (reads_behind text x xs r a) (reads_behind text y ys s b) in
+    let others = reads_one_way (drop (name_end text) text) xs ys r s (reads_after text x xs r a) (reads_after text y ys s b) in
     let fx = first_is text x (print xs r) a.0.0 a.1 in
     let fy = first_is text y (print ys s) b.0.0 b.1 in
     let same : x ≡ y = same_element x y (fx.digits ∙ sym fy.digits) (fx.name ∙ sym fy.name) in
     (cc, others.1)
 
--- behind a first element the others are read
+-- after a first element the others are read
 pub reads_tail : (text : List ℕ) (elements : List Element) (rest : List ℕ) → (get_or text 0 0 ≡ 69 → ⊥)
     → Reads text elements rest → (others : List Element) × Reads (drop (name_end text) text) others rest
 reads_tail text [] rest ne r = absurd (ne (ap (λ (x : List ℕ). get_or x 0 0) r.1))
-reads_tail text (x ∷ elements) rest ne r = (elements, reads_behind text x elements rest r)
+reads_tail text (x ∷ elements) rest ne r = (elements, reads_after text x elements rest r)

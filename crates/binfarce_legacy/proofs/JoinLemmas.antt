@@ -11,7 +11,7 @@ use Rattle.std.specs.Str.{encode_utf8_all}
 use Rattle.std.specs.Str.Parse.{digits_value}
 use Rattle.binfarce_legacy.specs.Legacy.{Element, Reads, name_chars, legacy_chars}
 use Rattle.binfarce_legacy.specs.machine.Reading.{name_start, name_end, HasElement, joined_left, IsLeft}
-use Rattle.binfarce_legacy.proofs.ElementLemmas.{not_digit, reads_fits, reads_name, reads_behind}
+use Rattle.binfarce_legacy.proofs.ElementLemmas.{not_digit, reads_fits, reads_name, reads_after}
 
 -- what is written before an element: nothing before the first, `::` before any other
 abbrev pub separator : ℕ → List ℕ
@@ -31,7 +31,7 @@ separator_ascii at = elim (cases_eq at 0) [
       ∙ sym (ap (λ b. cond b [] (codes "::")) (ne_eqb at 0 ne))
 ]
 
--- what is left is its first element, and what is left behind that
+-- what is left is its first element, and what is left after that
 joined_left-step : (at end : ℕ) (e : Element) (others : List Element) → 0 < end
     → joined_left at (e ∷ others) ≡ separator at ++ (name_chars e.name ++ joined_left end others)
 unfolding joined_left legacy_chars
@@ -75,7 +75,7 @@ left_step part at end printed more name elements rest [] is has ends named wrote
     absurd (not_digit (get_or (drop at part) 0 0) (ap (λ (x : List ℕ). get_or x 0 0) is.ahead.1) (prefix_len_passes is_ascii_digit (drop at part) 0 0 has.0))
 left_step part at end printed more name elements rest (e ∷ others) is has ends named wrote =
     let u : List ℕ = drop at part in
-    let behind = reads_behind u e others rest is.ahead in
+    let after = reads_after u e others rest is.ahead in
     let same : e.name ≡ name = reads_name u e others rest is.ahead ∙ sym named in
     let next : drop end part ≡ drop (name_end u) u = ap (λ k. drop k part) ends ∙ sym (drop-drop (name_end u) at part) in
     let later : List ℕ = joined_left end others in
@@ -86,7 +86,7 @@ left_step part at end printed more name elements rest (e ∷ others) is has ends
     ∙ ap (λ (x : List ℕ). separator at ++ x) (encodes-append (name_chars name) later) in (
       others,
       record {
-        ahead = (behind.0, next ∙ behind.1);
+        ahead = (after.0, next ∙ after.1);
         joined = ap (λ (x : List ℕ). x ++ encode_utf8_all later) wrote
             ∙ append_assoc (printed ++ separator at) (encode_utf8_all (name_chars name)) (encode_utf8_all later)
             ∙ append_assoc printed (separator at) (encode_utf8_all (name_chars name) ++ encode_utf8_all later)

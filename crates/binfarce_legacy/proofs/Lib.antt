@@ -1,4 +1,4 @@
-pub mod CutLemmas
+pub mod LastPartLemmas
 pub mod ElementLemmas
 pub mod JoinLemmas
 pub mod PieceLemmas

@@ -13,13 +13,13 @@ use Rattle.binfarce_legacy.specs.Legacy.{Piece, is_printed, numbered_escape, nam
 use Rattle.binfarce_legacy.specs.machine.Reading.{is_plain, piece_or_all, chars_left}
 use Rattle.binfarce_text.proofs.TextLemmas.{begins-not, begins-from}
 
--- pieces behind the first k bytes are those of what stands there
+-- pieces after the first k bytes are those of what stands there
 pub pieces-skip : (k : ℕ) (name : List ℕ) → pieces k name ≡ pieces 0 (drop k name)
 pieces-skip zero name = refl
 pieces-skip (suc k) [] = refl
 pieces-skip (suc k) (b ∷ name) = pieces-skip k name
 
--- a name is its first piece, and the pieces behind that
+-- a name is its first piece, and the pieces after that
 pub chars_left-step : (name : List ℕ) → 0 < length name → 0 < (first_piece name).len
     → chars_left name ≡ (first_piece name).chars ++ chars_left (drop (first_piece name).len name)
 unfolding chars_left
@@ -106,7 +106,7 @@ chars_left-plain (b ∷ name) = elim (cases_Bool (is_plain b)) [
       ap (λ n. take n (b ∷ name) ++ chars_left (drop n (b ∷ name))) (sym len)
 ]
 
--- a name is what is left of it behind its dropped `_`
+-- a name is what is left of it after its dropped `_`
 pub name_chars-marked : (name : List ℕ) → starts_with nat_eq name (codes "_$") ≡ true → name_chars name ≡ chars_left (drop 1 name)
 unfolding name_chars chars_left
 name_chars-marked name h =
@@ -183,7 +183,7 @@ not_printed_held v r e h = elim (cases_lt v 0x110000) [
   | inr past ↦ not_printed_past v past
 ]
 
--- one round of the writer: the plain bytes at the front of what is left, and the piece behind them
+-- one round of the writer: the plain bytes at the front of what is left, and the piece after them
 pub written_step : (u : List ℕ) (k n : ℕ) (w text more : List ℕ) → IsAscii u → k ≡ prefix_len is_plain u → w ≡ drop k u
     → 0 < length w → n ≡ (first_piece w).len → 0 < n
     → more ≡ (text ++ take k u) ++ encode_utf8_all (first_piece w).chars

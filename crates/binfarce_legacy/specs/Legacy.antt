@@ -11,8 +11,8 @@ use Rattle.binfarce_text.specs.Prefixes.{after_prefix}
 use Rattle.binfarce_text.specs.Suffixes.{is_allowed_rest}
 
 -- what stands after the prefix: `_ZN`, `ZN` or `__ZN`
-unfoldable pub behind_prefix : List ℕ → Option (List ℕ)
-behind_prefix text = after_prefix (codes "_ZN" ∷ codes "ZN" ∷ codes "__ZN" ∷ []) text
+unfoldable pub part_after_prefix : List ℕ → Option (List ℕ)
+part_after_prefix text = after_prefix (codes "_ZN" ∷ codes "ZN" ∷ codes "__ZN" ∷ []) text
 
 -- an element: the digits of its length, and its name
 pub record Element : Type 0 where
@@ -43,7 +43,7 @@ Reads part elements rest = AreCounted elements rest × (part ≡ print elements 
 -- text is a legacy mangling of these elements: part stands after its prefix, and the rest after
 -- its `E`
 pub record IsLegacy (text part : List ℕ) (elements : List Element) (rest : List ℕ) : Type 0 where
-  pub prefix : behind_prefix text ≡ Some part
+  pub prefix : part_after_prefix text ≡ Some part
   pub ascii : IsAscii part
   pub reads : Reads part elements rest
   pub allowed : IsTrue (is_allowed_rest rest)
@@ -107,8 +107,8 @@ legacy_chars elements = join_by (λ e. name_chars e.name) (codes "::") elements
 
 -- the characters before the one that precedes the last `:`: none where that `:` is first, and all
 -- where there is no `:`
-unfoldable pub cut : List ℕ → List ℕ
-cut chars =
+unfoldable pub without_last_part : List ℕ → List ℕ
+without_last_part chars =
     if list_any (λ c. c == ':') chars
     then (let front = before_last (λ c. c == ':') chars in take (length front - 1) front)
     else chars

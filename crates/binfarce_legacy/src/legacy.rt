@@ -8,7 +8,7 @@ ghost use Rattle.std.specs.Str.{IsAscii, encode_utf8_all};
 ghost use Rattle.std.specs.Str.Parse.{digits_value};
 ghost use Rattle.std.specs.String.{string_bytes};
 ghost use Rattle.binfarce_text.specs.Letters.{is_hex_digit};
-ghost use Rattle.binfarce_legacy.specs.Legacy.{Element, Reads, IsLegacy, behind_prefix, named_escape, numbered_escape, first_piece, name_chars, legacy_chars, is_printed, cut};
+ghost use Rattle.binfarce_legacy.specs.Legacy.{Element, Reads, IsLegacy, part_after_prefix, named_escape, numbered_escape, first_piece, name_chars, legacy_chars, is_printed, without_last_part};
 ghost use Rattle.binfarce_legacy.specs.machine.Reading.{is_plain, piece_of, piece_or_all, chars_left, name_start, name_end, HasElement};
 
 use binfarce_text::digits::hex_value;
@@ -16,9 +16,9 @@ use binfarce_text::suffixes::is_allowed_rest;
 use std::alloc::{AllocError, Global};
 
 // What stands after the prefix of a legacy mangling.
-#[tactic(auto, unfolding(crate::specs::Legacy::behind_prefix))]
-fn behind_prefix(text: &str) -> Option<&str>
-    ensures { option_copied result ≡ behind_prefix text.now }
+#[tactic(auto, unfolding(crate::specs::Legacy::part_after_prefix))]
+fn part_after_prefix(text: &str) -> Option<&str>
+    ensures { option_copied result ≡ part_after_prefix text.now }
 {
     let bytes = text.as_bytes();
     if bytes.starts_with(b"_ZN") {
@@ -90,7 +90,7 @@ pub fn mangling(text: &str) -> Option<&str>
         ((part : List ℕ) (elements : List Element) (rest : List ℕ) → ¬ (IsLegacy text.now part elements rest))
         (λ part. (elements : List Element) × (rest : List ℕ) × IsLegacy text.now part.now elements rest) }
 {
-    let part = behind_prefix(text)?;
+    let part = part_after_prefix(text)?;
     let bytes = part.as_bytes();
     let end = elements_end(bytes)?;
     if !is_allowed_rest(&bytes[end..]) {
@@ -278,7 +278,7 @@ pub fn complete(alloc: Global, part: &str) -> Result<String, AllocError>
 /// and all of it where it has no `:`. The only refusal is that an allocation was refused.
 pub fn trimmed(alloc: Global, complete: &str) -> Result<String, AllocError>
     ensures { IfOk result (λ text. (chars : List ℕ)
-        → complete.now ≡ encode_utf8_all chars → string_bytes text ≡ encode_utf8_all (cut chars)) }
+        → complete.now ≡ encode_utf8_all chars → string_bytes text ≡ encode_utf8_all (without_last_part chars)) }
 {
     match complete.rfind(':') {
         None => String::from_str(alloc, complete),

@@ -3,8 +3,8 @@ use Rattle.std.specs.Prelude.{◌≡◌, ℕ, ◌⊎◌, List, None, true, false
 use Rattle.std.specs.Str.{encode_utf8_all}
 use Rattle.binfarce_names.specs.declared.demangle.Kind.TheVariants.{Unknown, Legacy, V0}
 use Rattle.binfarce_text.specs.Suffixes.{without_llvm}
-use Rattle.binfarce_legacy.specs.Legacy.{Element, IsLegacy, legacy_chars, cut}
-use Rattle.binfarce_v0_grammar.specs.Identifier.{identifier_text}
+use Rattle.binfarce_legacy.specs.Legacy.{Element, IsLegacy, legacy_chars, without_last_part}
+use Rattle.binfarce_v0_grammar.specs.Identifiers.{identifier_text}
 use Rattle.binfarce_v0.specs.Mangling.{IsV0}
 use Rattle.binfarce_names.specs.Name.{Name, Mangled}
 use Rattle.binfarce_v0_grammar.specs.Tree.{PathTree, name_text, path_root}
@@ -14,7 +14,7 @@ use Rattle.binfarce_v0_grammar.specs.Unfolding.{UnfoldsTo}
 abbrev pub legacy : List Element → Name
 legacy elements = record {
   complete = encode_utf8_all (legacy_chars elements);
-  trimmed = encode_utf8_all (cut (legacy_chars elements));
+  trimmed = encode_utf8_all (without_last_part (legacy_chars elements));
   crate_name = None;
   kind = Legacy;
 }
@@ -73,14 +73,14 @@ pub record StandsUnchanged (text : List ℕ) (name : Name) : Type 0 where
 unfoldable pub IsNamed : List ℕ → Name → Type 0
 IsNamed text name = IsLegacyName text name ⊎ (IsV0Name text name ⊎ StandsUnchanged text name)
 
--- m keeps of text the part behind the prefix of a legacy mangling
+-- m keeps of text the part after the prefix of a legacy mangling
 pub record IsLegacyMangled (text : List ℕ) (m : Mangled) : Type 0 where
   pub elements : List Element
   pub rest : List ℕ
   pub mangling : IsLegacy (without_llvm text) m.part elements rest
   pub kind_is : m.kind ≡ Legacy
 
--- m keeps of text the part behind the prefix of a v0 mangling
+-- m keeps of text the part after the prefix of a v0 mangling
 pub record IsV0Mangled (text : List ℕ) (m : Mangled) : Type 0 where
   pub not_legacy : IsNotLegacy text
   pub mangling : IsV0 (without_llvm text) m.part

@@ -5,7 +5,7 @@ ghost use Rattle.binfarce_names.specs.machine.Laws.{
   HasOneAnswer,
   UnfoldsOneWay,
   ReadsOneWay,
-  NamesAnEarlierPlace,
+  NamesAnEarlierPosition,
   KnowsNoLimit,
   Means,
   Counts,
@@ -31,23 +31,23 @@ pub fn kinds_compare(kind: Kind, other: Kind) -> bool
     kind == other
 }
 
-/// A place unfolds to at most one tree.
+/// A position unfolds to at most one tree.
 pub fn unfolds_one_way(name: &[u8])
     ensures { UnfoldsOneWay name.now }
 {
     let _ = name;
 }
 
-/// A place reads to at most one tree.
+/// A position reads to at most one tree.
 pub fn reads_one_way(name: &[u8])
     ensures { ReadsOneWay name.now }
 {
     let _ = name;
 }
 
-/// A back reference names an earlier place.
-pub fn names_an_earlier_place(name: &[u8])
-    ensures { NamesAnEarlierPlace name.now }
+/// A back reference names an earlier position.
+pub fn names_an_earlier_position(name: &[u8])
+    ensures { NamesAnEarlierPosition name.now }
 {
     let _ = name;
 }

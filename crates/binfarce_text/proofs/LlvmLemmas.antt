@@ -27,7 +27,7 @@ cond-cons : (d : Bool) (b : ℕ) (xs ys : List ℕ) → b ∷ cond d xs ys ≡ c
 cond-cons true b xs ys = refl
 cond-cons false b xs ys = refl
 
--- the first one is cut where what is behind it is its number
+-- the first one is cut where what is after it is its number
 pub without_llvm-first : (t : List ℕ) (i : ℕ) → NoneBelow t i → llvm_at t i ≡ true
     → without_llvm t ≡ cond (list_all is_llvm_digit (drop 6 (drop i t))) (take i t) t
 unfolding without_llvm
@@ -68,7 +68,7 @@ llvm_at-begins t i h = ap (λ k. get_or t k 0) (omega arith) ∙ sym (get_or-dro
 dot-not : (x : ℕ) → x ≡ 46 → is_llvm_digit x ≡ true → ⊥
 dot-not x e h = false≢true (sym (ap is_llvm_digit e) ∙ h)
 
--- where the digits behind the first `.llvm.` reach the end, it stands right before them
+-- where the digits after the first `.llvm.` reach the end, it stands right before them
 at_digits : (t : List ℕ) (n i : ℕ) → EndsInDigits t n → llvm_at t i ≡ true
     → list_all is_llvm_digit (drop 6 (drop i t)) ≡ true → n ≡ i + 6
 at_digits t n i ends here all =

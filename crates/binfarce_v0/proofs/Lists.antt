@@ -33,7 +33,7 @@ single_mark_count NoItems = refl
 single_mark_count (ItemThen i NoItems) = refl
 single_mark_count (ItemThen i (ItemThen j items)) = rw (two_not_one (items_count items)) refl
 
--- an item and the list behind it
+-- an item and the list after it
 pub items_more : (name : List ℕ) (R : Readers) (depth : ℕ) (listed : Listed) (between : List ℕ) (n m : ℕ) (is_first later : Bool) (s s2 s3 : State) → 0 < n → m ≡ n - 1 → later ≡ false → list_goes_on name s.at ≡ true → s2 ≡ say (separator is_first between) s → s3 ≡ (item_rule name R depth listed s2).1 → ((items_rule name R depth listed between m later s3).1 ≡ (items_rule name R depth listed between n is_first s).1) × (suc (items_count (items_rule name R depth listed between m later s3).0) ≡ items_count (items_rule name R depth listed between n is_first s).0)
 items_more name R depth listed between n m is_first later s s2 s3 h em ef eg e2 e3 =
     rw (items_step name R depth listed between n is_first s h, eg, e3, e2, em, ef) (refl, refl)

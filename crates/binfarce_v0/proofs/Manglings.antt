@@ -1,20 +1,20 @@
 -- What the reading and the printer do with a whole name.
 use Rattle.std.proofs.Common.{◌≡◌, ℕ, ◌≤◌, ◌-◌, min, Bool, true, false, List, Option, Some, None, cond, refl, ap, sym, ◌∙◌, subst, arith}
 use Rattle.std.specs.Option.{option_map}
-use Rattle.binfarce_v0_grammar.specs.Identifier.{identifier_text}
+use Rattle.binfarce_v0_grammar.specs.Identifiers.{identifier_text}
 use Rattle.binfarce_v0_grammar.specs.Tree.{PathTree, path_height, path_steps, name_text, InValue}
 use Rattle.binfarce_v0_grammar.specs.Unfolding.{UnfoldsTo}
 use Rattle.binfarce_v0_grammar.specs.declared.limits.TheConstants.{MAX_LEVELS, MAX_STEPS}
 use Rattle.binfarce_v0.specs.Mangling.{is_upper_at, PathStands, SecondPath, ReadsPaths, IsMangling, part_after_prefix}
-use Rattle.binfarce_v0.specs.machine.Mangling.{paths_place}
+use Rattle.binfarce_v0.specs.machine.Mangling.{paths_end}
 use Rattle.binfarce_v0.specs.machine.Outcome.{Outcome, outcome_of, IsOutcome, AreTexts}
 use Rattle.binfarce_v0.specs.machine.Printing.{State, readers, first_state}
-use Rattle.binfarce_v0_grammar.specs.machine.Places.{places}
+use Rattle.binfarce_v0_grammar.specs.machine.Ends.{ends}
 use Rattle.std.specs.Prelude.{MatchOption}
 use Rattle.binfarce_v0.proofs.SoundForms.{readers_sound}
 use Rattle.binfarce_v0.proofs.Complete.{path_complete}
-use Rattle.binfarce_v0_grammar.proofs.ReadingSound.{places_read, between}
-use Rattle.binfarce_v0_grammar.proofs.ReadingComplete.{path_placed}
+use Rattle.binfarce_v0_grammar.proofs.ReadingSound.{ends_read, between}
+use Rattle.binfarce_v0_grammar.proofs.ReadingComplete.{path_ends}
 
 -- the whole printing of a name
 abbrev pub printed : List ℕ → Bool → PathTree × State
@@ -50,37 +50,37 @@ printed_over name full o tree u =
     let both : true ≡ false = sym o ∙ not_over in cc
 
 -- a path that the reading reads
-pub path_stands : (name : List ℕ) (at after : ℕ) → (places name MAX_LEVELS).path at ≡ Some after → PathStands name at after
+pub path_stands : (name : List ℕ) (at after : ℕ) → (ends name MAX_LEVELS).path at ≡ Some after → PathStands name at after
 path_stands name at after e =
-    let H = places_read name MAX_LEVELS in
+    let H = ends_read name MAX_LEVELS in
     let f = H.path at after e in record { tree = f.tree; reads = f.reads; levels = f.height }
 
-pub path_read_at : (name : List ℕ) (at after : ℕ) → PathStands name at after → (places name MAX_LEVELS).path at ≡ Some after
-path_read_at name at after p = path_placed p.tree name MAX_LEVELS at after p.reads p.levels
+pub path_read_at : (name : List ℕ) (at after : ℕ) → PathStands name at after → (ends name MAX_LEVELS).path at ≡ Some after
+path_read_at name at after p = path_ends p.tree name MAX_LEVELS at after p.reads p.levels
 
-second_path : (name : List ℕ) (at after : ℕ) (b : Bool) → (cond b ((places name MAX_LEVELS).path at) (Some at)) ≡ Some after → SecondPath b name at after
+second_path : (name : List ℕ) (at after : ℕ) (b : Bool) → (cond b ((ends name MAX_LEVELS).path at) (Some at)) ≡ Some after → SecondPath b name at after
 second_path name at after true e = path_stands name at after e
 second_path name at after false e = cc
 
-second_read : (name : List ℕ) (at after : ℕ) (b : Bool) → SecondPath b name at after → (cond b ((places name MAX_LEVELS).path at) (Some at)) ≡ Some after
+second_read : (name : List ℕ) (at after : ℕ) (b : Bool) → SecondPath b name at after → (cond b ((ends name MAX_LEVELS).path at) (Some at)) ≡ Some after
 second_read name at after true p = path_read_at name at after p
 second_read name at after false p = ap Some (sym p)
 
-pub paths_read : (name : List ℕ) (after : ℕ) → paths_place name ≡ Some after → ReadsPaths name after
+pub paths_read : (name : List ℕ) (after : ℕ) → paths_end name ≡ Some after → ReadsPaths name after
 paths_read name after e =
-    let b = between ((places name MAX_LEVELS).path 0) (λ mid. cond (is_upper_at name mid) ((places name MAX_LEVELS).path mid) (Some mid)) after e in
+    let b = between ((ends name MAX_LEVELS).path 0) (λ mid. cond (is_upper_at name mid) ((ends name MAX_LEVELS).path mid) (Some mid)) after e in
     record {
       mid = b.mid;
       path = path_stands name 0 b.mid b.first;
       instantiating_crate = second_path name b.mid after (is_upper_at name b.mid) b.second;
     }
 
-pub read_paths_at : (name : List ℕ) (after : ℕ) → ReadsPaths name after → paths_place name ≡ Some after
+pub read_paths_at : (name : List ℕ) (after : ℕ) → ReadsPaths name after → paths_end name ≡ Some after
 read_paths_at name after p =
     rw (path_read_at name 0 p.mid p.path) (second_read name p.mid after (is_upper_at name p.mid) p.instantiating_crate)
 
 -- where no paths are read there is no mangling
-pub not_mangling : (text read : List ℕ) → part_after_prefix text ≡ Some read → paths_place read ≡ None → (name : List ℕ) (after : ℕ) → IsMangling text name after → ⊥
+pub not_mangling : (text read : List ℕ) → part_after_prefix text ≡ Some read → paths_end read ≡ None → (name : List ℕ) (after : ℕ) → IsMangling text name after → ⊥
 not_mangling text read b e name after m =
     let same : read ≡ name = cc (b, m.prefix) in
     let paths = subst (λ n. ReadsPaths n after) (sym same) m.paths in

@@ -1,8 +1,8 @@
 -- Whatever the printer reads within its limits is a tree of the relation, of that height, with exactly those steps.
 use Rattle.std.proofs.Common.{◌≡◌, ℕ, zero, suc, ◌+◌, ◌≤◌, Bool, true, false, List, Option, Some, None, cond, nat_le, if◌then◌else◌, refl, arith}
 use Rattle.std.proofs.lemmas.Bool.Decides.{nat_tests}
-use Rattle.binfarce_v0_grammar.specs.Identifier.{Identifier}
-use Rattle.binfarce_v0_grammar.specs.Forms.{NoLifetime, stands, behind, identifier_at, lifetime, indexed_lifetime, const_form, ConstForm, NoConstForm, PlaceholderConst, DigitsConst, UnreadConst, BackToConst}
+use Rattle.binfarce_v0_grammar.specs.Identifiers.{UndisambiguatedIdentifier}
+use Rattle.binfarce_v0_grammar.specs.Forms.{NoLifetime, stands, after_byte, undisambiguated_at, lifetime, indexed_lifetime, const_form, ConstForm, NoConstForm, PlaceholderConst, DigitsConst, InvalidConst, BackToConst}
 use Rattle.binfarce_v0_grammar.specs.Base62.{number}
 use Rattle.binfarce_v0_grammar.specs.Tree.{PathTree, TypeTree, ConstTree, Item, Items, Bindings, LifetimeItem, lifetime_steps, path_height, type_height, const_height, item_height, items_height, bindings_height, path_steps, type_steps, const_steps, item_steps, items_steps, bindings_steps, Position, OpenTrait, separator, Listed, Arguments, Types, Traits}
 use Rattle.binfarce_v0_grammar.specs.Unfolding.{list_goes_on, IsConst, IsPath, IsType, IsItem, AreItems, AreBindings}
@@ -61,9 +61,9 @@ taken {T} P n none s f h o = by (nat_le n s.room) refl o
     by true e o = h (grind (arith, nat_tests)) o
     by false e o = true_not_false o
 
--- behind a back reference
-pub back_place : (over : Bool) (q : ℕ) → over ≡ false → (if over then None else Some q) ≡ Some q
-back_place over q h = rw h refl
+-- after a back reference
+pub back_target : (over : Bool) (q : ℕ) → over ≡ false → (if over then None else Some q) ≡ Some q
+back_target over q h = rw h refl
 
 pub const_sound : (name : List ℕ) (left : ℕ) (R : Readers) → Sound name left R → (s : State) (form : ConstForm) → const_form name s.at ≡ form → (const_rule R s form).1.over ≡ false → ConstFound name (suc left) (suc s.room) s.at s.over (const_rule R s form)
 unfolding const_rule IsConst
@@ -73,12 +73,12 @@ const_sound name left R H s (PlaceholderConst type_name q) e o =
     record { is = (q, e, refl); height = omega arith; steps = omega arith; before = o }
 const_sound name left R H s (DigitsConst type_name digits q) e o =
     record { is = (q, e, refl); height = omega arith; steps = omega arith; before = o }
-const_sound name left R H s (UnreadConst type_name) e o =
+const_sound name left R H s (InvalidConst type_name) e o =
     record { is = (e, refl); height = omega arith; steps = omega arith; before = o }
 const_sound name left R H s (BackToConst target q) e o =
     let f = H.constant (into target s) o in
     record {
-      is = (target, q, (R.constant (into target s)).1.at, e, f.is, back_place (R.constant (into target s)).1.over q o);
+      is = (target, q, (R.constant (into target s)).1.at, e, f.is, back_target (R.constant (into target s)).1.over q o);
       height = omega arith;
       steps = omega arith;
       before = f.before;
@@ -111,13 +111,13 @@ unfolding IsItem item_height item_steps
 argument_sound name left R H depth s true b ea eb o =
     taken (λ r. ItemFound name Arguments depth left s.room s.at s.over r) 1 (LifetimeItem NoLifetime) s (lifetime_item depth (lifetime name s.at)) (λ n p. lifetime_sound name left depth s ea n p) o
 argument_sound name left R H depth s false true ea eb o =
-    let f = H.constant (go (behind s.at) s) o in
+    let f = H.constant (go (after_byte s.at) s) o in
     record { is = (ea, eb, f.is); height = f.height; steps = f.steps; before = f.before }
 argument_sound name left R H depth s false false ea eb o =
     let f = H.ty depth s o in
     record { is = (ea, eb, f.is); height = f.height; steps = f.steps; before = f.before }
 
-named_binding_sound : (name : List ℕ) (left : ℕ) (R : Readers) → Sound name left R → (depth : ℕ) (more : Bool → State → Bindings × State) → ((is_open : Bool) (s : State) → (more is_open s).1.over ≡ false → BindingsFound name depth left s.room s.at s.over (more is_open s)) → (is_open : Bool) (s : State) (i : Option (Identifier × ℕ)) → stands name 112 s.at ≡ true → identifier_at name (behind s.at) ≡ i → (named_binding R depth more is_open s i).1.over ≡ false → BindingsFound name depth left s.room s.at s.over (named_binding R depth more is_open s i)
+named_binding_sound : (name : List ℕ) (left : ℕ) (R : Readers) → Sound name left R → (depth : ℕ) (more : Bool → State → Bindings × State) → ((is_open : Bool) (s : State) → (more is_open s).1.over ≡ false → BindingsFound name depth left s.room s.at s.over (more is_open s)) → (is_open : Bool) (s : State) (i : Option (UndisambiguatedIdentifier × ℕ)) → stands name 112 s.at ≡ true → undisambiguated_at name (after_byte s.at) ≡ i → (named_binding R depth more is_open s i).1.over ≡ false → BindingsFound name depth left s.room s.at s.over (named_binding R depth more is_open s i)
 unfolding AreBindings bindings_height bindings_steps
 named_binding_sound name left R H depth more M is_open s None e ei o =
     record { is = (e, ei, refl); height = omega arith; steps = omega arith; before = o }
@@ -134,7 +134,7 @@ bindings_sound name left R H depth (suc n) is_open s o =
   where
     by : ((is_open : Bool) (s : State) → (bindings_rule name R depth n is_open s).1.over ≡ false → BindingsFound name depth left s.room s.at s.over (bindings_rule name R depth n is_open s)) → (b : Bool) → stands name 112 s.at ≡ b → (binding_rule name R depth (bindings_rule name R depth n) is_open s b).1.over ≡ false → BindingsFound name depth left s.room s.at s.over (binding_rule name R depth (bindings_rule name R depth n) is_open s b)
     by M true e o =
-        named_binding_sound name left R H depth (bindings_rule name R depth n) M is_open s (identifier_at name (behind s.at)) e refl o
+        named_binding_sound name left R H depth (bindings_rule name R depth n) M is_open s (undisambiguated_at name (after_byte s.at)) e refl o
     by M false e o = record { is = (e, refl); height = omega arith; steps = omega arith; before = o }
 
 item_sound : (name : List ℕ) (left : ℕ) (R : Readers) → Sound name left R → (depth : ℕ) (listed : Listed) (s : State) → (item_rule name R depth listed s).1.over ≡ false → ItemFound name listed depth left s.room s.at s.over (item_rule name R depth listed s)

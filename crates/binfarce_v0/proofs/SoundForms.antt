@@ -2,12 +2,12 @@
 use Rattle.std.proofs.Common.{◌≡◌, ℕ, zero, suc, ◌+◌, ◌-◌, ◌≤◌, Bool, true, false, List, Option, Some, None, cond, nat_le, refl, subst, arith}
 use Rattle.std.proofs.lemmas.Bool.Decides.{nat_tests}
 use Rattle.std.specs.Prelude.{codes}
-use Rattle.binfarce_v0_grammar.specs.Identifier.{Label}
-use Rattle.binfarce_v0_grammar.specs.Forms.{Lifetime, Signature, stands, label_at, lifetime, path_form, type_form, const_form, PathForm, NoPathForm, CrateRoot, NestedIn, InherentImpl, TraitImpl, TraitDefinition, WithArguments, BackToPath, TypeForm, NoTypeForm, BasicType, ReferenceTo, UnreadReference, PointerTo, SliceOf, ArrayOf, TupleOf, FunctionOf, UnreadAbi, DynOf, UnreadDyn, BackToType, PathType}
+use Rattle.binfarce_v0_grammar.specs.Identifiers.{Identifier}
+use Rattle.binfarce_v0_grammar.specs.Forms.{Lifetime, Signature, stands, identifier_at, lifetime, path_form, type_form, const_form, PathForm, NoPathForm, CrateRoot, NestedIn, InherentImpl, TraitImpl, TraitDefinition, WithArguments, BackToPath, TypeForm, NoTypeForm, BasicType, ReferenceTo, InvalidReference, PointerTo, SliceOf, ArrayOf, TupleOf, FunctionOf, InvalidAbi, DynOf, InvalidDyn, BackToType, PathType}
 use Rattle.binfarce_v0_grammar.specs.Tree.{PathTree, Items, NoPath, NoType, NoConst, lifetime_steps, path_height, type_height, path_steps, type_steps, Position, InType, parent_position, Arguments, Types, Traits}
 use Rattle.binfarce_v0_grammar.specs.Unfolding.{IsPath, IsType}
-use Rattle.binfarce_v0.specs.machine.Printing.{State, Readers, say, go, stopped, take, entered, into, mute, entering, named_tree, named_state, returned, function_rule, dyn_lifetime_rule, dyn_end, dyn_rule, reference_rule, unread_reference, unread_function, type_rule, path_rule, const_rule, readers}
-use Rattle.binfarce_v0.proofs.Sound.{Sound, PathFound, TypeFound, ConstFound, ItemsFound, taken, true_not_false, back_place, const_sound, items_sound}
+use Rattle.binfarce_v0.specs.machine.Printing.{State, Readers, say, go, stopped, take, entered, into, mute, entering, named_tree, named_state, returned, function_rule, dyn_lifetime_rule, dyn_end, dyn_rule, reference_rule, invalid_reference, invalid_function, type_rule, path_rule, const_rule, readers}
+use Rattle.binfarce_v0.proofs.Sound.{Sound, PathFound, TypeFound, ConstFound, ItemsFound, taken, true_not_false, back_target, const_sound, items_sound}
 
 returned_sound : (name : List ℕ) (left : ℕ) (R : Readers) → Sound name left R → (depth room : ℕ) (at : Option ℕ) (signature : Signature) (q : ℕ) (r : Items × State) (over : Bool) (b : Bool) → type_form name at ≡ FunctionOf signature q → stands name 117 r.1.at ≡ b → (r.1.over ≡ false → ItemsFound name Types (depth + signature.binder) left (room - signature.binder) (Some q) over r) → signature.binder ≤ room → (returned name R (depth + signature.binder) signature r.0 (say (codes ")") r.1) b).1.over ≡ false → TypeFound name depth (suc left) (suc room) at over (returned name R (depth + signature.binder) signature r.0 (say (codes ")") r.1) b)
 unfolding IsType type_height type_steps
@@ -48,8 +48,8 @@ type_sound name left R H depth s (BasicType text q) e o =
     record { is = (q, e, refl); height = omega arith; steps = omega arith; before = o }
 type_sound name left R H depth s (ReferenceTo mutable life q) e o =
     taken (λ x. TypeFound name depth (suc left) (suc s.room) s.at s.over x) (lifetime_steps life) NoType s (reference_rule R depth mutable life q) (λ n p. reference_sound name left R H depth s mutable life q e n p) o
-type_sound name left R H depth s UnreadReference e o =
-    taken (λ x. TypeFound name depth (suc left) (suc s.room) s.at s.over x) 1 NoType s unread_reference (λ n p. record { is = (e, refl); height = omega arith; steps = omega arith; before = p }) o
+type_sound name left R H depth s InvalidReference e o =
+    taken (λ x. TypeFound name depth (suc left) (suc s.room) s.at s.over x) 1 NoType s invalid_reference (λ n p. record { is = (e, refl); height = omega arith; steps = omega arith; before = p }) o
 type_sound name left R H depth s (PointerTo mutable q) e o =
     let f = H.ty depth _ o in
     record { is = (q, e, f.is); height = omega arith; steps = omega arith; before = f.before }
@@ -65,16 +65,16 @@ type_sound name left R H depth s (TupleOf q) e o =
     record { is = (q, e, f.is); height = omega arith; steps = omega arith; before = f.before }
 type_sound name left R H depth s (FunctionOf signature q) e o =
     taken (λ x. TypeFound name depth (suc left) (suc s.room) s.at s.over x) signature.binder NoType s (function_rule name R depth signature q) (λ n p. returned_sound name left R H depth s.room s.at signature q _ s.over (stands name 117 _) e refl (items_sound name left R H (depth + signature.binder) Types _ _ _ _) n p) o
-type_sound name left R H depth s (UnreadAbi binder) e o =
-    taken (λ x. TypeFound name depth (suc left) (suc s.room) s.at s.over x) binder NoType s (unread_function depth binder) (λ n p. record { is = (e, refl); height = omega arith; steps = omega arith; before = p }) o
+type_sound name left R H depth s (InvalidAbi binder) e o =
+    taken (λ x. TypeFound name depth (suc left) (suc s.room) s.at s.over x) binder NoType s (invalid_function depth binder) (λ n p. record { is = (e, refl); height = omega arith; steps = omega arith; before = p }) o
 type_sound name left R H depth s (DynOf binder q) e o =
     taken (λ x. TypeFound name depth (suc left) (suc s.room) s.at s.over x) binder NoType s (dyn_rule name R depth binder q) (λ n p. dyn_sound name left depth s.room s.at binder q _ s.over e (items_sound name left R H (depth + binder) Traits _ _ _ _) n p) o
-type_sound name left R H depth s UnreadDyn e o =
+type_sound name left R H depth s InvalidDyn e o =
     record { is = (e, refl); height = omega arith; steps = omega arith; before = o }
 type_sound name left R H depth s (BackToType target q) e o =
     let f = H.ty depth (into target s) o in
     record {
-      is = (target, q, (R.ty depth (into target s)).1.at, e, f.is, back_place (R.ty depth (into target s)).1.over q o);
+      is = (target, q, (R.ty depth (into target s)).1.at, e, f.is, back_target (R.ty depth (into target s)).1.over q o);
       height = omega arith;
       steps = omega arith;
       before = f.before;
@@ -83,7 +83,7 @@ type_sound name left R H depth s PathType e o =
     let f = H.path InType depth s o in
     record { is = (e, f.is); height = omega arith; steps = omega arith; before = f.before }
 
-nested_sound : (name : List ℕ) (left depth room : ℕ) (at : Option ℕ) (over : Bool) (namespace q : ℕ) (r : PathTree × State) (l : Option (Label × ℕ)) → path_form name at ≡ NestedIn namespace q → label_at name r.1.at ≡ l → (r.1.over ≡ false → PathFound name depth left room (Some q) over r) → (named_state namespace r.1 l).over ≡ false → PathFound name depth (suc left) (suc room) at over (named_tree namespace r.0 l, named_state namespace r.1 l)
+nested_sound : (name : List ℕ) (left depth room : ℕ) (at : Option ℕ) (over : Bool) (namespace q : ℕ) (r : PathTree × State) (l : Option (Identifier × ℕ)) → path_form name at ≡ NestedIn namespace q → identifier_at name r.1.at ≡ l → (r.1.over ≡ false → PathFound name depth left room (Some q) over r) → (named_state namespace r.1 l).over ≡ false → PathFound name depth (suc left) (suc room) at over (named_tree namespace r.0 l, named_state namespace r.1 l)
 unfolding IsPath path_height path_steps
 nested_sound name left depth room at over namespace q r None e el I o =
     let f = I o in
@@ -120,7 +120,7 @@ path_sound name left R H position depth s (WithArguments q) e o =
 path_sound name left R H position depth s (BackToPath target q) e o =
     let f = H.path position depth (into target s) o in
     record {
-      is = (target, q, (R.path position depth (into target s)).1.at, e, f.is, back_place (R.path position depth (into target s)).1.over q o);
+      is = (target, q, (R.path position depth (into target s)).1.at, e, f.is, back_target (R.path position depth (into target s)).1.over q o);
       height = omega arith;
       steps = omega arith;
       before = f.before;

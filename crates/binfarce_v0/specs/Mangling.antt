@@ -16,7 +16,7 @@ part_after_prefix text = after_prefix (codes "_R" ∷ codes "R" ∷ codes "__R" 
 abbrev pub is_upper_at : List ℕ → ℕ → Bool
 is_upper_at name at = is_ascii_uppercase (slice_index name at)
 
--- a path of at most `MAX_LEVELS` levels reads from a place up to another
+-- a path of at most `MAX_LEVELS` levels reads from a position up to another
 pub record PathStands (name : List ℕ) (at after : ℕ) : Type 0 where
   pub tree : PathTree
   pub reads : ReadsPath name tree at after
@@ -33,14 +33,14 @@ pub record ReadsPaths (name : List ℕ) (after : ℕ) : Type 0 where
   pub path : PathStands name 0 mid
   pub instantiating_crate : SecondPath (is_upper_at name mid) name mid after
 
--- the v0 mangling that a text begins with: its name, and the place behind the paths of the name
+-- the v0 mangling that a text begins with: its name, and the position after the paths of the name
 pub record IsMangling (text name : List ℕ) (after : ℕ) : Type 0 where
   pub prefix : part_after_prefix text ≡ Some name
   pub begins : is_upper_at name 0 ≡ true
   pub ascii : IsAscii name
   pub paths : ReadsPaths name after
 
--- text is a v0 mangling, of which part is what stands behind the prefix
+-- text is a v0 mangling, of which part is what stands after the prefix
 pub record IsV0 (text part : List ℕ) : Type 0 where
   pub after : ℕ
   pub mangling : IsMangling text part after

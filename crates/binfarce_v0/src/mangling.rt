@@ -1,35 +1,22 @@
 //! A whole v0 mangling.
 
-ghost use Rattle.std.specs.Prelude.{
-  ◌≡◌,
-  ℕ,
-  ◌-◌,
-  ◌<◌,
-  ◌≤◌,
-  List,
-  IfOk,
-  IfSome,
-  MatchOption,
-  length,
-  slice_index,
-  option_map,
-  drop,
-};
+ghost use Rattle.std.specs.Prelude.{◌≡◌, ℕ, List, IfOk, MatchOption, option_map, drop};
 ghost use Rattle.std.specs.Option.{option_copied};
 ghost use Rattle.std.specs.Str.{IsAscii};
 ghost use Rattle.std.specs.String.{string_bytes};
-ghost use Rattle.binfarce_v0_grammar.specs.Identifier.{identifier_text};
+ghost use Rattle.binfarce_v0_grammar.specs.Identifiers.{identifier_text};
 ghost use Rattle.binfarce_v0_grammar.specs.Tree.{PathTree};
 ghost use Rattle.binfarce_v0_grammar.specs.Unfolding.{UnfoldsTo};
-ghost use Rattle.binfarce_v0_grammar.specs.machine.Seen.{identifier_seen};
+ghost use Rattle.binfarce_v0_grammar.specs.machine.Seen.{undisambiguated_seen};
 ghost use Rattle.binfarce_v0.specs.Mangling.{part_after_prefix, is_upper_at, IsMangling, IsV0};
-ghost use Rattle.binfarce_v0.specs.machine.Mangling.{paths_place};
+ghost use Rattle.binfarce_v0.specs.machine.Mangling.{paths_end};
 ghost use Rattle.binfarce_v0.specs.machine.Outcome.{IsOutcome, AreTexts, printed_seen};
 
 use crate::state::{Printed, Printer};
 use crate::text::push_identifier;
 use binfarce_text::suffixes::is_allowed_rest;
-use binfarce_v0_grammar::forms::{Identifier, Position};
+use binfarce_v0_grammar::forms::Position;
+use binfarce_v0_grammar::identifiers::UndisambiguatedIdentifier;
 use binfarce_v0_grammar::limits::MAX_LEVELS;
 use binfarce_v0_grammar::numbers::byte_at;
 use binfarce_v0_grammar::reading::read_path;
@@ -62,7 +49,7 @@ fn is_upper_at(name: &[u8], at: usize) -> bool
 // The position after the paths of a name.
 fn read_paths(name: &str) -> Option<usize>
     requires ascii { IsAscii name.now }
-    ensures { result ≡ paths_place name.now }
+    ensures { result ≡ paths_end name.now }
 {
     let mid = read_path(name, MAX_LEVELS, 0)?;
     if is_upper_at(name.as_bytes(), mid) {
@@ -72,7 +59,7 @@ fn read_paths(name: &str) -> Option<usize>
     }
 }
 
-/// The v0 mangling that `text` begins with: what stands behind its prefix, and the place there behind its paths.
+/// The v0 mangling that `text` begins with: what stands after its prefix, and the position there after its paths.
 /// None where `text` begins with no v0 mangling whose reading has at most `MAX_LEVELS` levels. No memory is taken.
 pub fn read(text: &str) -> Option<(&str, usize)>
     ensures { MatchOption result ((name : List ℕ) (after : ℕ) → IsMangling text.now name after → ⊥) (λ r. IsMangling text.now r.0.now r.1) }
@@ -85,7 +72,7 @@ pub fn read(text: &str) -> Option<(&str, usize)>
     Some((name, after))
 }
 
-/// The text of what `name`, which stands behind a prefix, unfolds to, with or without the disambiguators of crates.
+/// The text of what `name`, which stands after a prefix, unfolds to, with or without the disambiguators of crates.
 /// None where it unfolds to no tree of at most `MAX_LEVELS` levels and `MAX_STEPS` steps.
 pub fn print<'a>(
     alloc: Global,
@@ -100,7 +87,7 @@ pub fn print<'a>(
     Ok(printer.finish())
 }
 
-/// What stands behind the prefix of a v0 mangling, up to the end of `text`: places of the name may lie in all of it.
+/// What stands after the prefix of a v0 mangling, up to the end of `text`: positions of the name may lie in all of it.
 /// None where `text` is no v0 mangling whose reading has at most `MAX_LEVELS` levels. No memory is taken.
 pub fn mangled_part(text: &str) -> Option<&str>
     ensures { MatchOption result ((part : List ℕ) → IsV0 text.now part → ⊥) (λ p. IsV0 text.now p.now) }
@@ -129,8 +116,8 @@ pub struct Texts {
 }
 
 // The text of a crate's name.
-fn root_text(alloc: Global, root: Option<Identifier<'_>>) -> Result<Option<String>, AllocError>
-    ensures { IfOk result (λ t. option_map string_bytes t ≡ option_map identifier_text (option_map identifier_seen root.entry)) }
+fn root_text(alloc: Global, root: Option<UndisambiguatedIdentifier<'_>>) -> Result<Option<String>, AllocError>
+    ensures { IfOk result (λ t. option_map string_bytes t ≡ option_map identifier_text (option_map undisambiguated_seen root.entry)) }
 {
     let Some(name) = root else {
         return Ok(None);

@@ -2,11 +2,11 @@
 
 ghost use Rattle.std.specs.Prelude.{◌≡◌, ℕ, ◌+◌, ◌≤◌, ◌==◌, IfOk, OnOk, Some, None, [], if◌then◌else◌, codes, suc};
 ghost use Rattle.binfarce_v0_grammar.specs.declared.limits.TheConstants.{MAX_LEVELS};
-ghost use Rattle.binfarce_v0_grammar.specs.Forms.{label_at, lifetime};
+ghost use Rattle.binfarce_v0_grammar.specs.Forms.{identifier_at, lifetime};
 ghost use Rattle.binfarce_v0_grammar.specs.Tree as tree;
 ghost use Rattle.binfarce_v0_grammar.specs.Tree.{Items, NoType, parent_position, value_mark, closing, is_open_trait, is_left_open, Arguments, Types};
 ghost use Rattle.binfarce_v0_grammar.specs.machine.Seen.{
-  label_seen,
+  identifier_seen,
   path_seen,
   type_seen,
   const_seen,
@@ -42,16 +42,14 @@ ghost use Rattle.binfarce_v0.specs.machine.Printing.{
   unmute,
   array_rule,
   tuple_end,
-  unread_reference,
-  unread_function,
+  invalid_reference,
+  invalid_function,
 };
 
 use crate::state::Printer;
-use binfarce_v0_grammar::forms::{
-    ConstForm, Label, Lifetime, Listed, PathForm, Position, Signature, TypeForm,
-};
-use binfarce_v0_grammar::leaves::{const_form, identifier, label, lifetime, path_form, type_form};
-use binfarce_v0_grammar::places::{bound_place, eat, lifetime_steps, list_end, required_place};
+use binfarce_v0_grammar::forms::{ConstForm, Lifetime, Listed, PathForm, Position, Signature, TypeForm, const_form, lifetime_form, path_form, type_form};
+use binfarce_v0_grammar::identifiers::{Identifier, undisambiguated_at, identifier_at};
+use binfarce_v0_grammar::positions::{bound_end, eat, lifetime_steps, list_end, required_end};
 use std::alloc::AllocError;
 
 // The position of a path's parent.
@@ -74,7 +72,7 @@ fn value_mark(position: Position) -> &'static str
     }
 }
 
-// What stands behind the arguments of a path.
+// What stands after the arguments of a path.
 fn closing(position: Position) -> &'static str
     ensures { result.now ≡ closing (position_seen position) }
 {
@@ -91,7 +89,7 @@ fn is_open_trait(position: Position) -> bool
     matches!(position, Position::OpenTrait)
 }
 
-// What stands behind the items of a tuple of so many.
+// What stands after the items of a tuple of so many.
 fn single_mark(count: usize) -> &'static str
     ensures { result.now ≡ (if count == 1 then codes "," else []) }
 {
@@ -123,7 +121,7 @@ impl<'a> Printer<'a> {
                 self.say(": ")?;
                 self.say(type_name)
             }
-            ConstForm::Unread(type_name) => {
+            ConstForm::Invalid(type_name) => {
                 self.fault()?;
                 self.say(": ")?;
                 self.say(type_name)
@@ -138,26 +136,26 @@ impl<'a> Printer<'a> {
         }
     }
 
-    // The name of a nested path behind its parent.
+    // The name of a nested path after its parent.
     fn print_nested_name(&mut self, namespace: u8) -> Result<(), AllocError>
-        ensures { OnOk result (self.new ≡ with_state (named_state namespace self.old.state (label_at self.old.name self.old.state.at)) self.old) }
+        ensures { OnOk result (self.new ≡ with_state (named_state namespace self.old.state (identifier_at self.old.name self.old.state.at)) self.old) }
     {
         let found = match self.at {
-            Some(at) => label(self.name, at),
+            Some(at) => identifier_at(self.name, at),
             None => None,
         };
         match found {
-            Some((label, after)) => {
+            Some((identifier, after)) => {
                 self.go(Some(after));
-                self.say_nested(namespace, label)
+                self.say_nested(namespace, identifier)
             }
             None => self.fault(),
         }
     }
 
     // `"C" <identifier>`
-    fn print_crate_root(&mut self, root: Label<'a>, after: usize) -> Result<(), AllocError>
-        ensures { OnOk result (self.new ≡ with_state ((crate_rule (label_seen root.entry) (go (Some after) self.old.state)).1) self.old) }
+    fn print_crate_root(&mut self, root: Identifier<'a>, after: usize) -> Result<(), AllocError>
+        ensures { OnOk result (self.new ≡ with_state ((crate_rule (identifier_seen root.entry) (go (Some after) self.old.state)).1) self.old) }
     {
         self.go(Some(after));
         self.keep_root(root.name);
@@ -359,9 +357,9 @@ impl<'a> Printer<'a> {
     {
         let bytes = self.name.as_bytes();
         if eat(bytes, b'L', self.at).is_some() {
-            let (life, after) = lifetime(bytes, self.at);
+            let (life, after) = lifetime_form(bytes, self.at);
             if self.take(1) {
-                self.go(required_place(depth, life, after));
+                self.go(required_end(depth, life, after));
                 self.say_argument_lifetime(depth, life)?;
             }
             return Ok(());
@@ -393,7 +391,7 @@ impl<'a> Printer<'a> {
                 return self.say(if opened { ">" } else { "" });
             };
             self.say(if opened { ", " } else { "<" })?;
-            let Some((binding, after)) = identifier(self.name, start) else {
+            let Some((binding, after)) = undisambiguated_at(self.name, start) else {
                 return self.fault();
             };
             self.go(Some(after));
@@ -441,7 +439,7 @@ impl<'a> Printer<'a> {
             TypeForm::ReferenceTo(mutable, life, after) => {
                 self.print_reference(left, depth, mutable, life, after)
             }
-            TypeForm::UnreadReference => self.print_unread_reference(),
+            TypeForm::InvalidReference => self.print_invalid_reference(),
             TypeForm::PointerTo(mutable, after) => {
                 self.go(Some(after));
                 self.say(if mutable { "*mut " } else { "*const " })?;
@@ -458,9 +456,9 @@ impl<'a> Printer<'a> {
             TypeForm::FunctionOf(signature, after) => {
                 self.print_function(left, depth, signature, after)
             }
-            TypeForm::UnreadAbi(binder) => self.print_unread_function(depth, binder),
+            TypeForm::InvalidAbi(binder) => self.print_invalid_function(depth, binder),
             TypeForm::DynOf(binder, after) => self.print_dyn(left, depth, binder, after),
-            TypeForm::UnreadDyn => self.print_unread_dyn(),
+            TypeForm::InvalidDyn => self.print_invalid_dyn(),
             TypeForm::Back(target, after) => { self.print_type_target(left, depth, target, after) }
             TypeForm::Path => {
                 self.print_path(left, depth, Position::InType)?;
@@ -532,7 +530,7 @@ impl<'a> Printer<'a> {
         if !self.take(lifetime_steps(life)) {
             return Ok(());
         }
-        self.go(bound_place(depth, life, Some(after)));
+        self.go(bound_end(depth, life, Some(after)));
         self.say("&")?;
         self.say_reference_lifetime(depth, life)?;
         self.say(if mutable { "mut " } else { "" })?;
@@ -594,21 +592,21 @@ impl<'a> Printer<'a> {
         self.print_dyn_lifetime(depth)
     }
 
-    // The lifetime of a dyn type, which stands behind its binder.
+    // The lifetime of a dyn type, which stands after its binder.
     fn print_dyn_lifetime(&mut self, depth: usize) -> Result<(), AllocError>
         ensures { OnOk result ((binder : ℕ) (items : Items) → self.new ≡ with_state ((dyn_life depth binder items (lifetime self.old.name self.old.state.at) self.old.state).1) self.old) }
     {
-        let (life, end) = lifetime(self.name.as_bytes(), self.at);
+        let (life, end) = lifetime_form(self.name.as_bytes(), self.at);
         if self.take(lifetime_steps(life)) {
-            self.go(required_place(depth, life, end));
+            self.go(required_end(depth, life, end));
             self.say_dyn_lifetime(depth, life)?;
         }
         Ok(())
     }
 
-    // A reference whose lifetime doesn't read.
-    fn print_unread_reference(&mut self) -> Result<(), AllocError>
-        ensures { OnOk result (self.new ≡ with_state ((taking 1 NoType self.old.state unread_reference).1) self.old) }
+    // A reference whose lifetime is invalid.
+    fn print_invalid_reference(&mut self) -> Result<(), AllocError>
+        ensures { OnOk result (self.new ≡ with_state ((taking 1 NoType self.old.state invalid_reference).1) self.old) }
     {
         if self.take(1) {
             self.go(None);
@@ -617,18 +615,18 @@ impl<'a> Printer<'a> {
         Ok(())
     }
 
-    // A dyn type whose binder doesn't read.
-    fn print_unread_dyn(&mut self) -> Result<(), AllocError>
+    // A dyn type whose binder is invalid.
+    fn print_invalid_dyn(&mut self) -> Result<(), AllocError>
         ensures { OnOk result (self.new ≡ with_state (say (codes "dyn ??") (go None self.old.state)) self.old) }
     {
         self.go(None);
         self.say("dyn ??")
     }
 
-    // A function type whose ABI doesn't read.
-    fn print_unread_function(&mut self, depth: usize, binder: u64) -> Result<(), AllocError>
+    // A function type whose ABI is invalid.
+    fn print_invalid_function(&mut self, depth: usize, binder: u64) -> Result<(), AllocError>
         requires { WithinLevels 1 depth }
-        ensures { OnOk result (self.new ≡ with_state ((taking binder NoType self.old.state (unread_function depth binder)).1) self.old) }
+        ensures { OnOk result (self.new ≡ with_state ((taking binder NoType self.old.state (invalid_function depth binder)).1) self.old) }
     {
         if self.take(binder) {
             self.say_binder(depth, binder)?;

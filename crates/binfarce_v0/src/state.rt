@@ -3,7 +3,7 @@
 ghost use Rattle.std.specs.Prelude.{◌≡◌, ◌+◌, ◌-◌, ◌≤◌, ◌^◌, ◌<◌, ◌↔◌, IfOk, OnOk, IsTrue, MatchOption, option_map, true, false, if◌then◌else◌, ◌&&◌, nat_le};
 ghost use Rattle.std.specs.Str.{IsAscii};
 ghost use Rattle.std.specs.String.{string_bytes};
-ghost use Rattle.binfarce_v0_grammar.specs.Identifier.{identifier_text};
+ghost use Rattle.binfarce_v0_grammar.specs.Identifiers.{identifier_text};
 ghost use Rattle.binfarce_v0_grammar.specs.Tree.{
   lifetime_text,
   binder_text,
@@ -16,8 +16,8 @@ ghost use Rattle.binfarce_v0_grammar.specs.Tree.{
   disambiguator_text,
 };
 ghost use Rattle.binfarce_v0_grammar.specs.machine.Seen.{
+  undisambiguated_seen,
   identifier_seen,
-  label_seen,
   lifetime_seen,
   signature_seen,
 };
@@ -40,7 +40,8 @@ use crate::text::{
     push_binder, push_disambiguator, push_identifier, push_lifetime, push_nested, push_number,
     push_signature,
 };
-use binfarce_v0_grammar::forms::{Identifier, Label, Lifetime, Signature};
+use binfarce_v0_grammar::forms::{Lifetime, Signature};
+use binfarce_v0_grammar::identifiers::{UndisambiguatedIdentifier, Identifier};
 use binfarce_v0_grammar::limits::{MAX_LEVELS, MAX_STEPS};
 use std::alloc::{AllocError, Global};
 use std::marker::Model;
@@ -51,7 +52,7 @@ pub struct Printed<'a> {
     /// The text of the tree.
     pub text: String,
     /// The name of the first crate root.
-    pub root: Option<Identifier<'a>>,
+    pub root: Option<UndisambiguatedIdentifier<'a>>,
     /// How many levels the tree has.
     pub levels: usize,
     /// How many steps the tree takes.
@@ -80,7 +81,7 @@ pub struct Printer<'a> {
     /// In no back reference.
     pub outside: bool,
     /// The first crate root.
-    pub root: Option<Identifier<'a>>,
+    pub root: Option<UndisambiguatedIdentifier<'a>>,
 }
 
 impl<'a> Model for Printer<'a> {
@@ -90,11 +91,11 @@ impl<'a> Model for Printer<'a> {
     ghost use Rattle.std.specs.String.{string_bytes};
     ghost use Rattle.binfarce_v0.specs.machine.Printing.{Printing};
     ghost use Rattle.binfarce_v0_grammar.specs.declared.limits.TheConstants.{MAX_LEVELS, MAX_STEPS};
-    ghost use Rattle.binfarce_v0_grammar.specs.machine.Seen.{identifier_seen};
+    ghost use Rattle.binfarce_v0_grammar.specs.machine.Seen.{undisambiguated_seen};
 
     ghost Value = { Printing };
 
-    ghost view = { λ p. record { name = p.name.now; state = record { at = p.at; room = p.room; least = p.least; over = p.over; text = string_bytes p.text; muted = p.muted; full = p.full; outside = p.outside; root = option_map identifier_seen p.root } } };
+    ghost view = { λ p. record { name = p.name.now; state = record { at = p.at; room = p.room; least = p.least; over = p.over; text = string_bytes p.text; muted = p.muted; full = p.full; outside = p.outside; root = option_map undisambiguated_seen p.root } } };
 
     ghost invariant = { λ p. IsAscii p.name.now × ((p.room ≤ MAX_STEPS) × (p.least ≤ MAX_LEVELS)) };
 }
@@ -102,7 +103,7 @@ impl<'a> Model for Printer<'a> {
 impl<'a> Printer<'a> {
     ghost use Rattle.binfarce_v0.specs.machine.Outcome.{outcome_of, printed_seen};
 
-    /// A printing of `name` that begins at its first byte, with memory for a text of as many bytes.
+    /// A printing of `name` that begins at its first position, with memory for a text of as many bytes.
     pub fn new(alloc: Global, name: &'a str, full: bool) -> Result<Printer<'a>, AllocError>
         requires { IsAscii name.now }
         ensures { IfOk result (λ p. p ≡ first_printing name.entry.now full) }
@@ -236,8 +237,8 @@ impl<'a> Printer<'a> {
     }
 
     /// Keeps the first crate root.
-    pub fn keep_root(&mut self, name: Identifier<'a>)
-        ensures { self.new ≡ with_state (rooted (identifier_seen name.entry) self.old.state) self.old }
+    pub fn keep_root(&mut self, name: UndisambiguatedIdentifier<'a>)
+        ensures { self.new ≡ with_state (rooted (undisambiguated_seen name.entry) self.old.state) self.old }
     {
         if self.outside && self.root.is_none() {
             self.root = Some(name);
@@ -245,8 +246,8 @@ impl<'a> Printer<'a> {
     }
 
     /// Writes an identifier.
-    pub fn say_identifier(&mut self, name: Identifier<'a>) -> Result<(), AllocError>
-        ensures { OnOk result (self.new ≡ with_state (say (identifier_text (identifier_seen name.entry)) self.old.state) self.old) }
+    pub fn say_identifier(&mut self, name: UndisambiguatedIdentifier<'a>) -> Result<(), AllocError>
+        ensures { OnOk result (self.new ≡ with_state (say (identifier_text (undisambiguated_seen name.entry)) self.old.state) self.old) }
     {
         if !self.muted {
             push_identifier(&mut self.text, name)?;
@@ -265,11 +266,11 @@ impl<'a> Printer<'a> {
     }
 
     /// Writes what a nested path adds to its parent.
-    pub fn say_nested(&mut self, namespace: u8, label: Label<'a>) -> Result<(), AllocError>
-        ensures { OnOk result (self.new ≡ with_state (say (nested_text namespace (label_seen label.entry)) self.old.state) self.old) }
+    pub fn say_nested(&mut self, namespace: u8, identifier: Identifier<'a>) -> Result<(), AllocError>
+        ensures { OnOk result (self.new ≡ with_state (say (nested_text namespace (identifier_seen identifier.entry)) self.old.state) self.old) }
     {
         if !self.muted {
-            push_nested(&mut self.text, namespace, label)?;
+            push_nested(&mut self.text, namespace, identifier)?;
         }
         Ok(())
     }

@@ -4,7 +4,7 @@ ghost use Rattle.std.specs.Prelude.{◌≡◌, ◌+◌, ◌≤◌, ◌^◌, ◌<
 ghost use Rattle.std.specs.String.{string_bytes};
 ghost use Rattle.std.specs.Fmt.{decimal};
 ghost use Rattle.std.specs.Str.{IsAscii};
-ghost use Rattle.binfarce_v0_grammar.specs.Identifier.{identifier_text, undecoded};
+ghost use Rattle.binfarce_v0_grammar.specs.Identifiers.{identifier_text, undecoded};
 ghost use Rattle.binfarce_v0_grammar.specs.Tree.{
   lifetime_text,
   binder_text,
@@ -17,10 +17,11 @@ ghost use Rattle.binfarce_v0_grammar.specs.Tree.{
   after_mark,
   nested_text,
 };
-ghost use Rattle.binfarce_v0_grammar.specs.machine.Seen.{identifier_seen, label_seen, signature_seen};
+ghost use Rattle.binfarce_v0_grammar.specs.machine.Seen.{undisambiguated_seen, identifier_seen, signature_seen};
 
 use binfarce_text::digits::hex_value;
-use binfarce_v0_grammar::forms::{Identifier, Label, Signature};
+use binfarce_v0_grammar::forms::{Signature};
+use binfarce_v0_grammar::identifiers::{UndisambiguatedIdentifier, Identifier};
 use binfarce_v0_grammar::punycode::decode;
 use std::alloc::AllocError;
 use std::fmt::Write;
@@ -78,11 +79,11 @@ pub fn push_disambiguator(text: &mut String, n: u64) -> Result<(), AllocError>
     write!(text, "[{n:x}]")
 }
 
-// A name behind a mark, or nothing for an empty name.
-fn push_after_mark(text: &mut String, mark: &str, name: Identifier<'_>) -> Result<(), AllocError>
-    ensures { OnOk result (string_bytes text.new ≡ string_bytes text.old ++ after_mark mark.now (identifier_seen name.entry)) }
+// A name after a mark, or nothing for an empty name.
+fn push_after_mark(text: &mut String, mark: &str, name: UndisambiguatedIdentifier<'_>) -> Result<(), AllocError>
+    ensures { OnOk result (string_bytes text.new ≡ string_bytes text.old ++ after_mark mark.now (undisambiguated_seen name.entry)) }
 {
-    if name.plain.is_empty() && name.code.is_empty() {
+    if name.ascii.is_empty() && name.punycode.is_empty() {
         return Ok(());
     }
     text.push_str(mark)?;
@@ -103,17 +104,17 @@ fn push_namespace(text: &mut String, namespace: u8) -> Result<(), AllocError>
 
 /// What a nested path adds to its parent.
 #[tactic(auto, unfolding(binfarce_v0_grammar::specs::Tree::nested_text))]
-pub fn push_nested(text: &mut String, namespace: u8, label: Label<'_>) -> Result<(), AllocError>
-    ensures { OnOk result (string_bytes text.new ≡ string_bytes text.old ++ nested_text namespace (label_seen label.entry)) }
+pub fn push_nested(text: &mut String, namespace: u8, identifier: Identifier<'_>) -> Result<(), AllocError>
+    ensures { OnOk result (string_bytes text.new ≡ string_bytes text.old ++ nested_text namespace (identifier_seen identifier.entry)) }
 {
     if !namespace.is_ascii_uppercase() {
-        return push_after_mark(text, "::", label.name);
+        return push_after_mark(text, "::", identifier.name);
     }
     text.push_str("::{")?;
     push_namespace(text, namespace)?;
-    push_after_mark(text, ":", label.name)?;
+    push_after_mark(text, ":", identifier.name)?;
     text.push_str("#")?;
-    push_decimal(text, label.disambiguator)?;
+    push_decimal(text, identifier.disambiguator)?;
     text.push_str("}")
 }
 
@@ -171,27 +172,27 @@ pub fn push_signature(text: &mut String, signature: Signature<'_>) -> Result<(),
 }
 
 // Punycode that can't be decoded, as it stands.
-fn push_undecoded(text: &mut String, name: Identifier<'_>) -> Result<(), AllocError>
-    ensures { OnOk result (string_bytes text.new ≡ string_bytes text.old ++ undecoded name.entry.plain.now name.entry.code.now) }
+fn push_undecoded(text: &mut String, name: UndisambiguatedIdentifier<'_>) -> Result<(), AllocError>
+    ensures { OnOk result (string_bytes text.new ≡ string_bytes text.old ++ undecoded name.entry.ascii.now name.entry.punycode.now) }
 {
     text.push_str("punycode{")?;
-    if !name.plain.is_empty() {
-        text.push_str(name.plain)?;
+    if !name.ascii.is_empty() {
+        text.push_str(name.ascii)?;
         text.push_str("-")?;
     }
-    text.push_str(name.code)?;
+    text.push_str(name.punycode)?;
     text.push_str("}")
 }
 
 /// The text of an identifier.
-#[tactic(auto, unfolding(binfarce_v0_grammar::specs::Identifier::identifier_text))]
-pub fn push_identifier(text: &mut String, name: Identifier<'_>) -> Result<(), AllocError>
-    ensures { OnOk result (string_bytes text.new ≡ string_bytes text.old ++ identifier_text (identifier_seen name.entry)) }
+#[tactic(auto, unfolding(binfarce_v0_grammar::specs::Identifiers::identifier_text))]
+pub fn push_identifier(text: &mut String, name: UndisambiguatedIdentifier<'_>) -> Result<(), AllocError>
+    ensures { OnOk result (string_bytes text.new ≡ string_bytes text.old ++ identifier_text (undisambiguated_seen name.entry)) }
 {
-    if name.code.is_empty() {
-        return text.push_str(name.plain);
+    if name.punycode.is_empty() {
+        return text.push_str(name.ascii);
     }
-    match decode(name.plain.as_bytes(), name.code.as_bytes()) {
+    match decode(name.ascii.as_bytes(), name.punycode.as_bytes()) {
         Some(decoded) => push_characters(text, decoded.characters()),
         None => push_undecoded(text, name),
     }

@@ -1,4 +1,4 @@
-pub mod Cuts
+pub mod TextLemmas
 pub mod NumberLemmas
 pub mod PunycodeLemmas
 pub mod ReadingComplete

@@ -13,7 +13,7 @@ use Rattle.std.proofs.lemmas.Bool.Decides.{nat_tests}
 use Rattle.binfarce_text.specs.Letters.{is_hex_digit}
 use Rattle.binfarce_text.specs.Steps.{◌>>=◌}
 use Rattle.binfarce_v0_grammar.specs.Base62.{digit_62, limited, number, hex_digits}
-use Rattle.binfarce_v0_grammar.specs.Identifier.{length_at}
+use Rattle.binfarce_v0_grammar.specs.Identifiers.{length_at}
 use Rattle.binfarce_v0_grammar.specs.machine.Numbers.{number_from, decimal_from, length_from, hex_length}
 
 -- One more byte
@@ -88,7 +88,7 @@ first_at s at = get_or-drop at s 0 0 ∙ ap (λ k. get_or s k 0) (let e : at + 0
 abbrev next_62 : ℕ → ℕ → ℕ
 next_62 n c = n * 62 + digit_62 c
 
--- what n digits write, which stand behind others, where a "_" stands behind them
+-- what n digits write, which stand after others, where a "_" stands after them
 abbrev ends_62 : List ℕ → ℕ → ℕ → ℕ → Option (ℕ × ℕ)
 ends_62 s worth at n =
     cond (eqb (get_or s n 0) 95) (limited (fold next_62 worth (take n s) + 1) (at + n + 1)) None

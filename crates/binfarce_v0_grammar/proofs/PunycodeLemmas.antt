@@ -204,15 +204,15 @@ unfolding decoder_after
 decoder_after-is n i bias delta count output e =
     ap (λ x. decoder_of (n + (i + delta) / (x + 1)) ((i + delta) % (x + 1) + 1) (adapted_bias delta (x + 1) (i == 0)) (insert output ((i + delta) % (x + 1)) (n + (i + delta) / (x + 1)))) e
 
-pub punycode_decoded-long : (plain code : List ℕ) → 128 < length plain → punycode_decoded plain code ≡ None
+pub punycode_decoded-long : (ascii code : List ℕ) → 128 < length ascii → punycode_decoded ascii code ≡ None
 unfolding punycode_decoded
-punycode_decoded-long plain code long = cond-false (nat_le (length plain) 128) _ None (lt-leb (length plain) 128 long)
+punycode_decoded-long ascii code long = cond-false (nat_le (length ascii) 128) _ None (lt-leb (length ascii) 128 long)
 
-pub Decodes-start : (plain code characters : List ℕ) → length plain ≤ 128 → length characters ≡ 128 → take (length plain) characters ≡ plain → Decodes characters (length plain) 128 0 72 code (punycode_decoded plain code)
+pub Decodes-start : (ascii code characters : List ℕ) → length ascii ≤ 128 → length characters ≡ 128 → take (length ascii) characters ≡ ascii → Decodes characters (length ascii) 128 0 72 code (punycode_decoded ascii code)
 unfolding punycode_decoded
-Decodes-start plain code characters room full front =
+Decodes-start ascii code characters room full front =
     record {
-      gives = ap (λ x. text_of (128 - length plain) (decoder_of 128 0 72 x) code) front ∙ sym (cond-true (nat_le (length plain) 128) _ None (le-leb (length plain) 128 room));
+      gives = ap (λ x. text_of (128 - length ascii) (decoder_of 128 0 72 x) code) front ∙ sym (cond-true (nat_le (length ascii) 128) _ None (le-leb (length ascii) 128 room));
       full = full;
       room = room;
       within = omega arith;
@@ -275,17 +275,17 @@ module _ {characters : List ℕ} {count n i bias : ℕ} {rest : List ℕ} {answe
 
 -- ---- an insertion into an array
 
--- the first count + 1 elements, where those from the place on went one further to make room
-pub take-moved : (xs ys : List ℕ) (place count c : ℕ) → place ≤ count → count < length xs → ys ≡ c ∷ take (length (between place (count + 1) xs) - 1) (between place (count + 1) xs) → take (count + 1) (put_mid place (count + 1 - place) xs ys) ≡ insert (take count xs) place c
-take-moved xs ys place count c within room e =
-    let long : length (between place (count + 1) xs) ≡ count + 1 - place = length-between xs place (count + 1) (omega arith) in
-    let moved : length (between place (count + 1) xs) - 1 ≡ count - place = omega arith in
-    let ends : count ≡ place + (count - place) = omega arith in
-    let part : take (count - place) (between place (count + 1) xs) ≡ drop place (take count xs) =
-    take-take (count - place) (count + 1 - place) (drop place xs) (omega arith)
-    ∙ sym (ap (λ x. drop place (take x xs)) ends ∙ drop-take place (count - place) xs) in
-    let is : ys ≡ c ∷ drop place (take count xs) = e ∙ ap (λ x. c ∷ take x (between place (count + 1) xs)) moved ∙ ap (λ x. c ∷ x) part in
-    let fits : count + 1 ≡ place + length ys = omega (arith, ap length is, length-drop place (take count xs), length-take-le count xs (omega arith)) in
-    take-put_mid place (count + 1 - place) xs ys (count + 1) fits (omega arith)
-    ∙ ap (λ x. take place xs ++ x) is
-    ∙ ap (λ x. x ++ c ∷ drop place (take count xs)) (sym (take-take place count xs within))
+-- the first count + 1 elements, where those from the position on went one further to make room
+pub take-moved : (xs ys : List ℕ) (position count c : ℕ) → position ≤ count → count < length xs → ys ≡ c ∷ take (length (between position (count + 1) xs) - 1) (between position (count + 1) xs) → take (count + 1) (put_mid position (count + 1 - position) xs ys) ≡ insert (take count xs) position c
+take-moved xs ys position count c within room e =
+    let long : length (between position (count + 1) xs) ≡ count + 1 - position = length-between xs position (count + 1) (omega arith) in
+    let moved : length (between position (count + 1) xs) - 1 ≡ count - position = omega arith in
+    let ends : count ≡ position + (count - position) = omega arith in
+    let part : take (count - position) (between position (count + 1) xs) ≡ drop position (take count xs) =
+    take-take (count - position) (count + 1 - position) (drop position xs) (omega arith)
+    ∙ sym (ap (λ x. drop position (take x xs)) ends ∙ drop-take position (count - position) xs) in
+    let is : ys ≡ c ∷ drop position (take count xs) = e ∙ ap (λ x. c ∷ take x (between position (count + 1) xs)) moved ∙ ap (λ x. c ∷ x) part in
+    let fits : count + 1 ≡ position + length ys = omega (arith, ap length is, length-drop position (take count xs), length-take-le count xs (omega arith)) in
+    take-put_mid position (count + 1 - position) xs ys (count + 1) fits (omega arith)
+    ∙ ap (λ x. take position xs ++ x) is
+    ∙ ap (λ x. x ++ c ∷ drop position (take count xs)) (sym (take-take position count xs within))

@@ -1,9 +1,9 @@
--- A place reads to one tree: a reading that makes the tree finds each tree that the relation relates.
+-- A position reads to one tree: a reading that makes the tree finds each tree that the relation relates.
 use Rattle.std.proofs.Common.{◌≡◌, ℕ, zero, suc, ◌+◌, ◌-◌, ◌≤◌, ◌<◌, List, Option, Some, None, max, if◌then◌else◌, length, refl, ap, sym, ◌∙◌, arith}
 use Rattle.binfarce_text.specs.Steps.{◌>>=◌}
-use Rattle.binfarce_v0_grammar.specs.Identifier.{label, identifier}
-use Rattle.binfarce_v0_grammar.specs.Forms.{stands, lifetime, path_form, type_form, const_form, PathForm, NoPathForm, CrateRoot, NestedIn, InherentImpl, TraitImpl, TraitDefinition, WithArguments, BackToPath, TypeForm, NoTypeForm, BasicType, ReferenceTo, UnreadReference, PointerTo, SliceOf, ArrayOf, TupleOf, FunctionOf, UnreadAbi, DynOf, UnreadDyn, BackToType, PathType, ConstForm, NoConstForm, PlaceholderConst, DigitsConst, UnreadConst, BackToConst}
-use Rattle.binfarce_v0_grammar.specs.Tree.{PathTree, TypeTree, ConstTree, Item, Items, Bindings, NoConst, Placeholder, Number, UnreadNumber, BackConst, ConstPlace, NoPath, Crate, Nested, UnreadNested, OfType, OfImpl, OfTrait, Generic, BackPath, PathPlace, NoType, Basic, Reference, UnreadReferenceType, Pointer, Slice, Array, Tuple, Function, FunctionTo, UnreadFunction, Dyn, UnreadDynType, Named, BackType, TypePlace, LifetimeItem, TypeItem, ConstItem, TraitItem, NoItems, ItemThen, NoBindings, Binding, UnreadBinding, path_height, type_height, const_height, item_height, items_height, bindings_height, Listed, Arguments, Types, Traits}
+use Rattle.binfarce_v0_grammar.specs.Identifiers.{identifier, undisambiguated_identifier}
+use Rattle.binfarce_v0_grammar.specs.Forms.{stands, lifetime, path_form, type_form, const_form, PathForm, NoPathForm, CrateRoot, NestedIn, InherentImpl, TraitImpl, TraitDefinition, WithArguments, BackToPath, TypeForm, NoTypeForm, BasicType, ReferenceTo, InvalidReference, PointerTo, SliceOf, ArrayOf, TupleOf, FunctionOf, InvalidAbi, DynOf, InvalidDyn, BackToType, PathType, ConstForm, NoConstForm, PlaceholderConst, DigitsConst, InvalidConst, BackToConst}
+use Rattle.binfarce_v0_grammar.specs.Tree.{PathTree, TypeTree, ConstTree, Item, Items, Bindings, NoConst, Placeholder, Number, InvalidNumber, BackConst, ConstTarget, NoPath, Crate, Nested, InvalidNested, OfType, OfImpl, OfTrait, Generic, BackPath, PathTarget, NoType, Basic, Reference, InvalidReferenceType, Pointer, Slice, Array, Tuple, Function, FunctionTo, InvalidFunction, Dyn, InvalidDynType, Named, BackType, TypeTarget, LifetimeItem, TypeItem, ConstItem, TraitItem, NoItems, ItemThen, NoBindings, Binding, InvalidBinding, path_height, type_height, const_height, item_height, items_height, bindings_height, Listed, Arguments, Types, Traits}
 use Rattle.binfarce_v0_grammar.specs.Reading.{ReadsConst, ReadsPath, ReadsType, ReadsItem, ReadsItems, ReadsBindings}
 use Rattle.binfarce_v0_grammar.proofs.ReadingComplete.{if_so, if_not, suc-one, within, items_within}
 use Rattle.binfarce_v0_grammar.proofs.ReadingForward.{item_forward, bound_forward}
@@ -18,8 +18,8 @@ const_tree : ConstForm → Option (ConstTree × ℕ)
 const_tree NoConstForm = None
 const_tree (PlaceholderConst type_name q) = Some (Placeholder type_name, q)
 const_tree (DigitsConst type_name digits q) = Some (Number type_name digits, q)
-const_tree (UnreadConst type_name) = None
-const_tree (BackToConst target q) = Some (ConstPlace target, q)
+const_tree (InvalidConst type_name) = None
+const_tree (BackToConst target q) = Some (ConstTarget target, q)
 
 abbrev made : {A B : Type 0} → Option (A × ℕ) → (A → B) → Option (B × ℕ)
 made o f = o >>= λ a. Some (f a.0, a.1)
@@ -30,7 +30,7 @@ placed b o = o >>= λ q. Some (b, q)
 bindings_tree : List ℕ → Trees → ℕ → ℕ → Option (Bindings × ℕ)
 bindings_tree name R zero at = None
 bindings_tree name R (suc n) at =
-    if stands name 112 (Some at) then (identifier name (at + 1) >>= λ i. (R.ty i.1 >>= λ t. made (bindings_tree name R n t.1) (Binding i.0 t.0))) else Some (NoBindings, at)
+    if stands name 112 (Some at) then (undisambiguated_identifier name (at + 1) >>= λ i. (R.ty i.1 >>= λ t. made (bindings_tree name R n t.1) (Binding i.0 t.0))) else Some (NoBindings, at)
 
 item_tree : List ℕ → Trees → Listed → ℕ → Option (Item × ℕ)
 item_tree name R Arguments at =
@@ -47,30 +47,30 @@ type_tree : List ℕ → Trees → ℕ → TypeForm → Option (TypeTree × ℕ)
 type_tree name R at NoTypeForm = None
 type_tree name R at (BasicType text q) = Some (Basic text, q)
 type_tree name R at (ReferenceTo mutable life q) = made (R.ty q) (Reference mutable life)
-type_tree name R at UnreadReference = None
+type_tree name R at InvalidReference = None
 type_tree name R at (PointerTo mutable q) = made (R.ty q) (Pointer mutable)
 type_tree name R at (SliceOf q) = made (R.ty q) Slice
 type_tree name R at (ArrayOf q) = R.ty q >>= λ t. made (R.constant t.1) (Array t.0)
 type_tree name R at (TupleOf q) = made (items_tree name R Types (suc (length name)) q) Tuple
 type_tree name R at (FunctionOf signature q) =
     items_tree name R Types (suc (length name)) q >>= λ i. (if stands name 117 (Some i.1) then Some (Function signature i.0, i.1 + 1) else made (R.ty i.1) (FunctionTo signature i.0))
-type_tree name R at (UnreadAbi binder) = None
+type_tree name R at (InvalidAbi binder) = None
 type_tree name R at (DynOf binder q) =
     items_tree name R Traits (suc (length name)) q >>= λ i. placed (Dyn binder i.0 (lifetime name (Some i.1)).0) (lifetime name (Some i.1)).1
-type_tree name R at UnreadDyn = None
-type_tree name R at (BackToType target q) = Some (TypePlace target, q)
+type_tree name R at InvalidDyn = None
+type_tree name R at (BackToType target q) = Some (TypeTarget target, q)
 type_tree name R at PathType = made (R.path at) Named
 
 path_tree : List ℕ → Trees → PathForm → Option (PathTree × ℕ)
 path_tree name R NoPathForm = None
 path_tree name R (CrateRoot root q) = Some (Crate root, q)
-path_tree name R (NestedIn namespace q) = R.path q >>= λ p. made (label name p.1) (Nested namespace p.0)
+path_tree name R (NestedIn namespace q) = R.path q >>= λ p. made (identifier name p.1) (Nested namespace p.0)
 path_tree name R (InherentImpl q) = R.path q >>= λ p. made (R.ty p.1) (OfType p.0)
 path_tree name R (TraitImpl q) = R.path q >>= λ p. (R.ty p.1 >>= λ t. made (R.path t.1) (OfImpl p.0 t.0))
 path_tree name R (TraitDefinition q) = R.ty q >>= λ t. made (R.path t.1) (OfTrait t.0)
 path_tree name R (WithArguments q) =
     R.path q >>= λ p. made (items_tree name R Arguments (suc (length name)) p.1) (Generic p.0)
-path_tree name R (BackToPath target q) = Some (PathPlace target, q)
+path_tree name R (BackToPath target q) = Some (PathTarget target, q)
 
 trees : List ℕ → ℕ → Trees
 trees name zero = record { path = λ at. None; ty = λ at. None; constant = λ at. None }
@@ -101,9 +101,9 @@ unfolding ReadsConst const_tree
 const_found NoConst name l at after r h = absurd r
 const_found (Placeholder type_name) name l at after r h = const_at name l at h ∙ ap const_tree r
 const_found (Number type_name digits) name l at after r h = const_at name l at h ∙ ap const_tree r
-const_found (UnreadNumber type_name) name l at after r h = absurd r
+const_found (InvalidNumber type_name) name l at after r h = absurd r
 const_found (BackConst c) name l at after r h = absurd r
-const_found (ConstPlace place) name l at after r h = const_at name l at h ∙ ap const_tree r
+const_found (ConstTarget target) name l at after r h = const_at name l at h ∙ ap const_tree r
 
 mutual
   unfolding ReadsPath path_height path_tree type_tree item_tree items_tree bindings_tree
@@ -113,7 +113,7 @@ mutual
   path_found (Crate root) name l at after r h = path_at name l at h ∙ ap (path_tree name (trees name (l - 1))) r
   path_found (Nested namespace p i) name l at after r h =
       path_at name l at (omega arith) ∙ ap (path_tree name (trees name (l - 1))) r.2 ∙ on _ _ _ (path_found p name (l - 1) r.0 r.1 r.3 (omega arith)) ∙ on _ _ _ r.4
-  path_found (UnreadNested p) name l at after r h = absurd r
+  path_found (InvalidNested p) name l at after r h = absurd r
   path_found (OfType p t) name l at after r h =
       path_at name l at (omega arith) ∙ ap (path_tree name (trees name (l - 1))) r.2 ∙ on _ _ _ (path_found p name (l - 1) r.0 r.1 r.3 (omega arith)) ∙ on _ _ _ (type_found t name (l - 1) r.1 after r.4 (omega arith))
   path_found (OfImpl p t u) name l at after r h =
@@ -123,14 +123,14 @@ mutual
   path_found (Generic p items) name l at after r h =
       path_at name l at (omega arith) ∙ ap (path_tree name (trees name (l - 1))) r.2 ∙ on _ _ _ (path_found p name (l - 1) r.0 r.1 r.3 (omega arith)) ∙ on _ _ _ (items_found items name (l - 1) Arguments (suc (length name)) r.1 after r.4 (omega arith) (omega arith))
   path_found (BackPath p) name l at after r h = absurd r
-  path_found (PathPlace place) name l at after r h = path_at name l at h ∙ ap (path_tree name (trees name (l - 1))) r
+  path_found (PathTarget target) name l at after r h = path_at name l at h ∙ ap (path_tree name (trees name (l - 1))) r
 
   type_found : (t : TypeTree) (name : List ℕ) (l at after : ℕ) → ReadsType name t at after → type_height t ≤ l → (trees name l).ty at ≡ Some (t, after)
   type_found NoType name l at after r h = absurd r
   type_found (Basic text) name l at after r h = type_at name l at h ∙ ap (type_tree name (trees name (l - 1)) at) r
   type_found (Reference mutable life t) name l at after r h =
       type_at name l at (omega arith) ∙ ap (type_tree name (trees name (l - 1)) at) r.1 ∙ on _ _ _ (type_found t name (l - 1) r.0 after r.2 (omega arith))
-  type_found UnreadReferenceType name l at after r h = absurd r
+  type_found InvalidReferenceType name l at after r h = absurd r
   type_found (Pointer mutable t) name l at after r h =
       type_at name l at (omega arith) ∙ ap (type_tree name (trees name (l - 1)) at) r.1 ∙ on _ _ _ (type_found t name (l - 1) r.0 after r.2 (omega arith))
   type_found (Slice t) name l at after r h =
@@ -143,14 +143,14 @@ mutual
       type_at name l at (omega arith) ∙ ap (type_tree name (trees name (l - 1)) at) r.2 ∙ on _ _ _ (items_found items name (l - 1) Types (suc (length name)) r.0 r.1 r.3 (omega arith) (omega arith)) ∙ if_so _ _ _ r.4 ∙ rw r.5 refl
   type_found (FunctionTo signature items t) name l at after r h =
       type_at name l at (omega arith) ∙ ap (type_tree name (trees name (l - 1)) at) r.2 ∙ on _ _ _ (items_found items name (l - 1) Types (suc (length name)) r.0 r.1 r.3 (omega arith) (omega arith)) ∙ if_not _ _ _ r.4 ∙ on _ _ _ (type_found t name (l - 1) r.1 after r.5 (omega arith))
-  type_found (UnreadFunction binder) name l at after r h = absurd r
+  type_found (InvalidFunction binder) name l at after r h = absurd r
   type_found (Dyn binder items life) name l at after r h =
       type_at name l at (omega arith) ∙ ap (type_tree name (trees name (l - 1)) at) r.2 ∙ on _ _ _ (items_found items name (l - 1) Traits (suc (length name)) r.0 r.1 r.3 (omega arith) (omega arith)) ∙ rw r.5 refl
-  type_found UnreadDynType name l at after r h = absurd r
+  type_found InvalidDynType name l at after r h = absurd r
   type_found (Named p) name l at after r h =
       type_at name l at (omega arith) ∙ ap (type_tree name (trees name (l - 1)) at) r.0 ∙ on _ _ _ (path_found p name (l - 1) at after r.1 (omega arith))
   type_found (BackType t) name l at after r h = absurd r
-  type_found (TypePlace place) name l at after r h =
+  type_found (TypeTarget target) name l at after r h =
       type_at name l at h ∙ ap (type_tree name (trees name (l - 1)) at) r
 
   item_found : (i : Item) (name : List ℕ) (l : ℕ) (listed : Listed) (at after : ℕ) → ReadsItem name listed i at after → item_height i ≤ l → item_tree name (trees name l) listed at ≡ Some (i, after)
@@ -187,14 +187,14 @@ mutual
       let here = within name 111 at r.2 in
       let forward = bound_forward i t name at r.0 r.1 r.3 r.4 in
       if_so _ _ _ r.2 ∙ on _ _ _ r.3 ∙ on _ _ _ (type_found t name l r.0 r.1 r.4 (omega arith)) ∙ on _ _ _ (bindings_found more name l n r.1 after r.5 (omega arith) (omega arith))
-  bindings_found UnreadBinding name l n at after r h f = absurd r
+  bindings_found InvalidBinding name l n at after r h f = absurd r
 
 same_pair : (t u : PathTree) (a b : ℕ) → ◌≡◌ {A = Option (PathTree × ℕ)} (Some (t, a)) (Some (u, b)) → (t ≡ u) × (a ≡ b)
 same_pair t u a b e =
     let same : ◌≡◌ {A = PathTree × ℕ} (t, a) (u, b) = cc in (ap (λ r. r.0) same, ap (λ r. r.1) same)
 
-pub reads_one_tree : (name : List ℕ) (t u : PathTree) (at after behind : ℕ) → ReadsPath name t at after → ReadsPath name u at behind → (t ≡ u) × (after ≡ behind)
-reads_one_tree name t u at after behind p q =
+pub reads_one_tree : (name : List ℕ) (t u : PathTree) (at after end : ℕ) → ReadsPath name t at after → ReadsPath name u at end → (t ≡ u) × (after ≡ end)
+reads_one_tree name t u at after end p q =
     let l = max (path_height t) (path_height u) in
     let first = path_found t name l at after p (omega arith) in
-    let second = path_found u name l at behind q (omega arith) in same_pair t u after behind (sym first ∙ second)
+    let second = path_found u name l at end q (omega arith) in same_pair t u after end (sym first ∙ second)

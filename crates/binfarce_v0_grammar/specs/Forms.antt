@@ -1,37 +1,37 @@
--- Which form of the grammar stands at a place of a v0 name: the front of each row, up to where it asks for a path, a type or a const
--- (RFC 2603, "Syntax of mangled names"). A place is None behind a fault, where no form stands.
+-- Which form of the grammar stands at a position of a v0 name: the front of each row, up to where it asks for a path, a type or a const
+-- (RFC 2603, "Syntax of mangled names"). A position is None after a fault, where no form stands.
 use Rattle.std.specs.Prelude.{ℕ, ◌+◌, List, [], ◌∷◌, Option, Some, None, Bool, true, false, ◌||◌, if◌then◌else◌, ◌==◌, nat_lt, slice_index, length, codes}
 use Rattle.std.specs.Char.{is_ascii_alphabetic}
 use Rattle.binfarce_text.specs.Letters.{'A', 'B', 'C', 'D', 'F', 'G', 'I', 'K', 'L', 'M', 'N', 'O', 'P', 'Q', 'R', 'S', 'T', 'U', 'X', 'Y', 'a', 'b', 'c', 'd', 'e', 'f', 'h', 'i', 'j', 'l', 'm', 'n', 'o', 'p', 's', 't', 'u', 'v', 'x', 'y', 'z'}
 use Rattle.binfarce_text.specs.Steps.{◌>>=◌}
 use Rattle.binfarce_v0_grammar.specs.Base62.{number, tagged, back_reference, hex_digits}
-use Rattle.binfarce_v0_grammar.specs.Identifier.{Identifier, identifier, Label, label, past}
+use Rattle.binfarce_v0_grammar.specs.Identifiers.{UndisambiguatedIdentifier, undisambiguated_identifier, Identifier, identifier, past}
 
--- a byte stands at a place
+-- a byte stands at a position
 abbrev pub stands : List ℕ → ℕ → Option ℕ → Bool
 stands name byte None = false
 stands name byte (Some at) = slice_index name at == byte
 
--- the place behind a byte that stands there
-abbrev pub behind : Option ℕ → Option ℕ
-behind None = None
-behind (Some at) = Some (at + 1)
+-- the position after a byte that stands there
+abbrev pub after_byte : Option ℕ → Option ℕ
+after_byte None = None
+after_byte (Some at) = Some (at + 1)
 
--- a label asked for at a place
-abbrev pub label_at : List ℕ → Option ℕ → Option (Label × ℕ)
-label_at name None = None
-label_at name (Some at) = label name at
-
+-- a label asked for at a position
 abbrev pub identifier_at : List ℕ → Option ℕ → Option (Identifier × ℕ)
 identifier_at name None = None
 identifier_at name (Some at) = identifier name at
 
+abbrev pub undisambiguated_at : List ℕ → Option ℕ → Option (UndisambiguatedIdentifier × ℕ)
+undisambiguated_at name None = None
+undisambiguated_at name (Some at) = undisambiguated_identifier name at
+
 -- <path>
 pub data PathForm : Type 0 where
-  -- none of the forms, or one whose number, name or namespace doesn't read
+  -- none of the forms, or one whose number, name or namespace is invalid
   NoPathForm : PathForm
   -- "C" <identifier>
-  CrateRoot : (root : Label) (after : ℕ) → PathForm
+  CrateRoot : (root : Identifier) (after : ℕ) → PathForm
   -- "N" <namespace> ..
   NestedIn : (namespace after : ℕ) → PathForm
   -- "M" [<disambiguator>] ..
@@ -45,7 +45,7 @@ pub data PathForm : Type 0 where
   -- <backref>
   BackToPath : (target after : ℕ) → PathForm
 
-abbrev pub crate_form : Option (Label × ℕ) → PathForm
+abbrev pub crate_form : Option (Identifier × ℕ) → PathForm
 crate_form None = NoPathForm
 crate_form (Some l) = CrateRoot l.0 l.1
 
@@ -64,7 +64,7 @@ nested_form namespace after = if is_ascii_alphabetic namespace then NestedIn nam
 -- the form that a path's first byte announces
 unfoldable pub path_form_by : List ℕ → ℕ → ℕ → PathForm
 path_form_by name at tag =
-    if tag == 'C' then crate_form (label name (at + 1)) else (
+    if tag == 'C' then crate_form (identifier name (at + 1)) else (
     if tag == 'N' then nested_form (slice_index name (at + 1)) (at + 2) else (
     if tag == 'M' then impl_form InherentImpl (tagged name 's' (at + 1)) else (
     if tag == 'X' then impl_form TraitImpl (tagged name 's' (at + 1)) else (
@@ -76,17 +76,17 @@ unfoldable pub path_form : List ℕ → Option ℕ → PathForm
 path_form name None = NoPathForm
 path_form name (Some at) = path_form_by name at (slice_index name at)
 
--- a lifetime that may stand at a place
+-- a lifetime that may stand at a position
 pub data Lifetime : Type 0 where
   -- no "L"
   NoLifetime : Lifetime
-  -- an "L" whose number doesn't read
-  UnreadLifetime : Lifetime
+  -- an "L" whose number is invalid
+  InvalidLifetime : Lifetime
   -- <lifetime> = "L" <base-62-number>
   IndexedLifetime : (index : ℕ) → Lifetime
 
 abbrev pub indexed_lifetime : Option (ℕ × ℕ) → Lifetime × Option ℕ
-indexed_lifetime None = (UnreadLifetime, None)
+indexed_lifetime None = (InvalidLifetime, None)
 indexed_lifetime (Some n) = (IndexedLifetime n.0, Some n.1)
 
 unfoldable pub lifetime : List ℕ → Option ℕ → Lifetime × Option ℕ
@@ -125,30 +125,30 @@ pub record Signature : Type 0 where
   pub is_unsafe : Bool
   pub abi : Option (List ℕ)
 
--- an <abi> that is an identifier has plain characters, and no Punycode
-abbrev pub abi_name : Identifier × ℕ → Option (Option (List ℕ) × ℕ)
-abi_name i = abi_of i.0.plain i.0.code i.1
+-- an <abi> that is an identifier has an ASCII part, and no Punycode part
+abbrev pub abi_name : UndisambiguatedIdentifier × ℕ → Option (Option (List ℕ) × ℕ)
+abi_name i = abi_of i.0.ascii i.0.punycode i.1
   where
     abi_of : List ℕ → List ℕ → ℕ → Option (Option (List ℕ) × ℕ)
-    abi_of [] code after = None
-    abi_of (c ∷ plain) [] after = Some (Some (c ∷ plain), after)
-    abi_of (c ∷ plain) (d ∷ code) after = None
+    abi_of [] punycode after = None
+    abi_of (c ∷ ascii) [] after = Some (Some (c ∷ ascii), after)
+    abi_of (c ∷ ascii) (d ∷ punycode) after = None
 
 -- ["K" <abi>], where <abi> = "C" | <undisambiguated-identifier>
 unfoldable pub abi : List ℕ → ℕ → Option (Option (List ℕ) × ℕ)
 abi name at =
-    if slice_index name at == 'K' then (if slice_index name (at + 1) == 'C' then Some (Some (codes "C"), at + 2) else (identifier name (at + 1) >>= abi_name)) else Some (None, at)
+    if slice_index name at == 'K' then (if slice_index name (at + 1) == 'C' then Some (Some (codes "C"), at + 2) else (undisambiguated_identifier name (at + 1) >>= abi_name)) else Some (None, at)
 
 -- <type>
 pub data TypeForm : Type 0 where
-  -- no byte, or a form whose binder or back reference doesn't read
+  -- no byte, or a form whose binder or back reference is invalid
   NoTypeForm : TypeForm
   -- <basic-type>, by its name
   BasicType : (name : List ℕ) (after : ℕ) → TypeForm
   -- "R" [<lifetime>] .. and "Q" [<lifetime>] ..
   ReferenceTo : (mutable : Bool) (life : Lifetime) (after : ℕ) → TypeForm
-  -- the same with an "L" whose number doesn't read
-  UnreadReference : TypeForm
+  -- the same with an "L" whose number is invalid
+  InvalidReference : TypeForm
   -- "P" .. and "O" ..
   PointerTo : (mutable : Bool) (after : ℕ) → TypeForm
   -- "S" ..
@@ -159,12 +159,12 @@ pub data TypeForm : Type 0 where
   TupleOf : (after : ℕ) → TypeForm
   -- "F" and the front of a <fn-sig>
   FunctionOf : (signature : Signature) (after : ℕ) → TypeForm
-  -- the same with an <abi> that doesn't read
-  UnreadAbi : (binder : ℕ) → TypeForm
+  -- the same with an <abi> that is invalid
+  InvalidAbi : (binder : ℕ) → TypeForm
   -- "D" [<binder>] ..
   DynOf : (binder after : ℕ) → TypeForm
-  -- the same with a binder that doesn't read
-  UnreadDyn : TypeForm
+  -- the same with a binder that is invalid
+  InvalidDyn : TypeForm
   -- <backref>
   BackToType : (target after : ℕ) → TypeForm
   -- another byte: a path
@@ -174,11 +174,11 @@ abbrev pub reference_form : Bool → Lifetime × Option ℕ → TypeForm
 reference_form mutable l = form_of l.0 l.1
   where
     form_of : Lifetime → Option ℕ → TypeForm
-    form_of life None = UnreadReference
+    form_of life None = InvalidReference
     form_of life (Some after) = ReferenceTo mutable life after
 
 abbrev pub signature_form : ℕ → Bool → Option (Option (List ℕ) × ℕ) → TypeForm
-signature_form binder is_unsafe None = UnreadAbi binder
+signature_form binder is_unsafe None = InvalidAbi binder
 signature_form binder is_unsafe (Some a) =
     FunctionOf (record { binder = binder; is_unsafe = is_unsafe; abi = a.0 }) a.1
 
@@ -187,7 +187,7 @@ function_form name None = NoTypeForm
 function_form name (Some b) = signature_form b.0 (slice_index name b.1 == 'U') (abi name (past name 'U' b.1))
 
 abbrev pub dyn_form : Option (ℕ × ℕ) → TypeForm
-dyn_form None = UnreadDyn
+dyn_form None = InvalidDyn
 dyn_form (Some b) = DynOf b.0 b.1
 
 abbrev pub type_back_form : Option (ℕ × ℕ) → TypeForm
@@ -219,14 +219,14 @@ type_form name (Some at) =
 
 -- <const> of an unsigned integer
 pub data ConstForm : Type 0 where
-  -- another type, or a back reference that doesn't read
+  -- another type, or a back reference that is invalid
   NoConstForm : ConstForm
   -- <type> "p"
   PlaceholderConst : (type_name : List ℕ) (after : ℕ) → ConstForm
   -- <type> <const-data>
   DigitsConst : (type_name digits : List ℕ) (after : ℕ) → ConstForm
-  -- the same with digits that don't read
-  UnreadConst : (type_name : List ℕ) → ConstForm
+  -- the same with digits that are invalid
+  InvalidConst : (type_name : List ℕ) → ConstForm
   -- <backref>
   BackToConst : (target after : ℕ) → ConstForm
 
@@ -235,7 +235,7 @@ const_back_form None = NoConstForm
 const_back_form (Some b) = BackToConst b.0 b.1
 
 abbrev pub digits_form : List ℕ → Option (List ℕ × ℕ) → ConstForm
-digits_form type_name None = UnreadConst type_name
+digits_form type_name None = InvalidConst type_name
 digits_form type_name (Some d) = DigitsConst type_name d.0 d.1
 
 -- the types of unsigned integers

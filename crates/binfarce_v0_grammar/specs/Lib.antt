@@ -1,5 +1,5 @@
 pub mod Base62
-pub mod Identifier
+pub mod Identifiers
 pub mod Punycode
 pub mod Forms
 pub mod Tree

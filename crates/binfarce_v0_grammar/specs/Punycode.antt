@@ -106,10 +106,10 @@ text_of (suc room) decoder (byte ∷ code) =
     if is_scalar next.n then text else None)
     (integer decoder.bias 0 (byte ∷ code))
 
--- the text of a plain part, whose bytes are its first characters, and a code. There is none where the code isn't all
+-- the text of an ASCII part, whose bytes are its first characters, and a code. There is none where the code isn't all
 -- read as integers, where a character is no scalar value, and where there are too many of them
-unfoldable pub punycode_decoded : (plain code : List ℕ) → Option (List ℕ)
-punycode_decoded plain code =
-    let start : Decoder = record { n = initial_n; i = 0; bias = initial_bias; output = plain } in
-    let text = text_of (most_characters - length plain) start code in
-    if nat_le (length plain) most_characters then text else None
+unfoldable pub punycode_decoded : (ascii code : List ℕ) → Option (List ℕ)
+punycode_decoded ascii code =
+    let start : Decoder = record { n = initial_n; i = 0; bias = initial_bias; output = ascii } in
+    let text = text_of (most_characters - length ascii) start code in
+    if nat_le (length ascii) most_characters then text else None

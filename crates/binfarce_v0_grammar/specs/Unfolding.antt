@@ -1,25 +1,25 @@
--- What a place of a v0 name unfolds to (RFC 2603, "Symbol grammar summary" and "Compression/Substitution"), whatever the limits.
--- A place is None behind a fault. From there a path, a type or a const is a hole, a byte that may stand is not there, and a list ends.
--- A tree is unfolded from a place, under a depth of binders, up to the place behind it.
+-- What a position of a v0 name unfolds to (RFC 2603, "Symbol grammar summary" and "Compression/Substitution"), whatever the limits.
+-- A position is None after a fault. From there a path, a type or a const is a hole, a byte that may stand is not there, and a list ends.
+-- A tree is unfolded from a position, under a depth of binders, up to the position after it.
 use Rattle.std.specs.Prelude.{◌≡◌, ℕ, ◌+◌, ◌≤◌, List, Option, Some, None, Bool, true, false, if◌then◌else◌}
 use Rattle.binfarce_text.specs.Letters.{'E', 'K', 'L', 'p', 'u'}
-use Rattle.binfarce_v0_grammar.specs.Forms.{Lifetime, NoLifetime, UnreadLifetime, IndexedLifetime, stands, behind, label_at, identifier_at, lifetime, path_form, type_form, const_form, NoPathForm, CrateRoot, NestedIn, InherentImpl, TraitImpl, TraitDefinition, WithArguments, BackToPath, NoTypeForm, BasicType, ReferenceTo, UnreadReference, PointerTo, SliceOf, ArrayOf, TupleOf, FunctionOf, UnreadAbi, DynOf, UnreadDyn, BackToType, PathType, NoConstForm, PlaceholderConst, DigitsConst, UnreadConst, BackToConst}
-use Rattle.binfarce_v0_grammar.specs.Tree.{PathTree, TypeTree, ConstTree, Item, Items, Bindings, NoConst, Placeholder, Number, UnreadNumber, BackConst, ConstPlace, NoPath, Crate, Nested, UnreadNested, OfType, OfImpl, OfTrait, Generic, BackPath, PathPlace, NoType, Basic, Reference, UnreadReferenceType, Pointer, Slice, Array, Tuple, Function, FunctionTo, UnreadFunction, Dyn, UnreadDynType, Named, BackType, TypePlace, LifetimeItem, TypeItem, ConstItem, TraitItem, NoItems, ItemThen, Listed, Arguments, Types, Traits, NoBindings, Binding, UnreadBinding, path_height, path_steps, is_announced}
+use Rattle.binfarce_v0_grammar.specs.Forms.{Lifetime, NoLifetime, InvalidLifetime, IndexedLifetime, stands, after_byte, identifier_at, undisambiguated_at, lifetime, path_form, type_form, const_form, NoPathForm, CrateRoot, NestedIn, InherentImpl, TraitImpl, TraitDefinition, WithArguments, BackToPath, NoTypeForm, BasicType, ReferenceTo, InvalidReference, PointerTo, SliceOf, ArrayOf, TupleOf, FunctionOf, InvalidAbi, DynOf, InvalidDyn, BackToType, PathType, NoConstForm, PlaceholderConst, DigitsConst, InvalidConst, BackToConst}
+use Rattle.binfarce_v0_grammar.specs.Tree.{PathTree, TypeTree, ConstTree, Item, Items, Bindings, NoConst, Placeholder, Number, InvalidNumber, BackConst, ConstTarget, NoPath, Crate, Nested, InvalidNested, OfType, OfImpl, OfTrait, Generic, BackPath, PathTarget, NoType, Basic, Reference, InvalidReferenceType, Pointer, Slice, Array, Tuple, Function, FunctionTo, InvalidFunction, Dyn, InvalidDynType, Named, BackType, TypeTarget, LifetimeItem, TypeItem, ConstItem, TraitItem, NoItems, ItemThen, Listed, Arguments, Types, Traits, NoBindings, Binding, InvalidBinding, path_height, path_steps, is_announced}
 use Rattle.binfarce_v0_grammar.specs.declared.limits.TheConstants.{MAX_LEVELS, MAX_STEPS}
 
 -- an index that no binder announces is a fault
-unfoldable pub bound_place : ℕ → Lifetime → Option ℕ → Option ℕ
-bound_place depth NoLifetime after = after
-bound_place depth UnreadLifetime after = None
-bound_place depth (IndexedLifetime k) after = if is_announced depth k then after else None
+unfoldable pub bound_end : ℕ → Lifetime → Option ℕ → Option ℕ
+bound_end depth NoLifetime after = after
+bound_end depth InvalidLifetime after = None
+bound_end depth (IndexedLifetime k) after = if is_announced depth k then after else None
 
--- a lifetime that has to stand at a place
-abbrev pub required_place : ℕ → Lifetime → Option ℕ → Option ℕ
-required_place depth NoLifetime after = None
-required_place depth UnreadLifetime after = None
-required_place depth (IndexedLifetime k) after = bound_place depth (IndexedLifetime k) after
+-- a lifetime that has to stand at a position
+abbrev pub required_end : ℕ → Lifetime → Option ℕ → Option ℕ
+required_end depth NoLifetime after = None
+required_end depth InvalidLifetime after = None
+required_end depth (IndexedLifetime k) after = bound_end depth (IndexedLifetime k) after
 
--- a list ends at an "E", and behind a fault
+-- a list ends at an "E", and after a fault
 abbrev pub list_goes_on : List ℕ → Option ℕ → Bool
 list_goes_on name None = false
 list_goes_on name (Some at) = if stands name 'E' (Some at) then false else true
@@ -30,10 +30,10 @@ IsConst name (Placeholder type_name) at after =
     (q : ℕ) × (const_form name at ≡ PlaceholderConst type_name q) × (after ≡ Some q)
 IsConst name (Number type_name digits) at after =
     (q : ℕ) × (const_form name at ≡ DigitsConst type_name digits q) × (after ≡ Some q)
-IsConst name (UnreadNumber type_name) at after = (const_form name at ≡ UnreadConst type_name) × (after ≡ None)
+IsConst name (InvalidNumber type_name) at after = (const_form name at ≡ InvalidConst type_name) × (after ≡ None)
 IsConst name (BackConst c) at after =
     (target : ℕ) × (q : ℕ) × (end : Option ℕ) × (const_form name at ≡ BackToConst target q) × IsConst name c (Some target) end × (after ≡ Some q)
-IsConst name (ConstPlace place) at after = ⊥
+IsConst name (ConstTarget target) at after = ⊥
 
 unfoldable mutual
   pub IsPath : List ℕ → PathTree → Option ℕ → ℕ → Option ℕ → Type 0
@@ -41,9 +41,9 @@ unfoldable mutual
   IsPath name (Crate root) at depth after =
       (q : ℕ) × (path_form name at ≡ CrateRoot root q) × (after ≡ Some q)
   IsPath name (Nested namespace p l) at depth after =
-      (q : ℕ) × (mid : Option ℕ) × (end : ℕ) × (path_form name at ≡ NestedIn namespace q) × IsPath name p (Some q) depth mid × (label_at name mid ≡ Some (l, end)) × (after ≡ Some end)
-  IsPath name (UnreadNested p) at depth after =
-      (namespace : ℕ) × (q : ℕ) × (mid : Option ℕ) × (path_form name at ≡ NestedIn namespace q) × IsPath name p (Some q) depth mid × (label_at name mid ≡ None) × (after ≡ None)
+      (q : ℕ) × (mid : Option ℕ) × (end : ℕ) × (path_form name at ≡ NestedIn namespace q) × IsPath name p (Some q) depth mid × (identifier_at name mid ≡ Some (l, end)) × (after ≡ Some end)
+  IsPath name (InvalidNested p) at depth after =
+      (namespace : ℕ) × (q : ℕ) × (mid : Option ℕ) × (path_form name at ≡ NestedIn namespace q) × IsPath name p (Some q) depth mid × (identifier_at name mid ≡ None) × (after ≡ None)
   IsPath name (OfType p t) at depth after =
       (q : ℕ) × (mid : Option ℕ) × (path_form name at ≡ InherentImpl q) × IsPath name p (Some q) depth mid × IsType name t mid depth after
   IsPath name (OfImpl p t u) at depth after =
@@ -54,15 +54,15 @@ unfoldable mutual
       (q : ℕ) × (mid : Option ℕ) × (path_form name at ≡ WithArguments q) × IsPath name p (Some q) depth mid × AreItems name Arguments items mid depth after
   IsPath name (BackPath p) at depth after =
       (target : ℕ) × (q : ℕ) × (end : Option ℕ) × (path_form name at ≡ BackToPath target q) × IsPath name p (Some target) depth end × (after ≡ Some q)
-  IsPath name (PathPlace place) at depth after = ⊥
+  IsPath name (PathTarget target) at depth after = ⊥
 
   pub IsType : List ℕ → TypeTree → Option ℕ → ℕ → Option ℕ → Type 0
   IsType name NoType at depth after = (type_form name at ≡ NoTypeForm) × (after ≡ None)
   IsType name (Basic text) at depth after =
       (q : ℕ) × (type_form name at ≡ BasicType text q) × (after ≡ Some q)
   IsType name (Reference mutable life t) at depth after =
-      (q : ℕ) × (type_form name at ≡ ReferenceTo mutable life q) × IsType name t (bound_place depth life (Some q)) depth after
-  IsType name UnreadReferenceType at depth after = (type_form name at ≡ UnreadReference) × (after ≡ None)
+      (q : ℕ) × (type_form name at ≡ ReferenceTo mutable life q) × IsType name t (bound_end depth life (Some q)) depth after
+  IsType name InvalidReferenceType at depth after = (type_form name at ≡ InvalidReference) × (after ≡ None)
   IsType name (Pointer mutable t) at depth after =
       (q : ℕ) × (type_form name at ≡ PointerTo mutable q) × IsType name t (Some q) depth after
   IsType name (Slice t) at depth after =
@@ -72,24 +72,24 @@ unfoldable mutual
   IsType name (Tuple items) at depth after =
       (q : ℕ) × (type_form name at ≡ TupleOf q) × AreItems name Types items (Some q) depth after
   IsType name (Function signature items) at depth after =
-      (q : ℕ) × (end : Option ℕ) × (type_form name at ≡ FunctionOf signature q) × AreItems name Types items (Some q) (depth + signature.binder) end × (stands name 'u' end ≡ true) × (after ≡ behind end)
+      (q : ℕ) × (end : Option ℕ) × (type_form name at ≡ FunctionOf signature q) × AreItems name Types items (Some q) (depth + signature.binder) end × (stands name 'u' end ≡ true) × (after ≡ after_byte end)
   IsType name (FunctionTo signature items t) at depth after =
       (q : ℕ) × (end : Option ℕ) × (type_form name at ≡ FunctionOf signature q) × AreItems name Types items (Some q) (depth + signature.binder) end × (stands name 'u' end ≡ false) × IsType name t end (depth + signature.binder) after
-  IsType name (UnreadFunction binder) at depth after = (type_form name at ≡ UnreadAbi binder) × (after ≡ None)
+  IsType name (InvalidFunction binder) at depth after = (type_form name at ≡ InvalidAbi binder) × (after ≡ None)
   IsType name (Dyn binder items life) at depth after =
-      (q : ℕ) × (end : Option ℕ) × (last : Option ℕ) × (type_form name at ≡ DynOf binder q) × AreItems name Traits items (Some q) (depth + binder) end × (lifetime name end ≡ (life, last)) × (after ≡ required_place depth life last)
-  IsType name UnreadDynType at depth after = (type_form name at ≡ UnreadDyn) × (after ≡ None)
+      (q : ℕ) × (end : Option ℕ) × (last : Option ℕ) × (type_form name at ≡ DynOf binder q) × AreItems name Traits items (Some q) (depth + binder) end × (lifetime name end ≡ (life, last)) × (after ≡ required_end depth life last)
+  IsType name InvalidDynType at depth after = (type_form name at ≡ InvalidDyn) × (after ≡ None)
   IsType name (Named p) at depth after = (type_form name at ≡ PathType) × IsPath name p at depth after
   IsType name (BackType t) at depth after =
       (target : ℕ) × (q : ℕ) × (end : Option ℕ) × (type_form name at ≡ BackToType target q) × IsType name t (Some target) depth end × (after ≡ Some q)
-  IsType name (TypePlace place) at depth after = ⊥
+  IsType name (TypeTarget target) at depth after = ⊥
 
   -- an item of a list, where the list goes on
   pub IsItem : List ℕ → Listed → Item → Option ℕ → ℕ → Option ℕ → Type 0
   IsItem name Arguments (LifetimeItem life) at depth after =
-      (last : Option ℕ) × (stands name 'L' at ≡ true) × (lifetime name at ≡ (life, last)) × (after ≡ required_place depth life last)
+      (last : Option ℕ) × (stands name 'L' at ≡ true) × (lifetime name at ≡ (life, last)) × (after ≡ required_end depth life last)
   IsItem name Arguments (ConstItem c) at depth after =
-      (stands name 'L' at ≡ false) × (stands name 'K' at ≡ true) × IsConst name c (behind at) after
+      (stands name 'L' at ≡ false) × (stands name 'K' at ≡ true) × IsConst name c (after_byte at) after
   IsItem name Arguments (TypeItem t) at depth after =
       (stands name 'L' at ≡ false) × (stands name 'K' at ≡ false) × IsType name t at depth after
   IsItem name Types (TypeItem t) at depth after = IsType name t at depth after
@@ -99,16 +99,16 @@ unfoldable mutual
 
   pub AreItems : List ℕ → Listed → Items → Option ℕ → ℕ → Option ℕ → Type 0
   AreItems name listed NoItems at depth after =
-      (list_goes_on name at ≡ false) × (after ≡ behind at)
+      (list_goes_on name at ≡ false) × (after ≡ after_byte at)
   AreItems name listed (ItemThen i items) at depth after =
       (mid : Option ℕ) × (list_goes_on name at ≡ true) × IsItem name listed i at depth mid × AreItems name listed items mid depth after
 
   pub AreBindings : List ℕ → Bindings → Option ℕ → ℕ → Option ℕ → Type 0
   AreBindings name NoBindings at depth after = (stands name 'p' at ≡ false) × (after ≡ at)
   AreBindings name (Binding i t bindings) at depth after =
-      (q : ℕ) × (mid : Option ℕ) × (stands name 'p' at ≡ true) × (identifier_at name (behind at) ≡ Some (i, q)) × IsType name t (Some q) depth mid × AreBindings name bindings mid depth after
-  AreBindings name UnreadBinding at depth after =
-      (stands name 'p' at ≡ true) × (identifier_at name (behind at) ≡ None) × (after ≡ None)
+      (q : ℕ) × (mid : Option ℕ) × (stands name 'p' at ≡ true) × (undisambiguated_at name (after_byte at) ≡ Some (i, q)) × IsType name t (Some q) depth mid × AreBindings name bindings mid depth after
+  AreBindings name InvalidBinding at depth after =
+      (stands name 'p' at ≡ true) × (undisambiguated_at name (after_byte at) ≡ None) × (after ≡ None)
 
 -- a name unfolds to a tree within the limits
 pub record UnfoldsTo (name : List ℕ) (tree : PathTree) : Type 0 where

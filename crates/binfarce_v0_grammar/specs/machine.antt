@@ -2,4 +2,4 @@
 pub mod Numbers
 pub mod Decoded
 pub mod Seen
-pub mod Places
+pub mod Ends

@@ -3,9 +3,9 @@
 #![tactic(auto)]
 
 pub mod forms;
-pub mod leaves;
+pub mod identifiers;
 pub mod limits;
 pub mod numbers;
-pub mod places;
+pub mod positions;
 pub mod punycode;
 pub mod reading;

@@ -1,13 +1,14 @@
-//! Numbers of a v0 name, from a place to the value and the place behind.
+//! Numbers of a v0 name (RFC 2603, "Base-62-Numbers"): from a position to the value and the position after it. A number is
+//! below 2^64, and one that isn't is invalid.
 
 ghost use Rattle.std.specs.Prelude.{◌≡◌, ◌+◌, ◌-◌, ◌*◌, ◌^◌, ◌<◌, ◌≤◌, IfSome, MatchOption, SomeIff, drop, length, slice_index, true};
 ghost use Rattle.std.specs.Char.{is_ascii_alphanumeric, is_ascii_digit};
 ghost use Rattle.std.specs.Option.{option_map};
 ghost use Rattle.binfarce_v0_grammar.specs.Base62.{digit_62, number, tagged, back_reference};
-ghost use Rattle.binfarce_v0_grammar.specs.Identifier.{length_at, past};
+ghost use Rattle.binfarce_v0_grammar.specs.Identifiers.{length_at, past};
 ghost use Rattle.binfarce_v0_grammar.specs.machine.Numbers.{number_from, length_from, hex_length};
 
-/// The byte at a place, 0 behind the end.
+/// The byte at a position, and 0 from the end on.
 pub fn byte_at(name: &[u8], at: usize) -> u8
     ensures value { result ≡ slice_index name.now at }
     ensures within { 0 < result → at < length name.now }
@@ -15,7 +16,7 @@ pub fn byte_at(name: &[u8], at: usize) -> u8
     if at < name.len() { name[at] } else { 0 }
 }
 
-/// The place behind a byte that may stand at a place.
+/// The position after a byte that may stand at a position, and else that position.
 pub fn past(name: &[u8], byte: u8, at: usize) -> usize
     requires { 0 < byte }
     ensures { result ≡ past name.now byte at }
@@ -27,7 +28,7 @@ pub fn past(name: &[u8], byte: u8, at: usize) -> usize
     }
 }
 
-/// The value of a base-62 digit.
+// The value of a base-62 digit.
 #[tactic(auto, unfolding(crate::specs::Base62::digit_62))]
 fn digit_62(c: u8) -> Option<u8>
     ensures { SomeIff result (is_ascii_alphanumeric c ≡ true) (digit_62 c) }
@@ -40,14 +41,14 @@ fn digit_62(c: u8) -> Option<u8>
     }
 }
 
-// A number with one more digit behind, where it is below 2^64.
+// A number with one more digit after it, where it is below 2^64.
 fn with_digit(worth: u64, base: u64, digit: u8) -> Option<u64>
     ensures { MatchOption result (2 ^ 64 ≤ worth * base + digit) (λ v. v ≡ worth * base + digit) }
 {
     worth.checked_mul(base)?.checked_add(u64::from(digit))
 }
 
-/// Base-62 digits up to a `_`: one more than their value.
+// Base-62 digits up to a `_`: one more than what they write.
 #[tactic(auto, using(crate::proofs::NumberLemmas::number_from_step, crate::proofs::NumberLemmas::number_from_large, crate::proofs::NumberLemmas::number_from_over))]
 fn digits_62(name: &[u8], start: usize) -> Option<(u64, usize)>
     ensures { result ≡ number_from (drop start name.now) 0 start }
@@ -64,7 +65,7 @@ fn digits_62(name: &[u8], start: usize) -> Option<(u64, usize)>
     None
 }
 
-/// `<base-62-number>`
+/// `<base-62-number>` at a position. None where it is invalid.
 #[tactic(auto, using(crate::proofs::NumberLemmas::number_step))]
 pub fn number(name: &[u8], at: usize) -> Option<(u64, usize)>
     ensures { result ≡ number name.now at }
@@ -76,7 +77,8 @@ pub fn number(name: &[u8], at: usize) -> Option<(u64, usize)>
     }
 }
 
-/// A number behind a tag: 0 without the tag.
+/// A number after a tag, as a disambiguator after `s` or a binder after `G`: 0 where the tag doesn't stand there, and else
+/// one more than the number. None where the number is invalid.
 #[tactic(auto, unfolding(crate::specs::Base62::tagged))]
 pub fn tagged(name: &[u8], tag: u8, at: usize) -> Option<(u64, usize)>
     requires { 0 < tag }
@@ -90,7 +92,8 @@ pub fn tagged(name: &[u8], tag: u8, at: usize) -> Option<(u64, usize)>
     }
 }
 
-/// `<backref>`, with its `B` at `at`: the place that it names.
+/// `<backref>`, with its `B` at `at`: the position that it names, and the position after it. None where its number is
+/// invalid or names no position before the `B`.
 #[tactic(auto, unfolding(crate::specs::Base62::back_reference))]
 pub fn back_reference(name: &[u8], at: usize) -> Option<(usize, usize)>
     requires { at < length name.now }
@@ -105,7 +108,7 @@ pub fn back_reference(name: &[u8], at: usize) -> Option<(usize, usize)>
     }
 }
 
-/// A decimal digit's value.
+// The value of a decimal digit.
 fn decimal_digit(c: u8) -> Option<u8>
     ensures { SomeIff result (is_ascii_digit c ≡ true) (c - 48) }
 {
@@ -115,7 +118,7 @@ fn decimal_digit(c: u8) -> Option<u8>
     }
 }
 
-/// The longest run of decimal digits.
+// The longest run of decimal digits.
 #[tactic(auto, using(crate::proofs::NumberLemmas::length_from_step, crate::proofs::NumberLemmas::length_from_large))]
 fn digits_10(name: &[u8], start: usize) -> Option<(u64, usize)>
     ensures { result ≡ length_from (drop start name.now) 0 start }
@@ -132,7 +135,7 @@ fn digits_10(name: &[u8], start: usize) -> Option<(u64, usize)>
     Some((worth, after))
 }
 
-/// `<decimal-number>`
+/// `<decimal-number>` at a position: a `0` alone, or the longest run of digits. None where it is invalid.
 #[tactic(auto, using(crate::proofs::NumberLemmas::length_step))]
 pub fn length_at(name: &[u8], at: usize) -> Option<(u64, usize)>
     ensures { result ≡ length_at name.now at }
@@ -144,7 +147,7 @@ pub fn length_at(name: &[u8], at: usize) -> Option<(u64, usize)>
     }
 }
 
-/// Where lower-case hexadecimal digits end at a `_`.
+/// The position of the `_` that ends the lower-case hexadecimal digits at a position. None where another byte ends them.
 #[tactic(auto, using(crate::proofs::NumberLemmas::hex_length_step))]
 pub fn hex_end(name: &[u8], start: usize) -> Option<usize>
     ensures value { result ≡ option_map (λ n. start + n) (hex_length (drop start name.now)) }

@@ -1,4 +1,4 @@
-//! Punycode (RFC 3492): a text whose code says which characters to insert into its plain part, and where.
+//! Punycode (RFC 3492): a text whose code says which characters to insert into its ASCII part, and where.
 
 #[cfg(test)]
 mod tests;
@@ -26,24 +26,24 @@ const INITIAL_BIAS: usize = 72;
 
 const INITIAL_N: usize = 128;
 
-/// The largest delta that is read. A larger one leads past the last Unicode scalar value in any text, so that nothing
-/// is refused for it.
+// The largest delta that is read. A larger one leads past the last Unicode scalar value in any text, so that nothing
+// is refused for it.
 const MAX_DELTA: usize = 0xFFFF_FFFF;
 
-/// The text of a plain part and a code, which are what an identifier of a v0 name has before and behind its last `_`.
-/// Each plain byte is a character, and an empty code inserts none. No memory is taken.
+/// The text of an ASCII part and a code, which are what an identifier of a v0 name has before and after its last `_`. Each
+/// byte of the ASCII part is a character, and an empty code inserts none. No memory is taken.
 ///
 /// None where the code isn't all read as deltas of the digits `a` to `z` and `0` to `9`, where it asks for what is no
 /// Unicode scalar value, and where the text would have more than 128 characters.
-pub fn decode(plain: &[u8], code: &[u8]) -> Option<Decoded>
-    ensures { option_map characters_of result ≡ spec.punycode_decoded plain.now code.now }
+pub fn decode(ascii: &[u8], code: &[u8]) -> Option<Decoded>
+    ensures { option_map characters_of result ≡ spec.punycode_decoded ascii.now code.now }
 {
-    if plain.len() > MOST_CHARACTERS {
+    if ascii.len() > MOST_CHARACTERS {
         return None;
     }
     let mut characters = ['\0'; MOST_CHARACTERS];
-    copy_plain(plain, &mut characters);
-    let mut count = plain.len();
+    copy_ascii(ascii, &mut characters);
+    let mut count = ascii.len();
     let mut n = INITIAL_N;
     let mut i = 0;
     let mut bias = INITIAL_BIAS;
@@ -52,38 +52,38 @@ pub fn decode(plain: &[u8], code: &[u8]) -> Option<Decoded>
         if count == MOST_CHARACTERS {
             return None;
         }
-        let (delta, behind) = delta_of(bias, rest)?;
+        let (delta, after) = delta_of(bias, rest)?;
         bias = adapted_bias(delta, count + 1, i == 0);
         n += (i + delta) / (count + 1);
         i = (i + delta) % (count + 1);
         insert_character(&mut characters, count, i, character(n)?);
         count += 1;
         i += 1;
-        rest = behind;
+        rest = after;
     }
     Some(Decoded::new(characters, count))
 }
 
-/// Writes each byte as a character, from the front on.
-fn copy_plain(plain: &[u8], characters: &mut [char])
-    requires { length plain.now ≤ length characters.old }
-    ensures { take (length plain.now) characters.new ≡ plain.now }
+// Writes each byte as a character, from the front on.
+fn copy_ascii(ascii: &[u8], characters: &mut [char])
+    requires { length ascii.now ≤ length characters.old }
+    ensures { take (length ascii.now) characters.new ≡ ascii.now }
 {
-    for (at, &byte) in plain.iter().enumerate() {
+    for (at, &byte) in ascii.iter().enumerate() {
         characters[at] = char::from(byte);
     }
 }
 
-/// Inserts a character into the first `count`.
-fn insert_character(characters: &mut [char], count: usize, place: usize, character: char)
-    requires within { place ≤ count }
+// Inserts a character into the first `count`.
+fn insert_character(characters: &mut [char], count: usize, position: usize, character: char)
+    requires within { position ≤ count }
     requires room { count < length characters.old }
-    ensures { take (count + 1) characters.new ≡ insert (take count characters.old) place character }
+    ensures { take (count + 1) characters.new ≡ insert (take count characters.old) position character }
 {
-    put_first(&mut characters[place..count + 1], character);
+    put_first(&mut characters[position..count + 1], character);
 }
 
-/// Puts a character before the others, the last of which is lost.
+// Puts a character before the others, the last of which is lost.
 fn put_first(characters: &mut [char], character: char)
     requires { 0 < length characters.old }
     ensures { characters.new ≡ character ∷ take (length characters.old - 1) characters.old }
@@ -92,7 +92,7 @@ fn put_first(characters: &mut [char], character: char)
     characters[0] = character;
 }
 
-/// The delta that the code begins with, and the code behind it (sections 3.3 and 3.4).
+// The delta that the code begins with, and the code after it (sections 3.3 and 3.4).
 fn delta_of(bias: usize, code: &[u8]) -> Option<(usize, &[u8])>
     ensures none { IfNone result (IfSome (spec.integer bias 0 code.now) (λ read. MAX_DELTA < read.0)) }
     ensures some { IfSome result (λ read. spec.integer bias 0 code.now ≡ Some (read.0, read.1.now)) }
@@ -118,7 +118,7 @@ fn delta_of(bias: usize, code: &[u8]) -> Option<(usize, &[u8])>
     None
 }
 
-/// The value of a digit (section 5).
+// The value of a digit (section 5).
 #[tactic(auto, unfolding(crate::specs::Punycode::digit_of), using(std::proofs::lemmas::Bool::Decides::nat_tests))]
 fn digit(byte: u8) -> Option<usize>
     ensures value { result ≡ spec.digit_of byte }
@@ -131,7 +131,7 @@ fn digit(byte: u8) -> Option<usize>
     }
 }
 
-/// The bias behind a delta (section 6.1).
+// The bias after a delta (section 6.1).
 fn adapted_bias(delta: usize, characters: usize, first: bool) -> usize
     requires fits { delta ≤ MAX_DELTA }
     requires some { 0 < characters }
@@ -147,7 +147,7 @@ fn adapted_bias(delta: usize, characters: usize, first: bool) -> usize
     k + (BASE - T_MIN + 1) * delta / (delta + SKEW)
 }
 
-/// The character of a code point.
+// The character of a code point.
 fn character(code_point: usize) -> Option<char>
     ensures { MatchOption result (is_scalar code_point ≡ false) (λ c. (is_scalar code_point ≡ true) × (c ≡ code_point)) }
 {

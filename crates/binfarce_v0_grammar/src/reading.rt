@@ -4,26 +4,28 @@ ghost use Rattle.std.specs.Prelude.{◌≡◌, ◌≤◌, length, suc};
 ghost use Rattle.std.specs.Str.{IsAscii};
 ghost use Rattle.binfarce_v0_grammar.specs.declared.limits.TheConstants.{MAX_LEVELS};
 ghost use Rattle.binfarce_v0_grammar.specs.machine.Seen.{listed_seen};
-ghost use Rattle.binfarce_v0_grammar.specs.machine.Places.{
-  places,
-  bindings_place,
-  item_place,
-  list_place,
-  return_place,
-  lifetime_place,
-  argument_place,
+ghost use Rattle.binfarce_v0_grammar.specs.machine.Ends.{
+  ends,
+  bindings_end,
+  item_end,
+  list_end,
+  return_end,
+  lifetime_end,
+  argument_end,
 };
 
-use crate::forms::{ConstForm, Listed, PathForm, TypeForm};
-use crate::leaves::{const_form, identifier, label, lifetime, path_form, type_form};
-use crate::places::eat;
+use crate::forms::{
+    ConstForm, Listed, PathForm, TypeForm, const_form, lifetime_form, path_form, type_form,
+};
+use crate::identifiers::{identifier_at, undisambiguated_at};
+use crate::positions::eat;
 
 // `<const>`
-#[tactic(auto, using(crate::proofs::ReadingComplete::const_place_at, crate::proofs::ReadingComplete::const_place_none), unfolding(crate::specs::machine::Places::const_place))]
+#[tactic(auto, using(crate::proofs::ReadingComplete::const_end_at, crate::proofs::ReadingComplete::const_end_none), unfolding(crate::specs::machine::Ends::const_end))]
 fn read_const(name: &str, left: usize, at: usize) -> Option<usize>
     requires ascii { IsAscii name.now }
     requires levels { left ≤ MAX_LEVELS }
-    ensures { result ≡ (places name.now left).constant at }
+    ensures { result ≡ (ends name.now left).constant at }
 {
     if left == 0 {
         return None;
@@ -32,27 +34,28 @@ fn read_const(name: &str, left: usize, at: usize) -> Option<usize>
         ConstForm::Placeholder(_, after) => Some(after),
         ConstForm::Digits(_, _, after) => Some(after),
         ConstForm::Back(_, after) => Some(after),
-        ConstForm::Nothing | ConstForm::Unread(_) => None,
+        ConstForm::Nothing | ConstForm::Invalid(_) => None,
     }
 }
 
 // The lifetime of a dyn type.
 fn read_lifetime(name: &str, at: usize) -> Option<usize>
-    ensures { result ≡ lifetime_place name.now at }
+    ensures { result ≡ lifetime_end name.now at }
 {
     let bytes = name.as_bytes();
     let _start = eat(bytes, b'L', Some(at))?;
-    let (_life, after) = lifetime(bytes, Some(at));
+    let (_life, after) = lifetime_form(bytes, Some(at));
     after
 }
 
-/// `<path>`
+/// The position after the `<path>` that stands at a position. None where no path stands there, and where it has more than
+/// `left` levels. What a back reference names isn't looked at, nor what a lifetime's index means.
 #[cycle(reading)]
-#[tactic(auto, using(crate::proofs::ReadingComplete::path_place_at, crate::proofs::ReadingComplete::path_place_none), unfolding(crate::specs::machine::Places::path_place))]
+#[tactic(auto, using(crate::proofs::ReadingComplete::path_end_at, crate::proofs::ReadingComplete::path_end_none), unfolding(crate::specs::machine::Ends::path_end))]
 pub fn read_path(name: &str, left: usize, at: usize) -> Option<usize>
     requires ascii { IsAscii name.now }
     requires levels { left ≤ MAX_LEVELS }
-    ensures { result ≡ (places name.now left).path at }
+    ensures { result ≡ (ends name.now left).path at }
 {
     if left == 0 {
         return None;
@@ -64,7 +67,7 @@ pub fn read_path(name: &str, left: usize, at: usize) -> Option<usize>
         PathForm::Back(_, after) => Some(after),
         PathForm::NestedIn(_, after) => {
             let mid = read_path(name, inner, after)?;
-            let (_label, end) = label(name, mid)?;
+            let (_identifier, end) = identifier_at(name, mid)?;
             Some(end)
         }
         PathForm::InherentImpl(after) => {
@@ -89,19 +92,19 @@ pub fn read_path(name: &str, left: usize, at: usize) -> Option<usize>
 
 // `<type>`
 #[cycle(reading)]
-#[tactic(auto, using(crate::proofs::ReadingComplete::type_place_at, crate::proofs::ReadingComplete::type_place_none), unfolding(crate::specs::machine::Places::type_place))]
+#[tactic(auto, using(crate::proofs::ReadingComplete::type_end_at, crate::proofs::ReadingComplete::type_end_none), unfolding(crate::specs::machine::Ends::type_end))]
 fn read_type(name: &str, left: usize, at: usize) -> Option<usize>
     requires ascii { IsAscii name.now }
     requires levels { left ≤ MAX_LEVELS }
-    ensures { result ≡ (places name.now left).ty at }
+    ensures { result ≡ (ends name.now left).ty at }
 {
     if left == 0 {
         return None;
     }
     let inner = left - 1;
     match type_form(name, Some(at)) {
-        TypeForm::Nothing | TypeForm::UnreadReference | TypeForm::UnreadDyn => None,
-        TypeForm::UnreadAbi(_) => None,
+        TypeForm::Nothing | TypeForm::InvalidReference | TypeForm::InvalidDyn => None,
+        TypeForm::InvalidAbi(_) => None,
         TypeForm::Basic(_, after) => Some(after),
         TypeForm::Back(_, after) => Some(after),
         TypeForm::ReferenceTo(_, _, after) => read_type(name, inner, after),
@@ -129,7 +132,7 @@ fn read_type(name: &str, left: usize, at: usize) -> Option<usize>
 fn read_return(name: &str, left: usize, at: usize) -> Option<usize>
     requires ascii { IsAscii name.now }
     requires levels { left ≤ MAX_LEVELS }
-    ensures { result ≡ return_place name.now (places name.now left) at }
+    ensures { result ≡ return_end name.now (ends name.now left) at }
 {
     match eat(name.as_bytes(), b'u', Some(at)) {
         Some(after) => Some(after),
@@ -139,11 +142,11 @@ fn read_return(name: &str, left: usize, at: usize) -> Option<usize>
 
 // A list up to its `E`.
 #[cycle(reading)]
-#[tactic(auto, using(crate::proofs::ReadingLists::items_place_step, crate::proofs::ReadingLists::items_place_none, crate::proofs::ReadingLists::items_place_more))]
+#[tactic(auto, using(crate::proofs::ReadingLists::items_end_step, crate::proofs::ReadingLists::items_end_none, crate::proofs::ReadingLists::items_end_more))]
 fn read_items(name: &str, left: usize, listed: Listed, start: usize) -> Option<usize>
     requires ascii { IsAscii name.now }
     requires levels { left ≤ MAX_LEVELS }
-    ensures { result ≡ list_place name.now (places name.now left) (listed_seen listed) start }
+    ensures { result ≡ list_end name.now (ends name.now left) (listed_seen listed) start }
 {
     let bytes = name.as_bytes();
     let mut at = start;
@@ -158,11 +161,11 @@ fn read_items(name: &str, left: usize, listed: Listed, start: usize) -> Option<u
 
 // An item of a list.
 #[cycle(reading)]
-#[tactic(auto, unfolding(crate::specs::machine::Places::item_place))]
+#[tactic(auto, unfolding(crate::specs::machine::Ends::item_end))]
 fn read_item(name: &str, left: usize, listed: Listed, at: usize) -> Option<usize>
     requires ascii { IsAscii name.now }
     requires levels { left ≤ MAX_LEVELS }
-    ensures { result ≡ item_place name.now (places name.now left) (listed_seen listed) at }
+    ensures { result ≡ item_end name.now (ends name.now left) (listed_seen listed) at }
 {
     match listed {
         Listed::Types => read_type(name, left, at),
@@ -179,11 +182,11 @@ fn read_item(name: &str, left: usize, listed: Listed, at: usize) -> Option<usize
 fn read_argument(name: &str, left: usize, at: usize) -> Option<usize>
     requires ascii { IsAscii name.now }
     requires levels { left ≤ MAX_LEVELS }
-    ensures { result ≡ argument_place name.now (places name.now left) at }
+    ensures { result ≡ argument_end name.now (ends name.now left) at }
 {
     let bytes = name.as_bytes();
     if eat(bytes, b'L', Some(at)).is_some() {
-        let (_life, after) = lifetime(bytes, Some(at));
+        let (_life, after) = lifetime_form(bytes, Some(at));
         return after;
     }
     match eat(bytes, b'K', Some(at)) {
@@ -194,11 +197,11 @@ fn read_argument(name: &str, left: usize, at: usize) -> Option<usize>
 
 // The bindings of a trait.
 #[cycle(reading)]
-#[tactic(auto, using(crate::proofs::ReadingLists::bindings_place_step, crate::proofs::ReadingLists::bindings_place_none, crate::proofs::ReadingLists::bindings_place_more))]
+#[tactic(auto, using(crate::proofs::ReadingLists::bindings_end_step, crate::proofs::ReadingLists::bindings_end_none, crate::proofs::ReadingLists::bindings_end_more))]
 fn read_bindings(name: &str, left: usize, start: usize) -> Option<usize>
     requires ascii { IsAscii name.now }
     requires levels { left ≤ MAX_LEVELS }
-    ensures { result ≡ bindings_place name.now (places name.now left) (suc (length name.now)) start }
+    ensures { result ≡ bindings_end name.now (ends name.now left) (suc (length name.now)) start }
 {
     let bytes = name.as_bytes();
     let mut at = start;
@@ -206,7 +209,7 @@ fn read_bindings(name: &str, left: usize, start: usize) -> Option<usize>
         let Some(binding) = eat(bytes, b'p', Some(at)) else {
             return Some(at);
         };
-        let (_name, bound) = identifier(name, binding)?;
+        let (_name, bound) = undisambiguated_at(name, binding)?;
         at = read_type(name, left, bound)?;
     }
     None

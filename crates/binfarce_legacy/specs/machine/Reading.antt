@@ -34,13 +34,13 @@ HasElement text = (0 < name_start text) × (name_end text ≤ length text)
 unfoldable pub chars_left : List ℕ → List ℕ
 chars_left name = flat_map (λ p. p.chars) (pieces zero name)
 
--- the characters of the elements that are left behind the first `at` bytes
+-- the characters of the elements that are left after the first `at` bytes
 unfoldable pub joined_left : ℕ → List Element → List ℕ
 joined_left at elements =
     if at == 0 then legacy_chars elements
     else flat_map (λ e. codes "::" ++ name_chars e.name) elements
 
--- behind `at` bytes, `left` are the elements to print
+-- after `at` bytes, `left` are the elements to print
 pub record IsLeft (part : List ℕ) (at : ℕ) (printed : List ℕ) (elements : List Element) (rest : List ℕ) (left : List Element) : Type 0 where
   pub ahead : Reads (drop at part) left rest
   pub joined : printed ++ encode_utf8_all (joined_left at left) ≡ encode_utf8_all (legacy_chars elements)

@@ -16,23 +16,23 @@ HasAnAnswer text = (name : Name) × IsNamed text name
 abbrev pub HasOneAnswer : List ℕ → Type 0
 HasOneAnswer text = (first second : Name) → IsNamed text first → IsNamed text second → first ≡ second
 
--- a place unfolds to at most one tree, and up to at most one place behind it
+-- a position unfolds to at most one tree, and up to at most one position after it
 abbrev pub UnfoldsOneWay : List ℕ → Type 0
 UnfoldsOneWay name =
-    (first second : PathTree) (at : Option ℕ) (depth : ℕ) (after behind : Option ℕ)
-    → IsPath name first at depth after → IsPath name second at depth behind
-    → (first ≡ second) × (after ≡ behind)
+    (first second : PathTree) (at : Option ℕ) (depth : ℕ) (first_end second_end : Option ℕ)
+    → IsPath name first at depth first_end → IsPath name second at depth second_end
+    → (first ≡ second) × (first_end ≡ second_end)
 
--- a place reads to at most one tree, and up to at most one place behind it
+-- a position reads to at most one tree, and up to at most one position after it
 abbrev pub ReadsOneWay : List ℕ → Type 0
 ReadsOneWay name =
-    (first second : PathTree) (at after behind : ℕ)
-    → ReadsPath name first at after → ReadsPath name second at behind
-    → (first ≡ second) × (after ≡ behind)
+    (first second : PathTree) (at first_end second_end : ℕ)
+    → ReadsPath name first at first_end → ReadsPath name second at second_end
+    → (first ≡ second) × (first_end ≡ second_end)
 
--- an accepted back reference names a place strictly before its own "B"
-abbrev pub NamesAnEarlierPlace : List ℕ → Type 0
-NamesAnEarlierPlace name =
+-- an accepted back reference names a position strictly before its own "B"
+abbrev pub NamesAnEarlierPosition : List ℕ → Type 0
+NamesAnEarlierPosition name =
     (at target after : ℕ) → back_reference name at ≡ Some (target, after) → target < at
 
 -- a name unfolds to a tree within some limits
@@ -54,7 +54,7 @@ abbrev pub Means : List ℕ → List ℕ → List ℕ → Option (List ℕ) → 
 Means text complete trimmed crate_name =
     IsNamed text (record { complete = complete; trimmed = trimmed; crate_name = crate_name; kind = V0 })
 
--- what stands behind a prefix unfolds to a tree of so many levels and steps
+-- what stands after a prefix unfolds to a tree of so many levels and steps
 pub record Counts (name : List ℕ) (levels steps : ℕ) : Type 0 where
   pub tree : PathTree
   pub unfolds : UnfoldsTo name tree

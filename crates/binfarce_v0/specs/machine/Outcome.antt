@@ -2,10 +2,10 @@
 use Rattle.std.specs.Prelude.{◌≡◌, ℕ, ◌-◌, List, Option, Bool, true, false}
 use Rattle.std.specs.Option.{option_map}
 use Rattle.std.specs.String.{string_bytes}
-use Rattle.binfarce_v0_grammar.specs.Identifier.{Identifier, identifier_text}
+use Rattle.binfarce_v0_grammar.specs.Identifiers.{UndisambiguatedIdentifier, identifier_text}
 use Rattle.binfarce_v0_grammar.specs.Tree.{PathTree, path_height, path_steps, path_root, name_text}
 use Rattle.binfarce_v0_grammar.specs.Unfolding.{UnfoldsTo}
-use Rattle.binfarce_v0_grammar.specs.machine.Seen.{identifier_seen}
+use Rattle.binfarce_v0_grammar.specs.machine.Seen.{undisambiguated_seen}
 use Rattle.binfarce_v0_grammar.specs.declared.limits.TheConstants.{MAX_LEVELS, MAX_STEPS}
 use Rattle.binfarce_v0.specs.declared.state.Printed.{Printed}
 use Rattle.binfarce_v0.specs.machine.Printing.{State}
@@ -13,14 +13,14 @@ use Rattle.binfarce_v0.specs.machine.Printing.{State}
 -- what a finished printing gives: a text, the first crate root, and how many levels and steps it took
 pub record Outcome : Type 0 where
   pub text : List ℕ
-  pub root : Option Identifier
+  pub root : Option UndisambiguatedIdentifier
   pub levels : ℕ
   pub steps : ℕ
 
 -- what a `Printed` gives, its texts as their bytes
 abbrev pub printed_seen : Printed → Outcome
 printed_seen p =
-    record { text = string_bytes p.text; root = option_map identifier_seen p.root; levels = p.levels; steps = p.steps }
+    record { text = string_bytes p.text; root = option_map undisambiguated_seen p.root; levels = p.levels; steps = p.steps }
 
 -- what a state gives at the end: the levels and the steps that are no longer left were taken
 abbrev pub outcome_of : State → Outcome

@@ -1,15 +1,15 @@
 -- The printer, step by step: a name is read and written in one pass. Each step gives the tree that it read, and the state that it leaves.
 use Rattle.std.specs.Prelude.{ℕ, zero, suc, ◌+◌, ◌-◌, ◌*◌, ◌≤◌, List, [], ◌++◌, Option, Some, None, Bool, true, false, if◌then◌else◌, nat_le, codes, min}
 use Rattle.binfarce_text.specs.Letters.{'K', 'L', 'p', 'u'}
-use Rattle.binfarce_v0_grammar.specs.Identifier.{Identifier, Label, identifier_text}
-use Rattle.binfarce_v0_grammar.specs.Forms.{Lifetime, NoLifetime, Signature, stands, behind, label_at, identifier_at, lifetime, path_form, type_form, const_form, PathForm, NoPathForm, CrateRoot, NestedIn, InherentImpl, TraitImpl, TraitDefinition, WithArguments, BackToPath, TypeForm, NoTypeForm, BasicType, ReferenceTo, UnreadReference, PointerTo, SliceOf, ArrayOf, TupleOf, FunctionOf, UnreadAbi, DynOf, UnreadDyn, BackToType, PathType, ConstForm, NoConstForm, PlaceholderConst, DigitsConst, UnreadConst, BackToConst}
-use Rattle.binfarce_v0_grammar.specs.Tree.{PathTree, TypeTree, ConstTree, Item, Items, Bindings, NoConst, Placeholder, Number, UnreadNumber, BackConst, NoPath, Crate, Nested, UnreadNested, OfType, OfImpl, OfTrait, Generic, BackPath, NoType, Basic, Reference, UnreadReferenceType, Pointer, Slice, Array, Tuple, Function, FunctionTo, UnreadFunction, Dyn, UnreadDynType, Named, BackType, LifetimeItem, TypeItem, ConstItem, TraitItem, NoItems, ItemThen, NoBindings, Binding, UnreadBinding, lifetime_steps, first_of, Position, InType, OpenTrait, parent_position, binder_text, reference_lifetime, argument_lifetime, dyn_lifetime, disambiguator_text, nested_text, mutable_text, signature_text, number_text, value_mark, closing, is_left_open, separator, single_mark, open_mark, close_mark, Listed, Arguments, Types, Traits}
-use Rattle.binfarce_v0_grammar.specs.Unfolding.{bound_place, required_place, list_goes_on}
+use Rattle.binfarce_v0_grammar.specs.Identifiers.{UndisambiguatedIdentifier, Identifier, identifier_text}
+use Rattle.binfarce_v0_grammar.specs.Forms.{Lifetime, NoLifetime, Signature, stands, after_byte, identifier_at, undisambiguated_at, lifetime, path_form, type_form, const_form, PathForm, NoPathForm, CrateRoot, NestedIn, InherentImpl, TraitImpl, TraitDefinition, WithArguments, BackToPath, TypeForm, NoTypeForm, BasicType, ReferenceTo, InvalidReference, PointerTo, SliceOf, ArrayOf, TupleOf, FunctionOf, InvalidAbi, DynOf, InvalidDyn, BackToType, PathType, ConstForm, NoConstForm, PlaceholderConst, DigitsConst, InvalidConst, BackToConst}
+use Rattle.binfarce_v0_grammar.specs.Tree.{PathTree, TypeTree, ConstTree, Item, Items, Bindings, NoConst, Placeholder, Number, InvalidNumber, BackConst, NoPath, Crate, Nested, InvalidNested, OfType, OfImpl, OfTrait, Generic, BackPath, NoType, Basic, Reference, InvalidReferenceType, Pointer, Slice, Array, Tuple, Function, FunctionTo, InvalidFunction, Dyn, InvalidDynType, Named, BackType, LifetimeItem, TypeItem, ConstItem, TraitItem, NoItems, ItemThen, NoBindings, Binding, InvalidBinding, lifetime_steps, first_of, Position, InType, OpenTrait, parent_position, binder_text, reference_lifetime, argument_lifetime, dyn_lifetime, disambiguator_text, nested_text, mutable_text, signature_text, number_text, value_mark, closing, is_left_open, separator, single_mark, open_mark, close_mark, Listed, Arguments, Types, Traits}
+use Rattle.binfarce_v0_grammar.specs.Unfolding.{bound_end, required_end, list_goes_on}
 use Rattle.binfarce_v0_grammar.specs.declared.limits.TheConstants.{MAX_LEVELS, MAX_STEPS}
 
 -- the state of a printing
 pub record State : Type 0 where
-  -- the place, None behind a fault
+  -- the position, None after a fault
   pub at : Option ℕ
   -- the steps that are left
   pub room : ℕ
@@ -25,7 +25,7 @@ pub record State : Type 0 where
   -- in no back reference
   pub outside : Bool
   -- the first crate root
-  pub root : Option Identifier
+  pub root : Option UndisambiguatedIdentifier
 
 abbrev pub heard : Bool → List ℕ → List ℕ
 heard true text = []
@@ -54,11 +54,11 @@ abbrev pub entered : ℕ → State → State
 entered left s = record s { room = s.room - 1; least = min s.least left }
 
 -- the first crate root outside back references
-abbrev pub kept_root : Bool → Option Identifier → Option Identifier → Option Identifier
+abbrev pub kept_root : Bool → Option UndisambiguatedIdentifier → Option UndisambiguatedIdentifier → Option UndisambiguatedIdentifier
 kept_root true root other = first_of root other
 kept_root false root other = root
 
-abbrev pub rooted : Identifier → State → State
+abbrev pub rooted : UndisambiguatedIdentifier → State → State
 rooted name s = record s { root = kept_root s.outside s.root (Some name) }
 
 -- what is read in a back reference's target
@@ -91,14 +91,14 @@ const_rule R s (PlaceholderConst type_name q) =
     (Placeholder type_name, say type_name (say (codes ": ") (say (codes "_") (go (Some q) s))))
 const_rule R s (DigitsConst type_name hex q) =
     (Number type_name hex, say type_name (say (codes ": ") (say (number_text hex) (go (Some q) s))))
-const_rule R s (UnreadConst type_name) = (UnreadNumber type_name, say type_name (say (codes ": ") (faulted s)))
+const_rule R s (InvalidConst type_name) = (InvalidNumber type_name, say type_name (say (codes ": ") (faulted s)))
 const_rule R s (BackToConst target q) = back_const q s.outside (R.constant (into target s))
 
 -- Lists
 
 abbrev pub lifetime_item : ℕ → Lifetime × Option ℕ → State → Item × State
 lifetime_item depth l s =
-    (LifetimeItem l.0, say (argument_lifetime depth l.0) (go (required_place depth l.0 l.1) s))
+    (LifetimeItem l.0, say (argument_lifetime depth l.0) (go (required_end depth l.0 l.1) s))
 
 -- what takes steps, where so many are left
 abbrev pub taking : {T : Type 0} → ℕ → T → State → (State → T × State) → T × State
@@ -113,24 +113,24 @@ type_item r = (TypeItem r.0, r.1)
 abbrev pub argument_rule : List ℕ → Readers → ℕ → State → Bool → Bool → Item × State
 argument_rule name R depth s true is_const =
     taking 1 (LifetimeItem NoLifetime) s (lifetime_item depth (lifetime name s.at))
-argument_rule name R depth s false true = const_item (R.constant (go (behind s.at) s))
+argument_rule name R depth s false true = const_item (R.constant (go (after_byte s.at) s))
 argument_rule name R depth s false false = type_item (R.ty depth s)
 
 -- the bindings of a trait
-abbrev pub binding_then : Identifier → TypeTree → Bindings × State → Bindings × State
+abbrev pub binding_then : UndisambiguatedIdentifier → TypeTree → Bindings × State → Bindings × State
 binding_then i t r = (Binding i t r.0, r.1)
 
-abbrev pub bound_type : (Bool → State → Bindings × State) → Identifier → TypeTree × State → Bindings × State
+abbrev pub bound_type : (Bool → State → Bindings × State) → UndisambiguatedIdentifier → TypeTree × State → Bindings × State
 bound_type more i r = binding_then i r.0 (more true r.1)
 
-abbrev pub named_binding : Readers → ℕ → (Bool → State → Bindings × State) → Bool → State → Option (Identifier × ℕ) → Bindings × State
-named_binding R depth more is_open s None = (UnreadBinding, faulted (say (open_mark is_open) s))
+abbrev pub named_binding : Readers → ℕ → (Bool → State → Bindings × State) → Bool → State → Option (UndisambiguatedIdentifier × ℕ) → Bindings × State
+named_binding R depth more is_open s None = (InvalidBinding, faulted (say (open_mark is_open) s))
 named_binding R depth more is_open s (Some i) =
     bound_type more i.0 (R.ty depth (say (codes " = ") (say (identifier_text i.0) (go (Some i.1) (say (open_mark is_open) s)))))
 
 abbrev pub binding_rule : List ℕ → Readers → ℕ → (Bool → State → Bindings × State) → Bool → State → Bool → Bindings × State
 binding_rule name R depth more is_open s true =
-    named_binding R depth more is_open s (identifier_at name (behind s.at))
+    named_binding R depth more is_open s (undisambiguated_at name (after_byte s.at))
 binding_rule name R depth more is_open s false = (NoBindings, say (close_mark is_open) s)
 
 unfoldable pub bindings_rule : List ℕ → Readers → ℕ → ℕ → Bool → State → Bindings × State
@@ -159,7 +159,7 @@ items_after more r = item_then r.0 (more r.1)
 abbrev pub list_rule : List ℕ → Readers → ℕ → Listed → List ℕ → (State → Items × State) → Bool → State → Bool → Items × State
 list_rule name R depth listed between more is_first s true =
     items_after more (item_rule name R depth listed (say (separator is_first between) s))
-list_rule name R depth listed between more is_first s false = (NoItems, go (behind s.at) s)
+list_rule name R depth listed between more is_first s false = (NoItems, go (after_byte s.at) s)
 
 unfoldable pub items_rule : List ℕ → Readers → ℕ → Listed → List ℕ → ℕ → Bool → State → Items × State
 items_rule name R depth listed between zero is_first s = (NoItems, stopped s)
@@ -192,7 +192,7 @@ abbrev pub tuple_end : Items × State → TypeTree × State
 tuple_end r = (Tuple r.0, say (codes ")") (say (single_mark r.0) r.1))
 
 abbrev pub returned : List ℕ → Readers → ℕ → Signature → Items → State → Bool → TypeTree × State
-returned name R depth signature items s true = (Function signature items, go (behind s.at) s)
+returned name R depth signature items s true = (Function signature items, go (after_byte s.at) s)
 returned name R depth signature items s false =
     type_as (FunctionTo signature items) (R.ty depth (say (codes " -> ") s))
 
@@ -206,7 +206,7 @@ function_rule name R depth signature q s =
 
 abbrev pub dyn_lifetime_rule : ℕ → ℕ → Items → Lifetime × Option ℕ → State → TypeTree × State
 dyn_lifetime_rule depth binder items l s =
-    (Dyn binder items l.0, say (dyn_lifetime depth l.0) (go (required_place depth l.0 l.1) s))
+    (Dyn binder items l.0, say (dyn_lifetime depth l.0) (go (required_end depth l.0 l.1) s))
 
 abbrev pub dyn_life : ℕ → ℕ → Items → Lifetime × Option ℕ → State → TypeTree × State
 dyn_life depth binder items l s =
@@ -221,7 +221,7 @@ dyn_rule name R depth binder q s =
 
 abbrev pub reference_rule : Readers → ℕ → Bool → Lifetime → ℕ → State → TypeTree × State
 reference_rule R depth mutable life q s =
-    type_as (Reference mutable life) (R.ty depth (say (mutable_text mutable (codes "mut ") []) (say (reference_lifetime depth life) (say (codes "&") (go (bound_place depth life (Some q)) s)))))
+    type_as (Reference mutable life) (R.ty depth (say (mutable_text mutable (codes "mut ") []) (say (reference_lifetime depth life) (say (codes "&") (go (bound_end depth life (Some q)) s)))))
 
 abbrev pub back_type : ℕ → Bool → TypeTree × State → TypeTree × State
 back_type q outside r = (BackType r.0, back_to q outside r.1)
@@ -229,18 +229,18 @@ back_type q outside r = (BackType r.0, back_to q outside r.1)
 abbrev pub named_type : PathTree × State → TypeTree × State
 named_type r = (Named r.0, r.1)
 
-abbrev pub unread_reference : State → TypeTree × State
-unread_reference s = (UnreadReferenceType, say (codes "&?") (go None s))
+abbrev pub invalid_reference : State → TypeTree × State
+invalid_reference s = (InvalidReferenceType, say (codes "&?") (go None s))
 
-abbrev pub unread_function : ℕ → ℕ → State → TypeTree × State
-unread_function depth binder s = (UnreadFunction binder, faulted (say (binder_text depth binder) s))
+abbrev pub invalid_function : ℕ → ℕ → State → TypeTree × State
+invalid_function depth binder s = (InvalidFunction binder, faulted (say (binder_text depth binder) s))
 
 unfoldable pub type_rule : List ℕ → Readers → ℕ → State → TypeForm → TypeTree × State
 type_rule name R depth s NoTypeForm = (NoType, faulted s)
 type_rule name R depth s (BasicType text q) = (Basic text, say text (go (Some q) s))
 type_rule name R depth s (ReferenceTo mutable life q) =
     taking (lifetime_steps life) NoType s (reference_rule R depth mutable life q)
-type_rule name R depth s UnreadReference = taking 1 NoType s unread_reference
+type_rule name R depth s InvalidReference = taking 1 NoType s invalid_reference
 type_rule name R depth s (PointerTo mutable q) =
     type_as (Pointer mutable) (R.ty depth (say (mutable_text mutable (codes "*mut ") (codes "*const ")) (go (Some q) s)))
 type_rule name R depth s (SliceOf q) = type_then (codes "]") Slice (R.ty depth (say (codes "[") (go (Some q) s)))
@@ -249,25 +249,25 @@ type_rule name R depth s (TupleOf q) =
     tuple_end (items_from name R depth Types (codes ", ") (say (codes "(") (go (Some q) s)))
 type_rule name R depth s (FunctionOf signature q) =
     taking signature.binder NoType s (function_rule name R depth signature q)
-type_rule name R depth s (UnreadAbi binder) = taking binder NoType s (unread_function depth binder)
+type_rule name R depth s (InvalidAbi binder) = taking binder NoType s (invalid_function depth binder)
 type_rule name R depth s (DynOf binder q) = taking binder NoType s (dyn_rule name R depth binder q)
-type_rule name R depth s UnreadDyn = (UnreadDynType, say (codes "dyn ??") (go None s))
+type_rule name R depth s InvalidDyn = (InvalidDynType, say (codes "dyn ??") (go None s))
 type_rule name R depth s (BackToType target q) = back_type q s.outside (R.ty depth (into target s))
 type_rule name R depth s PathType = named_type (R.path InType depth s)
 
 -- Paths
 
-abbrev pub named_tree : ℕ → PathTree → Option (Label × ℕ) → PathTree
-named_tree namespace p None = UnreadNested p
+abbrev pub named_tree : ℕ → PathTree → Option (Identifier × ℕ) → PathTree
+named_tree namespace p None = InvalidNested p
 named_tree namespace p (Some l) = Nested namespace p l.0
 
-abbrev pub named_state : ℕ → State → Option (Label × ℕ) → State
+abbrev pub named_state : ℕ → State → Option (Identifier × ℕ) → State
 named_state namespace s None = faulted s
 named_state namespace s (Some l) = say (nested_text namespace l.0) (go (Some l.1) s)
 
 abbrev pub nested_rule : List ℕ → ℕ → PathTree × State → PathTree × State
 nested_rule name namespace r =
-    (named_tree namespace r.0 (label_at name r.1.at), named_state namespace r.1 (label_at name r.1.at))
+    (named_tree namespace r.0 (identifier_at name r.1.at), named_state namespace r.1 (identifier_at name r.1.at))
 
 -- the path of an impl is read and not written
 abbrev pub unmuted : Bool → PathTree × State → PathTree × State
@@ -298,7 +298,7 @@ generic_rule name R position depth r =
 abbrev pub back_path : ℕ → Bool → PathTree × State → PathTree × State
 back_path q outside r = (BackPath r.0, back_to q outside r.1)
 
-abbrev pub crate_rule : Label → State → PathTree × State
+abbrev pub crate_rule : Identifier → State → PathTree × State
 crate_rule root s =
     (Crate root, say (disambiguator_text s.full root.disambiguator) (say (identifier_text root.name) (rooted root.name s)))
 
@@ -318,7 +318,7 @@ path_rule name R position depth s (WithArguments q) =
 path_rule name R position depth s (BackToPath target q) =
     back_path q s.outside (R.path position depth (into target s))
 
--- a type and the trait behind its " as "
+-- a type and the trait after its " as "
 abbrev pub qualified : Readers → ℕ → State → PathTree × State
 qualified R depth s = as_trait R depth OfTrait (R.ty depth (say (codes "<") s))
 

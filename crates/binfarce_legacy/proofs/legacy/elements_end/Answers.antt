@@ -30,7 +30,7 @@ loop-at-preserved c =
     let same : drop c.in_ok-end.end t ≡ drop (name_end u) u = ap (λ k. drop k t) end ∙ sym (drop-drop (name_end u) c.loop-at.at t) in
     record {
       within = omega (arith, end, c.in_ok-end.ensures.0.1, length-drop c.loop-at.at t, c.loop-at.invariant.within);
-      behind = λ es rest r. c.loop-at.invariant.behind (first u ∷ es) rest (reads_more u es rest c.in_ok-end.ensures.0 (r.0, sym same ∙ r.1));
+      after = λ es rest r. c.loop-at.invariant.after (first u ∷ es) rest (reads_more u es rest c.in_ok-end.ensures.0 (r.0, sym same ∙ r.1));
       ahead = λ es rest r.
           let left = c.loop-at.invariant.ahead es rest r in
           let others = reads_tail u left.0 rest (λ e. c.if-text-at-ne69.true (sym (head_at t c.loop-at.at) ∙ e)) left.1 in
@@ -51,4 +51,4 @@ returns c =
       | else-loop-at-test w ↦ absurd (omega arith)
     ] in
     let P : List ℕ → Type 0 = λ rest. (all : List Element) × Reads t all rest in
-    (omega arith, subst P (drop-drop 1 c.loop-at.at t) (c.loop-at.invariant.behind [] (drop 1 u) (reads_end_from u (head_at t c.loop-at.at ∙ e))))
+    (omega arith, subst P (drop-drop 1 c.loop-at.at t) (c.loop-at.invariant.after [] (drop 1 u) (reads_end_from u (head_at t c.loop-at.at ∙ e))))

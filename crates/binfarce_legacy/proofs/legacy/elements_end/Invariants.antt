@@ -5,7 +5,7 @@ use Rattle.binfarce_legacy.proofs.legacy.elements_end.Given as goal
 abbrev pub invariant-loop-at : goal.invariant-loop-at
 invariant-loop-at l = record {
   within : l.at ≤ length l.text;
-  behind : (elements : List Element) (rest : List ℕ) → Reads (drop l.at l.text) elements rest → (all : List Element) × Reads l.text all rest;
+  after : (elements : List Element) (rest : List ℕ) → Reads (drop l.at l.text) elements rest → (all : List Element) × Reads l.text all rest;
   ahead : (elements : List Element) (rest : List ℕ) → Reads l.text elements rest → (left : List Element) × Reads (drop l.at l.text) left rest;
 }
 

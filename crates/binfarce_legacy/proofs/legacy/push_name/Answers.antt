@@ -20,20 +20,20 @@ loop-at-preserved c =
     let len = ap length c.as_bytes-bytes.ensures.value in
     let w : List ℕ = drop special t in
     let n = c.in_ok-at.field-0 in
-    let behind : c.range_from.result.now ≡ w = c.range_from.ensures.value in
+    let after : c.range_from.result.now ≡ w = c.range_from.ensures.value in
     let slice : c.range.result.now ≡ take k u = c.range.ensures.value ∙ ap (λ j. take j u) (omega (arith, here)) in
     let within = c.plain_end-special.ensures.within in
     let piece = c.in_ok-at.ensures.within in
     record {
-      within = omega (arith, piece.1, ap length behind, length-drop special t, within.1, len);
+      within = omega (arith, piece.1, ap length after, length-drop special t, within.1, len);
       written =
           ap (λ (x : List ℕ). string_bytes c.push_piece.new.text ++ encode_utf8_all (chars_left x)) (sym (drop-drop n special t))
           ∙ written_step u k n w (string_bytes c.loop-at.text) (string_bytes c.push_piece.new.text)
           (IsAscii-drop t at c.requires) refl (ap (λ j. drop j t) here ∙ sym (drop-drop k at t))
-          (omega (arith, piece.0, piece.1, ap length behind)) (c.in_ok-at.ensures.len ∙ ap (λ (x : List ℕ). (first_piece x).len) behind) piece.0
+          (omega (arith, piece.0, piece.1, ap length after)) (c.in_ok-at.ensures.len ∙ ap (λ (x : List ℕ). (first_piece x).len) after) piece.0
           (c.in_ok-at.ensures.bytes
           ∙ ap (λ (x : List ℕ). x ++ encode_utf8_all (first_piece c.range_from.result.now).chars) (c.in_ok-push_str.ensures.bytes ∙ ap (λ (x : List ℕ). string_bytes c.loop-at.text ++ x) slice)
-          ∙ ap (λ (x : List ℕ). (string_bytes c.loop-at.text ++ take k u) ++ encode_utf8_all (first_piece x).chars) behind)
+          ∙ ap (λ (x : List ℕ). (string_bytes c.loop-at.text ++ take k u) ++ encode_utf8_all (first_piece x).chars) after)
           ∙ c.loop-at.invariant.written;
     }
 

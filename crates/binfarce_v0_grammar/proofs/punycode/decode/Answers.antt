@@ -3,12 +3,12 @@ use Rattle.binfarce_v0_grammar.specs.Punycode.{punycode_decoded}
 use Rattle.binfarce_v0_grammar.proofs.PunycodeLemmas.{punycode_decoded-long, Decodes-start, Decodes-done, Decodes-full, Decodes-not_scalar, Decodes-unread, Decodes-more}
 use Rattle.binfarce_v0_grammar.proofs.punycode.decode.Goals as goal
 
-pub returns-then-plain-gt-MOST_CHARACTERS : goal.returns-then-plain-gt-MOST_CHARACTERS
-returns-then-plain-gt-MOST_CHARACTERS c = sym (punycode_decoded-long _ _ c.if-plain-gt-MOST_CHARACTERS.true)
+pub returns-then-ascii-gt-MOST_CHARACTERS : goal.returns-then-ascii-gt-MOST_CHARACTERS
+returns-then-ascii-gt-MOST_CHARACTERS c = sym (punycode_decoded-long _ _ c.if-ascii-gt-MOST_CHARACTERS.true)
 
 pub loop-rest-init : goal.loop-rest-init
 loop-rest-init c =
-    Decodes-start _ _ _ c.if-plain-gt-MOST_CHARACTERS.false (search rules) c.copy_plain.ensures
+    Decodes-start _ _ _ c.if-ascii-gt-MOST_CHARACTERS.false (search rules) c.copy_ascii.ensures
 
 pub returns-then-count-eq-MOST_CHARACTERS : goal.returns-then-count-eq-MOST_CHARACTERS
 returns-then-count-eq-MOST_CHARACTERS c =
@@ -18,13 +18,13 @@ returns-then-count-eq-MOST_CHARACTERS c =
 pub returns-in_err-delta : goal.returns-in_err-delta
 returns-in_err-delta c =
     let some : 0 < length c.loop-rest.rest.now = search rules in
-    let none : punycode_decoded c.args.plain.now c.args.code.now ≡ None =
+    let none : punycode_decoded c.args.ascii.now c.args.code.now ≡ None =
     Decodes-unread c.loop-rest.invariant (omega (arith, c.loop-rest.invariant.room)) some c.in_err-delta.ensures.none in
     rw none (search rules)
 
 pub returns-in_err-character : goal.returns-in_err-character
 returns-in_err-character c =
-    let none : punycode_decoded c.args.plain.now c.args.code.now ≡ None =
+    let none : punycode_decoded c.args.ascii.now c.args.code.now ≡ None =
     Decodes-not_scalar c.loop-rest.invariant (omega (arith, c.loop-rest.invariant.room)) _ _ c.in_ok-delta.ensures.some c.in_err-character.ensures in
     rw none (search rules)
 

@@ -1,15 +1,15 @@
 use Rattle.std.proofs.Common.{◌≡◌, ◌+◌, ◌-◌, ◌*◌, suc, length}
 use Rattle.binfarce_v0_grammar.specs.machine.Seen.{listed_seen}
-use Rattle.binfarce_v0_grammar.specs.machine.Places.{places, items_place, bindings_place}
+use Rattle.binfarce_v0_grammar.specs.machine.Ends.{ends, items_end, bindings_end}
 use Rattle.binfarce_v0_grammar.proofs.reading.+reading.Given as goal
 
 abbrev pub invariant-read_items-loop-turn : goal.invariant-read_items-loop-turn
 invariant-read_items-loop-turn l =
-    items_place l.name (places l.name l.left) (listed_seen l.listed) (suc (length l.name) - l._turn) l.at ≡ items_place l.name (places l.name l.left) (listed_seen l.listed) (suc (length l.name)) l.start
+    items_end l.name (ends l.name l.left) (listed_seen l.listed) (suc (length l.name) - l._turn) l.at ≡ items_end l.name (ends l.name l.left) (listed_seen l.listed) (suc (length l.name)) l.start
 
 abbrev pub invariant-read_bindings-loop-turn : goal.invariant-read_bindings-loop-turn
 invariant-read_bindings-loop-turn l =
-    bindings_place l.name (places l.name l.left) (suc (length l.name) - l._turn) l.at ≡ bindings_place l.name (places l.name l.left) (suc (length l.name)) l.start
+    bindings_end l.name (ends l.name l.left) (suc (length l.name) - l._turn) l.at ≡ bindings_end l.name (ends l.name l.left) (suc (length l.name)) l.start
 
 abbrev pub decreases-read_path : goal.decreases-read_path
 decreases-read_path l = 10 * l.left + 0

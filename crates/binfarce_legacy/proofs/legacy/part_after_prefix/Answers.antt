@@ -1,7 +1,7 @@
 use Rattle.std.proofs.Common.{◌≡◌, true, nat_eq, codes, arith}
 use Rattle.std.specs.List.{starts_with}
 use Rattle.binfarce_text.proofs.TextLemmas.{boundary_after}
-use Rattle.binfarce_legacy.proofs.legacy.behind_prefix.Goals as goal
+use Rattle.binfarce_legacy.proofs.legacy.part_after_prefix.Goals as goal
 
 pub range_from-requires : goal.range_from-requires
 range_from-requires c =

@@ -7,7 +7,7 @@ use Rattle.std.proofs.lemmas.Str.{encodes_same, encodes-append, length-le-encode
 use Rattle.std.specs.List.{list_any, before_last, suffix_len}
 use Rattle.std.specs.Str.{encode_utf8_all, NonePass, IsUtf8}
 use Rattle.std.specs.Char.{encode_utf8}
-use Rattle.binfarce_legacy.specs.Legacy.{cut}
+use Rattle.binfarce_legacy.specs.Legacy.{without_last_part}
 
 abbrev is_colon : ℕ → Bool
 is_colon c = eqb c 58
@@ -26,14 +26,14 @@ none_at (c ∷ cs) zero h l = h.0
 none_at (c ∷ cs) (suc k) h l = none_at cs k h.1 (omega (arith, l))
 
 -- with no `:`, all stays
-pub cut-none : (cs : List ℕ) → NonePass is_colon cs → cut cs ≡ cs
-unfolding cut
-cut-none cs h = cond-false _ _ _ (list_any-none cs h)
+pub without_last_part-none : (cs : List ℕ) → NonePass is_colon cs → without_last_part cs ≡ cs
+unfolding without_last_part
+without_last_part-none cs h = cond-false _ _ _ (list_any-none cs h)
 
 -- the front of the last `:` loses its last character
-pub cut-split : (front back : List ℕ) → NonePass is_colon back → cut (front ++ 58 ∷ back) ≡ take (length front - 1) front
-unfolding cut
-cut-split front back h =
+pub without_last_part-split : (front back : List ℕ) → NonePass is_colon back → without_last_part (front ++ 58 ∷ back) ≡ take (length front - 1) front
+unfolding without_last_part
+without_last_part-split front back h =
     let all : List ℕ = front ++ 58 ∷ back in
     let n : ℕ = length front + 1 in
     let len : length all ≡ length front + (length back + 1) = length-append front (58 ∷ back) ∙ omega arith in

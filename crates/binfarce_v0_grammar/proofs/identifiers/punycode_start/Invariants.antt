@@ -1,6 +1,6 @@
 use Rattle.std.proofs.Common.{◌≡◌, ◌+◌, ◌≤◌, ◌==◌, not, length, take}
 use Rattle.std.specs.List.{suffix_len}
-use Rattle.binfarce_v0_grammar.proofs.leaves.code_start.Given as goal
+use Rattle.binfarce_v0_grammar.proofs.identifiers.punycode_start.Given as goal
 
 abbrev pub invariant-loop-start : goal.invariant-loop-start
 invariant-loop-start l =

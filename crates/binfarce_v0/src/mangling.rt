@@ -28,8 +28,8 @@ ghost use Rattle.binfarce_v0.specs.machine.Telling.{Tells, TextsTell, printed_se
 use crate::state::{Printed, Printer};
 use crate::text::push_identifier;
 use binfarce_text::suffixes::is_allowed_rest;
-use binfarce_v0_grammar::forms::{Position};
-use binfarce_v0_grammar::identifiers::{UndisambiguatedIdentifier};
+use binfarce_v0_grammar::forms::Position;
+use binfarce_v0_grammar::identifiers::UndisambiguatedIdentifier;
 use binfarce_v0_grammar::limits::MAX_LEVELS;
 use binfarce_v0_grammar::numbers::byte_at;
 use binfarce_v0_grammar::reading::read_path;
@@ -144,7 +144,10 @@ pub struct Texts {
 }
 
 // The text of a crate's name.
-fn root_text(alloc: Global, root: Option<UndisambiguatedIdentifier<'_>>) -> Result<Option<String>, AllocError>
+fn root_text(
+    alloc: Global,
+    root: Option<UndisambiguatedIdentifier<'_>>,
+) -> Result<Option<String>, AllocError>
     ensures { IfOk result (λ t. option_map string_bytes t ≡ option_map identifier_text (option_map undisambiguated_seen root.entry)) }
 {
     let Some(name) = root else {

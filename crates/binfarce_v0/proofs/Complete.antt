@@ -198,7 +198,7 @@ mutual
       let inner = depth + signature.binder in
       let start = say (signature_text signature) (say (binder_text depth signature.binder) (go (Some is.0) (take signature.binder e))) in
       let first = shown (items_text s.full items (codes ", ") true inner) (items_root items) (items_height items) (items_steps items) is.1 (l - 1) start in
-      enter_type name l depth s (FunctionOf signature is.0) (omega arith) (omega arith) is.2 ∙ took signature.binder NoType e (function_rule name R depth signature is.0) (omega arith) ∙ ap (function_end name R inner signature) (items_complete items name (l - 1) inner Types (codes ", ") (suc start.room) true start is.1 o is.3 (omega arith) (omega arith) (omega arith) (omega arith)) ∙ ap (returned name R inner signature items (say (codes ")") first)) is.4 ∙ rw is.5 (at_tree _ _ _ (shown_function s l signature.binder (Some is.0) is.1 (behind is.1) (binder_text depth signature.binder) (signature_text signature) (items_text s.full items (codes ", ") true inner) (codes ")") (items_root items) (items_height items) (items_steps items)))
+      enter_type name l depth s (FunctionOf signature is.0) (omega arith) (omega arith) is.2 ∙ took signature.binder NoType e (function_rule name R depth signature is.0) (omega arith) ∙ ap (function_end name R inner signature) (items_complete items name (l - 1) inner Types (codes ", ") (suc start.room) true start is.1 o is.3 (omega arith) (omega arith) (omega arith) (omega arith)) ∙ ap (returned name R inner signature items (say (codes ")") first)) is.4 ∙ rw is.5 (at_tree _ _ _ (shown_function s l signature.binder (Some is.0) is.1 (after_byte is.1) (binder_text depth signature.binder) (signature_text signature) (items_text s.full items (codes ", ") true inner) (codes ")") (items_root items) (items_height items) (items_steps items)))
   type_complete (FunctionTo signature items t) name l depth s after o is h n =
       let e = entered (l - 1) s in
       let R = readers name (l - 1) in

@@ -116,7 +116,10 @@ pub struct Texts {
 }
 
 // The text of a crate's name.
-fn root_text(alloc: Global, root: Option<UndisambiguatedIdentifier<'_>>) -> Result<Option<String>, AllocError>
+fn root_text(
+    alloc: Global,
+    root: Option<UndisambiguatedIdentifier<'_>>,
+) -> Result<Option<String>, AllocError>
     ensures { IfOk result (λ t. option_map string_bytes t ≡ option_map identifier_text (option_map undisambiguated_seen root.entry)) }
 {
     let Some(name) = root else {

@@ -47,8 +47,11 @@ ghost use Rattle.binfarce_v0.specs.machine.Printing.{
 };
 
 use crate::state::Printer;
-use binfarce_v0_grammar::forms::{ConstForm, Lifetime, Listed, PathForm, Position, Signature, TypeForm, const_form, lifetime_form, path_form, type_form};
-use binfarce_v0_grammar::identifiers::{Identifier, undisambiguated_at, identifier_at};
+use binfarce_v0_grammar::forms::{
+    ConstForm, Lifetime, Listed, PathForm, Position, Signature, TypeForm, const_form,
+    lifetime_form, path_form, type_form,
+};
+use binfarce_v0_grammar::identifiers::{Identifier, identifier_at, undisambiguated_at};
 use binfarce_v0_grammar::positions::{bound_end, eat, lifetime_steps, list_end, required_end};
 use std::alloc::AllocError;
 

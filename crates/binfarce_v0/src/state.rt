@@ -41,7 +41,7 @@ use crate::text::{
     push_signature,
 };
 use binfarce_v0_grammar::forms::{Lifetime, Signature};
-use binfarce_v0_grammar::identifiers::{UndisambiguatedIdentifier, Identifier};
+use binfarce_v0_grammar::identifiers::{Identifier, UndisambiguatedIdentifier};
 use binfarce_v0_grammar::limits::{MAX_LEVELS, MAX_STEPS};
 use std::alloc::{AllocError, Global};
 use std::marker::Model;
@@ -266,7 +266,11 @@ impl<'a> Printer<'a> {
     }
 
     /// Writes what a nested path adds to its parent.
-    pub fn say_nested(&mut self, namespace: u8, identifier: Identifier<'a>) -> Result<(), AllocError>
+    pub fn say_nested(
+        &mut self,
+        namespace: u8,
+        identifier: Identifier<'a>,
+    ) -> Result<(), AllocError>
         ensures { OnOk result (self.new ≡ with_state (say (nested_text namespace (identifier_seen identifier.entry)) self.old.state) self.old) }
     {
         if !self.muted {

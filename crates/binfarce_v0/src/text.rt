@@ -20,8 +20,8 @@ ghost use Rattle.binfarce_v0_grammar.specs.Tree.{
 ghost use Rattle.binfarce_v0_grammar.specs.machine.Seen.{undisambiguated_seen, identifier_seen, signature_seen};
 
 use binfarce_text::digits::hex_value;
-use binfarce_v0_grammar::forms::{Signature};
-use binfarce_v0_grammar::identifiers::{UndisambiguatedIdentifier, Identifier};
+use binfarce_v0_grammar::forms::Signature;
+use binfarce_v0_grammar::identifiers::{Identifier, UndisambiguatedIdentifier};
 use binfarce_v0_grammar::punycode::decode;
 use std::alloc::AllocError;
 use std::fmt::Write;
@@ -80,7 +80,11 @@ pub fn push_disambiguator(text: &mut String, n: u64) -> Result<(), AllocError>
 }
 
 // A name after a mark, or nothing for an empty name.
-fn push_after_mark(text: &mut String, mark: &str, name: UndisambiguatedIdentifier<'_>) -> Result<(), AllocError>
+fn push_after_mark(
+    text: &mut String,
+    mark: &str,
+    name: UndisambiguatedIdentifier<'_>,
+) -> Result<(), AllocError>
     ensures { OnOk result (string_bytes text.new ≡ string_bytes text.old ++ after_mark mark.now (undisambiguated_seen name.entry)) }
 {
     if name.ascii.is_empty() && name.punycode.is_empty() {
@@ -104,7 +108,11 @@ fn push_namespace(text: &mut String, namespace: u8) -> Result<(), AllocError>
 
 /// What a nested path adds to its parent.
 #[tactic(auto, unfolding(binfarce_v0_grammar::specs::Tree::nested_text))]
-pub fn push_nested(text: &mut String, namespace: u8, identifier: Identifier<'_>) -> Result<(), AllocError>
+pub fn push_nested(
+    text: &mut String,
+    namespace: u8,
+    identifier: Identifier<'_>,
+) -> Result<(), AllocError>
     ensures { OnOk result (string_bytes text.new ≡ string_bytes text.old ++ nested_text namespace (identifier_seen identifier.entry)) }
 {
     if !namespace.is_ascii_uppercase() {
@@ -186,7 +194,10 @@ fn push_undecoded(text: &mut String, name: UndisambiguatedIdentifier<'_>) -> Res
 
 /// The text of an identifier.
 #[tactic(auto, unfolding(binfarce_v0_grammar::specs::Identifiers::identifier_text))]
-pub fn push_identifier(text: &mut String, name: UndisambiguatedIdentifier<'_>) -> Result<(), AllocError>
+pub fn push_identifier(
+    text: &mut String,
+    name: UndisambiguatedIdentifier<'_>,
+) -> Result<(), AllocError>
     ensures { OnOk result (string_bytes text.new ≡ string_bytes text.old ++ identifier_text (undisambiguated_seen name.entry)) }
 {
     if name.punycode.is_empty() {

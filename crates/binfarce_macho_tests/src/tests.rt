@@ -100,11 +100,16 @@ const SYMBOLS: [(&str, &[Patch<'static>], &str); 20] = [
     ("2^32 - 1 bytes of strings", &[(204, &[0xFF; 4])], TRUNCATED),
 ];
 
+fn listed_with(alloc: Global, patches: &[Patch<'_>]) -> Result<String, AllocError> {
+    let file = patched(alloc, &MACHO, patches)?;
+    listed(alloc, &file)
+}
+
 #[test]
 fn symbols_of_damaged_files(rt: HostRuntime) -> Result<(), Fail> {
-    for (what, patches, text) in &SYMBOLS {
-        let file = patched(rt.alloc(), &MACHO, patches)?;
-        assert_eq!(rt; listed(rt.alloc(), &file)?.as_str(), *text, "{what}");
+    for (what, patches, want) in &SYMBOLS {
+        let text = listed_with(rt.alloc(), patches)?;
+        assert!(rt; text.as_str() == *want, "{what}: {text}");
     }
     Ok(())
 }
@@ -205,15 +210,21 @@ const SECTIONS: [(&str, &[Patch<'static>], Ask, &str); 6] = [
     ),
 ];
 
+fn described_with(
+    alloc: Global,
+    file: &[u8],
+    patches: &[Patch<'_>],
+    ask: Ask,
+) -> Result<String, AllocError> {
+    let file = patched(alloc, file, patches)?;
+    described(alloc, &file, ask)
+}
+
 #[test]
 fn sections(rt: HostRuntime) -> Result<(), Fail> {
-    for (what, patches, ask, text) in &SECTIONS {
-        let file = patched(rt.alloc(), &MACHO, patches)?;
-        assert_eq!(rt;
-            described(rt.alloc(), &file, *ask)?.as_str(),
-            *text,
-            "{what}"
-        );
+    for (what, patches, ask, want) in &SECTIONS {
+        let text = described_with(rt.alloc(), &MACHO, patches, *ask)?;
+        assert!(rt; text.as_str() == *want, "{what}: {text}");
     }
     Ok(())
 }
@@ -292,11 +303,10 @@ const ZEROS: [(usize, &[Patch<'static>], &str); 4] = [
 
 #[test]
 fn zero_bytes(rt: HostRuntime) -> Result<(), Fail> {
-    let zeros = [0; 40];
-    for (len, patches, text) in &ZEROS {
-        let file = patched(rt.alloc(), first_bytes(&zeros, *len), patches)?;
-        let found = described(rt.alloc(), &file, Ask::First)?;
-        assert_eq!(rt; found.as_str(), *text, "{len} bytes");
+    for (len, patches, want) in &ZEROS {
+        let zeros = first_bytes(&[0; 40], *len);
+        let text = described_with(rt.alloc(), zeros, patches, Ask::First)?;
+        assert!(rt; text.as_str() == *want, "{len} bytes: {text}");
     }
     Ok(())
 }

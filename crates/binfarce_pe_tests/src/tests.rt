@@ -141,17 +141,17 @@ const SYMBOLS: [Row; 15] = [
     },
 ];
 
+fn answer(alloc: Global, row: &Row) -> Result<String, AllocError> {
+    let mut file = patched(alloc, &PE, row.patches)?;
+    file.extend_from_slice(row.after)?;
+    listed(alloc, &file)
+}
+
 #[test]
 fn symbols_of_damaged_files(rt: HostRuntime) -> Result<(), Fail> {
     for row in &SYMBOLS {
-        let mut file = patched(rt.alloc(), &PE, row.patches)?;
-        file.extend_from_slice(row.after)?;
-        assert_eq!(rt;
-            listed(rt.alloc(), &file)?.as_str(),
-            row.text,
-            "{}",
-            row.what
-        );
+        let text = answer(rt.alloc(), row)?;
+        assert!(rt; text.as_str() == row.text, "{}: {text}", row.what);
     }
     Ok(())
 }
@@ -247,15 +247,16 @@ const SECTIONS: [(&str, &[Patch<'static>], Ask, &str); 6] = [
     ),
 ];
 
+fn described_with(alloc: Global, patches: &[Patch<'_>], ask: Ask) -> Result<String, AllocError> {
+    let file = patched(alloc, &PE, patches)?;
+    described(alloc, &file, ask)
+}
+
 #[test]
 fn sections(rt: HostRuntime) -> Result<(), Fail> {
-    for (what, patches, ask, text) in &SECTIONS {
-        let file = patched(rt.alloc(), &PE, patches)?;
-        assert_eq!(rt;
-            described(rt.alloc(), &file, *ask)?.as_str(),
-            *text,
-            "{what}"
-        );
+    for (what, patches, ask, want) in &SECTIONS {
+        let text = described_with(rt.alloc(), patches, *ask)?;
+        assert!(rt; text.as_str() == *want, "{what}: {text}");
     }
     Ok(())
 }

@@ -65,8 +65,9 @@ struct Row {
     text: &'static str,
 }
 
-// A file, the section that is asked for, and the answer. Mach-O and PE have one section of code, whichever is asked for.
-const ROWS: [Row; 18] = [
+// A file, the section that is asked for, and the answer: the whole listing, or a refusal on which nothing was written.
+// Mach-O and PE have one section of code, whichever is asked for.
+const ROWS: [Row; 22] = [
     Row {
         what: "ELF32 little endian",
         file: File::Elf(Layout::Elf32Little),
@@ -172,6 +173,38 @@ const ROWS: [Row; 18] = [
         text: TRUNCATED,
     },
     Row {
+        what: "the greatest size of the table",
+        file: File::Elf(Layout::Elf64Little),
+        len: WHOLE,
+        patches: &[(427, &[0xFF; 8])],
+        section: ".text",
+        text: "malformed input file",
+    },
+    Row {
+        what: "the greatest size of the table of 32 bits",
+        file: File::Elf(Layout::Elf32Little),
+        len: WHOLE,
+        patches: &[(315, &[0xFF; 4])],
+        section: ".text",
+        text: TRUNCATED,
+    },
+    Row {
+        what: "Mach-O with 2^32 - 1 rows",
+        file: File::Macho,
+        len: WHOLE,
+        patches: &[(0, &[0xCF, 0xFA, 0xED, 0xFE]), (196, &[0xFF; 4])],
+        section: ".text",
+        text: TRUNCATED,
+    },
+    Row {
+        what: "PE with 2^32 - 1 rows",
+        file: File::Pe,
+        len: WHOLE,
+        patches: &[(0, b"MZ"), (80, &[0xFF; 4])],
+        section: ".text",
+        text: TRUNCATED,
+    },
+    Row {
         what: "nothing",
         file: File::Elf(Layout::Elf64Little),
         len: 0,
@@ -213,11 +246,15 @@ const ROWS: [Row; 18] = [
     },
 ];
 
+fn answer(alloc: Global, row: &Row) -> Result<String, Fail> {
+    let file = patched(alloc, bytes_of(row.file), row.patches)?;
+    answered(alloc, first_bytes(&file, row.len), row.section)
+}
+
 #[test]
 fn lists_files(rt: HostRuntime) -> Result<(), Fail> {
     for row in &ROWS {
-        let file = patched(rt.alloc(), bytes_of(row.file), row.patches)?;
-        let text = answered(rt.alloc(), first_bytes(&file, row.len), row.section)?;
+        let text = answer(rt.alloc(), row)?;
         assert!(&rt; text.as_str() == row.text, "{}: {text}", row.what);
     }
     Ok(())

@@ -8,7 +8,7 @@ use binfarce_samples::{Patch, patched};
 use std::alloc::{AllocError, Global};
 use std::test::Fail;
 
-const LISTING: &str = "1000 16 foo::bar foo Legacy, section of 32";
+const LISTING: &str = "1000 16 foo::bar foo Legacy None, section of 32";
 
 type Answer = Result<(Vec<SymbolData>, u64), ParseError>;
 
@@ -33,7 +33,7 @@ fn symbols(alloc: Global, layout: Layout, file: &[u8], section: &str) -> Answer 
     }
 }
 
-// Address, size and name of each symbol and then the section's size, or the words of the refusal.
+// Address, size, names, kind and crate of each symbol and then the section's size, or the words of the refusal.
 fn listed(alloc: Global, layout: Layout, file: &[u8], section: &str) -> Result<String, AllocError> {
     let (symbols, size) = match symbols(alloc, layout, file, section) {
         Err(error) => return format!(in alloc; "{error}"),
@@ -43,8 +43,8 @@ fn listed(alloc: Global, layout: Layout, file: &[u8], section: &str) -> Result<S
     for symbol in &symbols {
         let name = &symbol.name;
         let line = format!(in alloc;
-            "{:x} {} {} {} {:?}, ",
-            symbol.address, symbol.size, name.complete, name.trimmed, name.kind
+            "{:x} {} {} {} {:?} {:?}, ",
+            symbol.address, symbol.size, name.complete, name.trimmed, name.kind, name.crate_name
         )?;
         lines.push_str(line.as_str())?;
     }
@@ -165,7 +165,7 @@ const ROWS: [Row; 25] = [
         what: "strings that are the section names",
         layout: Layout::Elf64Little,
         patches: &[(483, &[234]), (491, &[33])],
-        text: "1000 16 .text .text Unknown, section of 32",
+        text: "1000 16 .text .text Unknown None, section of 32",
     },
     Row {
         what: "65,535 sections",

@@ -104,7 +104,7 @@ impl Class for u32 {
         u64::from(self)
     }
 
-    fn entries_of(self, entry_size: Self) -> Self {
+    fn entries_of(self, entry_size: u32) -> u32 {
         self.checked_div(entry_size).unwrap_or(0)
     }
 
@@ -173,7 +173,7 @@ impl Class for u64 {
         self
     }
 
-    fn entries_of(self, entry_size: Self) -> Self {
+    fn entries_of(self, entry_size: u64) -> u64 {
         self.checked_div(entry_size).unwrap_or(0)
     }
 

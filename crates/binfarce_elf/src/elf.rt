@@ -194,10 +194,7 @@ impl<'a, C: Class> Elf<'a, C> {
         requires { All (MayBeAsked (section_seen C.number_of) (F.pre callback)) (walk C.table (section_table C.table self.now)).sections }
         ensures { FirstAccepted refusal_of (section_seen C.number_of) (F.post callback) (walk C.table (section_table C.table self.now)) result }
     {
-        match sections::first_section::<C, F>(self.table(), callback) {
-            Err(_) => Err(ParseError::UnexpectedEof),
-            Ok(found) => Ok(found),
-        }
+        Ok(sections::first_section::<C, F>(self.table(), callback)?)
     }
 
     /// The first section with this name; refused as `find_section` is.

@@ -3,8 +3,7 @@
 ghost use Rattle.std.specs.Prelude.{◌≡◌, ◌<◌, ◌≤◌, length, MatchResult};
 ghost use Rattle.binfarce_bytes.specs.Refusal.{refusal_of, unexpected_eof};
 
-use crate::elf;
-use crate::symbols;
+use crate::{elf, symbols};
 use binfarce_bytes::{ByteOrder, ParseError};
 
 /// A 32-bit ELF file. It borrows the file's bytes.

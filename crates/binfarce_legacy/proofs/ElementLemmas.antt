@@ -108,7 +108,7 @@ same_element x y d n =
     let make : List ℕ → List ℕ → Element = λ ds ns. record { digits = ds; name = ns } in
     ap (λ ds. make ds x.name) d ∙ ap (λ ns. make y.digits ns) n
 
--- the elements of a text, and what stands after them, are told by the text
+-- a text has its elements, and what stands after them, in one way
 pub reads_one_way : (text : List ℕ) (xs ys : List Element) (r s : List ℕ) → Reads text xs r → Reads text ys s → (xs ≡ ys) × (r ≡ s)
 reads_one_way text [] ys r s a b =
     let e = reads_end text ys s (ap (λ (x : List ℕ). get_or x 0 0) a.1) b in

@@ -1,4 +1,4 @@
--- Where a text of characters is cut.
+-- Where the last part of a text of characters begins.
 use Rattle.std.proofs.Common.{◌≡◌, ℕ, zero, suc, ◌+◌, ◌-◌, ◌<◌, Bool, true, false, eqb, not, List, [], ◌∷◌, ◌++◌, length, get_or, take, Option, Some, None, MatchOption, refl, ap, sym, ◌∙◌, arith, length-append}
 use Rattle.std.proofs.lemmas.Bool.{cond-true, cond-false, or_from, or_right}
 use Rattle.std.proofs.lemmas.List.{take_at, get_or_at, get_or-append_right, nil_from_length, append-nil}

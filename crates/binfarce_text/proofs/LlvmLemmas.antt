@@ -27,7 +27,7 @@ cond-cons : (d : Bool) (b : ℕ) (xs ys : List ℕ) → b ∷ cond d xs ys ≡ c
 cond-cons true b xs ys = refl
 cond-cons false b xs ys = refl
 
--- the first one is cut where what is after it is its number
+-- the first one is left out where what is after it is its number
 pub without_llvm-first : (t : List ℕ) (i : ℕ) → NoneBelow t i → llvm_at t i ≡ true
     → without_llvm t ≡ cond (list_all is_llvm_digit (drop 6 (drop i t))) (take i t) t
 unfolding without_llvm
@@ -98,10 +98,10 @@ without_llvm-kept t n ends lacks = elim (first_llvm t (length t)) [
   | inr none ↦ without_llvm-none t none
 ]
 
--- it is cut where the first one stands before its last digits
-pub without_llvm-cut : (t : List ℕ) (n i : ℕ) → EndsInDigits t n → n ≡ i + 6
+-- it is left out where the first one stands before its last digits
+pub without_llvm-left_out : (t : List ℕ) (n i : ℕ) → EndsInDigits t n → n ≡ i + 6
     → llvm_at t i ≡ true → NoneBelow t i → without_llvm t ≡ take i t
-without_llvm-cut t n i ends e here none =
+without_llvm-left_out t n i ends e here none =
     without_llvm-first t i none here
     ∙ cond-true _ _ _ (list_all-from is_llvm_digit (drop 6 (drop i t)) (λ k l.
     ap is_llvm_digit (get_or-drop 6 (drop i t) k 0 ∙ get_or-drop i t (6 + k) 0)

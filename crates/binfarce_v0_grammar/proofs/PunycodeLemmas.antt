@@ -176,11 +176,11 @@ unfolding text_of
 text_of-full decoder [] some = absurd (omega arith)
 text_of-full decoder (byte ∷ code) some = refl
 
-text_of-unread : (room : ℕ) (decoder : Decoder) (code : List ℕ) → 0 < length code → integer decoder.bias 0 code ≡ None → text_of room decoder code ≡ None
+text_of-invalid : (room : ℕ) (decoder : Decoder) (code : List ℕ) → 0 < length code → integer decoder.bias 0 code ≡ None → text_of room decoder code ≡ None
 unfolding text_of
-text_of-unread room decoder [] some e = absurd (omega arith)
-text_of-unread zero decoder (byte ∷ code) some e = refl
-text_of-unread (suc room) decoder (byte ∷ code) some e = rw e
+text_of-invalid room decoder [] some e = absurd (omega arith)
+text_of-invalid zero decoder (byte ∷ code) some e = refl
+text_of-invalid (suc room) decoder (byte ∷ code) some e = rw e
 
 text_of-read : (room : ℕ) (decoder : Decoder) (code rest : List ℕ) (delta : ℕ) → integer decoder.bias 0 code ≡ Some (delta, rest) → text_of (suc room) decoder code ≡ cond (is_scalar (decoder_after decoder delta).n) (text_of room (decoder_after decoder delta) rest) None
 unfolding text_of
@@ -243,10 +243,10 @@ module _ {characters : List ℕ} {count n i bias : ℕ} {rest : List ℕ} {answe
   pub Decodes-not_scalar : Decodes characters count n i bias rest answer → count < 128 → (delta : ℕ) (tail : List ℕ) → integer bias 0 rest ≡ Some (delta, tail) → is_scalar (n + (i + delta) / (count + 1)) ≡ false → answer ≡ None
   Decodes-not_scalar d room delta tail e scalar = Decodes-read d room delta tail e ∙ cond-false _ _ None scalar
 
-  pub Decodes-unread : Decodes characters count n i bias rest answer → count < 128 → 0 < length rest → IfSome (integer bias 0 rest) (λ read. 0xFFFF_FFFF < read.0) → answer ≡ None
-  Decodes-unread d room some far =
+  pub Decodes-invalid : Decodes characters count n i bias rest answer → count < 128 → 0 < length rest → IfSome (integer bias 0 rest) (λ read. 0xFFFF_FFFF < read.0) → answer ≡ None
+  Decodes-invalid d room some far =
       elim (cases_Option (integer bias 0 rest)) [
-        | inl e ↦ sym d.gives ∙ text_of-unread (128 - count) _ rest some e
+        | inl e ↦ sym d.gives ∙ text_of-invalid (128 - count) _ rest some e
         | inr read ↦
             let delta = read.0.0 in
             let past : 0xFFFF_FFFF < delta = rw read.1 at far in

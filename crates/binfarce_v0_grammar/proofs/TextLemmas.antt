@@ -1,4 +1,4 @@
--- Where an ASCII text may be cut, and where a Punycode identifier is.
+-- Where an ASCII text may be split, and where a Punycode identifier is.
 use Rattle.std.proofs.Common.{◌≡◌, ℕ, ◌+◌, ◌-◌, ◌<◌, ◌≤◌, List, length, get_or, take, drop, Some, None, true, false, not, ◌==◌, slice_range, refl, subst, arith}
 use Rattle.std.specs.List.{suffix_len}
 use Rattle.std.specs.Str.{IsUtf8, IsCharBoundary}
@@ -8,7 +8,7 @@ use Rattle.std.proofs.lemmas.List.Sums.{suffix_len-le-length}
 use Rattle.std.proofs.lemmas.Str.{IsCharBoundary-after_ascii, IsCharBoundary-from_ascii, IsAscii-take, IsAscii-drop}
 use Rattle.binfarce_v0_grammar.specs.Identifiers.{identifier_of, is_empty}
 
--- a text may be cut after an "R"
+-- a text may be split after an "R"
 pub boundary_after_letter : (text : List ℕ) (n : ℕ) → IsUtf8 text → 0 < n → n ≤ length text → get_or text (n - 1) 0 ≡ 82 → IsCharBoundary text n
 boundary_after_letter text n u p h e =
     let next : n - 1 + 1 ≡ n = omega arith in

@@ -11,7 +11,7 @@ fn is_text(decoded: &Option<Decoded>, text: &str) -> bool {
     }
 }
 
-// Samples of RFC 3492, section 7.1, and below them what CPython's codec `punycode` tells.
+// Samples of RFC 3492, section 7.1, and below them what CPython's codec `punycode` gives.
 #[test]
 fn decodes_what_others_encoded(rt: HostRuntime) {
     for (plain, code, text) in [
@@ -57,7 +57,7 @@ fn decodes_what_others_encoded(rt: HostRuntime) {
     }
 }
 
-// Lower-case digits alone are a rule of v0 names. The codec tells the rest, and wrote the integers: those of the
+// Lower-case digits alone are a rule of v0 names. The codec gives the rest, and wrote the integers: those of the
 // surrogates, of what follows the last code point, and of numbers that stand for `ü` where 32 or 64 bits wrap.
 #[test]
 fn refuses_what_is_no_text(rt: HostRuntime) {
@@ -80,7 +80,7 @@ fn refuses_what_is_no_text(rt: HostRuntime) {
     }
 }
 
-// The codes of an `é` behind 127 and behind 128 times `x` are the codec's.
+// The codes of an `é` after 127 and after 128 times `x` are the codec's.
 #[test]
 fn holds_128_characters(rt: HostRuntime) {
     let row = [b'x'; 129];
@@ -94,7 +94,7 @@ fn holds_128_characters(rt: HostRuntime) {
         assert_eq!(rt;
             decoded.as_ref().map(|text| text.characters().len()),
             count,
-            "behind {} with {code}",
+            "after {} with {code}",
             plain.len()
         );
     }

@@ -1,7 +1,7 @@
 use Rattle.std.proofs.Common.{◌≡◌, ◌-◌, length, sym, ap, ◌∙◌, arith}
 use Rattle.std.proofs.lemmas.Bool.{both_ways}
 use Rattle.std.proofs.lemmas.List.{take_all}
-use Rattle.binfarce_text.proofs.LlvmLemmas.{llvm_at, without_llvm-kept, without_llvm-cut}
+use Rattle.binfarce_text.proofs.LlvmLemmas.{llvm_at, without_llvm-kept, without_llvm-left_out}
 use Rattle.binfarce_text.proofs.suffixes.len_without_llvm.Goals as goal
 use Rattle.binfarce_text.proofs.suffixes.len_without_llvm.Goals.{else-has_llvm_at-via-then-has_llvm_at+else-not-has_llvm_below, else-has_llvm_at-via-else-has_llvm_at}
 
@@ -13,7 +13,7 @@ returns-then-end-lt6-clause-value c =
 
 pub returns-then-not-has_llvm_below-clause-value : goal.returns-then-not-has_llvm_below-clause-value
 returns-then-not-has_llvm_below-clause-value c =
-    sym (without_llvm-cut c.args.text.now c.digits_start-end.result (c.digits_start-end.result - 6) c.digits_start-end.ensures
+    sym (without_llvm-left_out c.args.text.now c.digits_start-end.result (c.digits_start-end.result - 6) c.digits_start-end.ensures
     (omega arith) (sym c.if-has_llvm_at.ensures) c.if-not-has_llvm_below.ensures)
 
 pub returns-else-has_llvm_at-clause-value : goal.returns-else-has_llvm_at-clause-value

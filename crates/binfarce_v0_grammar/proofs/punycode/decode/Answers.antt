@@ -1,6 +1,6 @@
 use Rattle.std.proofs.Common.{◌≡◌, ◌<◌, insert, take, Some, None, length, sym, ap, ◌∙◌, arith, rules}
 use Rattle.binfarce_v0_grammar.specs.Punycode.{punycode_decoded}
-use Rattle.binfarce_v0_grammar.proofs.PunycodeLemmas.{punycode_decoded-long, Decodes-start, Decodes-done, Decodes-full, Decodes-not_scalar, Decodes-unread, Decodes-more}
+use Rattle.binfarce_v0_grammar.proofs.PunycodeLemmas.{punycode_decoded-long, Decodes-start, Decodes-done, Decodes-full, Decodes-not_scalar, Decodes-invalid, Decodes-more}
 use Rattle.binfarce_v0_grammar.proofs.punycode.decode.Goals as goal
 
 pub returns-then-ascii-gt-MOST_CHARACTERS : goal.returns-then-ascii-gt-MOST_CHARACTERS
@@ -19,7 +19,7 @@ pub returns-in_err-delta : goal.returns-in_err-delta
 returns-in_err-delta c =
     let some : 0 < length c.loop-rest.rest.now = search rules in
     let none : punycode_decoded c.args.ascii.now c.args.code.now ≡ None =
-    Decodes-unread c.loop-rest.invariant (omega (arith, c.loop-rest.invariant.room)) some c.in_err-delta.ensures.none in
+    Decodes-invalid c.loop-rest.invariant (omega (arith, c.loop-rest.invariant.room)) some c.in_err-delta.ensures.none in
     rw none (search rules)
 
 pub returns-in_err-character : goal.returns-in_err-character

@@ -6,6 +6,7 @@ use Rattle.std.specs.List.{filter_map, cons_option, AllZip}
 use Rattle.std.proofs.lemmas.Bool.{lt-ltb, le-ltb, cases_lt}
 use Rattle.std.proofs.lemmas.List.{take_more, get_or-map, length-map, map-append}
 use Rattle.std.proofs.lemmas.List.Elements.{All-nil, All-cons, All-contains}
+use Rattle.std.proofs.lemmas.Slice.Zip.{AllZip-long}
 use Rattle.binfarce_names.specs.declared.demangle.SymbolData.{SymbolData}
 use Rattle.binfarce_symbols.specs.declared.sizes.RowAddress as code
 use Rattle.binfarce_symbols.specs.Sizes.{RowAddress, comes_before, put_in, arranged, addresses_of, least, least_of, least_above, LeastAbove}
@@ -100,12 +101,6 @@ numbers_below kept [] (q ∷ ys) all = absurd all
 numbers_below kept (x ∷ xs) [] all = absurd all
 numbers_below kept (x ∷ xs) (q ∷ ys) all = All-cons (λ r. r.row < length kept) x xs all.0.0 (numbers_below kept xs ys all.1)
 
-names_long : {A B : Type 0} (R : A → B → Type 0) (xs : List A) (ys : List B) → AllZip R xs ys → length ys ≡ length xs
-names_long R [] [] all = refl
-names_long R [] (y ∷ ys) all = absurd all
-names_long R (x ∷ xs) [] all = absurd all
-names_long R (x ∷ xs) (y ∷ ys) all = ap suc (names_long R xs ys all.1)
-
 -- the numbers of the arranged rows are those of names
 pub all_have_names : (table : SymbolTable) (index : ℕ) (held : List RowAddress) (names : List (List ℕ)) (rows : List code.RowAddress) (n : ℕ)
     → HoldsKept table (kept_rows table index) held names → rows_seen rows ≡ arranged held → n ≡ length names → All (λ r. r.row < n) rows
@@ -113,7 +108,7 @@ all_have_names table index held names rows n h are long k d lt =
     let kept = kept_rows table index in
     let all : All (λ r. r.row < length kept) (rows_seen rows) = subst (λ (rs : List RowAddress). All (λ r. r.row < length kept) rs) (sym (are ∙ ap arranged h.rows_are)) (numbers_below kept (arranged_numbers kept) (arranged kept) (arranged_alike table index)) in
     let below : (get_or rows k d).row < length kept = rw (get_or-map row_seen rows k d (row_seen d) lt) at (all k (row_seen d) (omega (arith, length-map rows row_seen))) in
-    omega (arith, names_long (IsNameOf table) kept names h.names_are)
+    omega (arith, AllZip-long (IsNameOf table) kept names h.names_are)
 
 name_at : (table : SymbolTable) (kept : List RowAddress) (names : List (List ℕ)) (k : ℕ) → AllZip (IsNameOf table) kept names → k < length kept → IsNameOf table (get_or kept k none) (get_or names k [])
 name_at table [] [] k all lt = absurd (omega arith)

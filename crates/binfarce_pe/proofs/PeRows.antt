@@ -7,6 +7,7 @@ use Rattle.std.proofs.lemmas.Bool.Decides.{nat_tests}
 use Rattle.std.proofs.lemmas.List.{append-nil, length-map, map-append}
 use Rattle.std.proofs.lemmas.List.Elements.{All-nil, All-cons, All-head}
 use Rattle.std.proofs.lemmas.List.Sorted.{All-permutation, length_permutation}
+use Rattle.std.proofs.lemmas.Slice.Zip.{AllZip-long}
 use Rattle.binfarce_symbols.specs.declared.sizes.RowAddress as code
 use Rattle.binfarce_symbols.specs.Sizes.{RowAddress, arranged, addresses_of}
 use Rattle.binfarce_symbols.specs.machine.Rows.{row_seen, rows_seen}
@@ -95,12 +96,6 @@ addresses_push : (xs : List RowAddress) (x : RowAddress) → addresses_of (xs ++
 addresses_push [] x = refl
 addresses_push (y ∷ xs) x = ap (λ (addresses : List ℕ). y.address ∷ addresses) (addresses_push xs x)
 
-all_zip_long : {A B : Type 0} (R : A → B → Type 0) (xs : List A) (ys : List B) → AllZip R xs ys → length ys ≡ length xs
-all_zip_long R [] [] all = refl
-all_zip_long R [] (y ∷ ys) all = absurd all
-all_zip_long R (x ∷ xs) [] all = absurd all
-all_zip_long R (x ∷ xs) (y ∷ ys) all = ap suc (all_zip_long R xs ys all.1)
-
 named_too : (b : Bool) (o : Option (List ℕ)) (name : List ℕ) → cond b o None ≡ Some name → o ≡ Some name
 named_too true o name e = e
 named_too false o name e = absurd cc
@@ -116,7 +111,7 @@ one_more_held table index k next row name rows names n within at is some long h 
     let x : RowAddress = record { address = (record_of table k).value; row = k } in
     let function : function_name table index k (record_of table k) ≡ Some name = ap (function_name table index k) (sym is) ∙ sym some in
     let kept : kept_row table index k ≡ Some x = ap (option_map (λ (_ : List ℕ). x)) function in
-    let here : n ≡ 0 + length (addresses_of h.so_far) = omega (arith, all_zip_long (IsNameOf table) h.so_far names h.held.names_are, length-map h.so_far (λ r. r.address)) in
+    let here : n ≡ 0 + length (addresses_of h.so_far) = omega (arith, AllZip-long (IsNameOf table) h.so_far names h.held.names_are, length-map h.so_far (λ r. r.address)) in
     record {
       so_far = h.so_far ++ x ∷ [];
       whole = h.whole ∙ ap (λ (xs : List RowAddress). h.so_far ++ xs) (kept_step table index k within ∙ rw kept (ap (λ (i : ℕ). x ∷ kept_from table index i) (sym at))) ∙ sym (append_assoc h.so_far (x ∷ []) (kept_from table index next));

@@ -1,5 +1,6 @@
 //! What the ELF readers find in a file, worked out by hand from the format's description.
 
+mod functions;
 mod sections;
 mod symbols;
 

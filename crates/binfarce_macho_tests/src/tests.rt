@@ -349,3 +349,26 @@ fn many_symbols(rt: HostRuntime) -> Result<(), Fail> {
     lists_many_rows(&rt, rt.alloc(), false)?;
     lists_many_rows(&rt, rt.alloc(), true)
 }
+
+// Address, size and stored name of each function symbol, and then the section's size.
+fn stored(alloc: Global, file: &[u8]) -> Result<String, Fail> {
+    let (functions, size) = parse(file)?.functions(alloc)?;
+    let mut lines = String::new(alloc);
+    for function in &functions {
+        let line = format!(in alloc;
+            "{:x} {} {}, ",
+            function.address, function.size, function.name
+        )?;
+        lines.push_str(line.as_str())?;
+    }
+    let line = format!(in alloc; "text {size}")?;
+    lines.push_str(line.as_str())?;
+    Ok(lines)
+}
+
+// These names are no manglings, so they are stored as they are listed.
+#[test]
+fn functions(rt: HostRuntime) -> Result<(), Fail> {
+    assert_eq!(rt; stored(rt.alloc(), &MACHO)?.as_str(), LISTING);
+    Ok(())
+}

@@ -1,0 +1,4 @@
+//! Reports.
+#![tactic(auto)]
+
+pub mod report;

@@ -10,8 +10,7 @@ pub use Rattle.binfarce_symbols.specs.SymbolSeen
 pub use Rattle.binfarce_symbols.specs.Sizes
 pub use Rattle.binfarce_elf.specs.Elf
 pub use Rattle.binfarce_elf.specs.ElfSymbols
-pub use Rattle.binfarce_elf.specs.Elf32
-pub use Rattle.binfarce_elf.specs.Elf64
+pub use Rattle.binfarce_elf.specs.ElfSeen
 pub use Rattle.binfarce_macho.specs.Macho
 pub use Rattle.binfarce_macho.specs.MachoSymbols
 pub use Rattle.binfarce_macho.specs.MachoTypes

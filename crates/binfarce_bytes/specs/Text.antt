@@ -1,11 +1,15 @@
 -- The text in a string table at a place: what stands there up to the first NUL (gABI, "String Table").
-use Rattle.std.specs.Prelude.{ℕ, ◌≡◌, ◌≢◌, [], ◌∷◌, ◌++◌, ◌&&◌, List, take, drop, All, Option, Some, None, nat_lt, nat_eq, if◌then◌else◌, position}
+use Rattle.std.specs.Prelude.{ℕ, ◌≡◌, ◌≢◌, [], ◌∷◌, ◌++◌, ◌&&◌, List, length, take, drop, All, Option, Some, None, unwrap_or, nat_lt, nat_eq, if◌then◌else◌, position}
 use Rattle.std.specs.Option.{option_and_then}
 use Rattle.std.specs.Str.{IsUtf8, is_utf8}
 
 -- where the first NUL stands
 abbrev pub nul_at : List ℕ → Option ℕ
 nul_at bytes = position (λ b. nat_eq b 0) bytes
+
+-- the bytes up to the first NUL, or all where there is none
+abbrev pub up_to_nul : List ℕ → List ℕ
+up_to_nul bytes = take (unwrap_or (nul_at bytes) (length bytes)) bytes
 
 -- the first n bytes, where they are a text: not empty, and UTF-8
 abbrev pub text_of : List ℕ → ℕ → Option (List ℕ)

@@ -3,7 +3,7 @@
 ghost use Rattle.std.specs.Prelude.{◌≡◌, ℕ, ◌+◌, ◌-◌, ◌<◌, ◌≤◌, ◌^◌, ◌↔◌, List, length, IsTrue, MatchOption, MatchResult, nat_eq};
 ghost use Rattle.binfarce_bytes.specs.declared.ByteOrder.{ByteOrder};
 ghost use Rattle.binfarce_bytes.specs.Number.{number, signed, bytes_at};
-ghost use Rattle.binfarce_bytes.specs.Text.{text_at, nul_at, text_of, FindsText};
+ghost use Rattle.binfarce_bytes.specs.Text.{text_at, nul_at, up_to_nul, text_of, FindsText};
 ghost use Rattle.binfarce_bytes.specs.Refusal.{refusal_of, malformed_input};
 ghost use Rattle.std.specs.List.{list_any};
 ghost use Rattle.std.specs.Option.{option_map};
@@ -321,6 +321,16 @@ pub fn part(bytes: &[u8], offset: usize, size: usize) -> Result<&[u8], Unexpecte
 {
     let end = offset.checked_add(size).ok_or(UnexpectedEof {})?;
     bytes.get(offset..end).ok_or(UnexpectedEof {})
+}
+
+/// The bytes up to the first NUL, or all where there is none; a part of `bytes`.
+pub fn up_to_nul(bytes: &[u8]) -> &[u8]
+    ensures { result.now ≡ up_to_nul bytes.now }
+{
+    match first_nul(bytes) {
+        None => bytes,
+        Some(len) => &bytes[..len],
+    }
 }
 
 /// The text from `start` to the first NUL, which is a part of `bytes`.

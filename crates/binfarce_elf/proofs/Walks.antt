@@ -1,5 +1,7 @@
 -- The walk over the section headers of an ELF file, as a loop goes over it.
-use Rattle.std.proofs.Common.{◌≡◌, ℕ, ◌+◌, ◌-◌, ◌*◌, ◌/◌, ◌<◌, ◌≤◌, Bool, true, false, List, [], ◌∷◌, ◌++◌, length, get_or, take, drop, map, All, Option, Some, None, refl, sym, ap, ◌∙◌, append_assoc, arith, min, ltb, ◌&&◌, Result, Ok, Err, IsErr}
+use Rattle.std.proofs.Common.{◌≡◌, ℕ, ◌+◌, ◌-◌, ◌*◌, ◌/◌, ◌<◌, ◌≤◌, Bool, true, false, List, [], ◌∷◌, ◌++◌, length, get_or, take, drop, map, All, Option, Some, None, refl, sym, ap, ◌∙◌, append_assoc, arith, min, ltb, ◌&&◌, Result, Ok, Err, IsErr, MatchResult}
+use Rattle.std.specs.Option.{option_map}
+use Rattle.std.specs.Result.{result_ok}
 use Rattle.std.specs.List.{range_with_len}
 use Rattle.std.proofs.lemmas.Bool.{le-ltb, lt-ltb, le-leb, lt-leb}
 use Rattle.std.proofs.lemmas.List.{take-append-drop}
@@ -8,7 +10,7 @@ use Rattle.std.proofs.lemmas.List.Elements.{All-nil, All-push, All-same}
 use Rattle.std.proofs.lemmas.Nat.{le-div, div_below}
 use Rattle.binfarce_bytes.specs.Refusal.{Refusal, unexpected_eof}
 use Rattle.binfarce_bytes.specs.Walk.{Walk, Answered, MayBeAsked, IsFirstAccepted, NoneAccepted, FirstAccepted}
-use Rattle.binfarce_elf.specs.Elf.{ElfClass, SectionTable, Section, section_of, whole_headers, names_section, walk}
+use Rattle.binfarce_elf.specs.Elf.{ElfClass, SectionTable, Section, section_at, section_of, whole_headers, names_section, walk}
 
 -- the sections whose numbers are below n
 abbrev pub numbered_below : ElfClass → SectionTable → ℕ → List Section
@@ -130,3 +132,12 @@ pub names_cut : (class : ElfClass) (table : SectionTable) (start : ℕ) → 0 < 
 names_cut class table start some at cut =
     let c : whole_headers class table ≤ table.shstrndx = is_cut (length table.file) table.shoff start class.section_length table.shstrndx some at cut in
     rw (le-ltb table.shstrndx (whole_headers class table) c) refl
+
+-- the section of the section names, where its header was read
+pub names_are : {T E : Type 0} (class : ElfClass) (table : SectionTable) (seen : T → Section) (start : ℕ) (read : Result T E) → 0 < class.section_length → start ≡ table.shoff + table.shstrndx * class.section_length
+    → MatchResult read (λ s. (start + class.section_length ≤ length table.file) × (seen s ≡ section_at class table.order table.file start table.shstrndx)) (λ _. length table.file < start + class.section_length)
+    → option_map seen (result_ok read) ≡ names_section class table
+names_are class table seen start (Ok section) some at h =
+    let whole : table.shstrndx < whole_headers class table = is_whole (length table.file) table.shoff start class.section_length table.shstrndx some at h.0 in
+    rw (lt-ltb table.shstrndx (whole_headers class table) whole) (ap Some (h.1 ∙ ap (λ (n : ℕ). section_at class table.order table.file n table.shstrndx) at))
+names_are class table seen start (Err e) some at h = sym (names_cut class table start some at h)

@@ -1,5 +1,5 @@
 -- The function symbols of one section of an ELF file (System V gABI, "Symbol Table").
-use Rattle.std.specs.Prelude.{ℕ, ◌+◌, ◌*◌, ◌/◌, ◌%◌, ◌^◌, Bool, false, ◌&&◌, List, length, Option, Some, None, Result, Ok, Err, nat_eq, nat_le, nat_lt, not, codes, if◌then◌else◌}
+use Rattle.std.specs.Prelude.{ℕ, ◌+◌, ◌-◌, ◌*◌, ◌/◌, ◌%◌, ◌^◌, Bool, false, ◌&&◌, List, length, Option, Some, None, Result, Ok, Err, nat_eq, nat_le, nat_lt, not, codes, if◌then◌else◌}
 use Rattle.std.specs.Option.{option_map}
 use Rattle.std.specs.List.{range_with_len, filter_map}
 use Rattle.std.specs.Str.{bytes_eq}
@@ -39,6 +39,11 @@ entry_of strings index row = option_map (λ name. record { name = name; address 
 abbrev pub entries_of : ElfClass → ByteOrder → List ℕ → ℕ → List ℕ → ℕ → List Entry
 entries_of class order strings index rows n =
     filter_map (λ k. entry_of strings index (symbol_at class order rows (k * class.symbol_length))) (range_with_len 0 n)
+
+-- the entries of the rows numbered k and on
+abbrev pub entries_from : ElfClass → ByteOrder → List ℕ → ℕ → List ℕ → ℕ → List Entry
+entries_from class order strings index rows k =
+    filter_map (λ k. entry_of strings index (symbol_at class order rows (k * class.symbol_length))) (range_with_len k (length rows / class.symbol_length - k))
 
 -- the section has this name
 abbrev pub is_name : List ℕ → Option (List ℕ) → Bool

@@ -1,5 +1,4 @@
 pub mod Elf
 pub mod ElfSymbols
-pub mod RawElf
-pub mod Elf32
-pub mod Elf64
+pub mod ElfSeen
+pub mod machine

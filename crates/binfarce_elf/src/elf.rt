@@ -1,389 +1,231 @@
-//! What both classes of ELF share: the walk over the sections, their names, and the selection of rows.
+//! ELF files of either class: the file header, section headers, and what a file answers (System V gABI).
 
-ghost use Rattle.std.specs.Prelude.{◌≡◌, ◌+◌, ◌*◌, ◌<◌, ◌≤◌, ◌^◌, ◌/◌, ℕ, length, All, Result, MatchResult, MatchOption, IfOk, OnErr, nat_eq, codes};
+ghost use Rattle.std.specs.Prelude.{◌≡◌, ◌+◌, ◌<◌, ◌≤◌, ◌^◌, length, All, MatchResult, IfSome};
 ghost use Rattle.std.specs.Option.{option_map};
-ghost use Rattle.binfarce_bytes.specs.Refusal.{Gives, refusal_of, malformed_input, unexpected_eof, symbols_section_is_missing, section_is_missing};
+ghost use Rattle.binfarce_bytes.specs.Refusal.{Gives, refusal_of, malformed_input, unexpected_eof};
 ghost use Rattle.binfarce_bytes.specs.Walk.{MayBeAsked, FirstAccepted, first};
-ghost use Rattle.binfarce_elf.specs.Elf.{ElfClass, Section, SymbolRow, section_at, walk, names_section, contents, name_of};
-ghost use Rattle.binfarce_elf.specs.ElfSymbols.{symbol_at, is_name, sought, string_table_kind, whole_rows, part_of, located, elf_answer, entries_of, function_name};
-ghost use Rattle.binfarce_symbols.specs.Symbol.{Answers, AreSymbolsOf, IsNotEmpty};
-ghost use Rattle.binfarce_elf.specs.RawElf.{raw_section, raw_symbol, raw_table, found_seen};
+ghost use Rattle.binfarce_symbols.specs.Symbol.{Answers, HoldsSymbols, ListsSome};
+ghost use Rattle.binfarce_elf.specs.Elf.{header_at, section_table, walk, name_of, entry_count, NameStands};
+ghost use Rattle.binfarce_elf.specs.ElfSymbols.{is_name, elf_answer};
+ghost use Rattle.binfarce_elf.specs.ElfSeen.{header_seen, section_seen, functions_seen};
+ghost use Rattle.binfarce_elf.specs.machine.RawElf.{table_seen};
 
-use binfarce_bytes::parser::{UnexpectedEof, parse_null_string};
+use crate::class::Class;
+use crate::sections::{self, Table};
+use crate::symbols::{self, Functions};
+use binfarce_bytes::parser::{UnexpectedEof, number_at, range};
 use binfarce_bytes::{ByteOrder, ParseError};
-use binfarce_names::demangle::{SymbolData, SymbolName};
-use std::alloc::{AllocError, Global};
+use binfarce_names::demangle::SymbolData;
+use binfarce_symbols::functions::symbols_of;
+use std::alloc::Global;
+use std::marker::Model;
 use std::ops::Range;
 
-pub(crate) type Half = u16;
-
-pub(crate) type Word = u32;
-
-pub(crate) type XWord = u64;
-
-pub(crate) mod section_type {
-    pub(crate) const SYMBOL_TABLE: super::Word = 2;
-
-    pub(crate) const STRING_TABLE: super::Word = 3;
+/// The file header (gABI, "ELF Header"), without its identification.
+#[derive(Debug, Clone, Copy)]
+pub struct Header<C> {
+    /// The file's type (`e_type`): 1 relocatable, 2 executable, 3 shared object, 4 core.
+    pub elf_type: u16,
+    /// The architecture (`e_machine`).
+    pub machine: u16,
+    /// The version of the format (`e_version`).
+    pub version: u32,
+    /// The address where the program begins (`e_entry`); 0 for none.
+    pub entry: C,
+    /// The offset of the program header table in the file, in bytes (`e_phoff`); 0 for none.
+    pub phoff: C,
+    /// The offset of the section header table in the file, in bytes (`e_shoff`); 0 for none.
+    pub shoff: C,
+    /// Flags of the architecture (`e_flags`).
+    pub flags: u32,
+    /// The size of the file header in bytes, as the file says (`e_ehsize`).
+    pub ehsize: u16,
+    /// The size of a program header in bytes, as the file says (`e_phentsize`).
+    pub phentsize: u16,
+    /// How many program headers there are (`e_phnum`).
+    pub phnum: u16,
+    /// The size of a section header in bytes, as the file says (`e_shentsize`); the readers take the class's own.
+    pub shentsize: u16,
+    /// How many section headers there are (`e_shnum`).
+    pub shnum: u16,
+    /// The index of the section that holds the section names (`e_shstrndx`).
+    pub shstrndx: u16,
 }
 
-/// A section header's values, as wide as the wider class has them.
-#[derive(Clone, Copy)]
-pub(crate) struct RawSection {
-    pub(crate) index: Half,
-    pub(crate) name_offset: Word,
-    pub(crate) kind: Word,
-    pub(crate) link: Word,
-    pub(crate) offset: XWord,
-    pub(crate) size: XWord,
-    pub(crate) entry_size: XWord,
+/// A section header's values (gABI, "Section Header"), and the section's index. It borrows nothing.
+#[derive(Debug, Clone, Copy)]
+pub struct Section<C> {
+    pub(crate) index: u16,
+    pub(crate) name_offset: u32,
+    pub(crate) kind: u32,
+    pub(crate) link: u32,
+    pub(crate) offset: C,
+    pub(crate) size: C,
+    pub(crate) entry_size: C,
 }
 
-/// A symbol table entry's values, as wide as the wider class has them.
-#[derive(Clone, Copy)]
-pub(crate) struct RawSymbol {
-    pub(crate) name: Word,
-    pub(crate) value: XWord,
-    pub(crate) size: XWord,
-    pub(crate) info: u8,
-    pub(crate) other: u8,
-    pub(crate) section: Half,
-}
-
-/// Where a file's section headers stand, as its header says.
-#[derive(Clone, Copy)]
-pub(crate) struct RawTable<'a> {
-    pub(crate) bytes: &'a [u8],
-    pub(crate) byte_order: ByteOrder,
-    pub(crate) shoff: usize,
-    pub(crate) shnum: Half,
-    pub(crate) shstrndx: Half,
-}
-
-/// How a class lays out its section headers and its symbol table entries.
-pub(crate) trait Class {
-    ghost use Rattle.binfarce_bytes.specs.declared.ByteOrder.{ByteOrder};
-
-    type Section: Copy;
-
-    ghost table: { ElfClass };
-
-    ghost seen: { Self.Section → Section };
-
-    ghost SECTION_LENGTH: { ℕ };
-
-    ghost SYMBOL_LENGTH: { ℕ };
-
-    const SECTION_LENGTH: usize;
-
-    const SYMBOL_LENGTH: usize;
-
-    /// The section header at `start`, of the section with this index; refused where it is cut.
-    fn section(
-        bytes: &[u8],
-        start: usize,
-        byte_order: ByteOrder,
-        index: Half,
-    ) -> Result<Self::Section, UnexpectedEof>
-        ensures { MatchResult result
-            (λ s. (start + table.section_length ≤ length bytes.now) × (seen s ≡ section_at table byte_order bytes.now start index))
-            (λ _. length bytes.now < start + table.section_length) };
-
-    fn raw(section: &Self::Section) -> RawSection
-        ensures { raw_section result ≡ seen section.now };
-
-    /// The row at `start`; refused where it is cut.
-    fn symbol(bytes: &[u8], start: usize, byte_order: ByteOrder) -> Result<RawSymbol, UnexpectedEof>
-        ensures { MatchResult result
-            (λ s. (start + table.symbol_length ≤ length bytes.now) × (raw_symbol s ≡ symbol_at table byte_order bytes.now start))
-            (λ _. length bytes.now < start + table.symbol_length) };
-
-    ghost section_length: { SECTION_LENGTH ≡ table.section_length };
-
-    ghost symbol_length: { SYMBOL_LENGTH ≡ table.symbol_length };
-
-    ghost some_section: { 0 < SECTION_LENGTH };
-
-    ghost some_symbol: { 0 < SYMBOL_LENGTH };
-}
-
-/// The first section that the callback accepts.
-///
-/// A header is read only when the callback has refused the sections before it.
-pub(crate) fn first_section<C: Class, F: Fn(C::Section) -> bool>(
-    table: RawTable<'_>,
-    callback: F,
-) -> Result<Option<C::Section>, UnexpectedEof>
-    requires { All (MayBeAsked C.seen (F.pre callback)) (walk C.table (raw_table table)).sections }
-    ensures { FirstAccepted (λ _. unexpected_eof) C.seen (F.post callback) (walk C.table (raw_table table.entry)) result }
-{
-    let mut start = table.shoff;
-    if start >= table.bytes.len() {
-        return Err(UnexpectedEof {});
-    }
-    for index in 0..table.shnum {
-        let section = C::section(table.bytes, start, table.byte_order, index)?;
-        if callback(section) {
-            return Ok(Some(section));
-        }
-        start += C::SECTION_LENGTH;
-    }
-    Ok(None)
-}
-
-/// The section with this name.
-pub(crate) fn section_with_name<C: Class>(
-    table: RawTable<'_>,
-    name: &str,
-) -> Result<Option<C::Section>, UnexpectedEof>
-    ensures { Gives (λ _. unexpected_eof) (option_map C.seen) result
-        (first (λ s. is_name name.now (name_of C.table (raw_table table.entry) s)) (walk C.table (raw_table table.entry))) }
-{
-    first_section::<C, _>(table, |section| has_name::<C>(table, &section, name))
-}
-
-fn has_name<C: Class>(table: RawTable<'_>, section: &C::Section, name: &str) -> bool
-    ensures { result ≡ is_name name.now (name_of C.table (raw_table table.entry) (C.seen section.now)) }
-{
-    match section_name::<C>(table, C::raw(section)) {
-        None => false,
-        Some(found) => found == name,
-    }
-}
-
-/// A section's name, a part of the file.
-#[tactic(auto, unfolding(crate::specs::Elf::name_of))]
-pub(crate) fn section_name<'a, C: Class>(
-    table: RawTable<'a>,
-    section: RawSection,
-) -> Option<&'a str>
-    ensures { option_map (λ t. t.now) result ≡ name_of C.table (raw_table table.entry) (raw_section section) }
-{
-    match names_section::<C>(table) {
-        None => None,
-        Some(names) => match contents(table.bytes, C::raw(&names)) {
-            None => None,
-            Some(strings) => parse_null_string(strings, section.name_offset as usize),
-        },
-    }
-}
-
-// The section of the section names, which isn't held against the count.
-fn names_section<C: Class>(table: RawTable<'_>) -> Option<C::Section>
-    ensures { option_map C.seen result ≡ names_section C.table (raw_table table.entry) }
-{
-    let before = C::SECTION_LENGTH.checked_mul(table.shstrndx as usize)?;
-    let start = table.shoff.checked_add(before)?;
-    match C::section(table.bytes, start, table.byte_order, table.shstrndx) {
-        Ok(section) => Some(section),
-        Err(_) => None,
-    }
-}
-
-fn contents(bytes: &[u8], section: RawSection) -> Option<&[u8]>
-    ensures { option_map (λ b. b.now) result ≡ contents bytes.now (raw_section section) }
-{
-    let end = section.offset.checked_add(section.size)?;
-    bytes.get(section.offset as usize..end as usize)
-}
-
-impl RawSection {
-    /// The section's bytes as a range of the file; refused where its end passes `usize`.
-    pub(crate) fn range(&self) -> Result<Range<usize>, ParseError>
-        ensures { MatchResult result
-            (λ r. (r.start ≡ self.now.offset) × (r.end ≡ self.now.offset + self.now.size))
-            (λ e. (2 ^ 64 ≤ self.now.offset + self.now.size) × (refusal_of e ≡ malformed_input)) }
+impl<C: Class> Section<C> {
+    /// The section's bytes as a range of the file (`sh_offset`, `sh_size`); `MalformedInput` where its end passes `usize`.
+    ///
+    /// The range isn't held against the file's length.
+    pub fn range(&self) -> Result<Range<usize>, ParseError>
+        ensures { let s = section_seen C.number_of self.now in MatchResult result
+            (λ r. (r.start ≡ s.offset) × (r.end ≡ s.offset + s.size))
+            (λ e. (2 ^ 64 ≤ s.offset + s.size) × (refusal_of e ≡ malformed_input)) }
     {
-        let start = self.offset as usize;
-        match start.checked_add(self.size as usize) {
-            Some(end) => Ok(start..end),
-            None => Err(ParseError::MalformedInput),
-        }
+        range(self.offset.widened() as usize, self.size.widened() as usize)
+    }
+
+    /// How many entries of its entry size (`sh_entsize`) the section has; 0 where that size is 0.
+    pub fn entries(&self) -> C
+        ensures { let s = section_seen C.number_of self.now in C.number_of result ≡ entry_count s.size s.entry_size }
+    {
+        self.size.entries_of(self.entry_size)
+    }
+
+    /// The section's name, a part of the file that `parent` reads; nothing is copied.
+    ///
+    /// `None` where the section of the section names, which the file header names by `shstrndx`, is truncated or
+    /// lies outside the file, or where no text begins at the name's offset: one that isn't empty, is UTF-8, and
+    /// ends with a NUL (gABI, "String Table").
+    #[tactic(auto, using(crate::proofs::Names::name_told))]
+    pub fn name<'a>(&self, parent: &Elf<'a, C>) -> Option<&'a str>
+        ensures name { option_map (λ t. t.now) result ≡ name_of C.table (section_table C.table parent.now) (section_seen C.number_of self.now) }
+        ensures part { IfSome (option_map (λ t. t.now) result) (NameStands C.table (section_table C.table parent.now) (section_seen C.number_of self.now)) }
+    {
+        sections::section_name::<C>(parent.table(), *self)
     }
 }
 
-// The section's bytes, which have to lie in the file.
-#[tactic(auto, unfolding(crate::specs::ElfSymbols::part_of))]
-fn part(bytes: &[u8], section: RawSection) -> Result<&[u8], ParseError>
-    ensures { Gives refusal_of (λ b. b.now) result (part_of bytes.now (raw_section section)) }
-{
-    match section.range() {
-        Err(error) => Err(error),
-        Ok(range) => match bytes.get(range) {
-            None => Err(ParseError::UnexpectedEof),
-            Some(part) => Ok(part),
-        },
-    }
+/// An ELF file of either class. It borrows the file's bytes.
+#[derive(Drop)]
+pub struct Elf<'a, C: Class> {
+    bytes: &'a [u8],
+    byte_order: ByteOrder,
+    header: Header<C>,
 }
 
-/// Where the symbols of a section stand in the file.
-#[derive(Clone, Copy)]
-pub(crate) struct Found<'a> {
-    pub(crate) text: RawSection,
-    pub(crate) strings: &'a [u8],
-    pub(crate) rows: &'a [u8],
+impl<'a, C: Class> Model for Elf<'a, C> {
+    ghost use Rattle.std.specs.Prelude.{◌≡◌};
+    ghost use Rattle.binfarce_elf.specs.Elf.{ElfFile, header_at};
+    ghost use Rattle.binfarce_elf.specs.ElfSeen.{header_seen};
+
+    ghost Value = { ElfFile };
+
+    ghost view = { λ e. record { order = e.byte_order; bytes = e.bytes.now } };
+
+    ghost invariant = { λ e. header_seen C.number_of e.header ≡ header_at C.table e.byte_order e.bytes.now };
 }
 
-/// The function symbols of the section with this name, and the section's size.
-///
-/// All refusals but want of memory come before the first growth.
-#[tactic(auto, unfolding(crate::specs::ElfSymbols::elf_answer))]
-pub(crate) fn symbols<C: Class>(
-    alloc: Global,
-    table: RawTable<'_>,
-    section_name: &str,
-) -> Result<(Vec<SymbolData>, u64), ParseError>
-    ensures { Answers (elf_answer C.table (raw_table table.entry) section_name.now) result }
+/// Reads the file header in the given order, without a look at the magic number.
+pub(crate) fn parse<C: Class>(bytes: &[u8], byte_order: ByteOrder) -> Result<Elf<'_, C>, ParseError>
+    ensures { MatchResult result
+        (λ e. (C.table.header_length ≤ length bytes.now) × (e ≡ record { order = byte_order; bytes = bytes.now }))
+        (λ e. (length bytes.now < C.table.header_length) × (refusal_of e ≡ unexpected_eof)) }
 {
-    match locate::<C>(table, section_name) {
-        Err(error) => Err(error),
-        Ok(found) => {
-            match parse_symbols::<C>(
-                alloc,
-                found.rows,
-                table.byte_order,
-                found.strings,
-                found.text.index,
-            ) {
-                Err(_) => Err(ParseError::OutOfMemory),
-                Ok(symbols) => Ok((symbols, found.text.size)),
-            }
-        }
-    }
-}
-
-#[tactic(auto, unfolding(crate::specs::ElfSymbols::located))]
-fn locate<'a, C: Class>(table: RawTable<'a>, section_name: &str) -> Result<Found<'a>, ParseError>
-    ensures { Gives refusal_of found_seen result (located C.table (raw_table table.entry) section_name.now) }
-{
-    let text = named_section::<C>(table, section_name)?;
-    let symbols = symbol_table::<C>(table)?;
-    let linked = linked_section::<C>(table, symbols.link)?;
-    let string_table = string_table(linked)?;
-    let strings = part(table.bytes, string_table)?;
-    let part = part(table.bytes, symbols)?;
-    let rows = whole_rows::<C>(part)?;
-    Ok(Found {
-        text,
-        strings,
-        rows,
+    let header = parse_header(bytes, byte_order)?;
+    Ok(Elf {
+        bytes,
+        byte_order,
+        header,
     })
 }
 
-fn named_section<C: Class>(table: RawTable<'_>, name: &str) -> Result<RawSection, ParseError>
-    ensures { Gives refusal_of raw_section result
-        (sought symbols_section_is_missing (λ s. is_name name.now (name_of C.table (raw_table table.entry) s)) (walk C.table (raw_table table.entry))) }
+fn parse_header<C: Class>(bytes: &[u8], byte_order: ByteOrder) -> Result<Header<C>, UnexpectedEof>
+    ensures { MatchResult result
+        (λ h. (C.table.header_length ≤ length bytes.now) × (header_seen C.number_of h ≡ header_at C.table byte_order bytes.now))
+        (λ _. length bytes.now < C.table.header_length) }
 {
-    match section_with_name::<C>(table, name) {
-        Err(_) => Err(ParseError::UnexpectedEof),
-        Ok(None) => Err(ParseError::SymbolsSectionIsMissing),
-        Ok(Some(section)) => Ok(C::raw(&section)),
+    let word = C::SIZE;
+    Ok(Header {
+        elf_type: number_at(bytes, 16, byte_order)?,
+        machine: number_at(bytes, 18, byte_order)?,
+        version: number_at(bytes, 20, byte_order)?,
+        entry: number_at(bytes, 24, byte_order)?,
+        phoff: number_at(bytes, 24 + word, byte_order)?,
+        shoff: number_at(bytes, 24 + 2 * word, byte_order)?,
+        flags: number_at(bytes, 24 + 3 * word, byte_order)?,
+        ehsize: number_at(bytes, 28 + 3 * word, byte_order)?,
+        phentsize: number_at(bytes, 30 + 3 * word, byte_order)?,
+        phnum: number_at(bytes, 32 + 3 * word, byte_order)?,
+        shentsize: number_at(bytes, 34 + 3 * word, byte_order)?,
+        shnum: number_at(bytes, 36 + 3 * word, byte_order)?,
+        shstrndx: number_at(bytes, 38 + 3 * word, byte_order)?,
+    })
+}
+
+impl<'a, C: Class> Elf<'a, C> {
+    /// The file header, as it was read by `parse`.
+    pub fn header(&self) -> Header<C>
+        ensures { header_seen C.number_of result ≡ header_at C.table self.now.order self.now.bytes }
+    {
+        self.header
     }
-}
 
-fn symbol_table<C: Class>(table: RawTable<'_>) -> Result<RawSection, ParseError>
-    ensures { Gives refusal_of raw_section result
-        (sought (section_is_missing (codes ".symtab")) (λ s. nat_eq s.kind 2) (walk C.table (raw_table table.entry))) }
-{
-    match section_of_kind::<C>(table, section_type::SYMBOL_TABLE) {
-        Err(_) => Err(ParseError::UnexpectedEof),
-        Ok(None) => Err(ParseError::SectionIsMissing(".symtab")),
-        Ok(Some(section)) => Ok(C::raw(&section)),
+    /// The first section that the callback accepts, in file order; `None` where it accepts none.
+    ///
+    /// A section header is read only when the callback has refused the sections before it. `UnexpectedEof` where
+    /// the section header table doesn't begin in the file, or a header that is read is truncated.
+    pub fn find_section<F: Fn(Section<C>) -> bool>(
+        &self,
+        callback: F,
+    ) -> Result<Option<Section<C>>, ParseError>
+        requires { All (MayBeAsked (section_seen C.number_of) (F.pre callback)) (walk C.table (section_table C.table self.now)).sections }
+        ensures { FirstAccepted refusal_of (section_seen C.number_of) (F.post callback) (walk C.table (section_table C.table self.now)) result }
+    {
+        match sections::first_section::<C, F>(self.table(), callback) {
+            Err(_) => Err(ParseError::UnexpectedEof),
+            Ok(found) => Ok(found),
+        }
     }
-}
 
-fn section_of_kind<C: Class>(
-    table: RawTable<'_>,
-    kind: Word,
-) -> Result<Option<C::Section>, UnexpectedEof>
-    ensures { Gives (λ _. unexpected_eof) (option_map C.seen) result
-        (first (λ s. nat_eq s.kind kind) (walk C.table (raw_table table.entry))) }
-{
-    first_section::<C, _>(table, |section| C::raw(&section).kind == kind)
-}
-
-fn linked_section<C: Class>(table: RawTable<'_>, link: Word) -> Result<RawSection, ParseError>
-    ensures { Gives refusal_of raw_section result
-        (sought (section_is_missing (codes ".strtab")) (λ s. nat_eq s.index link) (walk C.table (raw_table table.entry))) }
-{
-    match section_of_index::<C>(table, link) {
-        Err(_) => Err(ParseError::UnexpectedEof),
-        Ok(None) => Err(ParseError::SectionIsMissing(".strtab")),
-        Ok(Some(section)) => Ok(C::raw(&section)),
+    /// The first section with this name; refused as `find_section` is.
+    pub fn section_with_name(&self, name: &str) -> Result<Option<Section<C>>, ParseError>
+        ensures { let table = section_table C.table self.now in Gives refusal_of (option_map (section_seen C.number_of)) result
+            (first (λ s. is_name name.now (name_of C.table table s)) (walk C.table table)) }
+    {
+        Ok(sections::section_with_name::<C>(self.table(), name)?)
     }
-}
 
-fn section_of_index<C: Class>(
-    table: RawTable<'_>,
-    index: Word,
-) -> Result<Option<C::Section>, UnexpectedEof>
-    ensures { Gives (λ _. unexpected_eof) (option_map C.seen) result
-        (first (λ s. nat_eq s.index index) (walk C.table (raw_table table.entry))) }
-{
-    first_section::<C, _>(table, |section| u32::from(C::raw(&section).index) == index)
-}
-
-fn string_table(section: RawSection) -> Result<RawSection, ParseError>
-    ensures { Gives refusal_of raw_section result (string_table_kind (raw_section section)) }
-{
-    if section.kind == section_type::STRING_TABLE {
-        Ok(section)
-    } else {
-        Err(ParseError::UnexpectedSectionType {
-            expected: section_type::STRING_TABLE,
-            actual: section.kind,
-        })
+    /// The function symbols of the section with this name as the file stores them, in the order of the symbol table,
+    /// and the section's size in bytes. Nothing is allocated, and names stay mangled.
+    ///
+    /// Kept are rows of type function (`STT_FUNC`) that name the section by its index, and have a size and a name.
+    /// Refused, in this order: as `find_section`; `SymbolsSectionIsMissing`; `SectionIsMissing` of `.symtab` (the
+    /// first section of kind 2, `SHT_SYMTAB`) and of `.strtab` (the section that it links to); `UnexpectedSectionType`
+    /// where that isn't of kind 3 (`SHT_STRTAB`); `MalformedInput` and `UnexpectedEof` where the string table's and
+    /// then the symbol table's bytes end past `usize` and past the file; `UnexpectedEof` for a truncated last row.
+    pub fn functions(&self, section_name: &str) -> Result<(Functions<'a, C>, u64), ParseError>
+        ensures { Gives refusal_of (functions_seen C.table) result (elf_answer C.table (section_table C.table self.now) section_name.now) }
+    {
+        symbols::section_functions::<C>(self.table(), section_name)
     }
-}
 
-fn whole_rows<C: Class>(rows: &[u8]) -> Result<&[u8], ParseError>
-    ensures { Gives refusal_of (λ b. b.now) result (whole_rows C.table rows.now) }
-{
-    if rows.len() % C::SYMBOL_LENGTH == 0 {
-        Ok(rows)
-    } else {
-        Err(ParseError::UnexpectedEof)
+    /// The same functions as symbols, whose names are in readable form, and the section's size in bytes.
+    ///
+    /// Refused as `functions` is; `OutOfMemory` stands only in place of a list that isn't empty.
+    #[tactic(auto, using(crate::proofs::RowsLeft::symbols_are))]
+    pub fn symbols(
+        &self,
+        alloc: Global,
+        section_name: &str,
+    ) -> Result<(Vec<SymbolData>, u64), ParseError>
+        ensures { Answers HoldsSymbols ListsSome (elf_answer C.table (section_table C.table self.now) section_name.now) result }
+    {
+        let (functions, size) = self.functions(section_name)?;
+        Ok((symbols_of(alloc, functions)?, size))
     }
-}
 
-// The symbols of the whole rows that are kept.
-fn parse_symbols<C: Class>(
-    alloc: Global,
-    rows: &[u8],
-    byte_order: ByteOrder,
-    strings: &[u8],
-    index: Half,
-) -> Result<Vec<SymbolData>, AllocError>
-    ensures kept { IfOk result (λ v. AreSymbolsOf
-        (entries_of C.table byte_order strings.now index rows.now (length rows.now / C.table.symbol_length)) v.items) }
-    ensures memory { OnErr result (IsNotEmpty
-        (entries_of C.table byte_order strings.now index rows.now (length rows.now / C.table.symbol_length))) }
-{
-    let mut symbols = Vec::new(alloc);
-    for k in 0..rows.len() / C::SYMBOL_LENGTH {
-        let row = C::symbol(rows, k * C::SYMBOL_LENGTH, byte_order).unwrap();
-        let name = match function_name(strings, index, row) {
-            None => continue,
-            Some(name) => name,
-        };
-        symbols.push(SymbolData {
-            name: SymbolName::demangle(alloc, name)?,
-            address: row.value,
-            size: row.size,
-        })?;
-    }
-    Ok(symbols)
-}
-
-// The name of a function of the section `index`, with a size and a name offset.
-#[tactic(auto, unfolding(crate::specs::ElfSymbols::function_name))]
-fn function_name(strings: &[u8], index: Half, row: RawSymbol) -> Option<&str>
-    ensures { option_map (λ t. t.now) result ≡ function_name strings.now index (raw_symbol row) }
-{
-    const STT_FUNC: u8 = 2;
-    if row.section == index && row.size != 0 && row.name != 0 && row.info & 0xf == STT_FUNC {
-        parse_null_string(strings, row.name as usize)
-    } else {
-        None
+    #[tactic(auto, unfolding(crate::specs::Elf::section_table))]
+    fn table(&self) -> Table<'a>
+        ensures { table_seen result ≡ section_table C.table self.now }
+    {
+        Table {
+            bytes: self.bytes,
+            byte_order: self.byte_order,
+            shoff: self.header.shoff.widened() as usize,
+            shnum: self.header.shnum,
+            shstrndx: self.header.shstrndx,
+        }
     }
 }

@@ -1,6 +1,9 @@
 //! ELF files of both classes and both byte orders (System V gABI).
 #![tactic(auto)]
 
+mod class;
 mod elf;
 pub mod elf32;
 pub mod elf64;
+mod sections;
+mod symbols;

@@ -16,23 +16,23 @@ held_too f i s e = one_more f i ∙ rw e refl
 pub not_held : {S : Type 0} (f : ℕ → Option S) (i : ℕ) → f i ≡ None → held_below f (i + 1) ≡ held_below f i
 not_held f i e = one_more f i ∙ rw e (append-nil (held_below f i))
 
-behind_by : {S : Type 0} (f : ℕ → Option S) (i : ℕ) (s : S) → f i ≡ Some s → (m n : ℕ) → n ≡ i + 1 + m → (after : List S) × (held_below f n ≡ held_below f i ++ s ∷ after)
-behind_by f i s e zero n at = ([], ap (held_below f) (at ∙ omega arith) ∙ held_too f i s e)
-behind_by f i s e (suc m) n at =
-    let b = behind_by f i s e m (i + 1 + m) refl in (
+after_by : {S : Type 0} (f : ℕ → Option S) (i : ℕ) (s : S) → f i ≡ Some s → (m n : ℕ) → n ≡ i + 1 + m → (after : List S) × (held_below f n ≡ held_below f i ++ s ∷ after)
+after_by f i s e zero n at = ([], ap (held_below f) (at ∙ omega arith) ∙ held_too f i s e)
+after_by f i s e (suc m) n at =
+    let b = after_by f i s e m (i + 1 + m) refl in (
       b.0 ++ filter_map f ((i + 1 + m) ∷ []),
       ap (held_below f) (at ∙ omega arith) ∙ one_more f (i + 1 + m) ∙ ap (λ (xs : List _). xs ++ filter_map f ((i + 1 + m) ∷ [])) b.1 ∙ append_assoc (held_below f i) (s ∷ b.0) (filter_map f ((i + 1 + m) ∷ [])),
     )
 
--- the list goes on behind what the numbers below i hold with what i holds
-pub behind_held : {S : Type 0} (f : ℕ → Option S) (n i : ℕ) (s : S) → i < n → f i ≡ Some s → (after : List S) × (held_below f n ≡ held_below f i ++ s ∷ after)
-behind_held f n i s lt e = behind_by f i s e (n - i - 1) n (omega arith)
+-- the list goes on after what the numbers below i hold with what i holds
+pub after_held : {S : Type 0} (f : ℕ → Option S) (n i : ℕ) (s : S) → i < n → f i ≡ Some s → (after : List S) × (held_below f n ≡ held_below f i ++ s ∷ after)
+after_held f n i s lt e = after_by f i s e (n - i - 1) n (omega arith)
 
 -- a callback that may be asked of all may be asked of what i holds
 pub held_may_be_asked : {T S : Type 0} (f : ℕ → Option S) (seen : T → S) (pre : T → Type 0) (sections : List S) (n i : ℕ) (value : T)
     → sections ≡ held_below f n → i < n → f i ≡ Some (seen value) → All (MayBeAsked seen pre) sections → pre value
 held_may_be_asked {T} {S} f seen pre sections n i value same lt e all =
-    let b = behind_held f n i (seen value) lt e in
+    let b = after_held f n i (seen value) lt e in
     let there : Contains (held_below f i ++ seen value ∷ b.0) (seen value) = Contains-append_right (held_below f i) (seen value ∷ b.0) (seen value) (0, omega arith, refl) in
     All-contains (MayBeAsked seen pre) (held_below f i ++ seen value ∷ b.0) (seen value) (All-same (MayBeAsked seen pre) (held_below f i ++ seen value ∷ b.0) sections (sym (same ∙ b.1)) all) there value refl
 

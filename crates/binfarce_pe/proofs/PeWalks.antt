@@ -1,65 +1,64 @@
 -- The walk over the section headers of a PE file, as a loop goes over it.
-use Rattle.std.proofs.Common.{◌≡◌, ℕ, ◌+◌, ◌-◌, ◌*◌, ◌/◌, ◌<◌, ◌≤◌, Bool, true, false, List, [], length, take, All, Option, Some, None, refl, ap, ◌∙◌, arith, min, ltb, ◌&&◌, Result, Ok, Err, IsErr}
-use Rattle.std.specs.Prelude.{unwrap_or}
+use Rattle.std.proofs.Common.{◌≡◌, ℕ, ◌+◌, ◌-◌, ◌*◌, ◌/◌, ◌<◌, ◌≤◌, Bool, true, false, List, [], length, All, Option, Some, None, refl, sym, ap, ◌∙◌, arith, min, ltb, ◌&&◌, Result, Ok, Err, IsErr}
 use Rattle.std.specs.Str.{IsUtf8, is_utf8}
 use Rattle.std.proofs.lemmas.Str.{IsUtf8-from_is_utf8, is_utf8-from_IsUtf8}
 use Rattle.std.proofs.lemmas.Bool.{le-ltb, lt-ltb, le-leb, lt-leb}
 use Rattle.std.proofs.lemmas.List.Elements.{All-nil, All-same}
 use Rattle.std.proofs.lemmas.Nat.{le-div, div_below}
 use Rattle.binfarce_bytes.specs.Refusal.{unexpected_eof}
-use Rattle.binfarce_bytes.specs.Text.{nul_at}
+use Rattle.binfarce_bytes.specs.Text.{up_to_nul}
 use Rattle.binfarce_bytes.specs.Walk.{Walk, Answered, MayBeAsked, IsFirstAccepted, NoneAccepted, FirstAccepted}
-use Rattle.binfarce_pe.specs.Pe.{Section, short_name, header_of, sections_place, section_of, readable_headers, walk}
-use Rattle.binfarce_pe.proofs.Numbered.{held_below, behind_held, held_may_be_asked}
+use Rattle.binfarce_pe.specs.Pe.{Section, short_name, header_of, section_at, sections_offset, section_of, readable_headers, walk}
+use Rattle.binfarce_pe.proofs.Numbered.{held_below, after_held, held_may_be_asked}
 
-pub short_name_is : (bytes : List ℕ) (n : ℕ) → n ≡ unwrap_or (nul_at bytes) (length bytes) → IsUtf8 (take n bytes) → short_name bytes ≡ Some (take n bytes)
+pub short_name_is : (bytes text : List ℕ) → text ≡ up_to_nul bytes → IsUtf8 text → short_name bytes ≡ Some text
 unfolding short_name
-short_name_is bytes n at utf8 = rw (← at, is_utf8-from_IsUtf8 (take n bytes) utf8) refl
+short_name_is bytes text is utf8 = rw (← is, is_utf8-from_IsUtf8 text utf8) refl
 
 not_utf8 : (bytes : List ℕ) (b : Bool) → is_utf8 bytes ≡ b → ¬ (IsUtf8 bytes) → b ≡ false
 not_utf8 bytes true e h = absurd (h (IsUtf8-from_is_utf8 bytes e))
 not_utf8 bytes false e h = refl
 
-pub short_name_none : (bytes : List ℕ) (n : ℕ) → n ≡ unwrap_or (nul_at bytes) (length bytes) → ¬ (IsUtf8 (take n bytes)) → short_name bytes ≡ None
+pub short_name_none : (bytes text : List ℕ) → text ≡ up_to_nul bytes → ¬ (IsUtf8 text) → short_name bytes ≡ None
 unfolding short_name
-short_name_none bytes n at h = rw (← at, not_utf8 (take n bytes) (is_utf8 (take n bytes)) refl h) refl
+short_name_none bytes text is h = rw (← is, not_utf8 text (is_utf8 text) refl h) refl
 
 -- a header that can be read is one of those that the file has room for
-pub is_readable : (len place start i : ℕ) → start ≡ place + i * 40 → start + 24 ≤ len → i < (len + 16 - place) / 40
-is_readable len place start i at fits =
-    let enough : (i + 1) * 40 ≤ len + 16 - place = omega arith in
-    omega (arith, le-div (i + 1) (len + 16 - place) 40 (omega arith) enough)
+pub is_readable : (len table start i : ℕ) → start ≡ table + i * 40 → start + 24 ≤ len → i < (len + 16 - table) / 40
+is_readable len table start i at fits =
+    let enough : (i + 1) * 40 ≤ len + 16 - table = omega arith in
+    omega (arith, le-div (i + 1) (len + 16 - table) 40 (omega arith) enough)
 
--- a header that is cut is none of them
-pub is_cut : (len place start i : ℕ) → start ≡ place + i * 40 → len < start + 24 → (len + 16 - place) / 40 ≤ i
-is_cut len place start i at cut =
-    let little : len + 16 - place < (i + 1) * 40 = omega arith in
-    omega (arith, div_below (len + 16 - place) 40 (i + 1) (omega arith) little)
+-- a header that is truncated is none of them
+pub is_truncated : (len table start i : ℕ) → start ≡ table + i * 40 → len < start + 24 → (len + 16 - table) / 40 ≤ i
+is_truncated len table start i at short =
+    let little : len + 16 - table < (i + 1) * 40 = omega arith in
+    omega (arith, div_below (len + 16 - table) 40 (i + 1) (omega arith) little)
 
 sections_is : (file : List ℕ) (n : ℕ) → min (header_of file).number_of_sections (readable_headers file) ≡ n → (walk file).sections ≡ held_below (section_of file) n
 unfolding walk
 sections_is file n e = ap (held_below (section_of file)) e
 
-done_is : (file : List ℕ) → sections_place file < length file → (header_of file).number_of_sections ≤ readable_headers file → (walk file).refusal ≡ None
+done_is : (file : List ℕ) → sections_offset file < length file → (header_of file).number_of_sections ≤ readable_headers file → (walk file).refusal ≡ None
 unfolding walk
-done_is file inside room = rw (lt-ltb (sections_place file) (length file) inside, le-leb (header_of file).number_of_sections (readable_headers file) room) refl
+done_is file inside room = rw (lt-ltb (sections_offset file) (length file) inside, le-leb (header_of file).number_of_sections (readable_headers file) room) refl
 
 and_false : (b : Bool) → (b && false) ≡ false
 and_false true = refl
 and_false false = refl
 
-cut_is : (file : List ℕ) → readable_headers file < (header_of file).number_of_sections → (walk file).refusal ≡ Some unexpected_eof
+truncated_is : (file : List ℕ) → readable_headers file < (header_of file).number_of_sections → (walk file).refusal ≡ Some unexpected_eof
 unfolding walk
-cut_is file cut = rw (lt-leb (header_of file).number_of_sections (readable_headers file) cut, and_false (ltb (sections_place file) (length file))) refl
+truncated_is file short = rw (lt-leb (header_of file).number_of_sections (readable_headers file) short, and_false (ltb (sections_offset file) (length file))) refl
 
-outside_is : (file : List ℕ) → length file ≤ sections_place file → (walk file).refusal ≡ Some unexpected_eof
+outside_is : (file : List ℕ) → length file ≤ sections_offset file → (walk file).refusal ≡ Some unexpected_eof
 unfolding walk
-outside_is file outside = rw (le-ltb (sections_place file) (length file) outside) refl
+outside_is file outside = rw (le-ltb (sections_offset file) (length file) outside) refl
 
--- a table that begins behind the file has no section
-pub outside : {T : Type 0} (file : List ℕ) (seen : T → Section) (post : T → Bool → Type 0) → length file ≤ sections_place file → NoneAccepted seen post (walk file) (Some unexpected_eof)
+-- a table that begins after the file's end has no section
+pub outside : {T : Type 0} (file : List ℕ) (seen : T → Section) (post : T → Bool → Type 0) → length file ≤ sections_offset file → NoneAccepted seen post (walk file) (Some unexpected_eof)
 outside file seen post past =
-    let none : min (header_of file).number_of_sections (readable_headers file) ≡ 0 = omega (arith, div_below (length file + 16 - sections_place file) 40 1 (omega arith) (omega arith)) in
+    let none : min (header_of file).number_of_sections (readable_headers file) ≡ 0 = omega (arith, div_below (length file + 16 - sections_offset file) 40 1 (omega arith) (omega arith)) in
     record {
       refused = All-same (Answered seen post false) (walk file).sections [] (sections_is file 0 none) (All-nil (Answered seen post false));
       end_is = outside_is file past;
@@ -78,7 +77,7 @@ pub accepted_at : {T : Type 0} (file : List ℕ) (seen : T → Section) (post : 
     → All (Answered seen post false) (held_below (section_of file) i) → IsFirstAccepted seen post (walk file) value
 accepted_at file seen post i value lt room is accepted refused =
     let n = min (header_of file).number_of_sections (readable_headers file) in
-    let b = behind_held (section_of file) n i (seen value) (omega arith) is in
+    let b = after_held (section_of file) n i (seen value) (omega arith) is in
     record {
       before = held_below (section_of file) i;
       after = b.0;
@@ -87,19 +86,19 @@ accepted_at file seen post i value lt room is accepted refused =
       refused = refused;
     }
 
--- header i is cut, and the callback refused those before it
-pub cut_at : {T : Type 0} (file : List ℕ) (seen : T → Section) (post : T → Bool → Type 0) (i : ℕ)
+-- header i is truncated, and the callback refused those before it
+pub truncated_at : {T : Type 0} (file : List ℕ) (seen : T → Section) (post : T → Bool → Type 0) (i : ℕ)
     → i < (header_of file).number_of_sections → i ≤ readable_headers file → readable_headers file ≤ i
     → All (Answered seen post false) (held_below (section_of file) i) → NoneAccepted seen post (walk file) (Some unexpected_eof)
-cut_at file seen post i lt room cut refused =
+truncated_at file seen post i lt room short refused =
     record {
       refused = All-same (Answered seen post false) (walk file).sections (held_below (section_of file) i) (sections_is file i (omega arith)) refused;
-      end_is = cut_is file (omega arith);
+      end_is = truncated_is file (omega arith);
     }
 
 -- the callback refused all
 pub none_left : {T : Type 0} (file : List ℕ) (seen : T → Section) (post : T → Bool → Type 0)
-    → sections_place file < length file → (header_of file).number_of_sections ≤ readable_headers file
+    → sections_offset file < length file → (header_of file).number_of_sections ≤ readable_headers file
     → All (Answered seen post false) (held_below (section_of file) (header_of file).number_of_sections) → NoneAccepted seen post (walk file) None
 none_left file seen post inside room refused =
     record {
@@ -112,3 +111,7 @@ pub refused_by : {T E : Type 0} (seen : T → Section) (post : T → Bool → Ty
     → IsErr result → NoneAccepted seen post sections (Some unexpected_eof) → FirstAccepted (λ _. unexpected_eof) seen post sections result
 refused_by seen post sections (Ok found) is_err none = absurd cc
 refused_by seen post sections (Err e) is_err none = none
+
+-- what was read of header i is what the file has there
+pub header_is : (file bytes : List ℕ) (start i : ℕ) (found : Option Section) → bytes ≡ file → start ≡ sections_offset file + i * 40 → found ≡ section_at bytes start i → section_of file i ≡ found
+header_is file bytes start i found same at is = ap (λ (s : ℕ). section_at file s i) (sym at) ∙ ap (λ (f : List ℕ). section_at f start i) (sym same) ∙ sym is

@@ -1,76 +1,14 @@
--- Rows whose numbers rise, once arranged, rise strictly.
-use Rattle.std.proofs.Common.{◌≡◌, ℕ, zero, suc, ◌+◌, ◌<◌, ◌≤◌, Bool, true, false, cond, ◌&&◌, ◌||◌, List, [], ◌∷◌, length, get_or, All, Option, Some, None, refl, sym, ap, arith, nat_lt, nat_eq}
+-- The numbers of the kept rows rise, so their arrangement rises strictly.
+use Rattle.std.proofs.Common.{◌≡◌, ℕ, zero, suc, ◌<◌, ◌≤◌, Bool, true, false, cond, List, [], ◌∷◌, All, Option, Some, None, Result, Ok, refl, sym, ap, ◌∙◌, arith, nat_lt}
 use Rattle.std.specs.List.{filter_map, cons_option}
 use Rattle.std.specs.Option.{option_map}
-use Rattle.std.proofs.lemmas.Bool.Decides.{nat_tests}
-use Rattle.std.proofs.lemmas.List.Elements.{All-nil, All-cons, All-head, All-tail, All-weaker}
-use Rattle.std.proofs.lemmas.List.Sorted.{All-permutation}
-use Rattle.binfarce_symbols.specs.declared.sizes.RowAddress.{RowAddress}
-use Rattle.binfarce_symbols.specs.Sizes.{comes_before, put_in, arranged, IsArrangementOf}
-use Rattle.binfarce_pe.specs.PeSymbols.{SymbolTable, record_of, rows_from, kept_row, kept_rows, function_name, ArrangesRows}
-use Rattle.binfarce_symbols.proofs.Arranging.{arranged_same, is_order}
-use Rattle.binfarce_pe.proofs.PeRows.{behind}
-
--- each comes before all that stand behind it
-abbrev pub Strict : List RowAddress → Type 0
-Strict [] = Unit {0}
-Strict (x ∷ xs) = All (λ y. comes_before x y ≡ true) xs × Strict xs
-
--- the numbers rise
-abbrev pub Rising : List RowAddress → Type 0
-Rising [] = Unit {0}
-Rising (x ∷ xs) = All (λ y. x.row < y.row) xs × Rising xs
-
--- of two different rows one comes first
-other_way : (x y : RowAddress) → x.row < y.row → comes_before y x ≡ false → comes_before x y ≡ true
-other_way x y lt e = other_way_at x.address y.address x.row y.row lt e
-  where
-    other_way_at : (a b r s : ℕ) → r < s → (nat_lt b a || (nat_eq b a && nat_lt s r)) ≡ false → (nat_lt a b || (nat_eq a b && nat_lt r s)) ≡ true
-    other_way_at a b r s lt e = grind (arith, nat_tests)
-
-through : (x y z : RowAddress) → comes_before x y ≡ true → comes_before y z ≡ true → comes_before x z ≡ true
-through x y z e f = by_test (comes_before x z) refl
-  where
-    by_test : (b : Bool) → comes_before x z ≡ b → b ≡ true
-    by_test true g = refl
-    by_test false g = let back = is_order.chain x z y g (is_order.one_way y z f) in absurd cc
-
-put_in_all : (P : RowAddress → Type 0) (x : RowAddress) (ys : List RowAddress) → P x → All P ys → All P (put_in x ys)
-put_in_all P x [] p all = All-cons P x [] p all
-put_in_all P x (y ∷ ys) p all = by_test (comes_before y x) (put_in_all P x ys p (All-tail P y ys all))
-  where
-    by_test : (b : Bool) → All P (put_in x ys) → All P (cond b (y ∷ put_in x ys) (x ∷ y ∷ ys))
-    by_test true behind = All-cons P y (put_in x ys) (All-head P y ys all) behind
-    by_test false behind = All-cons P x (y ∷ ys) p all
-
-put_in_strict : (x : RowAddress) (ys : List RowAddress) → All (λ y. x.row < y.row) ys → Strict ys → Strict (put_in x ys)
-put_in_strict x [] rows up = (All-nil _, tt)
-put_in_strict x (y ∷ ys) rows up = by_test (comes_before y x) refl (put_in_strict x ys (All-tail (λ y. x.row < y.row) y ys rows) up.1)
-  where
-    by_test : (b : Bool) → comes_before y x ≡ b → Strict (put_in x ys) → Strict (cond b (y ∷ put_in x ys) (x ∷ y ∷ ys))
-    by_test true e rest = (put_in_all (λ z. comes_before y z ≡ true) x ys e up.0, rest)
-    by_test false e rest =
-        let first : comes_before x y ≡ true = other_way x y (All-head (λ y. x.row < y.row) y ys rows) e in
-        (All-cons (λ z. comes_before x z ≡ true) y ys first (All-weaker (λ z. comes_before y z ≡ true) (λ z. comes_before x z ≡ true) (λ z f. through x y z first f) ys up.0), up)
-
-arranged_strict : (xs : List RowAddress) → Rising xs → Strict (arranged xs)
-unfolding arranged
-arranged_strict [] up = tt
-arranged_strict (x ∷ xs) up =
-    put_in_strict x (arranged xs) (All-permutation (λ y. x.row < y.row) xs (arranged xs) (arranged_same xs) up.0) (arranged_strict xs up.1)
-
-rises_at : (xs : List RowAddress) → Strict xs → (k j : ℕ) (d : RowAddress) → j ≡ suc k → j < length xs → comes_before (get_or xs k d) (get_or xs j d) ≡ true
-rises_at [] up k j d next within = absurd (omega arith)
-rises_at (x ∷ xs) up k zero d next within = absurd (omega arith)
-rises_at (x ∷ xs) up zero (suc j) d next within = up.0 j d (omega arith)
-rises_at (x ∷ xs) up (suc k) (suc j) d next within = rises_at xs up.1 k j d (omega arith) (omega arith)
-
--- rows whose numbers rise have an arrangement that rises strictly
-pub arrangement_of : (xs : List RowAddress) → Rising xs → IsArrangementOf xs (arranged xs)
-arrangement_of xs up = record {
-  same = arranged_same xs;
-  rises = λ k d lt. rises_at (arranged xs) (arranged_strict xs up) k (k + 1) d (omega arith) lt;
-}
+use Rattle.std.proofs.lemmas.List.Elements.{All-nil, All-cons, All-weaker}
+use Rattle.binfarce_bytes.specs.Refusal.{◌>>=◌, Refusal}
+use Rattle.binfarce_symbols.specs.Sizes.{RowAddress, arranged}
+use Rattle.binfarce_symbols.specs.Symbol.{Listed}
+use Rattle.binfarce_pe.specs.PeSymbols.{SymbolTable, Located, record_count, record_of, rows_from, kept_row, kept_rows, function_name, entries_of, pe_answer, ArrangesRows}
+use Rattle.binfarce_symbols.proofs.Arrangement.{Rising, arrangement_of}
+use Rattle.binfarce_pe.proofs.PeRows.{after}
 
 row_number : (table : SymbolTable) (index k : ℕ) (r : RowAddress) → kept_row table index k ≡ Some r → r.row ≡ k
 row_number table index k r e = by_name (function_name table index k (record_of table k)) e
@@ -86,27 +24,35 @@ kept_by table index n k = filter_map (kept_row table index) (rows_from table n k
 from_on : (table : SymbolTable) (index n k : ℕ) → All (λ r. k ≤ r.row) (kept_by table index n k) × Rising (kept_by table index n k)
 unfolding rows_from
 from_on table index zero k = (All-nil (λ r. k ≤ r.row), tt)
-from_on table index (suc n) k = by_test (nat_lt k table.count) (from_on table index n (behind table k))
+from_on table index (suc n) k = by_test (nat_lt k (record_count table)) (from_on table index n (after table k))
   where
     rest : List RowAddress
-    rest = kept_by table index n (behind table k)
+    rest = kept_by table index n (after table k)
 
-    by_row : (o : Option RowAddress) → kept_row table index k ≡ o → All (λ r. behind table k ≤ r.row) rest × Rising rest → All (λ r. k ≤ r.row) (cons_option o rest) × Rising (cons_option o rest)
-    by_row None is up = (All-weaker (λ r. behind table k ≤ r.row) (λ r. k ≤ r.row) (λ r le. omega arith) rest up.0, up.1)
+    by_row : (o : Option RowAddress) → kept_row table index k ≡ o → All (λ r. after table k ≤ r.row) rest × Rising rest → All (λ r. k ≤ r.row) (cons_option o rest) × Rising (cons_option o rest)
+    by_row None is up = (All-weaker (λ r. after table k ≤ r.row) (λ r. k ≤ r.row) (λ r le. omega arith) rest up.0, up.1)
     by_row (Some r) is up =
         let here : r.row ≡ k = row_number table index k r is in (
-          All-cons (λ s. k ≤ s.row) r rest (omega arith) (All-weaker (λ s. behind table k ≤ s.row) (λ s. k ≤ s.row) (λ s le. omega arith) rest up.0),
-          (All-weaker (λ s. behind table k ≤ s.row) (λ s. r.row < s.row) (λ s le. omega arith) rest up.0, up.1),
+          All-cons (λ s. k ≤ s.row) r rest (omega arith) (All-weaker (λ s. after table k ≤ s.row) (λ s. k ≤ s.row) (λ s le. omega arith) rest up.0),
+          (All-weaker (λ s. after table k ≤ s.row) (λ s. r.row < s.row) (λ s le. omega arith) rest up.0, up.1),
         )
 
-    by_test : (b : Bool) → All (λ r. behind table k ≤ r.row) rest × Rising rest → All (λ r. k ≤ r.row) (filter_map (kept_row table index) (cond b (k ∷ rows_from table n (behind table k)) [])) × Rising (filter_map (kept_row table index) (cond b (k ∷ rows_from table n (behind table k)) []))
+    by_test : (b : Bool) → All (λ r. after table k ≤ r.row) rest × Rising rest → All (λ r. k ≤ r.row) (filter_map (kept_row table index) (cond b (k ∷ rows_from table n (after table k)) [])) × Rising (filter_map (kept_row table index) (cond b (k ∷ rows_from table n (after table k)) []))
     by_test true up = by_row (kept_row table index k) refl up
     by_test false up = (All-nil (λ r. k ≤ r.row), tt)
 
 -- the numbers of the kept rows rise
 pub kept_rise : (table : SymbolTable) (index : ℕ) → Rising (kept_rows table index)
 unfolding kept_rows
-kept_rise table index = (from_on table index table.count 0).1
+kept_rise table index = (from_on table index (record_count table) 0).1
 
+-- the law of the order
 pub rows_arranged : (file : List ℕ) → ArrangesRows file
-rows_arranged file found e = arrangement_of (kept_rows found.table found.text.index) (kept_rise found.table found.text.index)
+unfolding pe_answer entries_of
+rows_arranged file found listed is answer =
+    let index = found.text.index in
+    let kept = kept_rows found.table index in
+    let listing : Listed = record { entries = entries_of found.table index found.text.size_of_raw_data; section_size = found.text.size_of_raw_data } in
+    let same : Ok listing ≡ Ok listed = ap (λ (r : Result Located Refusal). r >>= λ f. Ok (record { entries = entries_of f.table f.text.index f.text.size_of_raw_data; section_size = f.text.size_of_raw_data })) (sym is) ∙ answer in
+    let listed_is : listing ≡ listed = cc in
+    record { in_order = arranged kept; arrangement = arrangement_of kept (kept_rise found.table index); given = ap (λ (l : Listed). l.entries) (sym listed_is) }

@@ -1,11 +1,11 @@
--- PE files (Microsoft PE Format): what stands where in the file header and the section table. Every number is little endian.
-use Rattle.std.specs.Prelude.{ℕ, ◌+◌, ◌-◌, ◌*◌, ◌/◌, ◌&&◌, List, length, take, Option, Some, None, nat_lt, nat_le, min, max, unwrap_or, if◌then◌else◌}
+-- PE files (Microsoft PE Format): the fields of the file header and of the section headers. Every number is little endian.
+use Rattle.std.specs.Prelude.{ℕ, ◌+◌, ◌-◌, ◌*◌, ◌/◌, ◌&&◌, List, length, Option, Some, None, nat_lt, nat_le, min, max, if◌then◌else◌}
 use Rattle.std.specs.Option.{option_map}
 use Rattle.std.specs.List.{range_with_len, filter_map}
 use Rattle.std.specs.Str.{is_utf8}
 use Rattle.binfarce_bytes.specs.declared.ByteOrder.TheVariants.{LittleEndian}
 use Rattle.binfarce_bytes.specs.Number.{number, bytes_at}
-use Rattle.binfarce_bytes.specs.Text.{nul_at}
+use Rattle.binfarce_bytes.specs.Text.{up_to_nul}
 use Rattle.binfarce_bytes.specs.Field.{Field, field, number_in}
 use Rattle.binfarce_bytes.specs.Refusal.{unexpected_eof}
 use Rattle.binfarce_bytes.specs.Walk.{Walk}
@@ -27,7 +27,7 @@ pub record SectionHeader (A : Type 0) : Type 0 where
   pub size_of_raw_data : A
   pub pointer_to_raw_data : A
 
--- counted from behind the signature
+-- counted from the end of the signature
 unfoldable pub file_header : FileHeader Field
 file_header = record {
   machine = field 0 2;
@@ -47,17 +47,17 @@ section_header = record {
   pointer_to_raw_data = field 20 4;
 }
 
--- where the signature stands: the MS-DOS stub tells it at 0x3C
-abbrev pub signature_place : List ℕ → ℕ
-signature_place file = number LittleEndian (bytes_at file 0x3C 4)
+-- where the signature begins: its offset is at 0x3C, in the MS-DOS stub
+abbrev pub signature_offset : List ℕ → ℕ
+signature_offset file = number LittleEndian (bytes_at file 0x3C 4)
 
 -- the stub has 64 bytes, the signature 4 and the file header 20
 abbrev pub least_length : List ℕ → ℕ
-least_length file = max 64 (signature_place file + 24)
+least_length file = max 64 (signature_offset file + 24)
 
--- the file header, behind a signature that stands at this place
-unfoldable pub header_behind : List ℕ → ℕ → FileHeader ℕ
-header_behind file signature = record {
+-- the file header, after a signature at this offset
+unfoldable pub header_after : List ℕ → ℕ → FileHeader ℕ
+header_after file signature = record {
   machine = number_in file (signature + 4) file_header.machine;
   number_of_sections = number_in file (signature + 4) file_header.number_of_sections;
   time_date_stamp = number_in file (signature + 4) file_header.time_date_stamp;
@@ -68,11 +68,11 @@ header_behind file signature = record {
 }
 
 abbrev pub header_of : List ℕ → FileHeader ℕ
-header_of file = header_behind file (signature_place file)
+header_of file = header_after file (signature_offset file)
 
--- where the section table begins: behind the file header and the optional header
-abbrev pub sections_place : List ℕ → ℕ
-sections_place file = signature_place file + 24 + (header_of file).size_of_optional_header
+-- where the section table begins: after the file header and the optional header
+abbrev pub sections_offset : List ℕ → ℕ
+sections_offset file = signature_offset file + 24 + (header_of file).size_of_optional_header
 
 -- what a section header says, and the section's index
 pub record Section : Type 0 where
@@ -81,10 +81,6 @@ pub record Section : Type 0 where
   pub size_of_raw_data : ℕ
   pub pointer_to_raw_data : ℕ
   pub index : ℕ
-
--- the bytes up to the first NUL, or all where there is none
-abbrev pub up_to_nul : List ℕ → List ℕ
-up_to_nul bytes = take (unwrap_or (nul_at bytes) (length bytes)) bytes
 
 -- a name of 8 bytes, where it is UTF-8; it may be empty
 unfoldable pub short_name : List ℕ → Option (List ℕ)
@@ -105,15 +101,15 @@ section_at file start index =
 
 -- section header i of the table; each has 40 bytes
 abbrev pub section_of : List ℕ → ℕ → Option Section
-section_of file i = section_at file (sections_place file + i * 40) i
+section_of file i = section_at file (sections_offset file + i * 40) i
 
 -- how many section headers the file has room for; the last 16 bytes of the last hold no field that is read, and may be missing
 abbrev pub readable_headers : List ℕ → ℕ
-readable_headers file = (length file + 16 - sections_place file) / 40
+readable_headers file = (length file + 16 - sections_offset file) / 40
 
--- the sections are those numbered below the count, up to the first whose header is cut, without those that have no name; a table that doesn't begin in the file is refused even where it is empty
+-- the sections are those numbered below the count, up to the first whose header is truncated, without those that have no name; a table that doesn't begin in the file is refused even where it is empty
 unfoldable pub walk : List ℕ → Walk Section
 walk file = record {
   sections = filter_map (section_of file) (range_with_len 0 (min (header_of file).number_of_sections (readable_headers file)));
-  refusal = if nat_lt (sections_place file) (length file) && nat_le (header_of file).number_of_sections (readable_headers file) then None else Some unexpected_eof;
+  refusal = if nat_lt (sections_offset file) (length file) && nat_le (header_of file).number_of_sections (readable_headers file) then None else Some unexpected_eof;
 }

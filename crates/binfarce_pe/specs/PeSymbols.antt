@@ -1,17 +1,16 @@
 -- The function symbols of a PE file (Microsoft PE Format, "COFF Symbol Table"), with sizes that their addresses give.
-use Rattle.std.specs.Prelude.{◌≡◌, ℕ, zero, suc, ◌+◌, ◌-◌, ◌*◌, ◌/◌, Bool, ◌&&◌, List, [], ◌∷◌, length, Contains, codes, Option, None, Result, Ok, Err, nat_eq, nat_lt, nat_le, unwrap_or, if◌then◌else◌}
+use Rattle.std.specs.Prelude.{◌≡◌, ℕ, zero, suc, ◌+◌, ◌-◌, ◌*◌, ◌/◌, Bool, ◌&&◌, List, [], ◌∷◌, length, drop, Contains, codes, Option, None, Result, Ok, Err, nat_eq, nat_lt, nat_le, unwrap_or, if◌then◌else◌}
 use Rattle.std.specs.Option.{option_map}
 use Rattle.std.specs.List.{filter_map}
 use Rattle.std.specs.Str.{bytes_eq}
 use Rattle.binfarce_names.specs.declared.demangle.SymbolData.{SymbolData}
-use Rattle.binfarce_symbols.specs.declared.sizes.RowAddress.{RowAddress}
 use Rattle.binfarce_bytes.specs.Number.{bytes_at}
 use Rattle.binfarce_bytes.specs.Text.{text_at}
 use Rattle.binfarce_bytes.specs.Refusal.{◌>>=◌, Refusal, required, symbols_section_is_missing, unexpected_eof}
 use Rattle.binfarce_bytes.specs.Walk.{first}
 use Rattle.binfarce_bytes.specs.Field.{Field, field, number_in}
 use Rattle.binfarce_pe.specs.Pe.{header_of, short_name, Section, walk}
-use Rattle.binfarce_symbols.specs.Sizes.{arranged, addresses_of, least_above, IsArrangementOf}
+use Rattle.binfarce_symbols.specs.Sizes.{RowAddress, arranged, addresses_of, least_above, ListsArranged}
 use Rattle.binfarce_symbols.specs.Symbol.{Entry, Listed}
 
 -- Standard Symbol Definition: one A for each number. The first 8 bytes are the short name or, where the first four are zeroes, the other four an offset in the string table
@@ -47,39 +46,33 @@ record_at file start = record {
   number_of_aux_symbols = number_in file start symbol_record.number_of_aux_symbols;
 }
 
--- a file, and where its symbol table begins and how many records that has
+-- a symbol table: its records, of 18 bytes each, and the file from the string table on, which follows them
 pub record SymbolTable : Type 0 where
-  pub file : List ℕ
-  pub place : ℕ
-  pub count : ℕ
+  pub rows : List ℕ
+  pub strings : List ℕ
 
--- each record has 18 bytes
-abbrev pub record_place : SymbolTable → ℕ → ℕ
-record_place table k = table.place + k * 18
+abbrev pub record_count : SymbolTable → ℕ
+record_count table = length table.rows / 18
 
 -- record k of the table
 abbrev pub record_of : SymbolTable → ℕ → SymbolRecord ℕ
-record_of table k = record_at table.file (record_place table k)
+record_of table k = record_at table.rows (k * 18)
 
--- the string table begins right behind the last record
-abbrev pub strings_place : SymbolTable → ℕ
-strings_place table = record_place table table.count
-
--- the rows' numbers from k on, in at most n steps: behind a row stand its auxiliary records, and then the next row
+-- the rows' numbers from k on, in at most n steps: after a row stand its auxiliary records, and then the next row
 unfoldable pub rows_from : SymbolTable → ℕ → ℕ → List ℕ
 rows_from table zero k = []
 rows_from table (suc n) k =
-    if nat_lt k table.count then k ∷ rows_from table n (k + 1 + (record_of table k).number_of_aux_symbols) else []
+    if nat_lt k (record_count table) then k ∷ rows_from table n (k + 1 + (record_of table k).number_of_aux_symbols) else []
 
 -- the numbers of the rows: the first record is one, and no more steps are needed than there are records
 abbrev pub row_numbers : SymbolTable → List ℕ
-row_numbers table = rows_from table table.count 0
+row_numbers table = rows_from table (record_count table) 0
 
--- the name of row k, which is this record, where it reads: its own 8 bytes, which may be empty, or the text in the string table at its offset
+-- the name of row k, which is this record, where it can be read: its own 8 bytes, which may hold none, or the text in the string table at its offset
 unfoldable pub name_of : SymbolTable → ℕ → SymbolRecord ℕ → Option (List ℕ)
 name_of table k row =
-    if nat_eq row.zeroes 0 then text_at table.file (strings_place table + row.offset)
-    else short_name (bytes_at table.file (record_place table k) 8)
+    if nat_eq row.zeroes 0 then text_at table.strings row.offset
+    else short_name (bytes_at table.rows (k * 18) 8)
 
 -- a function (the complex type, from bit 4 of the type on, is 2) that is external (class 2), in the section of this index, which the file numbers from 1 on
 abbrev pub is_function_of : ℕ → SymbolRecord ℕ → Bool
@@ -89,7 +82,7 @@ is_function_of index row = nat_eq (row.kind / 16) 2 && nat_eq row.storage_class 
 unfoldable pub function_name : SymbolTable → ℕ → ℕ → SymbolRecord ℕ → Option (List ℕ)
 function_name table index k row = if is_function_of index row then name_of table k row else None
 
--- the address and the number of a row that is kept: a function of the section whose name reads
+-- the address and the number of a row that is kept: a function of the section whose name can be read
 abbrev pub kept_row : SymbolTable → ℕ → ℕ → Option RowAddress
 kept_row table index k = option_map (λ _. record { address = (record_of table k).value; row = k }) (function_name table index k (record_of table k))
 
@@ -109,28 +102,38 @@ size_members text_size rows = text_size ∷ addresses_of rows
 abbrev pub entry_of : SymbolTable → List ℕ → RowAddress → Option Entry
 entry_of table members at = option_map (λ name. record { name = name; address = at.address; size = size_among members at.address }) (name_of table at.row (record_of table at.row))
 
+-- the entries of rows in this order
+abbrev pub entries_in : SymbolTable → ℕ → ℕ → List RowAddress → List Entry
+entries_in table index text_size in_order = filter_map (entry_of table (size_members text_size (kept_rows table index))) in_order
+
 -- the entries of the kept rows, in the order of (address, row number)
 unfoldable pub entries_of : SymbolTable → ℕ → ℕ → List Entry
-entries_of table index text_size =
-    filter_map (entry_of table (size_members text_size (kept_rows table index))) (arranged (kept_rows table index))
+entries_of table index text_size = entries_in table index text_size (arranged (kept_rows table index))
 
 -- the section of the program's code
 abbrev pub text_section : List ℕ → Result Section Refusal
 text_section file = first (λ section. bytes_eq section.name (codes ".text")) (walk file) >>= required symbols_section_is_missing
 
+-- where the symbol table begins, and how many bytes its records have
+abbrev pub table_offset : List ℕ → ℕ
+table_offset file = (header_of file).pointer_to_symbol_table
+
+abbrev pub table_size : List ℕ → ℕ
+table_size file = (header_of file).number_of_symbols * 18
+
 -- the symbol table, which has to begin in the file even where it is empty, and to end there
 unfoldable pub symbol_table : List ℕ → Result SymbolTable Refusal
 symbol_table file =
-    if nat_le (length file) (header_of file).pointer_to_symbol_table then Err unexpected_eof
-    else if nat_lt (length file) ((header_of file).pointer_to_symbol_table + (header_of file).number_of_symbols * 18) then Err unexpected_eof
-    else Ok (record { file = file; place = (header_of file).pointer_to_symbol_table; count = (header_of file).number_of_symbols })
+    if nat_le (length file) (table_offset file) then Err unexpected_eof
+    else if nat_lt (length file) (table_offset file + table_size file) then Err unexpected_eof
+    else Ok (record { rows = bytes_at file (table_offset file) (table_size file); strings = drop (table_offset file + table_size file) file })
 
 -- the section of the code, and the symbol table
 pub record Located : Type 0 where
   pub text : Section
   pub table : SymbolTable
 
--- the refusals in order; else where the symbols stand
+-- the refusals in order; else where the symbols are
 unfoldable pub located : List ℕ → Result Located Refusal
 located file = do
   text ← text_section file
@@ -143,9 +146,11 @@ pe_answer file = do
   found ← located file
   Ok (record { entries = entries_of found.table found.text.index found.text.size_of_raw_data; section_size = found.text.size_of_raw_data })
 
--- of a table that is read, the kept rows are arranged so that (address, row number) rises strictly
+-- a law of that answer: its entries are those of the kept rows, arranged so that (address, row number) rises strictly
 abbrev pub ArrangesRows : List ℕ → Type 0
-ArrangesRows file = (found : Located) → located file ≡ Ok found → IsArrangementOf (kept_rows found.table found.text.index) (arranged (kept_rows found.table found.text.index))
+ArrangesRows file = (found : Located) (listed : Listed) → located file ≡ Ok found → pe_answer file ≡ Ok listed
+    → ListsArranged (kept_rows found.table found.text.index)
+    (λ in_order entries. entries ≡ entries_in found.table found.text.index found.text.size_of_raw_data in_order) listed.entries
 
 -- symbols of equal address have equal sizes
 abbrev pub EqualAddressesEqualSizes : List SymbolData → Type 0

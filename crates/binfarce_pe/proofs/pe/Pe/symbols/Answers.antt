@@ -1,14 +1,24 @@
-use Rattle.binfarce_pe.specs.RawPe.{table_seen}
-use Rattle.binfarce_pe.proofs.PeRows.{equal_sizes}
+use Rattle.std.proofs.Common.{◌∙◌}
+use Rattle.binfarce_pe.specs.PeSymbols.{pe_answer}
 use Rattle.binfarce_pe.proofs.Strictly.{rows_arranged}
+use Rattle.binfarce_pe.proofs.Answered.{given_is, symbols_held, sizes_agree}
 use Rattle.binfarce_pe.proofs.pe.Pe.symbols.Goals as goal
 
-pub returns-in-Err-parse_symbols-clause-order : goal.returns-in-Err-parse_symbols-clause-order
-returns-in-Err-parse_symbols-clause-order c = rows_arranged c.args.self.now
+pub returns-in_err-functions-clause-order : goal.returns-in_err-functions-clause-order
+returns-in_err-functions-clause-order c = rows_arranged c.args.self.now
 
-pub returns-in-Ok-parse_symbols-clause-order : goal.returns-in-Ok-parse_symbols-clause-order
-returns-in-Ok-parse_symbols-clause-order c = rows_arranged c.args.self.now
+pub returns-in_err-symbols-clause-order : goal.returns-in_err-symbols-clause-order
+returns-in_err-symbols-clause-order c = rows_arranged c.args.self.now
 
-pub returns-in-Ok-parse_symbols-clause-sizes : goal.returns-in-Ok-parse_symbols-clause-sizes
-returns-in-Ok-parse_symbols-clause-sizes c =
-    equal_sizes (table_seen c.in-Ok.found.table) c.in-Ok.found.text.index c.in-Ok.found.text.size_of_raw_data c.in-Ok-parse_symbols.symbols.items c.in-Ok-parse_symbols.ensures.kept
+pub returns-clause-answer : goal.returns-clause-answer
+returns-clause-answer c =
+    let functions = c.in_ok-functions.functions in
+    let made = c.in_ok-symbols.ensures.symbols in
+    symbols_held (pe_answer c.args.self.now) functions c.in_ok-functions.size made.0 c.in_ok-symbols.symbols c.in_ok-functions.ensures
+    (given_is c.into_iter.result functions.items made.0 c.into_iter.ensures.rest (c.into_iter.ensures.len ∙ functions.ok.0) made.1) made.2
+
+pub returns-clause-order : goal.returns-clause-order
+returns-clause-order c = rows_arranged c.args.self.now
+
+pub returns-clause-sizes : goal.returns-clause-sizes
+returns-clause-sizes c = sizes_agree c.args.self.now c.in_ok-symbols.symbols c.in_ok-functions.size (returns-clause-answer c)

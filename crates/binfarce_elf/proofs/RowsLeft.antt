@@ -1,0 +1,47 @@
+-- The entries of the rows that are left.
+use Rattle.std.proofs.Common.{◌≡◌, ℕ, suc, ◌+◌, ◌-◌, ◌*◌, ◌<◌, ◌≤◌, List, [], ◌∷◌, Option, Some, None, map, refl, sym, ◌∙◌, ap, subst, arith}
+use Rattle.std.specs.Iterator.{YieldsFirstBy, Drains}
+use Rattle.std.specs.List.{range_with_len, filter_map}
+use Rattle.std.specs.Option.{option_map}
+use Rattle.binfarce_bytes.specs.declared.ByteOrder.{ByteOrder}
+use Rattle.binfarce_elf.specs.Elf.{ElfClass, SymbolRow}
+use Rattle.binfarce_elf.specs.ElfSymbols.{symbol_at, entry_of, function_name}
+use Rattle.binfarce_elf.specs.ElfSeen.{functions_left}
+use Rattle.binfarce_elf.specs.declared.symbols.Functions.{Functions}
+use Rattle.binfarce_names.specs.declared.demangle.SymbolData.{SymbolData}
+use Rattle.binfarce_symbols.specs.declared.functions.FunctionSymbol.{FunctionSymbol}
+use Rattle.binfarce_symbols.specs.Symbol.{Entry, AreSymbolsOf}
+use Rattle.binfarce_symbols.specs.SymbolSeen.{function_seen}
+use Rattle.binfarce_symbols.proofs.Made.{drained}
+
+-- what f gives of the numbers from 0 on is what it gives of those below n
+pub from_first : {X : Type 0} (f : ℕ → Option X) (n : ℕ) → filter_map f (range_with_len 0 (n - 0)) ≡ filter_map f (range_with_len 0 n)
+from_first f n = let e : n - 0 ≡ n = omega arith in rw e refl
+
+-- row k has none
+pub passed : {X : Type 0} (f : ℕ → Option X) (k n : ℕ) → k < n → f k ≡ None → filter_map f (range_with_len k (n - k)) ≡ filter_map f (range_with_len (k + 1) (n - (k + 1)))
+passed f k n h e = let s : n - k ≡ suc (n - (k + 1)) = omega arith in rw (s, e) refl
+
+-- row k has one
+pub kept : {X : Type 0} (f : ℕ → Option X) (k n : ℕ) (x : X) → k < n → f k ≡ Some x → filter_map f (range_with_len k (n - k)) ≡ x ∷ filter_map f (range_with_len (k + 1) (n - (k + 1)))
+kept f k n x h e = let s : n - k ≡ suc (n - (k + 1)) = omega arith in rw (s, e) refl
+
+-- no row is left
+pub ended : {X : Type 0} (f : ℕ → Option X) (k n : ℕ) → n ≤ k → filter_map f (range_with_len k (n - k)) ≡ []
+ended f k n h = let s : n - k ≡ 0 = omega arith in rw s refl
+
+-- row k, as it was read
+pub row_is : (class : ElfClass) (order : ByteOrder) (rows : List ℕ) (k length : ℕ) (read : SymbolRow ℕ) → length ≡ class.symbol_length
+    → read ≡ symbol_at class order rows (k * length) → symbol_at class order rows (k * class.symbol_length) ≡ read
+row_is class order rows k length read is at = ap (λ (n : ℕ). symbol_at class order rows (k * n)) (sym is) ∙ sym at
+
+pub entry_is : (strings : List ℕ) (index : ℕ) (row read : SymbolRow ℕ) (name : Option (List ℕ))
+    → row ≡ read → function_name strings index read ≡ name
+    → entry_of strings index row ≡ option_map (λ n. record { name = n; address = read.value; size = read.size }) name
+entry_is strings index row read name same is =
+    ap (entry_of strings index) same ∙ ap (option_map (λ (n : List ℕ). record { name = n; address = read.value; size = read.size })) is
+
+-- what the functions became are the symbols of what is listed
+pub symbols_are : {C : Type 0} (class : ElfClass) (functions : Functions C) (given : List FunctionSymbol) (symbols : List SymbolData) → Drains (YieldsFirstBy function_seen (functions_left class)) functions given
+    → AreSymbolsOf (map function_seen given) symbols → AreSymbolsOf (functions_left class functions) symbols
+symbols_are class functions given symbols drains are = subst (λ (entries : List Entry). AreSymbolsOf entries symbols) (drained function_seen (functions_left class) functions given drains) are

@@ -1,0 +1,66 @@
+-- What private clauses see of the values that files of both classes are read into, and the layouts by the width of a word.
+use Rattle.std.specs.Prelude.{ℕ, ◌+◌, ◌*◌, List, Option}
+use Rattle.binfarce_bytes.specs.Steps.{◌>>=◌}
+use Rattle.binfarce_bytes.specs.Text.{text_at}
+use Rattle.binfarce_bytes.specs.Field.{Field, field}
+use Rattle.binfarce_elf.specs.declared.class.Row.{Row}
+use Rattle.binfarce_elf.specs.declared.sections.Table.{Table}
+use Rattle.binfarce_elf.specs.declared.symbols.Found.{Found}
+use Rattle.binfarce_elf.specs.Elf.{ElfClass, Header, SectionHeader, SectionTable, SymbolRow, names_section, contents}
+use Rattle.binfarce_elf.specs.ElfSymbols.{Located}
+use Rattle.binfarce_elf.specs.ElfSeen.{section_seen}
+
+-- the file header's fields, where a word has w bytes
+abbrev pub header_of : ℕ → Header Field
+header_of w = record {
+  elf_type = field 16 2;
+  machine = field 18 2;
+  version = field 20 4;
+  entry = field 24 w;
+  phoff = field (24 + w) w;
+  shoff = field (24 + 2 * w) w;
+  flags = field (24 + 3 * w) 4;
+  ehsize = field (28 + 3 * w) 2;
+  phentsize = field (30 + 3 * w) 2;
+  phnum = field (32 + 3 * w) 2;
+  shentsize = field (34 + 3 * w) 2;
+  shnum = field (36 + 3 * w) 2;
+  shstrndx = field (38 + 3 * w) 2;
+}
+
+-- a section header's fields, where a word has w bytes
+abbrev pub section_of : ℕ → SectionHeader Field
+section_of w = record {
+  name = field 0 4;
+  kind = field 4 4;
+  flags = field 8 w;
+  addr = field (8 + w) w;
+  offset = field (8 + 2 * w) w;
+  size = field (8 + 3 * w) w;
+  link = field (8 + 4 * w) 4;
+  info = field (12 + 4 * w) 4;
+  addralign = field (16 + 4 * w) w;
+  entry_size = field (16 + 5 * w) w;
+}
+
+abbrev pub row_seen : Row → SymbolRow ℕ
+row_seen r = record { name = r.name; value = r.value; size = r.size; info = r.info; other = r.other; section = r.section }
+
+abbrev pub table_seen : Table → SectionTable
+table_seen t = record { order = t.byte_order; file = t.bytes.now; shoff = t.shoff; shnum = t.shnum; shstrndx = t.shstrndx }
+
+-- where the symbols are
+abbrev pub found_seen : {C : Type 0} → (C → ℕ) → Found C → Located
+found_seen number f = record { text = section_seen number f.text; strings = f.strings.now; rows = f.rows.now }
+
+-- the bytes of the section of the section names
+abbrev pub names_bytes : ElfClass → SectionTable → Option (List ℕ)
+names_bytes class table = do
+  names ← names_section class table
+  contents table.file names
+
+-- the name at an offset among those bytes
+abbrev pub name_among : Option (List ℕ) → ℕ → Option (List ℕ)
+name_among names offset = do
+  strings ← names
+  text_at strings offset

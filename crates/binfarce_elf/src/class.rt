@@ -1,0 +1,214 @@
+//! The two classes of ELF files: their words, and what they lay out differently.
+
+ghost use Rattle.std.specs.Prelude.{◌≡◌, ◌+◌, ◌*◌, ◌<◌, ◌≤◌, ℕ, List, length, MatchResult};
+ghost use Rattle.binfarce_bytes.specs.Number.{number};
+ghost use Rattle.binfarce_elf.specs.Elf.{entry_count};
+ghost use Rattle.binfarce_elf.specs.ElfSymbols.{symbol_at};
+ghost use Rattle.binfarce_elf.specs.machine.RawElf.{row_seen, header_of, section_of};
+
+use binfarce_bytes::ByteOrder;
+use binfarce_bytes::parser::{RawNumber, Stream, UnexpectedEof};
+
+/// A row of a symbol table, with values as wide as the wider class has them.
+#[derive(Clone, Copy)]
+pub struct Row {
+    pub name: u32,
+    pub value: u64,
+    pub size: u64,
+    pub info: u8,
+    pub other: u8,
+    pub section: u16,
+}
+
+/// A class of ELF files, known by its word: `u32` for ELFCLASS32, `u64` for ELFCLASS64.
+///
+/// Addresses, offsets in the file, and the sizes of sections have a word's width.
+pub trait Class: RawNumber + Copy + Drop {
+    ghost use Rattle.std.specs.Prelude.{ℕ};
+    ghost use Rattle.binfarce_bytes.specs.declared.ByteOrder.{ByteOrder};
+    ghost use Rattle.binfarce_elf.specs.Elf.{ElfClass};
+
+    ghost table: { ElfClass };
+
+    ghost number_of: { Self → ℕ };
+
+    ghost SECTION_LENGTH: { ℕ };
+
+    ghost SYMBOL_LENGTH: { ℕ };
+
+    /// The length of a section header in bytes.
+    const SECTION_LENGTH: usize;
+
+    /// The length of a symbol table entry in bytes.
+    const SYMBOL_LENGTH: usize;
+
+    /// The word as the wider class has it.
+    fn widened(self) -> u64
+        ensures { result ≡ number_of self };
+
+    /// How many entries of a size there are in this size; 0 where that size is 0.
+    fn entries_of(self, entry_size: Self) -> Self
+        ensures { number_of result ≡ entry_count (number_of self) (number_of entry_size) };
+
+    /// The row at `start`; refused where it is truncated.
+    fn symbol(bytes: &[u8], start: usize, byte_order: ByteOrder) -> Result<Row, UnexpectedEof>
+        ensures { MatchResult result
+            (λ r. (start + table.symbol_length ≤ length bytes.now) × (row_seen r ≡ symbol_at table byte_order bytes.now start))
+            (λ _. length bytes.now < start + table.symbol_length) };
+
+    ghost word: { (order : ByteOrder) (bytes : List ℕ) → number_of (Self.value order bytes) ≡ number order bytes };
+
+    ghost some_word: { 0 < Self.SIZE };
+
+    ghost narrow_word: { Self.SIZE ≤ 8 };
+
+    ghost header: { table.header ≡ header_of Self.SIZE };
+
+    ghost header_length: { table.header_length ≡ 40 + 3 * Self.SIZE };
+
+    ghost section: { table.section ≡ section_of Self.SIZE };
+
+    ghost section_fields: { table.section_length ≡ 16 + 6 * Self.SIZE };
+
+    ghost section_length: { SECTION_LENGTH ≡ table.section_length };
+
+    ghost symbol_length: { SYMBOL_LENGTH ≡ table.symbol_length };
+
+    ghost some_section: { 0 < SECTION_LENGTH };
+
+    ghost some_symbol: { 0 < SYMBOL_LENGTH };
+}
+
+impl Class for u32 {
+    ghost use Rattle.binfarce_elf.specs.Elf.{elf32};
+    ghost use Rattle.std.proofs.Common.{refl, lit<};
+
+    ghost table = { elf32 };
+
+    ghost number_of = { λ n. n };
+
+    ghost SECTION_LENGTH = { 40 };
+
+    ghost SYMBOL_LENGTH = { 16 };
+
+    const SECTION_LENGTH: usize = 40;
+
+    const SYMBOL_LENGTH: usize = 16;
+
+    fn widened(self) -> u64 {
+        u64::from(self)
+    }
+
+    fn entries_of(self, entry_size: Self) -> Self {
+        self.checked_div(entry_size).unwrap_or(0)
+    }
+
+    #[inline]
+    #[tactic(auto, unfolding(crate::specs::Elf::elf32, crate::specs::ElfSymbols::symbol_at))]
+    fn symbol(bytes: &[u8], start: usize, byte_order: ByteOrder) -> Result<Row, UnexpectedEof> {
+        let mut s = Stream::new_at(bytes, start, byte_order)?;
+        let name = s.read()?;
+        let value = s.read::<u32>()?;
+        let size = s.read::<u32>()?;
+        let info = s.read()?;
+        let other = s.read()?;
+        let section = s.read()?;
+        Ok(Row {
+            name,
+            value: u64::from(value),
+            size: u64::from(size),
+            info,
+            other,
+            section,
+        })
+    }
+
+    ghost word = { λ order bytes. refl };
+
+    ghost some_word = { lit< tt };
+
+    ghost narrow_word = { lit< tt };
+
+    ghost header = { unfold elf32 in refl };
+
+    ghost header_length = { unfold elf32 in refl };
+
+    ghost section = { unfold elf32 in refl };
+
+    ghost section_fields = { unfold elf32 in refl };
+
+    ghost section_length = { unfold elf32 in refl };
+
+    ghost symbol_length = { unfold elf32 in refl };
+
+    ghost some_section = { lit< tt };
+
+    ghost some_symbol = { lit< tt };
+}
+
+impl Class for u64 {
+    ghost use Rattle.binfarce_elf.specs.Elf.{elf64};
+    ghost use Rattle.std.proofs.Common.{refl, lit<};
+
+    ghost table = { elf64 };
+
+    ghost number_of = { λ n. n };
+
+    ghost SECTION_LENGTH = { 64 };
+
+    ghost SYMBOL_LENGTH = { 24 };
+
+    const SECTION_LENGTH: usize = 64;
+
+    const SYMBOL_LENGTH: usize = 24;
+
+    fn widened(self) -> u64 {
+        self
+    }
+
+    fn entries_of(self, entry_size: Self) -> Self {
+        self.checked_div(entry_size).unwrap_or(0)
+    }
+
+    #[inline]
+    #[tactic(auto, unfolding(crate::specs::Elf::elf64, crate::specs::ElfSymbols::symbol_at))]
+    fn symbol(bytes: &[u8], start: usize, byte_order: ByteOrder) -> Result<Row, UnexpectedEof> {
+        let mut s = Stream::new_at(bytes, start, byte_order)?;
+        let name = s.read()?;
+        let info = s.read()?;
+        let other = s.read()?;
+        let section = s.read()?;
+        let value = s.read()?;
+        let size = s.read()?;
+        Ok(Row {
+            name,
+            value,
+            size,
+            info,
+            other,
+            section,
+        })
+    }
+
+    ghost word = { λ order bytes. refl };
+
+    ghost some_word = { lit< tt };
+
+    ghost narrow_word = { lit< tt };
+
+    ghost header = { unfold elf64 in refl };
+
+    ghost header_length = { unfold elf64 in refl };
+
+    ghost section = { unfold elf64 in refl };
+
+    ghost section_fields = { unfold elf64 in refl };
+
+    ghost section_length = { unfold elf64 in refl };
+
+    ghost symbol_length = { unfold elf64 in refl };
+
+    ghost some_section = { lit< tt };
+
+    ghost some_symbol = { lit< tt };
+}

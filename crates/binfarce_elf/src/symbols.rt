@@ -1,0 +1,225 @@
+//! The function symbols of one section.
+
+ghost use Rattle.std.specs.Prelude.{◌≡◌, ◌/◌, [], ◌∷◌, length, MatchOption, nat_eq, codes};
+ghost use Rattle.std.specs.Option.{option_map};
+ghost use Rattle.binfarce_bytes.specs.Refusal.{Gives, refusal_of, unexpected_eof, symbols_section_is_missing, section_is_missing};
+ghost use Rattle.binfarce_bytes.specs.Walk.{first};
+ghost use Rattle.binfarce_symbols.specs.SymbolSeen.{function_seen};
+ghost use Rattle.binfarce_elf.specs.Elf.{walk, name_of};
+ghost use Rattle.binfarce_elf.specs.ElfSymbols.{is_name, sought, string_table_kind, whole_rows, part_of, located, elf_answer, entries_of, function_name};
+ghost use Rattle.binfarce_elf.specs.ElfSeen.{section_seen, functions_left, functions_seen};
+ghost use Rattle.binfarce_elf.specs.machine.RawElf.{row_seen, table_seen, found_seen};
+
+use crate::class::{Class, Row};
+use crate::elf::Section;
+use crate::sections::{Table, first_section, section_with_name};
+use binfarce_bytes::parser::{UnexpectedEof, parse_null_string};
+use binfarce_bytes::{ByteOrder, ParseError};
+use binfarce_symbols::functions::FunctionSymbol;
+use std::marker::PhantomData;
+
+const SHT_SYMTAB: u32 = 2;
+
+const SHT_STRTAB: u32 = 3;
+
+// Where the symbols of a section are in the file.
+#[derive(Clone, Copy)]
+struct Found<'a, C> {
+    text: Section<C>,
+    strings: &'a [u8],
+    rows: &'a [u8],
+}
+
+/// The function symbols of the section with this name, and the section's size.
+#[tactic(auto, unfolding(crate::specs::ElfSymbols::elf_answer))]
+pub(crate) fn section_functions<'a, C: Class>(
+    table: Table<'a>,
+    section_name: &str,
+) -> Result<(Functions<'a, C>, u64), ParseError>
+    ensures { Gives refusal_of (functions_seen C.table) result (elf_answer C.table (table_seen table.entry) section_name.now) }
+{
+    let Found {
+        text,
+        strings,
+        rows,
+    } = locate::<C>(table, section_name)?;
+    let functions = Functions::new(rows, strings, table.byte_order, text.index);
+    Ok((functions, text.size.widened()))
+}
+
+// The section with this name, and the rows and the strings of the symbol table.
+#[tactic(auto, unfolding(crate::specs::ElfSymbols::located))]
+fn locate<'a, C: Class>(table: Table<'a>, section_name: &str) -> Result<Found<'a, C>, ParseError>
+    ensures { Gives refusal_of (found_seen C.number_of) result (located C.table (table_seen table.entry) section_name.now) }
+{
+    let text = named_section::<C>(table, section_name)?;
+    let symbols = symbol_table::<C>(table)?;
+    let linked = linked_section::<C>(table, symbols.link)?;
+    let string_table = string_table(linked)?;
+    let strings = part_of(table.bytes, string_table)?;
+    let part = part_of(table.bytes, symbols)?;
+    let rows = whole_rows::<C>(part)?;
+    Ok(Found {
+        text,
+        strings,
+        rows,
+    })
+}
+
+fn named_section<C: Class>(table: Table<'_>, name: &str) -> Result<Section<C>, ParseError>
+    ensures { Gives refusal_of (section_seen C.number_of) result
+        (sought symbols_section_is_missing (λ s. is_name name.now (name_of C.table (table_seen table.entry) s)) (walk C.table (table_seen table.entry))) }
+{
+    section_with_name::<C>(table, name)?.ok_or(ParseError::SymbolsSectionIsMissing)
+}
+
+fn symbol_table<C: Class>(table: Table<'_>) -> Result<Section<C>, ParseError>
+    ensures { Gives refusal_of (section_seen C.number_of) result
+        (sought (section_is_missing (codes ".symtab")) (λ s. nat_eq s.kind 2) (walk C.table (table_seen table.entry))) }
+{
+    section_of_kind::<C>(table, SHT_SYMTAB)?.ok_or(ParseError::SectionIsMissing(".symtab"))
+}
+
+fn section_of_kind<C: Class>(
+    table: Table<'_>,
+    kind: u32,
+) -> Result<Option<Section<C>>, UnexpectedEof>
+    ensures { Gives (λ _. unexpected_eof) (option_map (section_seen C.number_of)) result
+        (first (λ s. nat_eq s.kind kind) (walk C.table (table_seen table.entry))) }
+{
+    first_section::<C, _>(table, |section| section.kind == kind)
+}
+
+fn linked_section<C: Class>(table: Table<'_>, link: u32) -> Result<Section<C>, ParseError>
+    ensures { Gives refusal_of (section_seen C.number_of) result
+        (sought (section_is_missing (codes ".strtab")) (λ s. nat_eq s.index link) (walk C.table (table_seen table.entry))) }
+{
+    section_of_index::<C>(table, link)?.ok_or(ParseError::SectionIsMissing(".strtab"))
+}
+
+fn section_of_index<C: Class>(
+    table: Table<'_>,
+    index: u32,
+) -> Result<Option<Section<C>>, UnexpectedEof>
+    ensures { Gives (λ _. unexpected_eof) (option_map (section_seen C.number_of)) result
+        (first (λ s. nat_eq s.index index) (walk C.table (table_seen table.entry))) }
+{
+    first_section::<C, _>(table, |section| u32::from(section.index) == index)
+}
+
+fn string_table<C: Class>(section: Section<C>) -> Result<Section<C>, ParseError>
+    ensures { Gives refusal_of (section_seen C.number_of) result (string_table_kind (section_seen C.number_of section)) }
+{
+    if section.kind == SHT_STRTAB {
+        Ok(section)
+    } else {
+        Err(ParseError::UnexpectedSectionType {
+            expected: SHT_STRTAB,
+            actual: section.kind,
+        })
+    }
+}
+
+// The section's bytes, which have to lie in the file.
+#[tactic(auto, unfolding(crate::specs::ElfSymbols::part_of))]
+fn part_of<C: Class>(bytes: &[u8], section: Section<C>) -> Result<&[u8], ParseError>
+    ensures { Gives refusal_of (λ b. b.now) result (part_of bytes.now (section_seen C.number_of section)) }
+{
+    bytes.get(section.range()?).ok_or(ParseError::UnexpectedEof)
+}
+
+fn whole_rows<C: Class>(rows: &[u8]) -> Result<&[u8], ParseError>
+    ensures { Gives refusal_of (λ b. b.now) result (whole_rows C.table rows.now) }
+{
+    if rows.len() % C::SYMBOL_LENGTH == 0 {
+        Ok(rows)
+    } else {
+        Err(ParseError::UnexpectedEof)
+    }
+}
+
+/// The function symbols of a section that are left, in the order of the symbol table.
+///
+/// Rows are read as they are asked for, and names stay in the file: nothing is allocated or copied.
+#[derive(Drop)]
+pub struct Functions<'a, C> {
+    rows: &'a [u8],
+    strings: &'a [u8],
+    byte_order: ByteOrder,
+    index: u16,
+    next: usize,
+    class: PhantomData<C>,
+}
+
+impl<'a, C: Class> Functions<'a, C> {
+    // The functions of the section `index` in whole rows.
+    #[tactic(auto, using(crate::proofs::RowsLeft::from_first))]
+    fn new(rows: &'a [u8], strings: &'a [u8], byte_order: ByteOrder, index: u16) -> Self
+        ensures { functions_left C.table result ≡ entries_of C.table byte_order strings.entry.now index rows.entry.now (length rows.entry.now / C.table.symbol_length) }
+    {
+        Functions {
+            rows,
+            strings,
+            byte_order,
+            index,
+            next: 0,
+            class: PhantomData,
+        }
+    }
+
+    // The first function that is left, and the number of the row after it.
+    #[inline]
+    #[tactic(auto, using(crate::proofs::RowsLeft::passed, crate::proofs::RowsLeft::kept, crate::proofs::RowsLeft::ended))]
+    fn first_left(&self) -> Option<(FunctionSymbol<'a>, usize)>
+        ensures { MatchOption result (functions_left C.table self.now ≡ [])
+            (λ r. functions_left C.table self.now ≡ function_seen r.0 ∷ functions_left C.table (record self.now { next = r.1 })) }
+    {
+        for k in self.next..self.rows.len() / C::SYMBOL_LENGTH {
+            let row = C::symbol(self.rows, k * C::SYMBOL_LENGTH, self.byte_order).unwrap();
+            match function_name(self.strings, self.index, row) {
+                None => continue,
+                Some(name) => {
+                    let function = FunctionSymbol {
+                        name,
+                        address: row.value,
+                        size: row.size,
+                    };
+                    return Some((function, k + 1));
+                }
+            }
+        }
+        None
+    }
+}
+
+impl<'a, C: Class> Iterator for Functions<'a, C> {
+    ghost use Rattle.std.specs.Iterator.{YieldsFirstBy, item_count};
+    ghost use Rattle.binfarce_symbols.specs.SymbolSeen.{function_seen};
+    ghost use Rattle.binfarce_elf.specs.ElfSeen.{functions_left};
+
+    type Item = FunctionSymbol<'a>;
+
+    ghost next_gives = { YieldsFirstBy function_seen (functions_left C.table) };
+
+    ghost remaining = { item_count (functions_left C.table) };
+
+    #[inline]
+    fn next(&mut self) -> Option<FunctionSymbol<'a>> {
+        let (function, next) = self.first_left()?;
+        self.next = next;
+        Some(function)
+    }
+}
+
+// The name of a function of the section `index`, with a size and a name offset.
+#[tactic(auto, unfolding(crate::specs::ElfSymbols::function_name))]
+fn function_name(strings: &[u8], index: u16, row: Row) -> Option<&str>
+    ensures { option_map (λ t. t.now) result ≡ function_name strings.now index (row_seen row) }
+{
+    const STT_FUNC: u8 = 2;
+    if row.section == index && row.size != 0 && row.name != 0 && row.info & 0xf == STT_FUNC {
+        parse_null_string(strings, row.name as usize)
+    } else {
+        None
+    }
+}

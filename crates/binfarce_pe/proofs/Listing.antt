@@ -1,0 +1,238 @@
+-- Rows numbered in the order in which they are kept, once arranged: the entries that they give, and the sizes.
+use Rattle.std.proofs.Common.{◌≡◌, ℕ, zero, suc, ◌+◌, ◌-◌, ◌<◌, Bool, true, false, cond, List, [], ◌∷◌, ◌++◌, length, get_or, take, map, All, Option, Some, None, inl, inr, refl, sym, ap, subst, ◌∙◌, arith, nat_lt}
+use Rattle.std.specs.Prelude.{unwrap_or, if◌then◌else◌, filter, IfSome}
+use Rattle.std.specs.Option.{option_map}
+use Rattle.std.specs.List.{filter_map, cons_option, AllZip}
+use Rattle.std.proofs.lemmas.Bool.{lt-ltb, le-ltb, cases_lt}
+use Rattle.std.proofs.lemmas.List.{take_more, get_or-map, length-map, map-append}
+use Rattle.std.proofs.lemmas.List.Elements.{All-nil, All-cons, All-contains}
+use Rattle.binfarce_names.specs.declared.demangle.SymbolData.{SymbolData}
+use Rattle.binfarce_symbols.specs.declared.sizes.RowAddress as code
+use Rattle.binfarce_symbols.specs.Sizes.{RowAddress, comes_before, put_in, arranged, addresses_of, least, least_of, least_above, LeastAbove}
+use Rattle.binfarce_symbols.specs.Symbol.{Entry, AreSymbolsOf}
+use Rattle.binfarce_symbols.specs.machine.Rows.{row_seen, rows_seen}
+use Rattle.binfarce_pe.specs.PeSymbols.{SymbolTable, record_of, name_of, kept_rows, size_among, size_members, entry_of, entries_of, EqualAddressesEqualSizes}
+use Rattle.binfarce_pe.specs.machine.RawPe.{numbered, IsNameOf, HoldsKept, function_at}
+use Rattle.binfarce_symbols.proofs.Above.{arranged_above, least_above_is}
+use Rattle.binfarce_symbols.proofs.Arrangement.{Rising}
+use Rattle.binfarce_pe.proofs.Strictly.{kept_rise}
+
+-- what is read past the end
+none : RowAddress
+none = record { address = 0; row = 0 }
+
+-- the row has its address, and its number among the kept ones
+abbrev IsNumbered : List RowAddress → RowAddress → RowAddress → Type 0
+IsNumbered kept r q = (r.row < length kept) × (get_or kept r.row none ≡ q) × (r.address ≡ q.address)
+
+numbered_from : (kept rest : List RowAddress) (n : ℕ) → n + length rest ≡ length kept → ((k : ℕ) → get_or kept (n + k) none ≡ get_or rest k none)
+    → AllZip (IsNumbered kept) (numbered n (addresses_of rest)) rest
+numbered_from kept [] n long here = tt
+numbered_from kept (q ∷ rest) n long here = (
+  (omega arith, ap (λ (i : ℕ). get_or kept i none) (omega arith) ∙ here 0, refl),
+  numbered_from kept rest (n + 1) (omega arith) (λ k. ap (λ (i : ℕ). get_or kept i none) (omega arith) ∙ here (suc k)),
+)
+
+all_numbered : (kept : List RowAddress) → AllZip (IsNumbered kept) (numbered 0 (addresses_of kept)) kept
+all_numbered kept = numbered_from kept kept 0 (omega arith) (λ k. ap (λ (i : ℕ). get_or kept i none) (omega arith))
+
+rising_at : (xs : List RowAddress) → Rising xs → (i j : ℕ) (d : RowAddress) → i < j → j < length xs → (get_or xs i d).row < (get_or xs j d).row
+rising_at [] up i j d lt within = absurd (omega arith)
+rising_at (x ∷ xs) up i zero d lt within = absurd (omega arith)
+rising_at (x ∷ xs) up zero (suc j) d lt within = up.0 j d (omega arith)
+rising_at (x ∷ xs) up (suc i) (suc j) d lt within = rising_at xs up.1 i j d (omega arith) (omega arith)
+
+-- numbers that rise together compare alike
+same_test : (i j a b : ℕ) → (i < j → a < b) → (j < i → b < a) → (i ≡ j → a ≡ b) → nat_lt i j ≡ nat_lt a b
+same_test i j a b up down same = elim (cases_lt i j) [
+  | inl lt ↦ rw (lt-ltb i j lt, lt-ltb a b (up lt)) refl
+  | inr le ↦ rw (
+    le-ltb i j le,
+    le-ltb a b (elim (cases_lt j i) [
+      | inl gt ↦ let less : b < a = down gt in omega arith
+      | inr ge ↦ let equal : a ≡ b = same (omega arith) in omega arith
+    ]),
+  ) refl
+]
+
+-- so rows compare by them as by the numbers in the table
+agree : (kept : List RowAddress) → Rising kept → (x q y p : RowAddress) → IsNumbered kept x q → IsNumbered kept y p → comes_before x y ≡ comes_before q p
+agree kept up x q y p is also =
+    let test : nat_lt x.row y.row ≡ nat_lt q.row p.row =
+    same_test x.row y.row q.row p.row
+    (λ lt. rw (is.1, also.1) at (rising_at kept up x.row y.row none lt also.0))
+    (λ lt. rw (is.1, also.1) at (rising_at kept up y.row x.row none lt is.0))
+    (λ same. ap (λ (r : RowAddress). r.row) (sym is.1 ∙ ap (λ (i : ℕ). get_or kept i none) same ∙ also.1)) in
+    rw (is.2, also.2, test) refl
+
+module _ (R : RowAddress → RowAddress → Type 0) (alike : (x q y p : RowAddress) → R x q → R y p → comes_before x y ≡ comes_before q p) where
+  put_in_pairs : (x q : RowAddress) (xs ys : List RowAddress) → R x q → AllZip R xs ys → AllZip R (put_in x xs) (put_in q ys)
+  put_in_pairs x q [] [] r all = (r, tt)
+  put_in_pairs x q [] (p ∷ ys) r all = absurd all
+  put_in_pairs x q (y ∷ xs) [] r all = absurd all
+  put_in_pairs x q (y ∷ xs) (p ∷ ys) r all = by_test (comes_before y x) (comes_before p q) (alike y p x q all.0 r) (put_in_pairs x q xs ys r all.1)
+    where
+      by_test : (a b : Bool) → a ≡ b → AllZip R (put_in x xs) (put_in q ys) → AllZip R (cond a (y ∷ put_in x xs) (x ∷ y ∷ xs)) (cond b (p ∷ put_in q ys) (q ∷ p ∷ ys))
+      by_test true true e rest = (all.0, rest)
+      by_test false false e rest = (r, all)
+      by_test true false e rest = absurd cc
+      by_test false true e rest = absurd cc
+
+  arranged_pairs : (xs ys : List RowAddress) → AllZip R xs ys → AllZip R (arranged xs) (arranged ys)
+  unfolding arranged
+  arranged_pairs [] [] all = tt
+  arranged_pairs [] (y ∷ ys) all = absurd all
+  arranged_pairs (x ∷ xs) [] all = absurd all
+  arranged_pairs (x ∷ xs) (y ∷ ys) all = put_in_pairs x y (arranged xs) (arranged ys) all.0 (arranged_pairs xs ys all.1)
+
+-- arranged by their numbers among the kept, rows stand as by their numbers in the table
+abbrev pub arranged_numbers : List RowAddress → List RowAddress
+arranged_numbers kept = arranged (numbered 0 (addresses_of kept))
+
+arranged_alike : (table : SymbolTable) (index : ℕ) → AllZip (IsNumbered (kept_rows table index)) (arranged_numbers (kept_rows table index)) (arranged (kept_rows table index))
+arranged_alike table index =
+    let kept = kept_rows table index in
+    arranged_pairs (IsNumbered kept) (agree kept (kept_rise table index)) (numbered 0 (addresses_of kept)) kept (all_numbered kept)
+
+numbers_below : (kept xs ys : List RowAddress) → AllZip (IsNumbered kept) xs ys → All (λ r. r.row < length kept) xs
+numbers_below kept [] [] all = All-nil (λ r. r.row < length kept)
+numbers_below kept [] (q ∷ ys) all = absurd all
+numbers_below kept (x ∷ xs) [] all = absurd all
+numbers_below kept (x ∷ xs) (q ∷ ys) all = All-cons (λ r. r.row < length kept) x xs all.0.0 (numbers_below kept xs ys all.1)
+
+names_long : {A B : Type 0} (R : A → B → Type 0) (xs : List A) (ys : List B) → AllZip R xs ys → length ys ≡ length xs
+names_long R [] [] all = refl
+names_long R [] (y ∷ ys) all = absurd all
+names_long R (x ∷ xs) [] all = absurd all
+names_long R (x ∷ xs) (y ∷ ys) all = ap suc (names_long R xs ys all.1)
+
+-- the numbers of the arranged rows are those of names
+pub all_have_names : (table : SymbolTable) (index : ℕ) (held : List RowAddress) (names : List (List ℕ)) (rows : List code.RowAddress) (n : ℕ)
+    → HoldsKept table (kept_rows table index) held names → rows_seen rows ≡ arranged held → n ≡ length names → All (λ r. r.row < n) rows
+all_have_names table index held names rows n h are long k d lt =
+    let kept = kept_rows table index in
+    let all : All (λ r. r.row < length kept) (rows_seen rows) = subst (λ (rs : List RowAddress). All (λ r. r.row < length kept) rs) (sym (are ∙ ap arranged h.rows_are)) (numbers_below kept (arranged_numbers kept) (arranged kept) (arranged_alike table index)) in
+    let below : (get_or rows k d).row < length kept = rw (get_or-map row_seen rows k d (row_seen d) lt) at (all k (row_seen d) (omega (arith, length-map rows row_seen))) in
+    omega (arith, names_long (IsNameOf table) kept names h.names_are)
+
+name_at : (table : SymbolTable) (kept : List RowAddress) (names : List (List ℕ)) (k : ℕ) → AllZip (IsNameOf table) kept names → k < length kept → IsNameOf table (get_or kept k none) (get_or names k [])
+name_at table [] [] k all lt = absurd (omega arith)
+name_at table [] (n ∷ names) k all lt = absurd all
+name_at table (r ∷ kept) [] k all lt = absurd all
+name_at table (r ∷ kept) (n ∷ names) zero all lt = all.0
+name_at table (r ∷ kept) (n ∷ names) (suc k) all lt = name_at table kept names k all.1 (omega arith)
+
+one_entry : (table : SymbolTable) (members : List ℕ) (names : List (List ℕ)) (r q : RowAddress) → IsNameOf table q (get_or names r.row []) → r.address ≡ q.address
+    → entry_of table members q ≡ Some (function_at names members r)
+one_entry table members names r q is same =
+    ap (option_map (λ (name : List ℕ). record { name = name; address = q.address; size = size_among members q.address })) is
+    ∙ ap (λ (a : ℕ). Some (record { name = get_or names r.row []; address = a; size = size_among members a })) (sym same)
+
+entries_listed : (table : SymbolTable) (members : List ℕ) (kept : List RowAddress) (names : List (List ℕ)) → AllZip (IsNameOf table) kept names
+    → (xs ys : List RowAddress) → AllZip (IsNumbered kept) xs ys → map (function_at names members) xs ≡ filter_map (entry_of table members) ys
+entries_listed table members kept names named [] [] all = refl
+entries_listed table members kept names named [] (q ∷ ys) all = absurd all
+entries_listed table members kept names named (x ∷ xs) [] all = absurd all
+entries_listed table members kept names named (x ∷ xs) (q ∷ ys) all =
+    let is : IsNameOf table q (get_or names x.row []) = subst (λ (r : RowAddress). IsNameOf table r (get_or names x.row [])) all.0.1 (name_at table kept names x.row named all.0.0) in
+    rw (one_entry table members names x q is all.0.2) (ap (λ (es : List Entry). function_at names members x ∷ es) (entries_listed table members kept names named xs ys all.1))
+
+-- with the text's size among the members
+with_text : (t a : ℕ) (xs : List ℕ) → least_above (t ∷ xs) a ≡ (if nat_lt a t then Some (least_of t (least_above xs a)) else least_above xs a)
+unfolding least_above
+with_text t a xs = by_test (nat_lt a t)
+  where
+    by_test : (b : Bool) → least (cond b (t ∷ filter (λ c. nat_lt a c) xs) (filter (λ c. nat_lt a c) xs)) ≡ cond b (Some (least_of t (least (filter (λ c. nat_lt a c) xs)))) (least (filter (λ c. nat_lt a c) xs))
+    by_test true = refl
+    by_test false = refl
+
+members_same : (t a : ℕ) (rows : List RowAddress) → least_above (size_members t (arranged rows)) a ≡ least_above (size_members t rows) a
+members_same t a rows =
+    with_text t a (addresses_of (arranged rows)) ∙ ap (λ (o : Option ℕ). if nat_lt a t then Some (least_of t o) else o) (arranged_above rows a) ∙ sym (with_text t a (addresses_of rows))
+
+addresses_numbered : (n : ℕ) (addresses : List ℕ) → addresses_of (numbered n addresses) ≡ addresses
+addresses_numbered n [] = refl
+addresses_numbered n (a ∷ addresses) = ap (λ (bs : List ℕ). a ∷ bs) (addresses_numbered (n + 1) addresses)
+
+sizes_same : (t a : ℕ) (kept : List RowAddress) → least_above (size_members t (arranged_numbers kept)) a ≡ least_above (size_members t kept) a
+sizes_same t a kept = members_same t a (numbered 0 (addresses_of kept)) ∙ ap (λ (addresses : List ℕ). least_above (t ∷ addresses) a) (addresses_numbered 0 (addresses_of kept))
+
+entries_same : (table : SymbolTable) (members others : List ℕ) → ((a : ℕ) → least_above members a ≡ least_above others a) → (rows : List RowAddress)
+    → filter_map (entry_of table members) rows ≡ filter_map (entry_of table others) rows
+entries_same table members others same [] = refl
+entries_same table members others same (r ∷ rows) =
+    let first : entry_of table members r ≡ entry_of table others r =
+    ap (λ (o : Option ℕ). option_map (λ (name : List ℕ). record { name = name; address = r.address; size = unwrap_or (option_map (λ above. above - r.address) o) 0 }) (name_of table r.row (record_of table r.row))) (same r.address) in
+    ap (λ (o : Option Entry). cons_option o (filter_map (entry_of table members) rows)) first ∙ ap (cons_option (entry_of table others r)) (entries_same table members others same rows)
+
+-- what is listed of the arranged rows is the entries
+pub entries_are : (table : SymbolTable) (index t : ℕ) (held in_order : List RowAddress) (names : List (List ℕ)) → HoldsKept table (kept_rows table index) held names → in_order ≡ arranged held
+    → map (function_at names (size_members t in_order)) in_order ≡ entries_of table index t
+unfolding entries_of
+entries_are table index t held in_order names h are =
+    let kept = kept_rows table index in
+    ap (λ (rs : List RowAddress). map (function_at names (size_members t rs)) rs) (are ∙ ap arranged h.rows_are)
+    ∙ entries_listed table (size_members t (arranged_numbers kept)) kept names h.names_are (arranged_numbers kept) (arranged kept) (arranged_alike table index)
+    ∙ entries_same table (size_members t (arranged_numbers kept)) (size_members t kept) (λ a. sizes_same t a kept) (arranged kept)
+
+greater : (xs : List ℕ) (a : ℕ) (o : Option ℕ) → LeastAbove xs a o → IfSome o (λ b. a < b)
+greater xs a None is = tt
+greater xs a (Some b) is = is.above
+
+-- a least member above is above
+pub above_greater : (xs : List ℕ) (a : ℕ) (o : Option ℕ) → o ≡ least_above xs a → IfSome o (λ b. a < b)
+above_greater xs a o e = greater xs a o (subst (LeastAbove xs a) (sym e) (least_above_is xs a))
+
+-- the size that the least address above and the text's size give
+pub size_is : (t a : ℕ) (rows : List RowAddress) (above : Option ℕ) → above ≡ least_above (addresses_of rows) a
+    → unwrap_or (option_map (λ b. b - a) (if nat_lt a t then Some (least_of t above) else above)) 0 ≡ size_among (size_members t rows) a
+size_is t a rows above e =
+    ap (λ (o : Option ℕ). unwrap_or (option_map (λ b. b - a) o) 0)
+    (ap (λ (o : Option ℕ). if nat_lt a t then Some (least_of t o) else o) e ∙ sym (with_text t a (addresses_of rows)))
+
+-- what the walk found for the row at a position
+pub above_at : (rows : List code.RowAddress) (members : List ℕ) (above : List (Option ℕ)) (i : ℕ) (d : code.RowAddress) → i < length rows → above ≡ map (λ r. least_above members r.address) rows
+    → get_or above i None ≡ least_above members (get_or rows i d).address
+above_at rows members above i d within is =
+    ap (λ (xs : List (Option ℕ)). get_or xs i None) is ∙ get_or-map (λ (r : code.RowAddress). least_above members r.address) rows i d None within
+
+-- a function of this name and size is the row's
+pub function_is : (names : List (List ℕ)) (members : List ℕ) (row : code.RowAddress) (name : List ℕ) (size : ℕ) → name ≡ get_or names row.row [] → size ≡ size_among members row.address
+    → record { name = name; address = row.address; size = size } ≡ function_at names members (row_seen row)
+function_is names members row name size is sized =
+    ap (λ (n : List ℕ). record { name = n; address = row.address; size = size }) is ∙ ap (λ (s : ℕ). record { name = get_or names row.row []; address = row.address; size = s }) sized
+
+-- one more is listed
+pub one_more_listed : {F : Type 0} (seen : F → Entry) (entry : RowAddress → Entry) (rows : List code.RowAddress) (i : ℕ) (d : code.RowAddress) (functions : List F) (f : F) → i < length rows
+    → map seen functions ≡ map entry (take i (rows_seen rows)) → seen f ≡ entry (row_seen (get_or rows i d)) → map seen (functions ++ f ∷ []) ≡ map entry (take (i + 1) (rows_seen rows))
+one_more_listed seen entry rows i d functions f within so_far is =
+    let here : get_or (rows_seen rows) i (row_seen d) ≡ row_seen (get_or rows i d) = get_or-map row_seen rows i d (row_seen d) within in
+    map-append seen functions (f ∷ [])
+    ∙ ap (λ (es : List Entry). es ++ seen f ∷ []) so_far
+    ∙ ap (λ (e : Entry). map entry (take i (rows_seen rows)) ++ e ∷ []) (is ∙ ap entry (sym here))
+    ∙ sym (map-append entry (take i (rows_seen rows)) (get_or (rows_seen rows) i (row_seen d) ∷ []))
+    ∙ ap (map entry) (sym (take_more (rows_seen rows) i (row_seen d) (omega (arith, length-map rows row_seen))))
+
+-- each symbol's size is what its own address gives
+sizes_are : (table : SymbolTable) (members : List ℕ) (rows : List RowAddress) (symbols : List SymbolData) → AreSymbolsOf (filter_map (entry_of table members) rows) symbols
+    → All (λ s. s.size ≡ size_among members s.address) symbols
+sizes_are table members [] [] all = All-nil (λ s. s.size ≡ size_among members s.address)
+sizes_are table members [] (y ∷ ys) all = absurd all
+sizes_are table members (r ∷ rows) symbols all = by_name (name_of table r.row (record_of table r.row)) symbols (λ ys rest. sizes_are table members rows ys rest) all
+  where
+    by_name : (o : Option (List ℕ)) (ys : List SymbolData)
+        → ((zs : List SymbolData) → AreSymbolsOf (filter_map (entry_of table members) rows) zs → All (λ s. s.size ≡ size_among members s.address) zs)
+        → AreSymbolsOf (cons_option (option_map (λ (name : List ℕ). record { name = name; address = r.address; size = size_among members r.address }) o) (filter_map (entry_of table members) rows)) ys
+        → All (λ s. s.size ≡ size_among members s.address) ys
+    by_name None ys rest all = rest ys all
+    by_name (Some name) [] rest all = absurd all
+    by_name (Some name) (y ∷ ys) rest all =
+        All-cons (λ s. s.size ≡ size_among members s.address) y ys (all.0.size ∙ ap (size_among members) (sym all.0.address)) (rest ys all.1)
+
+-- symbols of equal address have equal sizes
+pub equal_sizes : (table : SymbolTable) (index t : ℕ) (symbols : List SymbolData) → AreSymbolsOf (entries_of table index t) symbols → EqualAddressesEqualSizes symbols
+unfolding entries_of
+equal_sizes table index t symbols all a b has_a has_b same =
+    let members = size_members t (kept_rows table index) in
+    let sizes = sizes_are table members (arranged (kept_rows table index)) symbols all in
+    All-contains (λ s. s.size ≡ size_among members s.address) symbols a sizes has_a ∙ ap (size_among members) same ∙ sym (All-contains (λ s. s.size ≡ size_among members s.address) symbols b sizes has_b)

@@ -1,0 +1,13 @@
+use Rattle.std.proofs.Common.{◌≡◌, ◌+◌, ◌*◌, ◌≤◌, All, false}
+use Rattle.binfarce_bytes.specs.Walk.{Answered}
+use Rattle.binfarce_pe.specs.Pe.{sections_offset, section_of, readable_headers}
+use Rattle.binfarce_pe.specs.PeSeen.{section_seen}
+use Rattle.binfarce_pe.proofs.Numbered.{held_below}
+use Rattle.binfarce_pe.proofs.pe.Pe.first_section.Given as goal
+
+-- so far each header was whole, and the callback refused its section
+abbrev pub invariant-loop-index : goal.invariant-loop-index
+invariant-loop-index g l =
+    (l.start ≡ sections_offset l.self + l.index * 40)
+    × (l.index ≤ readable_headers l.self)
+    × All (Answered section_seen (goal.F-post g l.callback) false) (held_below (section_of l.self) l.index)

@@ -1,6 +1,0 @@
-pub mod Pads
-pub mod FirstPart
-pub mod Sums
-pub mod Runs
-pub mod Orders
-pub mod Follows

@@ -1,4 +1,0 @@
-//! Reports.
-#![tactic(auto)]
-
-pub mod report;

@@ -13,7 +13,7 @@ pub use Rattle.binfarce_elf.specs.ElfSymbols
 pub use Rattle.binfarce_elf.specs.ElfSeen
 pub use Rattle.binfarce_macho.specs.Macho
 pub use Rattle.binfarce_macho.specs.MachoSymbols
-pub use Rattle.binfarce_macho.specs.MachoTypes
+pub use Rattle.binfarce_macho.specs.MachoSeen
 pub use Rattle.binfarce_pe.specs.Pe
 pub use Rattle.binfarce_pe.specs.PeSymbols
 pub use Rattle.binfarce_pe.specs.PeSeen

@@ -1,9 +1,9 @@
--- Where a section's name stands.
+-- Where a section's name is in the file.
 use Rattle.std.proofs.Common.{◌≡◌, ℕ, List, length, Option, Some, None, refl, sym, ap, ◌∙◌, cond, ◌+◌, IfSome, Bool, true, false, leb}
 use Rattle.binfarce_bytes.specs.Number.{bytes_at}
 use Rattle.binfarce_bytes.specs.Steps.{◌>>=◌}
 use Rattle.binfarce_bytes.specs.Text.{text_at}
-use Rattle.binfarce_elf.specs.Elf.{ElfClass, SectionTable, Section, names_section, contents, name_of, NameStands}
+use Rattle.binfarce_elf.specs.Elf.{ElfClass, SectionTable, Section, names_section, contents, name_of, NameIsInFile}
 use Rattle.binfarce_bytes.proofs.Texts.{found_text, part_stands}
 
 contents_are : (file : List ℕ) (section : Section) (strings : List ℕ) → contents file section ≡ Some strings → strings ≡ bytes_at file section.offset section.size
@@ -13,12 +13,12 @@ contents_are file section strings e = by_test (leb (section.offset + section.siz
     by_test true e = cc
     by_test false e = absurd cc
 
-pub name_stands : (class : ElfClass) (table : SectionTable) (section : Section) (name : List ℕ) → name_of class table section ≡ Some name → NameStands class table section name
+pub name_is_in_file : (class : ElfClass) (table : SectionTable) (section : Section) (name : List ℕ) → name_of class table section ≡ Some name → NameIsInFile class table section name
 unfolding name_of
-name_stands class table section name e = by_names (names_section class table) refl e
+name_is_in_file class table section name e = by_names (names_section class table) refl e
   where
     by_strings : (names : Section) → names_section class table ≡ Some names → (o : Option (List ℕ)) → contents table.file names ≡ o
-        → (o >>= λ strings. text_at strings section.name_offset) ≡ Some name → NameStands class table section name
+        → (o >>= λ strings. text_at strings section.name_offset) ≡ Some name → NameIsInFile class table section name
     by_strings names is (Some strings) at e = (
       names,
       is,
@@ -28,11 +28,11 @@ name_stands class table section name e = by_names (names_section class table) re
     by_strings names is None at e = absurd cc
 
     by_names : (o : Option Section) → names_section class table ≡ o
-        → (o >>= λ names. contents table.file names >>= λ strings. text_at strings section.name_offset) ≡ Some name → NameStands class table section name
+        → (o >>= λ names. contents table.file names >>= λ strings. text_at strings section.name_offset) ≡ Some name → NameIsInFile class table section name
     by_names (Some names) is e = by_strings names is (contents table.file names) refl e
     by_names None is e = absurd cc
 
--- what was told of a section's name stands in the file
-pub name_told : (class : ElfClass) (table : SectionTable) (section : Section) (o : Option (List ℕ)) → o ≡ name_of class table section → IfSome o (NameStands class table section)
-name_told class table section (Some name) e = name_stands class table section name (sym e)
-name_told class table section None e = tt
+-- what is reported as a section's name is in the file
+pub name_reported : (class : ElfClass) (table : SectionTable) (section : Section) (o : Option (List ℕ)) → o ≡ name_of class table section → IfSome o (NameIsInFile class table section)
+name_reported class table section (Some name) e = name_is_in_file class table section name (sym e)
+name_reported class table section None e = tt

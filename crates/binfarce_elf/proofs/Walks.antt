@@ -16,9 +16,9 @@ use Rattle.binfarce_elf.specs.Elf.{ElfClass, SectionTable, Section, section_at, 
 abbrev pub numbered_below : ElfClass → SectionTable → ℕ → List Section
 numbered_below class table n = map (section_of class table) (range_with_len 0 n)
 
--- a list of numbered things goes on behind the place i with the thing numbered i
-pub behind : {X : Type 0} (f : ℕ → X) (n i : ℕ) → i < n → (after : List X) × (map f (range_with_len 0 n) ≡ map f (range_with_len 0 i) ++ f i ∷ after)
-behind f n i lt =
+-- a list of numbered things goes on after the things numbered below i with the thing numbered i
+pub rest_after : {X : Type 0} (f : ℕ → X) (n i : ℕ) → i < n → (after : List X) × (map f (range_with_len 0 n) ≡ map f (range_with_len 0 i) ++ f i ∷ after)
+rest_after f n i lt =
     let xs = map f (range_with_len 0 n) in
     let front : take (i + 1) xs ≡ map f (range_with_len 0 i) ++ f i ∷ [] = take-map-range_with_len f 0 n (i + 1) (omega arith) ∙ map-range_with_len_more f 0 i i (omega arith) in
     (drop (i + 1) xs, sym (take-append-drop (i + 1) xs) ∙ ap (λ (ys : List _). ys ++ drop (i + 1) xs) front ∙ append_assoc (map f (range_with_len 0 i)) (f i ∷ []) (drop (i + 1) xs))
@@ -29,9 +29,9 @@ is_whole len shoff start size i some at fits =
     let enough : (i + 1) * size ≤ len - shoff = grind arith in
     omega (arith, le-div (i + 1) (len - shoff) size some enough)
 
--- a header that is cut is none of them
-pub is_cut : (len shoff start size i : ℕ) → 0 < size → start ≡ shoff + i * size → len < start + size → (len - shoff) / size ≤ i
-is_cut len shoff start size i some at cut =
+-- a header that is truncated is none of them
+pub is_truncated : (len shoff start size i : ℕ) → 0 < size → start ≡ shoff + i * size → len < start + size → (len - shoff) / size ≤ i
+is_truncated len shoff start size i some at truncated =
     let little : len - shoff < (i + 1) * size = grind arith in
     omega (arith, div_below (len - shoff) size (i + 1) some little)
 
@@ -47,15 +47,15 @@ and_false : (b : Bool) → (b && false) ≡ false
 and_false true = refl
 and_false false = refl
 
-cut_is : (class : ElfClass) (table : SectionTable) → whole_headers class table < table.shnum → (walk class table).refusal ≡ Some unexpected_eof
+truncated_is : (class : ElfClass) (table : SectionTable) → whole_headers class table < table.shnum → (walk class table).refusal ≡ Some unexpected_eof
 unfolding walk
-cut_is class table cut = rw (lt-leb table.shnum (whole_headers class table) cut, and_false (ltb table.shoff (length table.file))) refl
+truncated_is class table truncated = rw (lt-leb table.shnum (whole_headers class table) truncated, and_false (ltb table.shoff (length table.file))) refl
 
 outside_is : (class : ElfClass) (table : SectionTable) → length table.file ≤ table.shoff → (walk class table).refusal ≡ Some unexpected_eof
 unfolding walk
 outside_is class table outside = rw (le-ltb table.shoff (length table.file) outside) refl
 
--- a table that begins behind the file has no section
+-- a table that begins after the file has no section
 pub outside : {T : Type 0} (class : ElfClass) (table : SectionTable) (seen : T → Section) (post : T → Bool → Type 0)
     → 0 < class.section_length → length table.file ≤ table.shoff → NoneAccepted seen post (walk class table) (Some unexpected_eof)
 outside class table seen post some past =
@@ -82,7 +82,7 @@ pub accepted_at : {T : Type 0} (class : ElfClass) (table : SectionTable) (seen :
     → All (Answered seen post false) (numbered_below class table i) → IsFirstAccepted seen post (walk class table) value
 accepted_at class table seen post i value lt room is accepted refused =
     let n = min table.shnum (whole_headers class table) in
-    let b = behind (section_of class table) n i (omega arith) in
+    let b = rest_after (section_of class table) n i (omega arith) in
     record {
       before = numbered_below class table i;
       after = b.0;
@@ -91,14 +91,14 @@ accepted_at class table seen post i value lt room is accepted refused =
       refused = refused;
     }
 
--- header i is cut, and the callback refused those before it
-pub cut_at : {T : Type 0} (class : ElfClass) (table : SectionTable) (seen : T → Section) (post : T → Bool → Type 0) (i : ℕ)
+-- header i is truncated, and the callback refused those before it
+pub truncated_at : {T : Type 0} (class : ElfClass) (table : SectionTable) (seen : T → Section) (post : T → Bool → Type 0) (i : ℕ)
     → i < table.shnum → i ≤ whole_headers class table → whole_headers class table ≤ i
     → All (Answered seen post false) (numbered_below class table i) → NoneAccepted seen post (walk class table) (Some unexpected_eof)
-cut_at class table seen post i lt room cut refused =
+truncated_at class table seen post i lt room truncated refused =
     record {
       refused = All-same (Answered seen post false) (walk class table).sections (numbered_below class table i) (sections_is class table i (omega arith)) refused;
-      end_is = cut_is class table (omega arith);
+      end_is = truncated_is class table (omega arith);
     }
 
 -- the callback refused all
@@ -126,11 +126,11 @@ pub refused_by : {T E : Type 0} (why : Refusal) (seen : T → Section) (post : T
 refused_by why seen post sections (Ok found) is_err none = absurd cc
 refused_by why seen post sections (Err e) is_err none = none
 
--- the header of the section names is cut
-pub names_cut : (class : ElfClass) (table : SectionTable) (start : ℕ) → 0 < class.section_length → start ≡ table.shoff + table.shstrndx * class.section_length
+-- the header of the section names is truncated
+pub names_truncated : (class : ElfClass) (table : SectionTable) (start : ℕ) → 0 < class.section_length → start ≡ table.shoff + table.shstrndx * class.section_length
     → length table.file < start + class.section_length → names_section class table ≡ None
-names_cut class table start some at cut =
-    let c : whole_headers class table ≤ table.shstrndx = is_cut (length table.file) table.shoff start class.section_length table.shstrndx some at cut in
+names_truncated class table start some at truncated =
+    let c : whole_headers class table ≤ table.shstrndx = is_truncated (length table.file) table.shoff start class.section_length table.shstrndx some at truncated in
     rw (le-ltb table.shstrndx (whole_headers class table) c) refl
 
 -- the section of the section names, where its header was read
@@ -140,4 +140,4 @@ pub names_are : {T E : Type 0} (class : ElfClass) (table : SectionTable) (seen :
 names_are class table seen start (Ok section) some at h =
     let whole : table.shstrndx < whole_headers class table = is_whole (length table.file) table.shoff start class.section_length table.shstrndx some at h.0 in
     rw (lt-ltb table.shstrndx (whole_headers class table) whole) (ap Some (h.1 ∙ ap (λ (n : ℕ). section_at class table.order table.file n table.shstrndx) at))
-names_are class table seen start (Err e) some at h = sym (names_cut class table start some at h)
+names_are class table seen start (Err e) some at h = sym (names_truncated class table start some at h)

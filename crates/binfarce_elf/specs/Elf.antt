@@ -1,4 +1,4 @@
--- ELF files of both classes: tables of places and widths, and what stands there (System V gABI, chapter 4).
+-- ELF files of both classes: tables of offsets and widths, and the values there (System V gABI, chapter 4).
 use Rattle.std.specs.Prelude.{◌≡◌, ℕ, ◌+◌, ◌-◌, ◌*◌, ◌/◌, ◌&&◌, List, length, map, Option, Some, None, nat_eq, nat_lt, nat_le, min, if◌then◌else◌}
 use Rattle.std.specs.List.{range_with_len}
 use Rattle.binfarce_bytes.specs.declared.ByteOrder.{ByteOrder}
@@ -9,7 +9,7 @@ use Rattle.binfarce_bytes.specs.Text.{text_at}
 use Rattle.binfarce_bytes.specs.Refusal.{unexpected_eof}
 use Rattle.binfarce_bytes.specs.Walk.{Walk}
 
--- ELF Header: one A for each field behind the identification
+-- ELF Header: one A for each field after the identification
 pub record Header (A : Type 0) : Type 0 where
   pub elf_type : A
   pub machine : A
@@ -47,7 +47,7 @@ pub record SymbolRow (A : Type 0) : Type 0 where
   pub other : A
   pub section : A
 
--- the lengths of a class's structures, and the places and widths of their fields
+-- the lengths of a class's structures, and the offsets and widths of their fields
 pub record ElfClass : Type 0 where
   pub header_length : ℕ
   pub section_length : ℕ
@@ -191,7 +191,7 @@ pub record ElfFile : Type 0 where
   pub order : ByteOrder
   pub bytes : List ℕ
 
--- a file, and what its header says of the section header table: its place, its count, and the index of the section names
+-- a file, and what its header says of the section header table: its offset, its count, and the index of the section names
 pub record SectionTable : Type 0 where
   pub order : ByteOrder
   pub file : List ℕ
@@ -212,11 +212,11 @@ section_table class file = record {
 abbrev pub section_of : ElfClass → SectionTable → ℕ → Section
 section_of class table i = section_at class table.order table.file (table.shoff + i * class.section_length) i
 
--- how many section headers the file has room for, from the table's place on
+-- how many section headers the file has room for, from the table's offset on
 abbrev pub whole_headers : ElfClass → SectionTable → ℕ
 whole_headers class table = (length table.file - table.shoff) / class.section_length
 
--- the sections are those numbered below the count, up to the first whose header is cut; a table that doesn't begin in the file is refused even where it is empty
+-- the sections are those numbered below the count, up to the first whose header is truncated; a table that doesn't begin in the file is refused even where it is empty
 unfoldable pub walk : ElfClass → SectionTable → Walk Section
 walk class table = record {
   sections = map (section_of class table) (range_with_len 0 (min table.shnum (whole_headers class table)));
@@ -239,6 +239,6 @@ name_of class table section = do
   text_at strings section.name_offset
 
 -- the name is the bytes of the file at its offset among the section names
-abbrev pub NameStands : ElfClass → SectionTable → Section → List ℕ → Type 0
-NameStands class table section name =
+abbrev pub NameIsInFile : ElfClass → SectionTable → Section → List ℕ → Type 0
+NameIsInFile class table section name =
     (names : Section) × (names_section class table ≡ Some names) × (bytes_at table.file (names.offset + section.name_offset) (length name) ≡ name)

@@ -27,7 +27,7 @@ symbol_at class order rows start = record {
 abbrev pub is_function_of : ℕ → SymbolRow ℕ → Bool
 is_function_of index row = nat_eq row.section index && not (nat_eq row.size 0) && not (nat_eq row.name 0) && nat_eq (row.info % 16) 2
 
--- the name of such a function, where it reads
+-- the name of such a function, where it is valid
 unfoldable pub function_name : List ℕ → ℕ → SymbolRow ℕ → Option (List ℕ)
 function_name strings index row = if is_function_of index row then text_at strings row.name else None
 
@@ -65,7 +65,7 @@ part_of file section =
 abbrev pub string_table_kind : Section → Result Section Refusal
 string_table_kind section = if nat_eq section.kind 3 then Ok section else Err (unexpected_section_type 3 section.kind)
 
--- the rows, of which none is cut
+-- the rows, of which none is truncated
 abbrev pub whole_rows : ElfClass → List ℕ → Result (List ℕ) Refusal
 whole_rows class rows = if nat_eq (length rows % class.symbol_length) 0 then Ok rows else Err unexpected_eof
 
@@ -75,7 +75,7 @@ pub record Located : Type 0 where
   pub strings : List ℕ
   pub rows : List ℕ
 
--- the refusals in order; else where the symbols stand
+-- the refusals in order; else where the symbols are
 unfoldable pub located : ElfClass → SectionTable → List ℕ → Result Located Refusal
 located class table name = do
   text ← sought symbols_section_is_missing (λ section. is_name name (name_of class table section)) (walk class table)

@@ -36,6 +36,9 @@ pub trait Class: RawNumber + Copy + Drop {
 
     ghost SYMBOL_LENGTH: { ℕ };
 
+    /// The name of the file header's type, as it is printed.
+    const HEADER: &'static str;
+
     /// The length of a section header in bytes.
     const SECTION_LENGTH: usize;
 
@@ -90,6 +93,8 @@ impl Class for u32 {
     ghost SECTION_LENGTH = { 40 };
 
     ghost SYMBOL_LENGTH = { 16 };
+
+    const HEADER: &'static str = "Elf32Header";
 
     const SECTION_LENGTH: usize = 40;
 
@@ -157,6 +162,8 @@ impl Class for u64 {
     ghost SECTION_LENGTH = { 64 };
 
     ghost SYMBOL_LENGTH = { 24 };
+
+    const HEADER: &'static str = "Elf64Header";
 
     const SECTION_LENGTH: usize = 64;
 

@@ -5,7 +5,7 @@ ghost use Rattle.std.specs.Option.{option_map};
 ghost use Rattle.binfarce_bytes.specs.Refusal.{Gives, refusal_of, malformed_input, unexpected_eof};
 ghost use Rattle.binfarce_bytes.specs.Walk.{MayBeAsked, FirstAccepted, first};
 ghost use Rattle.binfarce_symbols.specs.Symbol.{Answers, HoldsSymbols, ListsSome};
-ghost use Rattle.binfarce_elf.specs.Elf.{header_at, section_table, walk, name_of, entry_count, NameStands};
+ghost use Rattle.binfarce_elf.specs.Elf.{header_at, section_table, walk, name_of, entry_count, NameIsInFile};
 ghost use Rattle.binfarce_elf.specs.ElfSymbols.{is_name, elf_answer};
 ghost use Rattle.binfarce_elf.specs.ElfSeen.{header_seen, section_seen, functions_seen};
 ghost use Rattle.binfarce_elf.specs.machine.RawElf.{table_seen};
@@ -18,11 +18,12 @@ use binfarce_bytes::{ByteOrder, ParseError};
 use binfarce_names::demangle::SymbolData;
 use binfarce_symbols::functions::symbols_of;
 use std::alloc::Global;
+use std::fmt;
 use std::marker::Model;
 use std::ops::Range;
 
 /// The file header (gABI, "ELF Header"), without its identification.
-#[derive(Debug, Clone, Copy)]
+#[derive(Clone, Copy)]
 pub struct Header<C> {
     /// The file's type (`e_type`): 1 relocatable, 2 executable, 3 shared object, 4 core.
     pub elf_type: u16,
@@ -50,6 +51,26 @@ pub struct Header<C> {
     pub shnum: u16,
     /// The index of the section that holds the section names (`e_shstrndx`).
     pub shstrndx: u16,
+}
+
+impl<C: Class + fmt::Debug> fmt::Debug for Header<C> {
+    fn fmt<W: fmt::Write>(&self, f: &mut fmt::Formatter<W>) -> fmt::Result {
+        f.debug_struct(C::HEADER)
+            .field("elf_type", &self.elf_type)
+            .field("machine", &self.machine)
+            .field("version", &self.version)
+            .field("entry", &self.entry)
+            .field("phoff", &self.phoff)
+            .field("shoff", &self.shoff)
+            .field("flags", &self.flags)
+            .field("ehsize", &self.ehsize)
+            .field("phentsize", &self.phentsize)
+            .field("phnum", &self.phnum)
+            .field("shentsize", &self.shentsize)
+            .field("shnum", &self.shnum)
+            .field("shstrndx", &self.shstrndx)
+            .finish()
+    }
 }
 
 /// A section header's values (gABI, "Section Header"), and the section's index. It borrows nothing.
@@ -88,10 +109,10 @@ impl<C: Class> Section<C> {
     /// `None` where the section of the section names, which the file header names by `shstrndx`, is truncated or
     /// lies outside the file, or where no text begins at the name's offset: one that isn't empty, is UTF-8, and
     /// ends with a NUL (gABI, "String Table").
-    #[tactic(auto, using(crate::proofs::Names::name_told))]
+    #[tactic(auto, using(crate::proofs::Names::name_reported))]
     pub fn name<'a>(&self, parent: &Elf<'a, C>) -> Option<&'a str>
         ensures name { option_map (λ t. t.now) result ≡ name_of C.table (section_table C.table parent.now) (section_seen C.number_of self.now) }
-        ensures part { IfSome (option_map (λ t. t.now) result) (NameStands C.table (section_table C.table parent.now) (section_seen C.number_of self.now)) }
+        ensures part { IfSome (option_map (λ t. t.now) result) (NameIsInFile C.table (section_table C.table parent.now) (section_seen C.number_of self.now)) }
     {
         sections::section_name::<C>(parent.table(), *self)
     }
@@ -203,7 +224,7 @@ impl<'a, C: Class> Elf<'a, C> {
 
     /// The same functions as symbols, whose names are in readable form, and the section's size in bytes.
     ///
-    /// Refused as `functions` is; `OutOfMemory` stands only in place of a list that isn't empty.
+    /// Refused as `functions` is, and with `OutOfMemory` where an allocation was refused, which an empty list never needs.
     #[tactic(auto, using(crate::proofs::RowsLeft::symbols_are))]
     pub fn symbols(
         &self,

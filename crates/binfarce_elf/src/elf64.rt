@@ -4,6 +4,7 @@ ghost use Rattle.std.specs.Prelude.{◌≡◌, ◌<◌, ◌≤◌, length, Match
 ghost use Rattle.binfarce_bytes.specs.Refusal.{refusal_of, unexpected_eof};
 
 use crate::elf;
+use crate::symbols;
 use binfarce_bytes::{ByteOrder, ParseError};
 
 /// A 64-bit ELF file. It borrows the file's bytes.
@@ -15,14 +16,17 @@ pub type Elf64Header = elf::Header<u64>;
 /// A section header's values in a 64-bit file, and the section's index.
 pub type Section = elf::Section<u64>;
 
+/// The function symbols of a section that are left: what [`Elf64::functions`](elf::Elf::functions) gives.
+pub type Functions<'a> = symbols::Functions<'a, u64>;
+
 /// Reads the file header in the given order, without a look at the magic number. Nothing is copied.
 ///
 /// `UnexpectedEof` for fewer than 64 bytes.
 #[tactic(auto, unfolding(crate::specs::Elf::elf64))]
-pub fn parse(bytes: &[u8], byte_order: ByteOrder) -> Result<Elf64<'_>, ParseError>
+pub fn parse(data: &[u8], byte_order: ByteOrder) -> Result<Elf64<'_>, ParseError>
     ensures { MatchResult result
-        (λ e. (64 ≤ length bytes.now) × (e ≡ record { order = byte_order; bytes = bytes.now }))
-        (λ e. (length bytes.now < 64) × (refusal_of e ≡ unexpected_eof)) }
+        (λ e. (64 ≤ length data.now) × (e ≡ record { order = byte_order; bytes = data.now }))
+        (λ e. (length data.now < 64) × (refusal_of e ≡ unexpected_eof)) }
 {
-    elf::parse(bytes, byte_order)
+    elf::parse(data, byte_order)
 }

@@ -1,25 +1,21 @@
 -- What is kept of rows up to a refusal, as a loop goes over them.
-use Rattle.std.proofs.Common.{◌≡◌, ◌≢◌, ℕ, zero, suc, ◌+◌, ◌<◌, ◌≤◌, ◌*◌, ◌/◌, Bool, true, false, cond, not, nat_eq, All, List, [], ◌∷◌, ◌++◌, length, get_or, take, drop, Option, Some, None, Result, Ok, Err, inr, refl, sym, ap, subst, ◌∙◌, arith, drop-cons}
-use Rattle.std.specs.List.{range_with_len, filter_map, cons_option, AllZip}
+use Rattle.std.proofs.Common.{◌≡◌, ◌≢◌, ℕ, zero, suc, ◌+◌, ◌<◌, ◌≤◌, ◌*◌, ◌/◌, Bool, true, false, cond, not, nat_eq, All, List, [], ◌∷◌, ◌++◌, length, get_or, take, drop, map, Option, Some, None, Result, Ok, Err, refl, sym, ap, subst, ◌∙◌, arith, drop-cons}
+use Rattle.std.specs.List.{range_with_len, filter_map, cons_option}
 use Rattle.std.proofs.lemmas.List.{append-nil, take_more, take-append-drop}
 use Rattle.std.proofs.lemmas.Bool.{not-true, not-false}
-use Rattle.binfarce_names.specs.declared.demangle.SymbolData.{SymbolData}
-use Rattle.binfarce_bytes.specs.declared.error.ParseError.{ParseError}
-use Rattle.binfarce_bytes.specs.Refusal.{◌>>=◌, Refusal, refusal_of, out_of_memory}
-use Rattle.binfarce_symbols.specs.Symbol.{Entry, IsSymbolOf}
+use Rattle.binfarce_bytes.specs.Refusal.{◌>>=◌, Refusal}
 use Rattle.binfarce_macho.specs.MachoSymbols.{kept, symbol_of, address_of, row_addresses}
-use Rattle.binfarce_symbols.specs.Sizes.{arranged}
-use Rattle.binfarce_symbols.specs.declared.sizes.RowAddress.{RowAddress}
-use Rattle.std.specs.Global.{Vec}
-use Rattle.std.proofs.lemmas.List.Elements.{All-nil, All-cons, All-append, All-same}
-use Rattle.binfarce_macho.specs.RawMacho.{ListsKept}
-use Rattle.binfarce_macho.proofs.Sections.{kept_behind}
+use Rattle.binfarce_symbols.specs.Sizes.{RowAddress}
+use Rattle.binfarce_symbols.specs.declared.sizes.RowAddress as code
+use Rattle.binfarce_symbols.specs.machine.Rows.{row_seen, rows_seen}
+use Rattle.std.proofs.lemmas.List.Elements.{All-nil, All-cons, All-head, All-tail, All-append, All-same}
+use Rattle.binfarce_macho.proofs.Sections.{kept_after}
 use Rattle.binfarce_symbols.proofs.Rows.{one_more}
 
 -- some row below n is kept
 pub some_kept : {X : Type 0} (f : ℕ → Option X) (n k : ℕ) (x : X) → f k ≡ Some x → k < n → filter_map f (range_with_len 0 n) ≢ []
 some_kept {X} f n k x some lt none =
-    let b = kept_behind f n k lt in
+    let b = kept_after f n k lt in
     not_nothing (filter_map f (range_with_len 0 k)) x b.0 (ap (λ (o : Option _). filter_map f (range_with_len 0 k) ++ cons_option o b.0) (sym some) ∙ sym b.1 ∙ none)
   where
     not_nothing : (xs : List X) (x : X) (ys : List X) → xs ++ x ∷ ys ≡ [] → ⊥
@@ -63,14 +59,19 @@ address_row rows k x e = by_test (nat_eq (symbol_of rows k).value 0) e
 pub rows_inside : (rows : List ℕ) → All (λ r. r.row * 16 + 16 ≤ length rows) (row_addresses rows)
 rows_inside rows = all_kept (λ r. r.row * 16 + 16 ≤ length rows) (address_of rows) (length rows / 16) (λ k x lt e. let at : x.row ≡ k = address_row rows k x e in omega arith)
 
+-- the same of rows that are seen as these
+pub rows_seen_inside : (rows : List ℕ) (addresses : List code.RowAddress) → rows_seen addresses ≡ row_addresses rows → All (λ r. r.row * 16 + 16 ≤ length rows) addresses
+rows_seen_inside rows addresses is = each addresses (All-same (λ r. r.row * 16 + 16 ≤ length rows) (rows_seen addresses) (row_addresses rows) is (rows_inside rows))
+  where
+    each : (xs : List code.RowAddress) → All (λ r. r.row * 16 + 16 ≤ length rows) (rows_seen xs) → All (λ r. r.row * 16 + 16 ≤ length rows) xs
+    each [] all = All-nil _
+    each (x ∷ xs) all =
+        let P = λ (r : RowAddress). r.row * 16 + 16 ≤ length rows in
+        All-cons (λ r. r.row * 16 + 16 ≤ length rows) x xs (All-head P (row_seen x) (rows_seen xs) all) (each xs (All-tail P (row_seen x) (rows_seen xs) all))
+
 pub empty : {X : Type 0} (xs : List X) → length xs ≡ 0 → xs ≡ []
 empty [] e = refl
 empty (x ∷ xs) e = absurd (omega arith)
-
--- a table without an address has no symbols
-pub nothing_listed : (f : RowAddress → Result (Option Entry) Refusal) (rows : List RowAddress) (symbols : Vec SymbolData) → rows ≡ [] → symbols.items ≡ [] → ListsKept (kept f (arranged rows)) (Ok symbols)
-unfolding kept arranged
-nothing_listed f rows symbols none empty = rw (none, empty) tt
 
 module _ {Y : Type 0} where
   in_front : (y : Option Y) (us bs : List Y) → cons_option y (us ++ bs) ≡ cons_option y us ++ bs
@@ -124,14 +125,8 @@ module _ {X Y : Type 0} (f : X → Result (Option Y) Refusal) where
       let rest : drop k xs ≡ get_or xs k d ∷ drop (suc k) xs = drop-cons xs k d lt in
       ap (kept f) (sym (take-append-drop k xs)) ∙ kept_stopped (take k xs) (drop k xs) us why e (ap (kept f) rest ∙ refused_first (get_or xs k d) (drop (suc k) xs) why here)
 
--- one entry more, and its symbol
-pub symbols_more : (entries : List Entry) (symbols : List SymbolData) (entry : Entry) (symbol : SymbolData) → AllZip IsSymbolOf entries symbols → IsSymbolOf entry symbol → AllZip IsSymbolOf (entries ++ entry ∷ []) (symbols ++ symbol ∷ [])
-symbols_more [] [] x y all r = (r, tt)
-symbols_more [] (b ∷ ys) x y all r = absurd all
-symbols_more (a ∷ xs) [] x y all r = absurd all
-symbols_more (a ∷ xs) (b ∷ ys) x y all r = (all.0, symbols_more xs ys x y all.1 r)
-
--- want of memory may stand in place of anything
-pub any_memory : (answer : Result (List Entry) Refusal) (e : ParseError) → refusal_of e ≡ out_of_memory → ListsKept answer (Err e)
-any_memory (Ok entries) e is = is
-any_memory (Err why) e is = inr is
+-- what is kept of things as they are seen
+pub kept_seen : {X Y Z : Type 0} (f : Y → Result (Option Z) Refusal) (seen : X → Y) (xs : List X) → kept f (map seen xs) ≡ kept (λ x. f (seen x)) xs
+unfolding kept
+kept_seen f seen [] = refl
+kept_seen f seen (x ∷ xs) = rw (kept_seen f seen xs) refl

@@ -3,4 +3,3 @@ pub mod Sections
 pub mod Kept
 pub mod MachoAnswers
 pub mod MachoLaws
-pub mod Rising

@@ -1,14 +1,15 @@
 -- Laws of a Mach-O answer's entries, from the rule of sizes.
-use Rattle.std.proofs.Common.{◌≡◌, ℕ, ◌+◌, ◌-◌, ◌<◌, ◌≤◌, Bool, true, false, cond, List, [], ◌∷◌, All, Option, Some, None, Result, Ok, Err, refl, sym, ap, subst, ◌∙◌, arith}
-use Rattle.std.specs.List.{cons_option}
+use Rattle.std.proofs.Common.{◌≡◌, ℕ, zero, suc, ◌+◌, ◌-◌, ◌/◌, ◌<◌, ◌≤◌, Bool, true, false, cond, List, [], ◌∷◌, length, All, Option, Some, None, Result, Ok, Err, refl, sym, ap, subst, ◌∙◌, arith}
+use Rattle.std.specs.List.{range_with_len, filter_map, cons_option}
 use Rattle.std.proofs.lemmas.List.Elements.{All-nil, All-cons, All-weaker}
-use Rattle.binfarce_symbols.specs.declared.sizes.RowAddress.{RowAddress}
 use Rattle.binfarce_bytes.specs.Refusal.{◌>>=◌, Refusal}
 use Rattle.binfarce_symbols.specs.Symbol.{Entry, Listed}
 use Rattle.binfarce_bytes.specs.Text.{text_at}
-use Rattle.binfarce_symbols.specs.Sizes.{addresses_of, arranged, least_above, LeastAbove, size_up_to, macho_size}
-use Rattle.binfarce_macho.specs.MachoSymbols.{Located, located, symbol_of, is_candidate, sized_entry, entry_of, kept, row_addresses, answer_of, macho_answer, AreSized}
+use Rattle.binfarce_symbols.specs.Sizes.{RowAddress, ListsArranged, addresses_of, arranged, least_above, LeastAbove}
+use Rattle.binfarce_macho.specs.MachoSymbols.{Located, located, symbol_of, is_candidate, size_up_to, macho_size, sized_entry, entry_of, kept, address_of, row_addresses, answer_of, macho_answer, AreSized}
 use Rattle.binfarce_symbols.proofs.Above.{least_above_is}
+use Rattle.binfarce_symbols.proofs.Arrangement.{Rising, arrangement_of}
+use Rattle.binfarce_macho.proofs.Kept.{address_row}
 
 -- the entry has the size that the rule gives at its address
 abbrev Sized : List ℕ → ℕ → Entry → Type 0
@@ -39,11 +40,11 @@ kept_each {X} {Y} P f (x ∷ xs) ys each is = by_parts (f x) (kept f xs) refl re
     one (Some y) zs e all = All-cons P y zs (each x y e) all
 
     by_parts : (r : Result (Option Y) Refusal) (s : Result (List Y) Refusal) → f x ≡ r → kept f xs ≡ s → (r >>= λ y. s >>= λ zs. Ok (cons_option y zs)) ≡ Ok ys → ((zs : List Y) → kept f xs ≡ Ok zs → All P zs) → All P ys
-    by_parts (Err why) s fx rest is behind = absurd cc
-    by_parts (Ok o) (Err why) fx rest is behind = absurd cc
-    by_parts (Ok o) (Ok zs) fx rest is behind =
+    by_parts (Err why) s fx rest is after = absurd cc
+    by_parts (Ok o) (Err why) fx rest is after = absurd cc
+    by_parts (Ok o) (Ok zs) fx rest is after =
         let whole : cons_option o zs ≡ ys = cc in
-        subst (λ (zs : List Y). All P zs) whole (one o zs fx (behind zs rest))
+        subst (λ (zs : List Y). All P zs) whole (one o zs fx (after zs rest))
 
 -- every greater address is at or past the end of a sized range
 apart_at : (addresses : List ℕ) (a size text_end : ℕ) (o : Option ℕ) → LeastAbove addresses a o → size_up_to o text_end a ≡ Ok (Some size) → All (λ c. a < c → a + size ≤ c) addresses
@@ -73,13 +74,43 @@ are_sized found entries is =
           (λ e one. All-weaker (Sized addresses found.text_end) (λ f. e.address ≡ f.address → e.size ≡ f.size) (λ f other. sized_agree addresses found.text_end e f one other) entries sized) entries sized;
     }
 
-pub answer_sized : (file : List ℕ) (found : Located) (listed : Listed) → located file ≡ Ok (Some found) → macho_answer file ≡ Ok listed → AreSized (addresses_of (row_addresses found.rows)) listed.entries
+-- what an answer lists of its table
+kept_of : (file : List ℕ) (found : Located) (listed : Listed) → located file ≡ Ok (Some found) → macho_answer file ≡ Ok listed → kept (entry_of found) (arranged (row_addresses found.rows)) ≡ Ok listed.entries
 unfolding macho_answer answer_of
-answer_sized file found listed at is = by_parts (kept (entry_of found) (arranged (row_addresses found.rows))) refl (rw at at is)
+kept_of file found listed at is = by_parts (kept (entry_of found) (arranged (row_addresses found.rows))) (rw at at is)
   where
-    by_parts : (k : Result (List Entry) Refusal) → kept (entry_of found) (arranged (row_addresses found.rows)) ≡ k → (k >>= λ entries. Ok (record { entries = entries; section_size = found.text_size })) ≡ Ok listed
-        → AreSized (addresses_of (row_addresses found.rows)) listed.entries
-    by_parts (Err why) e is = absurd cc
-    by_parts (Ok entries) e is =
+    by_parts : (k : Result (List Entry) Refusal) → (k >>= λ entries. Ok (record { entries = entries; section_size = found.text_size })) ≡ Ok listed → k ≡ Ok listed.entries
+    by_parts (Err why) is = absurd cc
+    by_parts (Ok entries) is =
         let whole : record { entries = entries; section_size = found.text_size } ≡ listed = cc in
-        subst (λ (l : Listed). AreSized (addresses_of (row_addresses found.rows)) l.entries) whole (are_sized found entries e)
+        ap (λ (l : Listed). Ok l.entries) whole
+
+pub answer_sized : (file : List ℕ) (found : Located) (listed : Listed) → located file ≡ Ok (Some found) → macho_answer file ≡ Ok listed → AreSized (addresses_of (row_addresses found.rows)) listed.entries
+answer_sized file found listed at is = are_sized found listed.entries (kept_of file found listed at is)
+
+module _ (f : ℕ → Option RowAddress) (own : (k : ℕ) (x : RowAddress) → f k ≡ Some x → x.row ≡ k) where
+  numbered_from : (a b n : ℕ) → b ≤ a → All (λ x. b ≤ x.row) (filter_map f (range_with_len a n))
+  numbered_from a b zero le = All-nil _
+  numbered_from a b (suc n) le = by_row (f a) refl (numbered_from (a + 1) b n (omega arith))
+    where
+      by_row : (o : Option RowAddress) → f a ≡ o → All (λ x. b ≤ x.row) (filter_map f (range_with_len (a + 1) n)) → All (λ x. b ≤ x.row) (cons_option o (filter_map f (range_with_len (a + 1) n)))
+      by_row None e rest = rest
+      by_row (Some x) e rest = All-cons (λ x. b ≤ x.row) x _ (let at : x.row ≡ a = own a x e in omega arith) rest
+
+  numbers_rise : (a n : ℕ) → Rising (filter_map f (range_with_len a n))
+  numbers_rise a zero = tt
+  numbers_rise a (suc n) = by_row (f a) refl (numbers_rise (a + 1) n)
+    where
+      by_row : (o : Option RowAddress) → f a ≡ o → Rising (filter_map f (range_with_len (a + 1) n)) → Rising (cons_option o (filter_map f (range_with_len (a + 1) n)))
+      by_row None e rest = rest
+      by_row (Some x) e rest =
+          let at : x.row ≡ a = own a x e in
+          (All-weaker (λ y. a + 1 ≤ y.row) (λ y. x.row < y.row) (λ y le. omega arith) _ (numbered_from (a + 1) (a + 1) n (omega arith)), rest)
+
+pub answer_in_order : (file : List ℕ) (found : Located) (listed : Listed) → located file ≡ Ok (Some found) → macho_answer file ≡ Ok listed
+    → ListsArranged (row_addresses found.rows) (λ rows entries. kept (entry_of found) rows ≡ Ok entries) listed.entries
+answer_in_order file found listed at is = record {
+  in_order = arranged (row_addresses found.rows);
+  arrangement = arrangement_of (row_addresses found.rows) (numbers_rise (address_of found.rows) (address_row found.rows) 0 (length found.rows / 16));
+  given = kept_of file found listed at is;
+}

@@ -1,36 +1,36 @@
 -- The sections of a Mach-O file, as loops go over the commands and over one segment's structures.
-use Rattle.std.proofs.Common.{◌≡◌, ◌≢◌, ℕ, get_or, ◌+◌, ◌-◌, ◌<◌, ◌≤◌, Bool, true, false, cond, List, [], ◌∷◌, ◌++◌, length, map, All, Contains, Option, Some, None, Result, Ok, Err, IsErr, min, nat_le, refl, sym, ap, ◌∙◌, append_assoc, arith}
+use Rattle.std.proofs.Common.{◌≡◌, ◌≢◌, ℕ, get_or, ◌+◌, ◌-◌, ◌<◌, ◌≤◌, Bool, true, false, cond, List, [], ◌∷◌, ◌++◌, length, take, drop, map, All, Contains, Option, Some, None, Result, Ok, Err, IsErr, IsErrAnd, min, nat_le, refl, sym, ap, subst, ◌∙◌, append_assoc, arith}
 use Rattle.std.specs.List.{range_with_len, filter_map, cons_option}
 use Rattle.std.proofs.lemmas.Bool.{lt-ltb, le-ltb, le-leb, lt-leb, eq-eqb, ne_eqb}
 use Rattle.std.proofs.lemmas.Nat.{le-div, div_below}
-use Rattle.std.proofs.lemmas.List.{append-nil}
+use Rattle.std.proofs.lemmas.List.{append-nil, take-append-drop}
+use Rattle.std.proofs.lemmas.List.FromFn.{take-map-range_with_len, map-range_with_len_more}
 use Rattle.std.proofs.lemmas.List.Elements.{All-nil, All-push, All-append, All-same, All-contains, Contains-append_right, Contains-append_left, filter_map-append, Contains-get_or}
 use Rattle.binfarce_bytes.specs.Refusal.{Refusal, unexpected_eof}
 use Rattle.binfarce_bytes.specs.Walk.{Walk, Answered, MayBeAsked, IsFirstAccepted, NoneAccepted, FirstAccepted}
 use Rattle.binfarce_bytes.specs.Field.{field, number_in}
-use Rattle.binfarce_macho.specs.Macho.{Command, Section, section_at, section_place, whole_sections, sections_below, segment, ended, ahead_of, and_then, sections_of, body_of, walk, commands}
-use Rattle.binfarce_elf.proofs.Walks.{behind}
+use Rattle.binfarce_macho.specs.Macho.{Command, Section, section_at, section_offset, whole_sections, sections_below, segment, ended, ahead_of, and_then, sections_of, body_of, walk, commands}
 use Rattle.binfarce_symbols.proofs.Rows.{one_more}
 
 All-from_contains : {X : Type 0} {P : X → Type 0} (xs : List X) → ((x : X) → Contains xs x → P x) → All P xs
 All-from_contains xs here k d lt = here (get_or xs k d) (Contains-get_or xs k d lt)
 
 -- a structure whose fields are there is one of those that the file has room for
-pub is_whole : (file : List ℕ) (body i : ℕ) → section_place body i + 52 ≤ length file → i < whole_sections file body
+pub is_whole : (file : List ℕ) (body i : ℕ) → section_offset body i + 52 ≤ length file → i < whole_sections file body
 is_whole file body i fits = omega (arith, le-div (i + 1) (length file + 28 - (body + 64)) 80 (omega arith) (omega arith))
 
--- one that is cut is none of them
-pub is_cut : (file : List ℕ) (body i : ℕ) → length file < section_place body i + 52 → whole_sections file body ≤ i
-is_cut file body i cut = omega (arith, div_below (length file + 28 - (body + 64)) 80 (i + 1) (omega arith) (omega arith))
+-- one that is truncated is none of them
+pub is_truncated : (file : List ℕ) (body i : ℕ) → length file < section_offset body i + 52 → whole_sections file body ≤ i
+is_truncated file body i truncated = omega (arith, div_below (length file + 28 - (body + 64)) 80 (i + 1) (omega arith) (omega arith))
 
--- the count is cut
-pub segment_cut : (file : List ℕ) (body : ℕ) → length file < body + 60 → segment file body ≡ ended (Some unexpected_eof)
+-- the count is truncated
+pub segment_truncated : (file : List ℕ) (body : ℕ) → length file < body + 60 → segment file body ≡ ended (Some unexpected_eof)
 unfolding segment
-segment_cut file body cut = rw (lt-ltb (length file) (body + 60) cut) refl
+segment_truncated file body truncated = rw (lt-ltb (length file) (body + 60) truncated) refl
 
--- a segment whose count is cut has no section
-pub count_cut : {T : Type 0} (seen : T → Section) (post : T → Bool → Type 0) (file : List ℕ) (body : ℕ) → length file < body + 60 → NoneAccepted seen post (segment file body) (Some unexpected_eof)
-count_cut seen post file body cut = rw (segment_cut file body cut) (record { refused = All-nil (Answered seen post false); end_is = refl })
+-- a segment whose count is truncated has no section
+pub count_truncated : {T : Type 0} (seen : T → Section) (post : T → Bool → Type 0) (file : List ℕ) (body : ℕ) → length file < body + 60 → NoneAccepted seen post (segment file body) (Some unexpected_eof)
+count_truncated seen post file body truncated = rw (segment_truncated file body truncated) (record { refused = All-nil (Answered seen post false); end_is = refl })
 
 -- the sections where the count is there
 pub segment_sections : (file : List ℕ) (body count n : ℕ) → body + 60 ≤ length file → count ≡ number_in file body (field 56 4) → min count (whole_sections file body) ≡ n → (segment file body).sections ≡ sections_below file body n
@@ -46,10 +46,17 @@ kept_of_answers : {X : Type 0} (f : ℕ → Option X) (xs : List ℕ) → filter
 kept_of_answers f [] = refl
 kept_of_answers f (x ∷ xs) = ap (cons_option (f x)) (kept_of_answers f xs)
 
--- what is kept of numbered things goes on behind those below i with what i gives
-pub kept_behind : {X : Type 0} (f : ℕ → Option X) (n i : ℕ) → i < n → (after : List X) × (filter_map f (range_with_len 0 n) ≡ filter_map f (range_with_len 0 i) ++ cons_option (f i) after)
-kept_behind f n i lt =
-    let b = behind f n i lt in (
+-- a list of numbered things goes on after those below i with the thing numbered i
+numbered_after : {X : Type 0} (f : ℕ → X) (n i : ℕ) → i < n → (after : List X) × (map f (range_with_len 0 n) ≡ map f (range_with_len 0 i) ++ f i ∷ after)
+numbered_after f n i lt =
+    let xs = map f (range_with_len 0 n) in
+    let front : take (i + 1) xs ≡ map f (range_with_len 0 i) ++ f i ∷ [] = take-map-range_with_len f 0 n (i + 1) (omega arith) ∙ map-range_with_len_more f 0 i i (omega arith) in
+    (drop (i + 1) xs, sym (take-append-drop (i + 1) xs) ∙ ap (λ (ys : List _). ys ++ drop (i + 1) xs) front ∙ append_assoc (map f (range_with_len 0 i)) (f i ∷ []) (drop (i + 1) xs))
+
+-- what is kept of numbered things goes on after those below i with what i gives
+pub kept_after : {X : Type 0} (f : ℕ → Option X) (n i : ℕ) → i < n → (after : List X) × (filter_map f (range_with_len 0 n) ≡ filter_map f (range_with_len 0 i) ++ cons_option (f i) after)
+kept_after f n i lt =
+    let b = numbered_after f n i lt in (
       filter_map (λ o. o) b.0,
       kept_of_answers f (range_with_len 0 n)
           ∙ ap (filter_map (λ o. o)) b.1
@@ -60,10 +67,10 @@ kept_behind f n i lt =
 module _ {T : Type 0} (seen : T → Section) (file : List ℕ) (body count : ℕ) (whole : body + 60 ≤ length file) (is : count ≡ number_in file body (field 56 4)) where
   -- what the callback is handed is a section of the walk
   pub may_be_asked : (pre : T → Type 0) (i : ℕ) (value : T) → All (MayBeAsked seen pre) (segment file body).sections → i < count → i < whole_sections file body
-      → Some (seen value) ≡ section_at file (section_place body i) → pre value
+      → Some (seen value) ≡ section_at file (section_offset body i) → pre value
   may_be_asked pre i value all lt room at =
       let n = min count (whole_sections file body) in
-      let b = kept_behind (λ i. section_at file (section_place body i)) n i (omega arith) in
+      let b = kept_after (λ i. section_at file (section_offset body i)) n i (omega arith) in
       let stands : (segment file body).sections ≡ sections_below file body i ++ seen value ∷ b.0 =
       segment_sections file body count n whole is refl ∙ b.1 ∙ ap (λ (o : Option Section). sections_below file body i ++ cons_option o b.0) (sym at) in
       let found : Contains (sections_below file body i ++ seen value ∷ b.0) (seen value) = Contains-append_right (sections_below file body i) (seen value ∷ b.0) (seen value) (0, omega arith, refl) in
@@ -71,11 +78,11 @@ module _ {T : Type 0} (seen : T → Section) (file : List ℕ) (body count : ℕ
 
   -- the callback accepted section i, and refused those before it
   pub accepted_at : (post : T → Bool → Type 0) (i : ℕ) (value : T) → i < count → i < whole_sections file body
-      → Some (seen value) ≡ section_at file (section_place body i) → post value true
+      → Some (seen value) ≡ section_at file (section_offset body i) → post value true
       → All (Answered seen post false) (sections_below file body i) → IsFirstAccepted seen post (segment file body) value
   accepted_at post i value lt room at accepted refused =
       let n = min count (whole_sections file body) in
-      let b = kept_behind (λ i. section_at file (section_place body i)) n i (omega arith) in
+      let b = kept_after (λ i. section_at file (section_offset body i)) n i (omega arith) in
       record {
         before = sections_below file body i;
         after = b.0;
@@ -84,10 +91,10 @@ module _ {T : Type 0} (seen : T → Section) (file : List ℕ) (body count : ℕ
         refused = refused;
       }
 
-  -- structure i is cut, and the callback refused the sections before it
-  pub cut_at : (post : T → Bool → Type 0) (i : ℕ) → i < count → i ≤ whole_sections file body → whole_sections file body ≤ i
+  -- structure i is truncated, and the callback refused the sections before it
+  pub truncated_at : (post : T → Bool → Type 0) (i : ℕ) → i < count → i ≤ whole_sections file body → whole_sections file body ≤ i
       → All (Answered seen post false) (sections_below file body i) → NoneAccepted seen post (segment file body) (Some unexpected_eof)
-  cut_at post i lt room cut refused =
+  truncated_at post i lt room truncated refused =
       record {
         refused = All-same (Answered seen post false) (segment file body).sections (sections_below file body i) (segment_sections file body count i whole is (omega arith)) refused;
         end_is = segment_refusal file body count whole is ∙ rw (lt-leb count (whole_sections file body) (omega arith)) refl;
@@ -103,15 +110,15 @@ module _ {T : Type 0} (seen : T → Section) (file : List ℕ) (body count : ℕ
       }
 
 -- a structure without two names gives no section
-pub passed_over : (P : Section → Type 0) (file : List ℕ) (body i : ℕ) → None ≡ section_at file (section_place body i) → All P (sections_below file body i) → All P (sections_below file body (i + 1))
+pub passed_over : (P : Section → Type 0) (file : List ℕ) (body i : ℕ) → None ≡ section_at file (section_offset body i) → All P (sections_below file body i) → All P (sections_below file body (i + 1))
 passed_over P file body i none all =
-    let f = λ (i : ℕ). section_at file (section_place body i) in
+    let f = λ (i : ℕ). section_at file (section_offset body i) in
     All-same P (sections_below file body (i + 1)) (sections_below file body i) (one_more f i ∙ rw (← none) (append-nil (sections_below file body i))) all
 
 -- the callback refused section i too
-pub refused_more : (P : Section → Type 0) (file : List ℕ) (body i : ℕ) (s : Section) → Some s ≡ section_at file (section_place body i) → P s → All P (sections_below file body i) → All P (sections_below file body (i + 1))
+pub refused_more : (P : Section → Type 0) (file : List ℕ) (body i : ℕ) (s : Section) → Some s ≡ section_at file (section_offset body i) → P s → All P (sections_below file body i) → All P (sections_below file body (i + 1))
 refused_more P file body i s some p all =
-    let f = λ (i : ℕ). section_at file (section_place body i) in
+    let f = λ (i : ℕ). section_at file (section_offset body i) in
     All-same P (sections_below file body (i + 1)) (sections_below file body i ++ s ∷ []) (one_more f i ∙ rw (← some) refl) (All-push P (sections_below file body i) s all p)
 
 -- a search that ends with the walk's refusal
@@ -119,6 +126,12 @@ pub refused_by : {T E : Type 0} (why : Refusal) (seen : T → Section) (post : T
     → IsErr result → NoneAccepted seen post sections (Some why) → FirstAccepted (λ _. why) seen post sections result
 refused_by why seen post sections (Ok found) is_err none = absurd cc
 refused_by why seen post sections (Err e) is_err none = none
+
+-- the same, where the error says why
+pub refused_with : {T E : Type 0} (why : E → Refusal) (seen : T → Section) (post : T → Bool → Type 0) (sections : Walk Section) (error : E) (result : Result (Option T) E)
+    → IsErrAnd result (λ e. e ≡ error) → NoneAccepted seen post sections (Some (why error)) → FirstAccepted why seen post sections result
+refused_with why seen post sections error (Ok found) is none = absurd is
+refused_with {E = E} why seen post sections error (Err e) is none = subst (λ (d : E). NoneAccepted seen post sections (Some (why d))) (sym is) none
 
 -- a walk as a loop goes over it: what is left of it, and before that sections that the callback refused
 pub record Reaches {T : Type 0} (seen : T → Section) (post : T → Bool → Type 0) (whole left : Walk Section) : Type 0 where
@@ -135,8 +148,8 @@ module _ {T : Type 0} (seen : T → Section) (post : T → Bool → Type 0) (who
   reaches_same left same e r = record { before = r.before; stands = r.stands ∙ ap (λ (w : Walk Section). r.before ++ w.sections) e; ends = r.ends ∙ ap (λ (w : Walk Section). w.refusal) e; refused = r.refused }
 
   -- the callback refused all of a part without a refusal
-  pub reaches_behind : (part : Walk Section) (left : Walk Section) → NoneAccepted seen post part None → Reaches seen post whole (and_then part.sections part.refusal left) → Reaches seen post whole left
-  reaches_behind part left none r =
+  pub reaches_after : (part : Walk Section) (left : Walk Section) → NoneAccepted seen post part None → Reaches seen post whole (and_then part.sections part.refusal left) → Reaches seen post whole left
+  reaches_after part left none r =
       let there : and_then part.sections part.refusal left ≡ and_then part.sections None left = ap (λ (o : Option Refusal). and_then part.sections o left) none.end_is in
       let r' = reaches_same (and_then part.sections part.refusal left) (and_then part.sections None left) there r in
       record {
@@ -147,8 +160,8 @@ module _ {T : Type 0} (seen : T → Section) (post : T → Bool → Type 0) (who
       }
 
   -- the callback accepted a section of a part
-  pub accepted_behind : (part left : Walk Section) (value : T) → IsFirstAccepted seen post part value → Reaches seen post whole (and_then part.sections part.refusal left) → IsFirstAccepted seen post whole value
-  accepted_behind part left value f r = by_end part.refusal refl
+  pub accepted_after : (part left : Walk Section) (value : T) → IsFirstAccepted seen post part value → Reaches seen post whole (and_then part.sections part.refusal left) → IsFirstAccepted seen post whole value
+  accepted_after part left value f r = by_end part.refusal refl
     where
       stands_so : (rest : List Section) → r.before ++ (part.sections ++ rest) ≡ (r.before ++ f.before) ++ seen value ∷ (f.after ++ rest)
       stands_so rest =
@@ -173,8 +186,8 @@ module _ {T : Type 0} (seen : T → Section) (post : T → Bool → Type 0) (who
       }
 
   -- the part has a refusal, and the callback refused what stands before it
-  pub refused_behind : (part left : Walk Section) (why : Refusal) → NoneAccepted seen post part (Some why) → Reaches seen post whole (and_then part.sections part.refusal left) → NoneAccepted seen post whole (Some why)
-  refused_behind part left why none r =
+  pub refused_after : (part left : Walk Section) (why : Refusal) → NoneAccepted seen post part (Some why) → Reaches seen post whole (and_then part.sections part.refusal left) → NoneAccepted seen post whole (Some why)
+  refused_after part left why none r =
       let there : and_then part.sections part.refusal left ≡ and_then part.sections (Some why) left = ap (λ (o : Option Refusal). and_then part.sections o left) none.end_is in
       let r' = reaches_same (and_then part.sections part.refusal left) (and_then part.sections (Some why) left) there r in
       record {

@@ -1,4 +1,4 @@
 pub mod Macho
 pub mod MachoSymbols
-pub mod MachoTypes
-pub mod RawMacho
+pub mod MachoSeen
+pub mod machine

@@ -1,4 +1,4 @@
--- 64-bit Mach-O files, which are always little endian (Apple's <mach-o/loader.h>): tables of places and widths, and what stands there.
+-- 64-bit Mach-O files, which are always little endian (Apple's <mach-o/loader.h>): tables of offsets and widths, and what stands there.
 use Rattle.std.specs.Prelude.{ℕ, zero, suc, ◌+◌, ◌-◌, ◌*◌, ◌/◌, Bool, ◌&&◌, List, [], ◌∷◌, ◌++◌, length, Option, Some, None, nat_eq, nat_lt, nat_le, min, if◌then◌else◌}
 use Rattle.std.specs.List.{range_with_len, filter_map}
 use Rattle.std.specs.Str.{bytes_eq}
@@ -9,7 +9,7 @@ use Rattle.binfarce_bytes.specs.Refusal.{Refusal, malformed_input, unexpected_eo
 use Rattle.binfarce_bytes.specs.Walk.{Walk}
 use Rattle.binfarce_bytes.specs.Field.{Field, field, number_in}
 
--- mach_header_64: one A for each field behind the magic number
+-- mach_header_64: one A for each field after the magic number
 pub record Header (A : Type 0) : Type 0 where
   pub cputype : A
   pub cpusubtype : A
@@ -43,30 +43,30 @@ header_at file = record {
 abbrev pub ended : {S : Type 0} → Option Refusal → Walk S
 ended refusal = record { sections = []; refusal = refusal }
 
--- what a walk gives, behind something else
+-- what a walk gives, after something else
 abbrev pub ahead_of : {S : Type 0} → S → Walk S → Walk S
 ahead_of s walk = record { sections = s ∷ walk.sections; refusal = walk.refusal }
 
 -- load_command: where it begins, its kind, and its size with these 8 bytes
 pub record Command : Type 0 where
-  pub place : ℕ
+  pub offset : ℕ
   pub kind : ℕ
   pub size : ℕ
 
 abbrev pub command_at : List ℕ → ℕ → Command
-command_at file place = record { place = place; kind = number_in file place (field 0 4); size = number_in file place (field 4 4) }
+command_at file offset = record { offset = offset; kind = number_in file offset (field 0 4); size = number_in file offset (field 4 4) }
 
 -- where a command's body begins
 abbrev pub body_of : Command → ℕ
-body_of command = command.place + 8
+body_of command = command.offset + 8
 
--- at most n commands from a place on, each right behind the one before it. They end where no head of 8 bytes fits, and with a refusal at a size under 8: that command isn't given
+-- at most n commands from an offset on, each right after the one before it. They end where no head of 8 bytes fits, and with a refusal at a size under 8: that command isn't given
 unfoldable pub commands_from : List ℕ → ℕ → ℕ → Walk Command
-commands_from file zero place = ended None
-commands_from file (suc n) place =
-    if nat_lt (length file) (place + 8) then ended None
-    else if nat_lt (command_at file place).size 8 then ended (Some malformed_input)
-    else ahead_of (command_at file place) (commands_from file n (place + (command_at file place).size))
+commands_from file zero offset = ended None
+commands_from file (suc n) offset =
+    if nat_lt (length file) (offset + 8) then ended None
+    else if nat_lt (command_at file offset).size 8 then ended (Some malformed_input)
+    else ahead_of (command_at file offset) (commands_from file n (offset + (command_at file offset).size))
 
 -- the file's commands, as many as the header says at most, from byte 32 on
 abbrev pub commands : List ℕ → Walk Command
@@ -89,7 +89,7 @@ section_fields = record {
   offset = field 48 4;
 }
 
--- a section: its two names, its address in memory, and the place and the number of its bytes in the file
+-- a section: its two names, its address in memory, and the offset and the number of its bytes in the file
 pub record Section : Type 0 where
   pub segment_name : List ℕ
   pub section_name : List ℕ
@@ -101,7 +101,7 @@ pub record Section : Type 0 where
 abbrev pub name_in : List ℕ → ℕ → Field → Option (List ℕ)
 name_in file start f = text_at (bytes_at file (start + f.place) f.width) 0
 
--- the section whose structure begins at start, where both its names read
+-- the section whose structure begins at start, where both its names are valid
 unfoldable pub section_at : List ℕ → ℕ → Option Section
 section_at file start = do
   section_name ← name_in file start section_fields.section_name
@@ -115,8 +115,8 @@ section_at file start = do
   })
 
 -- where structure i of a segment command stands: from byte 64 of its body on, 80 bytes each
-abbrev pub section_place : ℕ → ℕ → ℕ
-section_place body i = body + 64 + i * 80
+abbrev pub section_offset : ℕ → ℕ → ℕ
+section_offset body i = body + 64 + i * 80
 
 -- how many structures the file has room for: of the last one, the 28 bytes that aren't read may be missing
 abbrev pub whole_sections : List ℕ → ℕ → ℕ
@@ -124,9 +124,9 @@ whole_sections file body = (length file + 28 - (body + 64)) / 80
 
 -- the sections numbered below n of a segment command with this body
 abbrev pub sections_below : List ℕ → ℕ → ℕ → List Section
-sections_below file body n = filter_map (λ i. section_at file (section_place body i)) (range_with_len 0 n)
+sections_below file body n = filter_map (λ i. section_at file (section_offset body i)) (range_with_len 0 n)
 
--- segment_command_64: the sections of the structures numbered below its count, up to the first that is cut
+-- segment_command_64: the sections of the structures numbered below its count, up to the first that is truncated
 unfoldable pub segment : List ℕ → ℕ → Walk Section
 segment file body =
     if nat_lt (length file) (body + 60) then ended (Some unexpected_eof)
@@ -135,10 +135,10 @@ segment file body =
       refusal = if nat_le (number_in file body (field 56 4)) (whole_sections file body) then None else Some unexpected_eof;
     }
 
--- sections, and behind them another walk, unless a refusal ends them
+-- sections, and after them another walk, unless a refusal ends them
 abbrev pub and_then : {S : Type 0} → List S → Option Refusal → Walk S → Walk S
-and_then sections None behind = record { sections = sections ++ behind.sections; refusal = behind.refusal }
-and_then sections (Some refusal) behind = record { sections = sections; refusal = Some refusal }
+and_then sections None after = record { sections = sections ++ after.sections; refusal = after.refusal }
+and_then sections (Some refusal) after = record { sections = sections; refusal = Some refusal }
 
 -- LC_SEGMENT_64
 abbrev pub is_segment : Command → Bool
@@ -151,7 +151,7 @@ sections_of file (command ∷ others) refusal =
     if is_segment command then and_then (segment file (body_of command)).sections (segment file (body_of command)).refusal (sections_of file others refusal)
     else sections_of file others refusal
 
--- the file's sections, up to the first cut field or the bad command
+-- the file's sections, up to the first truncated field or the bad command
 unfoldable pub walk : List ℕ → Walk Section
 walk file = sections_of file (commands file).sections (commands file).refusal
 

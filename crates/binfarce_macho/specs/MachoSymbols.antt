@@ -1,18 +1,14 @@
 -- The function symbols of a Mach-O file (Apple's <mach-o/nlist.h>), with sizes that the table's addresses give.
-use Rattle.std.specs.Prelude.{◌≡◌, ◌≢◌, ℕ, ◌+◌, ◌*◌, ◌/◌, ◌^◌, Bool, ◌&&◌, ◌⊎◌, List, [], ◌∷◌, length, codes, Option, Some, None, Result, Ok, Err, nat_eq, nat_le, nat_lt, not, bit_and, if◌then◌else◌, ◌<◌, ◌≤◌, All}
+use Rattle.std.specs.Prelude.{◌≡◌, ◌≢◌, ℕ, ◌+◌, ◌-◌, ◌*◌, ◌/◌, ◌^◌, Bool, ◌&&◌, List, [], ◌∷◌, length, codes, Option, Some, None, Result, Ok, Err, nat_eq, nat_le, nat_lt, not, bit_and, if◌then◌else◌, ◌<◌, ◌≤◌, All}
 use Rattle.std.specs.List.{range_with_len, filter_map, cons_option}
-use Rattle.std.specs.Global.{Vec}
-use Rattle.binfarce_names.specs.declared.demangle.SymbolData.{SymbolData}
-use Rattle.binfarce_bytes.specs.declared.error.ParseError.{ParseError}
-use Rattle.binfarce_symbols.specs.declared.sizes.RowAddress.{RowAddress}
 use Rattle.binfarce_bytes.specs.Number.{bytes_at}
 use Rattle.binfarce_bytes.specs.Text.{text_at}
-use Rattle.binfarce_bytes.specs.Refusal.{◌>>=◌, Refusal, refusal_of, required, symbols_section_is_missing, malformed_input, unexpected_eof, out_of_memory}
+use Rattle.binfarce_bytes.specs.Refusal.{◌>>=◌, Refusal, required, symbols_section_is_missing, malformed_input, unexpected_eof}
 use Rattle.binfarce_bytes.specs.Walk.{first}
 use Rattle.binfarce_bytes.specs.Field.{Field, field, number_in}
 use Rattle.binfarce_macho.specs.Macho.{Command, body_of, commands, Section, walk, is_named}
-use Rattle.binfarce_symbols.specs.Sizes.{arranged, addresses_of, macho_size}
-use Rattle.binfarce_symbols.specs.Symbol.{Entry, Listed, AreSymbolsOf}
+use Rattle.binfarce_symbols.specs.Sizes.{RowAddress, arranged, addresses_of, least_above}
+use Rattle.binfarce_symbols.specs.Symbol.{Entry, Listed}
 
 -- symtab_command, in its body: one A for each field
 pub record SymbolTable (A : Type 0) : Type 0 where
@@ -89,7 +85,7 @@ whole_table file command =
 abbrev pub text_end_of : Section → Result ℕ Refusal
 text_end_of text = if nat_lt (text.address + text.size) (2 ^ 64) then Ok (text.address + text.size) else Err malformed_input
 
--- the text's end and size, the strings, and the rows, of which none is cut
+-- the text's end and size, the string table, and the rows, of which none is truncated
 pub record Located : Type 0 where
   pub text_end : ℕ
   pub text_size : ℕ
@@ -126,13 +122,28 @@ row_addresses rows = filter_map (address_of rows) (range_with_len 0 (length rows
 abbrev pub is_candidate : SymbolRow ℕ → Bool
 is_candidate row = not (nat_eq row.name 0) && not (nat_eq (bit_and row.kind 0x0A) 0) && nat_eq row.section 1
 
--- the entry, where there is a size and the name reads
+-- up to the text's end: no size at that end, and a refusal past it
+abbrev pub size_to_end : ℕ → ℕ → Result (Option ℕ) Refusal
+size_to_end text_end address =
+    if nat_lt address text_end then Ok (Some (text_end - address))
+    else if nat_eq address text_end then Ok None
+    else Err malformed_input
+
+abbrev pub size_up_to : Option ℕ → ℕ → ℕ → Result (Option ℕ) Refusal
+size_up_to (Some above) text_end address = Ok (Some (above - address))
+size_up_to None text_end address = size_to_end text_end address
+
+-- the size of a symbol: up to the least address above its own, in whatever section that lies, and with none above up to the text's end
+unfoldable pub macho_size : List ℕ → ℕ → ℕ → Result (Option ℕ) Refusal
+macho_size addresses text_end address = size_up_to (least_above addresses address) text_end address
+
+-- the entry, where there is a size and the name is valid
 abbrev pub sized_entry : ℕ → Option ℕ → Option (List ℕ) → Option Entry
 sized_entry address None name = None
 sized_entry address (Some size) None = None
 sized_entry address (Some size) (Some name) = Some (record { name = name; address = address; size = size })
 
--- a candidate's entry: the refusal of its size comes whether or not its name reads
+-- a candidate's entry: the refusal of its size comes whether or not its name is valid
 abbrev pub candidate_entry : Located → ℕ → ℕ → Result (Option Entry) Refusal
 candidate_entry found address name = do
   size ← macho_size (addresses_of (row_addresses found.rows)) found.text_end address
@@ -152,12 +163,16 @@ kept f (x ∷ xs) = do
   ys ← kept f xs
   Ok (cons_option y ys)
 
+-- what these rows of a table list: what is kept of each, in their order, and the size of the text
+abbrev pub listed_of : Located → List RowAddress → Result Listed Refusal
+listed_of found rows = do
+  entries ← kept (entry_of found) rows
+  Ok (record { entries = entries; section_size = found.text_size })
+
 -- the entries in the order of (address, row number), and the size of the text
 unfoldable pub answer_of : Option Located → Result Listed Refusal
 answer_of None = Ok (record { entries = []; section_size = 0 })
-answer_of (Some found) = do
-  entries ← kept (entry_of found) (arranged (row_addresses found.rows))
-  Ok (record { entries = entries; section_size = found.text_size })
+answer_of (Some found) = listed_of found (arranged (row_addresses found.rows))
 
 unfoldable pub macho_answer : List ℕ → Result Listed Refusal
 macho_answer file = located file >>= answer_of
@@ -172,10 +187,3 @@ pub record HasAddress (file : List ℕ) : Type 0 where
   pub found : Located
   pub is_located : located file ≡ Ok (Some found)
   pub some : row_addresses found.rows ≢ []
-
--- what a call answers whose growths may be refused exactly where Memory holds: there want of memory may stand in place of any answer
-abbrev pub AnswersOr : Type 0 → Result Listed Refusal → Result (Vec SymbolData × ℕ) ParseError → Type 0
-AnswersOr Memory (Ok listed) (Ok answer) = AreSymbolsOf listed.entries answer.0.items × (answer.1 ≡ listed.section_size)
-AnswersOr Memory (Ok listed) (Err e) = (refusal_of e ≡ out_of_memory) × Memory
-AnswersOr Memory (Err refusal) (Ok answer) = ⊥
-AnswersOr Memory (Err refusal) (Err e) = (refusal_of e ≡ refusal) ⊎ ((refusal_of e ≡ out_of_memory) × Memory)

@@ -1,22 +1,24 @@
 //! 64-bit Mach-O files, which are little endian (Apple's `<mach-o/loader.h>` and `<mach-o/nlist.h>`).
 
-ghost use Rattle.std.specs.Prelude.{◌≡◌, ◌≢◌, ℕ, List, ◌+◌, ◌*◌, ◌<◌, ◌≤◌, ◌^◌, [], length, map, nat_eq, not, All, IfOk, OnErr, MatchResult};
+ghost use Rattle.std.specs.Prelude.{◌≡◌, ◌≢◌, ℕ, List, ◌+◌, ◌*◌, ◌<◌, ◌≤◌, ◌^◌, [], length, map, nat_eq, not, All, Some, IfOk, OnErr, MatchResult};
 ghost use Rattle.std.specs.Option.{option_map};
 ghost use Rattle.std.specs.Iterator.{UpTo};
-ghost use Rattle.binfarce_bytes.specs.Number.{bytes_at};
 ghost use Rattle.binfarce_bytes.specs.Refusal.{Gives, refusal_of, malformed_input, unexpected_eof};
 ghost use Rattle.binfarce_bytes.specs.Walk.{MayBeAsked, FirstAccepted, first};
 ghost use Rattle.binfarce_macho.specs.Macho.{header_at, command_at, body_of, commands, walk, segment, section_at, is_named};
-ghost use Rattle.binfarce_macho.specs.MachoSymbols.{AnswersOr, AreSized, Located, HasAddress, macho_answer, located, located_by, text_section, some_size, symbol_command, symbol_table_at, part_at, text_end_of, whole_table, row_addresses, symbol_at, is_candidate, sized_entry, entry_of, kept};
-ghost use Rattle.binfarce_symbols.specs.Sizes.{RisesStrictly, addresses_of, arranged, least_above, size_up_to};
-ghost use Rattle.binfarce_symbols.specs.Symbol.{Listed};
-ghost use Rattle.binfarce_macho.specs.MachoTypes.{header_seen, section_seen};
-ghost use Rattle.binfarce_macho.specs.RawMacho.{command_seen, damage_refusal, commands_left, found_seen, raw_symbol, raw_symbol_table, entry_seen, ListsKept};
+ghost use Rattle.binfarce_macho.specs.MachoSymbols.{AreSized, Located, HasAddress, macho_answer, answer_of, listed_of, located, located_by, text_section, some_size, symbol_command, symbol_table_at, text_end_of, row_addresses, symbol_at, is_candidate, size_up_to, sized_entry, entry_of, kept};
+ghost use Rattle.binfarce_symbols.specs.Sizes.{ListsArranged, addresses_of, least_above};
+ghost use Rattle.binfarce_symbols.specs.machine.Rows.{row_seen, rows_seen};
+ghost use Rattle.binfarce_symbols.specs.Symbol.{Listed, HoldsSymbols, Answers};
+ghost use Rattle.binfarce_symbols.specs.SymbolSeen.{function_seen, HoldsFunctions};
+ghost use Rattle.binfarce_macho.specs.MachoSeen.{header_seen, section_seen};
+ghost use Rattle.binfarce_macho.specs.machine.RawMacho.{command_seen, damage_refusal, commands_left, found_seen, raw_symbol, raw_symbol_table};
 
-use binfarce_bytes::parser::{Stream, UnexpectedEof, number_at, parse_null_string};
-use binfarce_symbols::sizes::{RowAddress, arrange, sweep};
+use binfarce_bytes::parser::{Stream, UnexpectedEof, number_at, parse_null_string, part, range};
 use binfarce_bytes::{ByteOrder, ParseError};
-use binfarce_names::demangle::{SymbolData, SymbolName};
+use binfarce_names::demangle::SymbolData;
+use binfarce_symbols::functions::{FunctionSymbol, symbols_of};
+use binfarce_symbols::sizes::{RowAddress, arrange, sweep};
 use std::alloc::{AllocError, Global};
 use std::marker::Model;
 use std::ops::Range;
@@ -25,17 +27,17 @@ const LC_SYMTAB: u32 = 0x2;
 
 const LC_SEGMENT_64: u32 = 0x19;
 
-/// How many bytes the header has, behind which the load commands stand.
+// How many bytes the header has, after which the load commands stand.
 const HEADER_LENGTH: usize = 32;
 
-/// How many bytes a load command has before its body.
+// How many bytes a load command has before its body.
 const COMMAND_HEAD: u32 = 8;
 
 const SECTION_LENGTH: usize = 80;
 
 const SYMBOL_LENGTH: usize = 16;
 
-/// A section's names, its address, and the place of its bytes. The names are parts of the file.
+/// A section (`section_64`): its names, its address, and the offset and size of its bytes. The names are parts of the file.
 #[derive(Debug, Clone, Copy)]
 pub struct Section<'a> {
     segment_name: &'a str,
@@ -46,7 +48,7 @@ pub struct Section<'a> {
 }
 
 impl Section<'_> {
-    /// The bytes of the file that the section has; `MalformedInput` where its end passes `usize`.
+    /// The section's bytes as a range of the file (`offset`, `size`); `MalformedInput` where its end passes `usize`.
     ///
     /// The range isn't held against the file's length.
     pub fn range(&self) -> Result<Range<usize>, ParseError>
@@ -54,15 +56,11 @@ impl Section<'_> {
             (λ r. (r.start ≡ s.offset) × (r.end ≡ s.offset + s.size))
             (λ e. (2 ^ 64 ≤ s.offset + s.size) × (refusal_of e ≡ malformed_input)) }
     {
-        let start = self.offset as usize;
-        match start.checked_add(self.size as usize) {
-            Some(end) => Ok(start..end),
-            None => Err(ParseError::MalformedInput),
-        }
+        range(self.offset as usize, self.size as usize)
     }
 }
 
-/// The file header.
+/// The file header (`mach_header_64`), without its magic number.
 #[derive(Debug, Clone, Copy)]
 pub struct MachoHeader {
     cputype: u32,
@@ -71,7 +69,7 @@ pub struct MachoHeader {
     filetype: u32,
     /// How many load commands there are.
     ncmds: u32,
-    /// How many bytes they have.
+    /// How many bytes they have together.
     sizeofcmds: u32,
     flags: u32,
 }
@@ -86,7 +84,7 @@ pub struct Macho<'a> {
 impl<'a> Model for Macho<'a> {
     ghost use Rattle.std.specs.Prelude.{◌≡◌, ℕ, List};
     ghost use Rattle.binfarce_macho.specs.Macho.{header_at};
-    ghost use Rattle.binfarce_macho.specs.MachoTypes.{header_seen};
+    ghost use Rattle.binfarce_macho.specs.MachoSeen.{header_seen};
 
     ghost Value = { List ℕ };
 
@@ -103,25 +101,24 @@ pub fn parse(data: &[u8]) -> Result<Macho<'_>, ParseError>
         (λ m. (28 ≤ length data.now) × (m ≡ data.now))
         (λ e. (length data.now < 28) × (refusal_of e ≡ unexpected_eof)) }
 {
-    match parse_macho_header(data) {
-        Err(_) => Err(ParseError::UnexpectedEof),
-        Ok(header) => Ok(Macho { data, header }),
-    }
+    let header = parse_macho_header(data)?;
+    Ok(Macho { data, header })
 }
 
 impl<'a> Macho<'a> {
-    /// The file header.
+    /// The file header, as it was read by `parse`.
     pub fn header(&self) -> MachoHeader
         ensures { header_seen result ≡ header_at self.now }
     {
         self.header
     }
 
-    /// The first section that the callback accepts, in file order.
+    /// The first section that the callback accepts, in file order; `None` where it accepts none.
     ///
-    /// The sections are those of the segment commands whose segment and section name both read in their own 16
-    /// bytes. `UnexpectedEof` where a segment command or a section is cut, `MalformedInput` where a load command's
-    /// size is below 8; what stands before is asked first. The section borrows from the file and may outlive the reader.
+    /// The sections are those of the segment commands (`LC_SEGMENT_64`) whose segment and section name are both valid:
+    /// a text in its own 16 bytes that isn't empty, is UTF-8, and ends with a NUL. `UnexpectedEof` where a segment
+    /// command or a section is truncated, `MalformedInput` where a load command's size is below 8; the sections before
+    /// it are asked first. The section borrows from the file and may outlive the reader.
     pub fn find_section<F: Fn(Section<'_>) -> bool>(
         &self,
         callback: F,
@@ -129,10 +126,7 @@ impl<'a> Macho<'a> {
         requires { All (MayBeAsked section_seen (F.pre callback)) (walk self.now).sections }
         ensures { FirstAccepted refusal_of section_seen (F.post callback) (walk self.now) result }
     {
-        match self.first_section(callback) {
-            Err(damage) => Err(refused(damage)),
-            Ok(found) => Ok(found),
-        }
+        Ok(self.first_section(callback)?)
     }
 
     /// The first section with these two names; refused as `find_section` is.
@@ -144,10 +138,7 @@ impl<'a> Macho<'a> {
         ensures { Gives refusal_of (option_map section_seen) result
             (first (λ s. is_named segment_name.now section_name.now s) (walk self.now)) }
     {
-        match self.named_section(segment_name, section_name) {
-            Err(damage) => Err(refused(damage)),
-            Ok(found) => Ok(found),
-        }
+        Ok(self.named_section(segment_name, section_name)?)
     }
 
     fn named_section(
@@ -171,46 +162,51 @@ impl<'a> Macho<'a> {
         ensures { FirstAccepted damage_refusal section_seen (F.post callback) (walk self.now) result }
     {
         for item in self.commands() {
-            let command = match item {
-                Err(damage) => return Err(damage),
-                Ok(command) => command,
-            };
+            let command = item?;
             if command.kind == LC_SEGMENT_64 {
-                match first_in_segment(self.data, command.place + 8, &callback) {
-                    Err(_) => return Err(Damage::Cut),
-                    Ok(None) => {}
-                    Ok(Some(section)) => return Ok(Some(section)),
+                match first_in_segment(self.data, command.offset + 8, &callback)? {
+                    None => {}
+                    Some(section) => return Ok(Some(section)),
                 }
             }
         }
         Ok(None)
     }
 
-    /// The function symbols of the first section, in the order of their addresses, and the size of the text.
+    /// The function symbols of the first section, in the order of their addresses, and the text's size in bytes.
     ///
     /// A symbol's size is the distance to the least greater address in the whole table, or to the text's end where
     /// there is none. Kept are rows with a value, a name offset, one of the type bits 0x0A and section 1, that have
-    /// a size and a name that reads; rows of one address stand in table order. Without a symbol table the answer is
+    /// a size and a valid name; rows of one address stand in table order. Without a symbol table the answer is
     /// an empty list and 0. Refused, in this order: as `find_section`; `SymbolsSectionIsMissing` without a section
     /// `__text` of `__TEXT`; `MalformedInput` where that is empty, or for a bad load command before the symbol
-    /// table's; `UnexpectedEof` where that command, the strings or the rows are cut; `MalformedInput` where the
-    /// text's end passes an address, or a row that would be kept lies past that end with no address above it.
+    /// table's; `UnexpectedEof` where that command, the string table or the rows are truncated; `MalformedInput` where
+    /// the text's end passes an address, or a row that would be kept lies past that end with no address above it.
     /// `OutOfMemory` comes only where the table has a value that isn't 0, and may stand in place of the last refusal.
+    #[tactic(auto, using(crate::proofs::MachoLaws::answer_sized, crate::proofs::MachoLaws::answer_in_order))]
     pub fn symbols(&self, alloc: Global) -> Result<(Vec<SymbolData>, u64), ParseError>
-        ensures answer { AnswersOr (HasAddress self.now) (macho_answer self.now) result }
+        ensures answer { Answers HoldsSymbols (λ _. HasAddress self.now) (macho_answer self.now) result }
         // A law of that answer: ranges hold no address of the table, and equal addresses have equal sizes.
         ensures sized { (found : Located) (listed : Listed) → located self.now ≡ Ok (Some found) → macho_answer self.now ≡ Ok listed
             → AreSized (addresses_of (row_addresses found.rows)) listed.entries }
-        // The order is strict: each row's address and number are past those of the row before it.
-        ensures strict { (rows : List ℕ) → RisesStrictly (arranged (row_addresses rows)) }
+        // Another: its entries are what is kept of the table's rows with an address, in strictly rising order of (address, row number).
+        ensures order { (found : Located) (listed : Listed) → located self.now ≡ Ok (Some found) → macho_answer self.now ≡ Ok listed
+            → ListsArranged (row_addresses found.rows) (λ rows entries. kept (entry_of found) rows ≡ Ok entries) listed.entries }
     {
-        match self.locate() {
-            Err(error) => Err(error),
-            Ok(None) => Ok((Vec::new(alloc), 0)),
-            Ok(Some(found)) => match parse_symbols(alloc, found) {
-                Err(error) => Err(error),
-                Ok(symbols) => Ok((symbols, found.text_size)),
-            },
+        let (functions, text_size) = self.functions(alloc)?;
+        let symbols = symbols_of(alloc, functions.iter().copied())?;
+        Ok((symbols, text_size))
+    }
+
+    /// The function symbols that `symbols` carries, in its order, with their names as the file stores them.
+    ///
+    /// The names are parts of the file and may outlive the reader. Refused as `symbols` is.
+    pub fn functions(&self, alloc: Global) -> Result<(Vec<FunctionSymbol<'a>>, u64), ParseError>
+        ensures { Answers HoldsFunctions (λ _. HasAddress self.now) (macho_answer self.now) result }
+    {
+        match self.locate()? {
+            None => Ok((Vec::new(alloc), 0)),
+            Some(found) => functions_of(alloc, found),
         }
     }
 
@@ -227,11 +223,8 @@ impl<'a> Macho<'a> {
     fn text_section(&self) -> Result<Section<'a>, ParseError>
         ensures { Gives refusal_of section_seen result (text_section self.now) }
     {
-        match self.named_section("__TEXT", "__text") {
-            Err(damage) => Err(refused(damage)),
-            Ok(None) => Err(ParseError::SymbolsSectionIsMissing),
-            Ok(Some(section)) => Ok(section),
-        }
+        self.named_section("__TEXT", "__text")?
+            .ok_or(ParseError::SymbolsSectionIsMissing)
     }
 
     // The first command that names a symbol table.
@@ -239,10 +232,7 @@ impl<'a> Macho<'a> {
         ensures { Gives refusal_of (option_map command_seen) result (symbol_command self.now) }
     {
         for item in self.commands() {
-            let command = match item {
-                Err(damage) => return Err(refused(damage)),
-                Ok(command) => command,
-            };
+            let command = item?;
             if command.kind == LC_SYMTAB {
                 return Ok(Some(command));
             }
@@ -258,32 +248,49 @@ impl<'a> Macho<'a> {
     {
         MachoCommandsIterator {
             bytes: self.data,
-            place: HEADER_LENGTH,
+            offset: HEADER_LENGTH,
             left: self.header.ncmds,
         }
     }
 }
 
-/// Why a walk ends before its end.
+/// Why a walk ends before its end. A public refusal holds a `'static` text, and so a callback's borrow can't meet it.
 #[derive(Clone, Copy)]
 enum Damage {
     Malformed,
-    Cut,
+    Truncated,
 }
 
-fn refused(damage: Damage) -> ParseError
-    ensures { refusal_of result ≡ damage_refusal damage }
-{
-    match damage {
-        Damage::Malformed => ParseError::MalformedInput,
-        Damage::Cut => ParseError::UnexpectedEof,
+impl From<UnexpectedEof> for Damage {
+    ghost use Rattle.std.specs.Prelude.{◌≡◌};
+    ghost use Rattle.binfarce_macho.specs.declared.macho.Damage.TheVariants.{Truncated};
+
+    ghost from_gives = { λ _ damage. damage ≡ Truncated };
+
+    fn from(_: UnexpectedEof) -> Self {
+        Damage::Truncated
+    }
+}
+
+impl From<Damage> for ParseError {
+    ghost use Rattle.std.specs.Prelude.{◌≡◌};
+    ghost use Rattle.binfarce_bytes.specs.Refusal.{refusal_of};
+    ghost use Rattle.binfarce_macho.specs.machine.RawMacho.{damage_refusal};
+
+    ghost from_gives = { λ damage error. refusal_of error ≡ damage_refusal damage };
+
+    fn from(damage: Damage) -> Self {
+        match damage {
+            Damage::Malformed => ParseError::MalformedInput,
+            Damage::Truncated => ParseError::UnexpectedEof,
+        }
     }
 }
 
 /// A load command: where it begins, its kind and its size.
 #[derive(Clone, Copy)]
 struct Command {
-    place: usize,
+    offset: usize,
     kind: u32,
     size: u32,
 }
@@ -292,14 +299,14 @@ struct Command {
 #[derive(Drop)]
 struct MachoCommandsIterator<'a> {
     bytes: &'a [u8],
-    place: usize,
+    offset: usize,
     left: u32,
 }
 
 impl Iterator for MachoCommandsIterator<'_> {
     ghost use Rattle.std.specs.Prelude.{◌≡◌};
     ghost use Rattle.std.specs.Iterator.{at_most};
-    ghost use Rattle.binfarce_macho.specs.RawMacho.{Takes, commands_left};
+    ghost use Rattle.binfarce_macho.specs.machine.RawMacho.{Takes, commands_left};
 
     type Item = Result<Command, Damage>;
 
@@ -311,7 +318,7 @@ impl Iterator for MachoCommandsIterator<'_> {
         if self.left == 0 {
             return None;
         }
-        match command_at(self.bytes, self.place) {
+        match command_at(self.bytes, self.offset) {
             Err(_) => None,
             Ok(command) => {
                 if command.size < COMMAND_HEAD {
@@ -319,27 +326,26 @@ impl Iterator for MachoCommandsIterator<'_> {
                     return Some(Err(Damage::Malformed));
                 }
                 self.left -= 1;
-                self.place += command.size as usize;
+                self.offset += command.size as usize;
                 Some(Ok(command))
             }
         }
     }
 }
 
-/// The load command that begins at `place`; refused where its head is cut.
-#[tactic(auto)]
-fn command_at(bytes: &[u8], place: usize) -> Result<Command, UnexpectedEof>
+// The load command that begins at `offset`; refused where its head is truncated.
+fn command_at(bytes: &[u8], offset: usize) -> Result<Command, UnexpectedEof>
     ensures { MatchResult result
-        (λ c. (place + 8 ≤ length bytes.now) × (command_seen c ≡ command_at bytes.now place))
-        (λ _. length bytes.now < place + 8) }
+        (λ c. (offset + 8 ≤ length bytes.now) × (command_seen c ≡ command_at bytes.now offset))
+        (λ _. length bytes.now < offset + 8) }
 {
-    let mut s = Stream::new_at(bytes, place, ByteOrder::LittleEndian)?;
+    let mut s = Stream::new_at(bytes, offset, ByteOrder::LittleEndian)?;
     let kind = s.read()?;
     let size = s.read()?;
-    Ok(Command { place, kind, size })
+    Ok(Command { offset, kind, size })
 }
 
-/// The first section of a segment command that the callback accepts.
+// The first section of a segment command that the callback accepts.
 fn first_in_segment<'a, F: Fn(Section<'_>) -> bool>(
     bytes: &'a [u8],
     body: usize,
@@ -365,7 +371,7 @@ fn first_in_segment<'a, F: Fn(Section<'_>) -> bool>(
     Ok(None)
 }
 
-/// The section whose structure begins at `start`, where both its names read; refused where a field is cut.
+// The section whose structure begins at `start`, where both its names are valid; refused where a field is truncated.
 #[tactic(auto, unfolding(crate::specs::Macho::section_at, crate::specs::Macho::section_fields))]
 fn section_at(bytes: &[u8], start: usize) -> Result<Option<Section<'_>>, UnexpectedEof>
     ensures { MatchResult result
@@ -441,13 +447,13 @@ fn located_by<'a>(
     match command {
         None => Ok(None),
         Some(command) => {
-            let table = whole_table(bytes, command)?;
-            let strings = part_at(
+            let table = symbol_table_at(bytes, command)?;
+            let strings = part(
                 bytes,
                 table.strings_offset as usize,
                 table.strings_size as usize,
             )?;
-            let rows = part_at(
+            let rows = part(
                 bytes,
                 table.symbol_offset as usize,
                 SYMBOL_LENGTH * table.row_count as usize,
@@ -463,7 +469,7 @@ fn located_by<'a>(
     }
 }
 
-/// The places that the body of a symbol table's command names.
+/// What the body of a symbol table's command names (`symtab_command`).
 #[derive(Clone, Copy)]
 struct RawSymbolTable {
     symbol_offset: u32,
@@ -472,22 +478,13 @@ struct RawSymbolTable {
     strings_size: u32,
 }
 
-fn whole_table(bytes: &[u8], command: Command) -> Result<RawSymbolTable, ParseError>
-    ensures { Gives refusal_of raw_symbol_table result (whole_table bytes.now (command_seen command)) }
-{
-    match symbol_table_at(bytes, command) {
-        Err(_) => Err(ParseError::UnexpectedEof),
-        Ok(table) => Ok(table),
-    }
-}
-
 #[tactic(auto, unfolding(crate::specs::MachoSymbols::symbol_table_at, crate::specs::MachoSymbols::symbol_table_fields))]
 fn symbol_table_at(bytes: &[u8], command: Command) -> Result<RawSymbolTable, UnexpectedEof>
     ensures { let body = body_of (command_seen command) in MatchResult result
         (λ t. (body + 16 ≤ length bytes.now) × (raw_symbol_table t ≡ symbol_table_at bytes.now body))
         (λ _. length bytes.now < body + 16) }
 {
-    let body = command.place.checked_add(8).ok_or(UnexpectedEof {})?;
+    let body = command.offset.checked_add(8).ok_or(UnexpectedEof {})?;
     let mut s = Stream::new_at(bytes, body, ByteOrder::LittleEndian)?;
     let symbol_offset = s.read()?;
     let row_count = s.read()?;
@@ -501,28 +498,15 @@ fn symbol_table_at(bytes: &[u8], command: Command) -> Result<RawSymbolTable, Une
     })
 }
 
-fn part_at(bytes: &[u8], offset: usize, size: usize) -> Result<&[u8], ParseError>
-    ensures { Gives refusal_of (λ b. b.now) result (part_at bytes.now offset size) }
-{
-    match offset.checked_add(size) {
-        None => Err(ParseError::UnexpectedEof),
-        Some(end) => match bytes.get(offset..end) {
-            None => Err(ParseError::UnexpectedEof),
-            Some(part) => Ok(part),
-        },
-    }
-}
-
 fn text_end(text: Section<'_>) -> Result<u64, ParseError>
     ensures { Gives refusal_of (λ n. n) result (text_end_of (section_seen text.entry)) }
 {
-    match text.address.checked_add(text.size) {
-        None => Err(ParseError::MalformedInput),
-        Some(end) => Ok(end),
-    }
+    text.address
+        .checked_add(text.size)
+        .ok_or(ParseError::MalformedInput)
 }
 
-/// A symbol table entry's values.
+/// A symbol table entry's values (`nlist_64`).
 #[derive(Clone, Copy)]
 struct RawSymbol {
     name: u32,
@@ -552,36 +536,25 @@ fn symbol_at(rows: &[u8], start: usize) -> Result<RawSymbol, UnexpectedEof>
     })
 }
 
-/// A symbol's entry, with its name as it stands in the file.
-#[derive(Clone, Copy)]
-struct RawEntry<'a> {
-    name: &'a str,
-    address: u64,
-    size: u64,
-}
-
-/// The symbols of a table. Its addresses are arranged once, and one walk over them finds what is above each.
-fn parse_symbols(alloc: Global, found: Found<'_>) -> Result<Vec<SymbolData>, ParseError>
-    ensures kept { ListsKept (kept (entry_of (found_seen found.entry)) (arranged (row_addresses found.entry.rows.now))) result }
-    ensures some { OnErr result (row_addresses found.entry.rows.now ≢ []) }
+// The function symbols of a table. Its addresses are arranged once, and one walk over them finds what is above each.
+fn functions_of<'a>(
+    alloc: Global,
+    found: Found<'a>,
+) -> Result<(Vec<FunctionSymbol<'a>>, u64), ParseError>
+    ensures { Answers HoldsFunctions (λ _. row_addresses found.entry.rows.now ≢ []) (answer_of (Some (found_seen found.entry))) result }
 {
-    let mut rows = match row_addresses(alloc, found.rows) {
-        Err(_) => return Err(ParseError::OutOfMemory),
-        Ok(rows) => rows,
-    };
+    let mut rows = row_addresses(alloc, found.rows)?;
     if rows.is_empty() {
-        return Ok(Vec::new(alloc));
+        return Ok((Vec::new(alloc), found.text_size));
     }
     arrange(&mut rows);
-    match sweep(alloc, &rows) {
-        Err(_) => Err(ParseError::OutOfMemory),
-        Ok(swept) => list_symbols(alloc, found, &rows, &swept.above),
-    }
+    let swept = sweep(alloc, &rows)?;
+    list_functions(alloc, found, &rows, &swept.above)
 }
 
 // The addresses of the rows that have one.
 fn row_addresses(alloc: Global, rows: &[u8]) -> Result<Vec<RowAddress>, AllocError>
-    ensures items { IfOk result (λ v. v.items ≡ row_addresses rows.now) }
+    ensures items { IfOk result (λ v. rows_seen v.items ≡ row_addresses rows.now) }
     ensures memory { OnErr result (row_addresses rows.now ≢ []) }
 {
     let mut addresses = Vec::new(alloc);
@@ -597,63 +570,45 @@ fn row_addresses(alloc: Global, rows: &[u8]) -> Result<Vec<RowAddress>, AllocErr
     Ok(addresses)
 }
 
-// The symbols of the rows in the order that they stand in, given what is above each.
-fn list_symbols(
+// The function symbols of the rows in the order that they stand in, given what is above each.
+fn list_functions<'a>(
     alloc: Global,
-    found: Found<'_>,
+    found: Found<'a>,
     rows: &[RowAddress],
     above: &[Option<u64>],
-) -> Result<Vec<SymbolData>, ParseError>
+) -> Result<(Vec<FunctionSymbol<'a>>, u64), ParseError>
     requires above { above.now ≡ map (λ r. least_above (addresses_of (row_addresses found.rows.now)) r.address) rows.now }
     requires inside { All (λ r. r.row * 16 + 16 ≤ length found.rows.now) rows.now }
-    ensures { ListsKept (kept (entry_of (found_seen found.entry)) rows.now) result }
+    ensures { Answers HoldsFunctions (λ _. rows.now ≢ []) (listed_of (found_seen found.entry) (rows_seen rows.now)) result }
 {
-    let mut symbols = Vec::new(alloc);
+    let mut functions = Vec::with_capacity(alloc, rows.len())?;
     for k in 0..rows.len() {
-        let entry = match entry_of(found, rows[k], above[k]) {
-            Err(error) => return Err(error),
-            Ok(None) => continue,
-            Ok(Some(entry)) => entry,
-        };
-        let name = match SymbolName::demangle(alloc, entry.name) {
-            Err(_) => return Err(ParseError::OutOfMemory),
-            Ok(name) => name,
-        };
-        match symbols.push(SymbolData {
-            name,
-            address: entry.address,
-            size: entry.size,
-        }) {
-            Err(_) => return Err(ParseError::OutOfMemory),
-            Ok(()) => {}
+        match entry_of(found, rows[k], above[k])? {
+            None => {}
+            Some(function) => functions.push_reserved(function),
         }
     }
-    Ok(symbols)
+    Ok((functions, found.text_size))
 }
 
 // The entry of a row, given what is above its address.
-#[tactic(auto, unfolding(crate::specs::MachoSymbols::entry_of, binfarce_symbols::specs::Sizes::macho_size))]
+#[tactic(auto, unfolding(crate::specs::MachoSymbols::entry_of, crate::specs::MachoSymbols::macho_size))]
 fn entry_of<'a>(
     found: Found<'a>,
     at: RowAddress,
     above: Option<u64>,
-) -> Result<Option<RawEntry<'a>>, ParseError>
+) -> Result<Option<FunctionSymbol<'a>>, ParseError>
     requires above { above ≡ least_above (addresses_of (row_addresses found.rows.now)) at.address }
     requires inside { at.row * 16 + 16 ≤ length found.rows.now }
-    ensures { Gives refusal_of (option_map entry_seen) result (entry_of (found_seen found.entry) at) }
+    ensures { Gives refusal_of (option_map function_seen) result (entry_of (found_seen found.entry) (row_seen at)) }
 {
     let row = symbol_at(found.rows, at.row * SYMBOL_LENGTH).unwrap();
     if !is_candidate(row) {
         return Ok(None);
     }
-    match size_up_to(above, found.text_end, at.address) {
-        Err(error) => Err(error),
-        Ok(size) => Ok(sized_entry(
-            at.address,
-            size,
-            parse_null_string(found.strings, row.name as usize),
-        )),
-    }
+    let size = size_up_to(above, found.text_end, at.address)?;
+    let name = parse_null_string(found.strings, row.name as usize);
+    Ok(sized_entry(at.address, size, name))
 }
 
 fn has_address(row: RawSymbol) -> bool
@@ -686,20 +641,16 @@ fn size_up_to(above: Option<u64>, text_end: u64, address: u64) -> Result<Option<
     }
 }
 
-fn sized_entry(address: u64, size: Option<u64>, name: Option<&str>) -> Option<RawEntry<'_>>
-    ensures { option_map entry_seen result ≡ sized_entry address size (option_map (λ t. t.now) name.entry) }
+fn sized_entry(address: u64, size: Option<u64>, name: Option<&str>) -> Option<FunctionSymbol<'_>>
+    ensures { option_map function_seen result ≡ sized_entry address size (option_map (λ t. t.now) name.entry) }
 {
-    match size {
-        None => None,
-        Some(size) => match name {
-            None => None,
-            Some(name) => Some(RawEntry {
-                name,
-                address,
-                size,
-            }),
-        },
-    }
+    let size = size?;
+    let name = name?;
+    Some(FunctionSymbol {
+        name,
+        address,
+        size,
+    })
 }
 
 #[cfg(test)]

@@ -1,7 +1,6 @@
 -- Rows arranged by address, and the least address above another: what sizes are made of where a format stores none.
-use Rattle.std.specs.Prelude.{◌≡◌, ℕ, ◌+◌, ◌-◌, ◌<◌, ◌≤◌, Bool, true, ◌&&◌, ◌||◌, List, [], ◌∷◌, length, map, filter, All, Contains, min, Option, Some, None, Result, Ok, Err, nat_lt, nat_eq, slice_index_or, if◌then◌else◌}
+use Rattle.std.specs.Prelude.{◌≡◌, ℕ, ◌+◌, ◌<◌, ◌≤◌, Bool, true, ◌&&◌, ◌||◌, List, [], ◌∷◌, length, map, filter, All, Contains, min, Option, Some, None, nat_lt, nat_eq, slice_index_or, if◌then◌else◌}
 use Rattle.std.specs.List.Sorted.{IsPermutation}
-use Rattle.binfarce_bytes.specs.Refusal.{Refusal, malformed_input}
 use Rattle.binfarce_symbols.specs.Symbol.{Entry}
 
 -- a row of a symbol table: the address that it holds, and its number
@@ -65,18 +64,3 @@ pub record IsLeastAbove (members : List ℕ) (a b : ℕ) : Type 0 where
 abbrev pub LeastAbove : List ℕ → ℕ → Option ℕ → Type 0
 LeastAbove members a (Some b) = IsLeastAbove members a b
 LeastAbove members a None = All (λ c. c ≤ a) members
-
--- up to the text's end: no size at that end, and a refusal past it
-abbrev pub size_to_end : ℕ → ℕ → Result (Option ℕ) Refusal
-size_to_end text_end address =
-    if nat_lt address text_end then Ok (Some (text_end - address))
-    else if nat_eq address text_end then Ok None
-    else Err malformed_input
-
-abbrev pub size_up_to : Option ℕ → ℕ → ℕ → Result (Option ℕ) Refusal
-size_up_to (Some above) text_end address = Ok (Some (above - address))
-size_up_to None text_end address = size_to_end text_end address
-
--- the size of a Mach-O symbol: up to the least address above its own, in whatever section that lies, and with none above up to the text's end
-unfoldable pub macho_size : List ℕ → ℕ → ℕ → Result (Option ℕ) Refusal
-macho_size members text_end address = size_up_to (least_above members address) text_end address

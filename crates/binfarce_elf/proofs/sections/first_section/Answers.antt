@@ -4,7 +4,7 @@ use Rattle.binfarce_elf.specs.ElfSeen.{section_seen}
 use Rattle.binfarce_elf.specs.Elf.{section_at, whole_headers}
 use Rattle.binfarce_bytes.specs.Refusal.{unexpected_eof}
 use Rattle.binfarce_elf.specs.machine.RawElf.{table_seen}
-use Rattle.binfarce_elf.proofs.Walks.{is_whole, is_cut, outside, may_be_asked, accepted_at, cut_at, none_left, refused_more, refused_by}
+use Rattle.binfarce_elf.proofs.Walks.{is_whole, is_truncated, outside, may_be_asked, accepted_at, truncated_at, none_left, refused_more, refused_by}
 use Rattle.binfarce_elf.proofs.sections.first_section.Goals as goal
 
 pub returns-then-start-table : goal.returns-then-start-table
@@ -18,9 +18,9 @@ pub returns-in_err-section : goal.returns-in_err-section
 returns-in_err-section g c =
     let some : 0 < g.C.Class.table.section_length = omega (arith, g.met.C.Class.some_section, g.met.C.Class.section_length) in
     let t = table_seen c.args.table in
-    let cut : whole_headers g.C.Class.table t ≤ c.loop-index.index = is_cut (length t.file) t.shoff c.loop-index.start g.C.Class.table.section_length c.loop-index.index some c.loop-index.invariant.0 c.in_err-section.ensures in
+    let truncated : whole_headers g.C.Class.table t ≤ c.loop-index.index = is_truncated (length t.file) t.shoff c.loop-index.start g.C.Class.table.section_length c.loop-index.index some c.loop-index.invariant.0 c.in_err-section.ensures in
     refused_by unexpected_eof (section_seen g.C.Class.number_of) _ _ c.from_residual.result c.from_residual.ensures.0
-    (cut_at g.C.Class.table t (section_seen g.C.Class.number_of) _ c.loop-index.index c.loop-index-test.true c.loop-index.invariant.1 cut c.loop-index.invariant.2)
+    (truncated_at g.C.Class.table t (section_seen g.C.Class.number_of) _ c.loop-index.index c.loop-index-test.true c.loop-index.invariant.1 truncated c.loop-index.invariant.2)
 
 pub callback-requires : goal.callback-requires
 callback-requires g c =

@@ -11,4 +11,4 @@ pub returns : goal.returns
 unfolding name_of
 returns g c =
     first_is (λ _. unexpected_eof) (section_seen g.C.Class.number_of) _ (λ s. is_name c.args.name.now (name_of g.C.Class.table (table_seen c.args.table) s)) (walk g.C.Class.table (table_seen c.args.table)) c.first_section.result
-    (λ value answer told. search rules) c.first_section.ensures
+    (λ value answer reported. search rules) c.first_section.ensures

@@ -10,4 +10,4 @@ use Rattle.binfarce_elf.proofs.symbols.section_of_kind.Goals as goal
 pub returns : goal.returns
 returns g c =
     first_is (λ _. unexpected_eof) (section_seen g.C.Class.number_of) _ (λ s. nat_eq s.kind c.args.kind) (walk g.C.Class.table (table_seen c.args.table)) c.first_section.result
-    (λ value answer told. search rules) c.first_section.ensures
+    (λ value answer reported. search rules) c.first_section.ensures

@@ -1,5 +1,5 @@
 use Rattle.std.proofs.Common.{◌≤◌, All, false}
-use Rattle.binfarce_macho.specs.MachoTypes.{section_seen}
+use Rattle.binfarce_macho.specs.MachoSeen.{section_seen}
 use Rattle.binfarce_bytes.specs.Walk.{Answered}
 use Rattle.binfarce_macho.specs.Macho.{whole_sections, sections_below}
 use Rattle.binfarce_macho.proofs.macho.first_in_segment.Given as goal

@@ -1,5 +1,7 @@
 use Rattle.std.proofs.Common.{◌≡◌, ◌∙◌, ap, sym, ◌/◌, length, List, ◌++◌, [], ◌∷◌}
-use Rattle.binfarce_symbols.specs.declared.sizes.RowAddress.{RowAddress}
+use Rattle.std.proofs.lemmas.List.{map-append}
+use Rattle.binfarce_symbols.specs.Sizes.{RowAddress}
+use Rattle.binfarce_symbols.specs.machine.Rows.{row_seen, rows_seen}
 use Rattle.binfarce_macho.specs.MachoSymbols.{address_of, symbol_of}
 use Rattle.binfarce_symbols.proofs.Rows.{match_ok, on_err}
 use Rattle.binfarce_macho.proofs.Kept.{some_kept, added_some, added_none, address_some, address_none}
@@ -22,9 +24,9 @@ loop-k-preserved c =
     let x : RowAddress = record { address = c.unwrap-row.result.value; row = c.loop-k.k } in
     elim c.if-has_address.branch [
       | then-has_address+in_ok-push w ↦
-          ap (λ v. v.items) w.addresses-is ∙ w.in_ok-push.ensures.items ∙ ap (λ (xs : List RowAddress). xs ++ x ∷ []) c.loop-k.invariant
+          ap (λ v. rows_seen v.items) w.addresses-is ∙ ap rows_seen w.in_ok-push.ensures.items ∙ map-append row_seen c.loop-k.addresses.items _ ∙ ap (λ (xs : List RowAddress). xs ++ x ∷ []) c.loop-k.invariant
           ∙ sym (added_some (address_of rows) c.loop-k.k x (address_some rows c.loop-k.k c.unwrap-row.result.value value (sym c.has_address.ensures ∙ w.if-has_address.true)))
       | else-has_address w ↦
-          ap (λ v. v.items) w.addresses-is ∙ c.loop-k.invariant
+          ap (λ v. rows_seen v.items) w.addresses-is ∙ c.loop-k.invariant
           ∙ sym (added_none (address_of rows) c.loop-k.k (address_none rows c.loop-k.k c.unwrap-row.result.value value (sym c.has_address.ensures ∙ w.if-has_address.false)))
     ]

@@ -1,7 +1,7 @@
 use Rattle.std.proofs.Common.{◌≡◌}
-use Rattle.binfarce_macho.specs.MachoTypes.{section_seen}
+use Rattle.binfarce_macho.specs.MachoSeen.{section_seen}
 use Rattle.binfarce_macho.specs.Macho.{walk}
-use Rattle.binfarce_macho.specs.RawMacho.{commands_left}
+use Rattle.binfarce_macho.specs.machine.RawMacho.{commands_left}
 use Rattle.binfarce_macho.proofs.Sections.{Reaches, sections_left}
 use Rattle.binfarce_macho.proofs.macho.Macho.first_section.Given as goal
 

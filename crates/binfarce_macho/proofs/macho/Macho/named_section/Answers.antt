@@ -1,7 +1,7 @@
 use Rattle.std.proofs.Common.{rules}
 use Rattle.binfarce_macho.specs.Macho.{walk, is_named}
-use Rattle.binfarce_macho.specs.MachoTypes.{section_seen}
-use Rattle.binfarce_macho.specs.RawMacho.{damage_refusal}
+use Rattle.binfarce_macho.specs.MachoSeen.{section_seen}
+use Rattle.binfarce_macho.specs.machine.RawMacho.{damage_refusal}
 use Rattle.binfarce_bytes.proofs.Firsts.{first_is}
 use Rattle.binfarce_macho.proofs.macho.Macho.named_section.Goals as goal
 

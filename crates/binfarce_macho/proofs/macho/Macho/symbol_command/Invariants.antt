@@ -1,7 +1,7 @@
 use Rattle.std.proofs.Common.{◌≡◌, nat_eq}
 use Rattle.binfarce_bytes.specs.Walk.{first}
 use Rattle.binfarce_macho.specs.Macho.{commands}
-use Rattle.binfarce_macho.specs.RawMacho.{commands_left}
+use Rattle.binfarce_macho.specs.machine.RawMacho.{commands_left}
 use Rattle.binfarce_macho.proofs.macho.Macho.symbol_command.Given as goal
 
 -- the search goes on among the commands that are left

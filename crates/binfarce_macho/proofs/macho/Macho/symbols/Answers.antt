@@ -1,43 +1,27 @@
-use Rattle.binfarce_macho.specs.RawMacho.{found_seen}
-use Rattle.binfarce_macho.specs.MachoSymbols.{HasAddress}
-use Rattle.binfarce_macho.proofs.MachoAnswers.{refused_answer, no_table_answer, listed_answer, wanting_answer}
-use Rattle.binfarce_macho.proofs.MachoLaws.{answer_sized}
-use Rattle.binfarce_macho.proofs.Rising.{rise}
+use Rattle.std.proofs.Common.{◌≡◌, ◌∙◌, sym, ap, subst, map, List}
+use Rattle.binfarce_symbols.specs.declared.functions.FunctionSymbol.{FunctionSymbol}
+use Rattle.binfarce_symbols.specs.Symbol.{HoldsSymbols, AreSymbolsOf}
+use Rattle.binfarce_symbols.specs.SymbolSeen.{function_seen}
+use Rattle.binfarce_macho.specs.MachoSymbols.{HasAddress, macho_answer}
+use Rattle.binfarce_macho.proofs.MachoAnswers.{out_of_memory_answers, symbols_answer, functions_need_address, copies_are, copy_of}
 use Rattle.binfarce_macho.proofs.macho.Macho.symbols.Goals as goal
 
-pub returns-in-Err-clause-answer : goal.returns-in-Err-clause-answer
-returns-in-Err-clause-answer c = refused_answer c.args.self.now (HasAddress c.args.self.now) c.in-Err.error c.in-Err.ensures
+pub returns-in_err-symbols-clause-answer : goal.returns-in_err-symbols-clause-answer
+returns-in_err-symbols-clause-answer c =
+    let file = c.args.self.now in
+    let given = c.in_err-symbols.ensures.memory in
+    let first = copy_of c.copied.result given.1 given.0 given.2 in
+    let items = ap (λ it. it.rest.now) c.copied.ensures.source in
+    out_of_memory_answers HoldsSymbols (λ _. HasAddress file) (macho_answer file) c.from_residual-in_err-symbols.result
+    (functions_need_address file c.in_ok-functions.functions c.in_ok-functions.text_size first.0 first.1 c.in_ok-functions.ensures
+    (sym (items ∙ c.iter.ensures.rest ∙ c.deref.ensures.value) ∙ first.2))
+    c.from_residual-in_err-symbols.ensures.1
 
-pub returns-in-Ok-None-clause-answer : goal.returns-in-Ok-None-clause-answer
-returns-in-Ok-None-clause-answer c = no_table_answer c.args.self.now (HasAddress c.args.self.now) c.new.result (rw c.in-Ok-None.field-0-is at c.in-Ok-None.ensures) c.new.ensures.items
-
-pub returns-in-Ok-clause-answer : goal.returns-in-Ok-clause-answer
-returns-in-Ok-clause-answer c = listed_answer c.args.self.now (HasAddress c.args.self.now) (found_seen c.in-Ok-Some.found) c.in-Ok.symbols (rw c.in-Ok-Some.field-0-is at c.in-Ok-Some.ensures) c.in-Ok.ensures.kept
-
-pub returns-in-Err-parse_symbols-clause-answer : goal.returns-in-Err-parse_symbols-clause-answer
-returns-in-Err-parse_symbols-clause-answer c =
-    wanting_answer c.args.self.now (found_seen c.in-Ok-Some.found) c.in-Err-parse_symbols.error (rw c.in-Ok-Some.field-0-is at c.in-Ok-Some.ensures) c.in-Err-parse_symbols.ensures.some c.in-Err-parse_symbols.ensures.kept
-
-pub returns-in-Err-clause-sized : goal.returns-in-Err-clause-sized
-returns-in-Err-clause-sized c = λ found listed at is. answer_sized c.args.self.now found listed at is
-
-pub returns-in-Ok-None-clause-sized : goal.returns-in-Ok-None-clause-sized
-returns-in-Ok-None-clause-sized c = λ found listed at is. answer_sized c.args.self.now found listed at is
-
-pub returns-in-Ok-clause-sized : goal.returns-in-Ok-clause-sized
-returns-in-Ok-clause-sized c = λ found listed at is. answer_sized c.args.self.now found listed at is
-
-pub returns-in-Err-parse_symbols-clause-sized : goal.returns-in-Err-parse_symbols-clause-sized
-returns-in-Err-parse_symbols-clause-sized c = λ found listed at is. answer_sized c.args.self.now found listed at is
-
-pub returns-in-Err-clause-strict : goal.returns-in-Err-clause-strict
-returns-in-Err-clause-strict c = rise
-
-pub returns-in-Ok-None-clause-strict : goal.returns-in-Ok-None-clause-strict
-returns-in-Ok-None-clause-strict c = rise
-
-pub returns-in-Ok-clause-strict : goal.returns-in-Ok-clause-strict
-returns-in-Ok-clause-strict c = rise
-
-pub returns-in-Err-parse_symbols-clause-strict : goal.returns-in-Err-parse_symbols-clause-strict
-returns-in-Err-parse_symbols-clause-strict c = rise
+pub returns-clause-answer : goal.returns-clause-answer
+returns-clause-answer c =
+    let file = c.args.self.now in
+    let given = c.in_ok-symbols.ensures.symbols in
+    let items = ap (λ it. it.rest.now) c.copied.ensures.source in
+    let same : given.0 ≡ c.in_ok-functions.functions.items = copies_are c.copied.result given.0 given.1 ∙ items ∙ c.iter.ensures.rest ∙ c.deref.ensures.value in
+    symbols_answer (λ _. HasAddress file) (macho_answer file) c.in_ok-functions.functions c.in_ok-symbols.symbols c.in_ok-functions.text_size c.in_ok-functions.ensures
+    (subst (λ (xs : List FunctionSymbol). AreSymbolsOf (map function_seen xs) c.in_ok-symbols.symbols.items) same given.2)

@@ -1,34 +1,29 @@
 -- What private clauses see of the values that `macho` reads.
-use Rattle.std.specs.Prelude.{◌≡◌, ℕ, ◌⊎◌, List, Option, Some, None, Result, Ok, Err}
-use Rattle.std.specs.Global.{Vec}
-use Rattle.binfarce_names.specs.declared.demangle.SymbolData.{SymbolData}
-use Rattle.binfarce_bytes.specs.declared.error.ParseError.{ParseError}
+use Rattle.std.specs.Prelude.{◌≡◌, ℕ, Option, Some, None, Result, Ok, Err}
 use Rattle.binfarce_macho.specs.declared.macho.Command.{Command}
 use Rattle.binfarce_macho.specs.declared.macho.Damage.{Damage}
-use Rattle.binfarce_macho.specs.declared.macho.Damage.TheVariants.{Malformed, Cut}
+use Rattle.binfarce_macho.specs.declared.macho.Damage.TheVariants.{Malformed, Truncated}
 use Rattle.binfarce_macho.specs.declared.macho.MachoCommandsIterator.{MachoCommandsIterator}
 use Rattle.binfarce_macho.specs.declared.macho.Found.{Found}
-use Rattle.binfarce_macho.specs.declared.macho.RawEntry.{RawEntry}
 use Rattle.binfarce_macho.specs.declared.macho.RawSymbol.{RawSymbol}
 use Rattle.binfarce_macho.specs.declared.macho.RawSymbolTable.{RawSymbolTable}
-use Rattle.binfarce_bytes.specs.Refusal.{Refusal, refusal_of, malformed_input, unexpected_eof, out_of_memory}
+use Rattle.binfarce_bytes.specs.Refusal.{Refusal, malformed_input, unexpected_eof}
 use Rattle.binfarce_bytes.specs.Walk.{Walk}
 use Rattle.binfarce_macho.specs.Macho as macho
 use Rattle.binfarce_macho.specs.MachoSymbols.{SymbolTable, SymbolRow, Located}
-use Rattle.binfarce_symbols.specs.Symbol.{Entry, AreSymbolsOf}
 
 abbrev pub command_seen : Command → macho.Command
-command_seen c = record { place = c.place; kind = c.kind; size = c.size }
+command_seen c = record { offset = c.offset; kind = c.kind; size = c.size }
 
 abbrev pub damage_refusal : Damage → Refusal
 damage_refusal Malformed = malformed_input
-damage_refusal Cut = unexpected_eof
+damage_refusal Truncated = unexpected_eof
 
 -- the commands that an iterator has left
 abbrev pub commands_left : MachoCommandsIterator → Walk macho.Command
-commands_left it = macho.commands_from it.bytes.now it.left it.place
+commands_left it = macho.commands_from it.bytes.now it.left it.offset
 
--- what the command iterator gives of a walk, and what is left then: the first command, or the refusal, behind which nothing is left
+-- what the command iterator gives of a walk, and what is left then: the first command, or the refusal, after which nothing is left
 abbrev pub Takes : Walk macho.Command → Option (Result Command Damage) → Walk macho.Command → Type 0
 Takes walk None left = (walk ≡ macho.ended None) × (left ≡ macho.ended None)
 Takes walk (Some (Ok command)) left = walk ≡ macho.ahead_of (command_seen command) left
@@ -42,13 +37,3 @@ raw_symbol s = record { name = s.name; kind = s.kind; section = s.section; value
 
 abbrev pub raw_symbol_table : RawSymbolTable → SymbolTable ℕ
 raw_symbol_table t = record { symbol_offset = t.symbol_offset; row_count = t.row_count; strings_offset = t.strings_offset; strings_size = t.strings_size }
-
-abbrev pub entry_seen : RawEntry → Entry
-entry_seen e = record { name = e.name.now; address = e.address; size = e.size }
-
--- what the rows' entries are made into; any growth may be refused
-abbrev pub ListsKept : Result (List Entry) Refusal → Result (Vec SymbolData) ParseError → Type 0
-ListsKept (Ok entries) (Ok symbols) = AreSymbolsOf entries symbols.items
-ListsKept (Ok entries) (Err e) = refusal_of e ≡ out_of_memory
-ListsKept (Err refusal) (Ok symbols) = ⊥
-ListsKept (Err refusal) (Err e) = (refusal_of e ≡ refusal) ⊎ (refusal_of e ≡ out_of_memory)

@@ -6,3 +6,4 @@ pub mod Sums
 pub mod Runs
 pub mod Orders
 pub mod Follows
+pub mod Reports

@@ -132,16 +132,16 @@ fn report_text(
     alloc: Global,
     symbols: &[SymbolData],
     sum: u64,
-    size: u64,
+    section_size: u64,
 ) -> Result<String, AllocError>
     requires { sum ≡ total (map share_of symbols.now) }
-    ensures { IfOk result (λ t. IsReportOf symbols.now size (string_bytes t)) }
+    ensures { IfOk result (λ t. IsReportOf symbols.now section_size (string_bytes t)) }
 {
     let mut sizes = crate_sizes(alloc, symbols)?;
     sizes.sort_unstable();
     let mut text = crate_lines(alloc, sizes.as_slice())?;
     writeln!(text, "sum {sum}")?;
-    writeln!(text, "text {size}")?;
+    writeln!(text, "text {section_size}")?;
     Ok(text)
 }
 

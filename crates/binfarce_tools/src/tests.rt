@@ -1,4 +1,5 @@
 mod images;
+mod reports;
 
 use crate::bench_files::{E_ELF32_BIG, E_ELF32_LITTLE, E_ELF64_BIG, E_ELF64_LITTLE, M, P};
 use crate::list::{ListError, Out, Sink, list};
@@ -142,6 +143,17 @@ struct Short {
     end: Option<ErrorKind>,
 }
 
+impl Short {
+    fn new(alloc: Global, left: usize, most: usize, end: Option<ErrorKind>) -> Short {
+        Short {
+            taken: Vec::new(alloc),
+            left,
+            most,
+            end,
+        }
+    }
+}
+
 impl Write for Short {
     fn write(&mut self, bytes: &[u8]) -> io::Result<usize> {
         let n = bytes.len().min(self.left).min(self.most);
@@ -168,13 +180,7 @@ fn writes_a_beginning(rt: HostRuntime) {
     for left in 0..=LISTING.len() {
         for most in [1, 7, 100] {
             for end in ends {
-                let writer = Short {
-                    taken: Vec::new(alloc),
-                    left,
-                    most,
-                    end,
-                };
-                let mut out = Out::new(writer);
+                let mut out = Out::new(Short::new(alloc, left, most, end));
                 let result = list(alloc, &E_ELF64_LITTLE, ".text", &mut out);
                 let whole = left == LISTING.len();
                 assert!(&rt; (result == Ok(())) == whole, "{left} bytes, {most} a call");

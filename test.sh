@@ -1,44 +1,72 @@
 #!/bin/sh
-# Passes all tests: first the programs that must not compile, then the gate.
+# Passes all tests: the gate, and beside it the programs that must not compile.
 #
-# crates/NAME/must-not-compile/*.txt: code that is put behind crates/NAME/src/lib.rt in a copy of the repository. Its
-# first line is `// wants: ERROR`, and then it must be refused with that error; or `// compiles`, and then it must not
-# be refused: the same code without its fault, which shows that the error comes from the fault.
+# crates/NAME/must-not-compile/*.txt: code that calls the crate NAME. Its first line is `// wants: ERROR`, and then it
+# must be refused with that error; or `// compiles`, and then it must not be refused: the same code without its fault,
+# which shows that the error comes from the fault. All of a kind are modules of one crate in a copy of the repository.
 set -eu
 cd "$(dirname "$0")"
 
-copy=$(mktemp -d)
-trap 'rm -rf "$copy"' EXIT
-tar -c --exclude=.git --exclude=out . | tar -x -C "$copy"
-git init -q "$copy"
+scratch=$(mktemp -d)
+copy="$scratch/copy"
+beside=
+trap '[ -z "$beside" ] || kill "$beside" 2>/dev/null || true; rm -rf "$scratch"' EXIT
 
-refuse() {
-    tail -n 20 "$copy/said"
-    echo "$1"
-    exit 1
+# The programs whose first line begins so, each with the crate that it calls and its module: crate, module, program.
+programs() {
+    for program in crates/*/must-not-compile/*.txt; do
+        crate=$(echo "$program" | cut -d/ -f2)
+        case $(sed -n 1p "$program") in
+            "$1"*) echo "$crate ${crate}_$(basename "$program" .txt) $program" ;;
+        esac
+    done
 }
 
-for snippet in crates/*/must-not-compile/*.txt; do
-    crate=$(echo "$snippet" | cut -d/ -f2)
-    root="crates/$crate/src/lib.rt"
-    { cat "$root"; sed 1d "$snippet"; printf '\n#[test]\nfn compiles() {}\n'; } > "$copy/$root"
-    status=0
-    (cd "$copy/crates/$crate" && rt try --test) > "$copy/said" 2>&1 || status=$?
-    case $(sed -n 1p "$snippet") in
-        "// wants: "*)
-            error=$(sed -n '1s|^// wants: ||p' "$snippet")
-            [ "$status" -ne 0 ] || refuse "$snippet: must not compile, and does"
-            grep -qF "$error" "$copy/said" || refuse "$snippet: is refused, but not with $error"
-            ;;
-        "// compiles")
-            [ "$status" -eq 0 ] || refuse "$snippet: must compile, and does not"
-            ;;
-        *)
-            refuse "$snippet: the first line says neither what is wanted nor that it compiles"
-            ;;
-    esac
-    echo "$snippet: as wanted"
-    cp "$root" "$copy/$root"
-done
+# Makes a crate of this name of the programs whose first line begins so, and tries it.
+try() {
+    mkdir -p "$copy/crates/$1/src"
+    programs "$2" | while read -r _ module program; do
+        sed 1d "$program" >"$copy/crates/$1/src/$module.rt"
+        echo "mod $module;"
+    done >"$scratch/modules"
+    { echo '#![tactic(auto)]'; cat "$scratch/modules"; printf '\n#[test]\nfn compiles() {}\n'; } >"$copy/crates/$1/src/lib.rt"
+    echo "$1: $(programs "" | cut -d' ' -f1 | sort -u | tr '\n' ' ')" >>"$copy/crates.txt"
+    (cd "$copy/crates/$1" && rt try --test) >"$scratch/$1" 2>&1
+}
 
-rt ci
+must_not_compile() {
+    mkdir "$copy"
+    tar -c --exclude=.git --exclude=out . | tar -x -C "$copy"
+    if [ "$(programs "" | wc -l)" != "$({ programs "// wants: "; programs "// compiles"; } | wc -l)" ]; then
+        echo "a program says neither that it compiles nor which error it wants"
+        return 1
+    fi
+    if ! try accepted "// compiles"; then
+        tail -n 20 "$scratch/accepted"
+        echo "a program must compile, and does not"
+        return 1
+    fi
+    status=0
+    try refused "// wants: " || status=$?
+    programs "// wants: " | while read -r _ module program; do
+        error=$(sed -n '1s|^// wants: ||p' "$program")
+        if [ "$status" -ne 1 ] || ! grep -F "src/$module.rt:" "$scratch/refused" | grep -qF "$error"; then
+            tail -n 20 "$scratch/refused"
+            echo "$program: must be refused with $error, and is not"
+            return 1
+        fi
+        echo "$program: refused, as it must be"
+    done
+}
+
+must_not_compile >"$scratch/programs" 2>&1 &
+beside=$!
+# The last line of the gate is kept for the end.
+{ rt ci || true; } 2>&1 | tee "$scratch/gate" | sed '$d'
+status=0
+wait "$beside" || status=1
+beside=
+cat "$scratch/programs"
+[ "$status" -eq 0 ] || exit 1
+tail -n 1 "$scratch/gate"
+tail -n 1 "$scratch/gate" | grep -q ' passed, 0 failed$'

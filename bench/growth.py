@@ -37,7 +37,7 @@ def macho(addresses, size):
 
 
 def pe(addresses, size):
-    """A file header right behind the signature, one section header, and symbols: the layout of the PE format."""
+    """A file header right after the signature, one section header, and symbols: the layout of the PE format."""
     rows = b"".join(struct.pack("<8sIHHBB", b"a", 16 * a, 1, FUNCTION["pe"], 2, 0) for a in addresses)
     dos = b"MZ".ljust(60, b"\0") + struct.pack("<I", 64)
     header = b"PE\0\0" + struct.pack("<HHIIIHH", 0x8664, 1, 0, 128, len(addresses), 0, 0)

@@ -16,3 +16,6 @@ pub enum ByteOrder {
     /// The first byte has the greatest weight.
     BigEndian,
 }
+
+#[cfg(test)]
+mod tests;

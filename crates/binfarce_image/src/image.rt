@@ -161,6 +161,3 @@ pub fn lay_out(alloc: Global, image: &Image, layout: ElfLayout) -> Result<Vec<u8
     }
     Ok(write::file(alloc, image, layout, shoff, length)?)
 }
-
-#[cfg(test)]
-mod tests;

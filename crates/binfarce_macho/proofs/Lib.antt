@@ -3,3 +3,4 @@ pub mod Sections
 pub mod Kept
 pub mod MachoAnswers
 pub mod MachoLaws
+pub mod SectionNames

@@ -5,7 +5,7 @@ ghost use Rattle.std.specs.Option.{option_map};
 ghost use Rattle.std.specs.Iterator.{UpTo};
 ghost use Rattle.binfarce_bytes.specs.Refusal.{Gives, refusal_of, malformed_input, unexpected_eof};
 ghost use Rattle.binfarce_bytes.specs.Walk.{MayBeAsked, FirstAccepted, first};
-ghost use Rattle.binfarce_macho.specs.Macho.{header_at, command_at, body_of, commands, walk, segment, section_at, is_named};
+ghost use Rattle.binfarce_macho.specs.Macho.{header_at, command_at, body_of, commands, walk, segment, section_at, name_of, is_named};
 ghost use Rattle.binfarce_macho.specs.MachoSymbols.{AreSized, Located, HasAddress, macho_answer, answer_of, listed_of, located, located_by, text_section, some_size, symbol_command, symbol_table_at, text_end_of, row_addresses, symbol_at, is_candidate, size_up_to, sized_entry, entry_of, kept};
 ghost use Rattle.binfarce_symbols.specs.Sizes.{ListsArranged, addresses_of, least_above};
 ghost use Rattle.binfarce_symbols.specs.machine.Rows.{row_seen, rows_seen};
@@ -14,7 +14,9 @@ ghost use Rattle.binfarce_symbols.specs.SymbolSeen.{function_seen, HoldsFunction
 ghost use Rattle.binfarce_macho.specs.MachoSeen.{header_seen, section_seen};
 ghost use Rattle.binfarce_macho.specs.machine.RawMacho.{command_seen, damage_refusal, commands_left, found_seen, raw_symbol, raw_symbol_table};
 
-use binfarce_bytes::parser::{Stream, UnexpectedEof, number_at, parse_null_string, part, range};
+use binfarce_bytes::parser::{
+    Stream, UnexpectedEof, number_at, parse_null_string, part, range, up_to_nul,
+};
 use binfarce_bytes::{ByteOrder, ParseError};
 use binfarce_names::demangle::SymbolData;
 use binfarce_symbols::functions::{FunctionSymbol, symbols_of};
@@ -115,10 +117,11 @@ impl<'a> Macho<'a> {
 
     /// The first section that the callback accepts, in file order; `None` where it accepts none.
     ///
-    /// The sections are those of the segment commands (`LC_SEGMENT_64`) whose segment and section name are both valid:
-    /// a text in its own 16 bytes that isn't empty, is UTF-8, and ends with a NUL. `UnexpectedEof` where a segment
-    /// command or a section is truncated, `MalformedInput` where a load command's size is below 8; the sections before
-    /// it are asked first. The section borrows from the file and may outlive the reader.
+    /// The sections are those of the segment commands (`LC_SEGMENT_64`) whose segment and section name are both valid.
+    /// A name is the bytes of its own 16 up to the first NUL, or all 16 where there is none; it is valid where it isn't
+    /// empty and is UTF-8. `UnexpectedEof` where a segment command or a section is truncated, `MalformedInput` where a
+    /// load command's size is below 8; the sections before it are asked first. The section borrows from the file and
+    /// may outlive the reader.
     pub fn find_section<F: Fn(Section<'_>) -> bool>(
         &self,
         callback: F,
@@ -384,9 +387,9 @@ fn section_at(bytes: &[u8], start: usize) -> Result<Option<Section<'_>>, Unexpec
     let address = s.read()?;
     let size = s.read()?;
     let offset = s.read()?;
-    match parse_null_string(section_name, 0) {
+    match name_in(section_name) {
         None => Ok(None),
-        Some(section_name) => match parse_null_string(segment_name, 0) {
+        Some(section_name) => match name_in(segment_name) {
             None => Ok(None),
             Some(segment_name) => Ok(Some(Section {
                 segment_name,
@@ -396,6 +399,21 @@ fn section_at(bytes: &[u8], start: usize) -> Result<Option<Section<'_>>, Unexpec
                 size,
             })),
         },
+    }
+}
+
+// The name in a field's bytes: those up to the first NUL, or all where there is none.
+#[tactic(auto, using(crate::proofs::SectionNames::name_is, crate::proofs::SectionNames::name_empty, crate::proofs::SectionNames::name_invalid))]
+fn name_in(bytes: &[u8]) -> Option<&str>
+    ensures { option_map (λ t. t.now) result ≡ name_of bytes.now }
+{
+    let name = up_to_nul(bytes);
+    if name.is_empty() {
+        return None;
+    }
+    match std::str::from_utf8(name) {
+        Ok(text) => Some(text),
+        Err(_) => None,
     }
 }
 
@@ -652,6 +670,3 @@ fn sized_entry(address: u64, size: Option<u64>, name: Option<&str>) -> Option<Fu
         size,
     })
 }
-
-#[cfg(test)]
-mod tests;

@@ -1,26 +1,3 @@
-pub mod Complete
-pub mod CutLemmas
-pub mod Cuts
-pub mod ElementLemmas
-pub mod JoinLemmas
-pub mod Levels
-pub mod Lists
-pub mod LlvmLemmas
-pub mod Manglings
 pub mod NameLemmas
-pub mod Numbers
-pub mod PieceLemmas
-mod PunycodeLemmas
-pub mod ReadingComplete
-pub mod ReadingForward
-pub mod ReadingLists
-pub mod ReadingSound
-pub mod ReadingTrees
-pub mod Says
-pub mod Sound
-pub mod SoundForms
-pub mod States
-pub mod TextLemmas
-pub mod Texts
-pub mod V0LawLemmas
 pub mod WorkedNames
+pub mod V0LawLemmas

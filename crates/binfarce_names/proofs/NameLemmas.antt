@@ -1,41 +1,34 @@
--- The answer of a v0 name.
-use Rattle.std.proofs.Common.{◌≡◌, ℕ, List, Option, Some, Result, Ok, Err, true, false, drop, inl, inr, sym, ◌∙◌, subst}
+-- The answer of a name.
+use Rattle.std.proofs.Common.{◌≡◌, ℕ, List, Bool, true, false, Result, Ok, Err, inl, inr, refl, ap, sym, ◌∙◌, subst}
 use Rattle.std.specs.Prelude.{IfOk}
-use Rattle.binfarce_names.specs.declared.demangle.Kind.TheVariants.{Unknown, V0}
-use Rattle.binfarce_names.specs.Endings.{without_llvm, is_allowed_rest}
-use Rattle.binfarce_names.specs.Mangling.{IsMangling, ReadsPaths}
+use Rattle.binfarce_names.specs.declared.demangle.Kind.TheVariants.{Unknown, Legacy, V0}
+use Rattle.binfarce_text.specs.Suffixes.{without_llvm}
+use Rattle.binfarce_legacy.specs.Legacy.{Element, IsLegacy}
+use Rattle.binfarce_legacy.proofs.ElementLemmas.{reads_one_way}
 use Rattle.binfarce_names.specs.Name.{Name, Mangled}
-use Rattle.binfarce_names.specs.Named.{IsV0, IsMangled, IsNamed, unknown}
-use Rattle.binfarce_names.specs.Tree.{PathTree}
-use Rattle.binfarce_names.specs.Unfolding.{UnfoldsTo}
-use Rattle.binfarce_names.proofs.Manglings.{read_paths_at, unfolds_once}
-use Rattle.binfarce_names.proofs.TextLemmas.{some_same}
-
-same_place : (a b : ℕ) → ◌≡◌ {A = Option ℕ} (Some a) (Some b) → a ≡ b
-same_place a b e = cc
-
--- a text is one v0 mangling
-pub one_part : (text p q : List ℕ) (a b : ℕ) → IsMangling text p a → IsMangling text q b → p ≡ q
-one_part text p q a b m n = some_same p q (sym m.behind ∙ n.behind)
-
-one_end : (text p q : List ℕ) (a b : ℕ) → IsMangling text p a → IsMangling text q b → a ≡ b
-one_end text p q a b m n =
-    let paths = subst (λ x. ReadsPaths x b) (sym (one_part text p q a b m n)) n.paths in
-    same_place a b (sym (read_paths_at p a m.paths) ∙ read_paths_at p b paths)
-
--- a mangling with another rest is no v0 name
-pub rest_not_allowed : (text p : List ℕ) (a : ℕ) → IsMangling text p a → is_allowed_rest (drop a p) ≡ false → (part : List ℕ) → IsV0 text part → ⊥
-rest_not_allowed text p a m e part v =
-    let same = one_part text p part a v.after m v.mangling in
-    let place = one_end text p part a v.after m v.mangling in
-    let allowed : is_allowed_rest (drop a p) ≡ true = rw (place, same) v.rest in
-    let both : true ≡ false = sym allowed ∙ e in cc
+use Rattle.binfarce_names.specs.Named.{IsLegacyMangled, IsV0Mangled, IsMangled, IsNamed, legacy, v0, unknown}
+use Rattle.binfarce_names.specs.machine.Laws.{HasAnAnswer, HasOneAnswer}
+use Rattle.binfarce_v0.specs.Mangling.{IsV0}
+use Rattle.binfarce_v0_grammar.specs.Tree.{PathTree}
+use Rattle.binfarce_v0_grammar.specs.Unfolding.{UnfoldsTo}
+use Rattle.binfarce_v0.proofs.Manglings.{unfolds_once, printed, printed_is_outcome, printed_over}
+use Rattle.binfarce_v0.proofs.RestLemmas.{one_part}
+use Rattle.binfarce_text.proofs.TextLemmas.{some_same}
 
 -- a v0 name unfolds to one tree
 pub one_tree : (text p q : List ℕ) (t u : PathTree) → IsV0 text p → UnfoldsTo p t → IsV0 text q → UnfoldsTo q u → t ≡ u
 one_tree text p q t u v a w b =
     let same = one_part text p q v.after w.after v.mangling w.mangling in
     unfolds_once p t u a (subst (λ x. UnfoldsTo x u) (sym same) b)
+
+legacy_not_v0 : (text : List ℕ) (m : Mangled) → IsLegacyMangled text m → m.kind ≡ V0 → ⊥
+legacy_not_v0 text m a k = let both : Legacy ≡ V0 = sym a.kind_is ∙ k in cc
+
+legacy_not_unknown : (text : List ℕ) (m : Mangled) → IsLegacyMangled text m → m.kind ≡ Unknown → ⊥
+legacy_not_unknown text m a k = let both : Legacy ≡ Unknown = sym a.kind_is ∙ k in cc
+
+v0_not_unknown : (text : List ℕ) (m : Mangled) → IsV0Mangled text m → m.kind ≡ Unknown → ⊥
+v0_not_unknown text m a k = let both : V0 ≡ Unknown = sym a.kind_is ∙ k in cc
 
 pub if_ok : {T E : Type 0} (P Q : T → Type 0) (r : Result T E) → ((x : T) → P x → Q x) → IfOk r P → IfOk r Q
 if_ok P Q (Ok x) f h = f x h
@@ -45,16 +38,70 @@ if_ok P Q (Err e) f h = h
 pub named_past_limits : (text : List ℕ) (m : Mangled) (name : Name) → IsMangled text m → m.kind ≡ V0 → ((tree : PathTree) → UnfoldsTo m.part tree → ⊥) → name ≡ unknown text → IsNamed text name
 unfolding IsMangled IsNamed
 named_past_limits text m name is k none e = elim is [
-  | inl a ↦ cc
-  | inr a ↦ elim a.1 [
-    | inl v ↦ inr (a.0, inr (λ part tree w u. none tree (subst (λ x. UnfoldsTo x tree) (sym (one_part (without_llvm text) m.part part v.0.after w.after v.0.mangling w.mangling)) u), e))
-    | inr v ↦ cc
+  | inl a ↦ absurd (legacy_not_v0 text m a k)
+  | inr a ↦ elim a [
+    | inl v ↦ inr (inr (record { not_legacy = v.not_legacy; no_tree = λ part tree w u. none tree (subst (λ x. UnfoldsTo x tree) (sym (one_part (without_llvm text) m.part part v.mangling.after w.after v.mangling.mangling w.mangling)) u); name_is = e }))
+    | inr v ↦ inr (inr (record { not_legacy = v.not_legacy; no_tree = λ part tree w u. v.not_v0 part w; name_is = e }))
   ]
 ]
 
 pub named_unknown : (text : List ℕ) (m : Mangled) (name : Name) → IsMangled text m → m.kind ≡ Unknown → name ≡ unknown text → IsNamed text name
 unfolding IsMangled IsNamed
 named_unknown text m name is k e = elim is [
-  | inl a ↦ cc
-  | inr a ↦ elim a.1 [ inl v ↦ cc | inr v ↦ inr (a.0, inr (λ part tree w u. v.0 part w, e)) ]
+  | inl a ↦ absurd (legacy_not_unknown text m a k)
+  | inr a ↦ elim a [
+    | inl v ↦ absurd (v0_not_unknown text m v k)
+    | inr v ↦ inr (inr (record { not_legacy = v.not_legacy; no_tree = λ part tree w u. v.not_v0 part w; name_is = e }))
+  ]
+]
+
+-- what a text is tells its answer: a v0 mangling is printed, or passes a limit
+pub has_answer : (text : List ℕ) (m : Mangled) → IsMangled text m → HasAnAnswer text
+unfolding IsMangled IsNamed
+has_answer text m is = elim is [
+  | inl a ↦ (legacy a.elements, inl (record { part = m.part; elements = a.elements; rest = a.rest; mangling = a.mangling; name_is = refl }))
+  | inr a ↦ elim a [
+    | inl v ↦ by v (printed m.part true).1.over refl
+    | inr v ↦ (unknown text, inr (inr (record { not_legacy = v.not_legacy; no_tree = λ part tree w u. v.not_v0 part w; name_is = refl })))
+  ]
+]
+  where
+    by : IsV0Mangled text m → (over : Bool) → (printed m.part true).1.over ≡ over → HasAnAnswer text
+    by v true o =
+        (unknown text, named_past_limits text m (unknown text) is v.kind_is (λ tree u. printed_over m.part true o tree u) refl)
+    by v false o =
+        let t = printed_is_outcome m.part true o in
+        (v0 t.tree, inr (inl (record { not_legacy = v.not_legacy; part = m.part; mangling = v.mangling; tree = t.tree; unfolds = t.unfolds; name_is = refl })))
+
+-- a text is a legacy mangling of one list of elements
+one_mangling : (text part other : List ℕ) (elements others : List Element) (rest after : List ℕ)
+    → IsLegacy text part elements rest → IsLegacy text other others after → elements ≡ others
+one_mangling text part other elements others rest after a b =
+    let same : other ≡ part = some_same other part (sym b.prefix ∙ a.prefix) in
+    (reads_one_way part elements others rest after a.reads (b.reads.0, sym same ∙ b.reads.1)).0
+
+-- two answers of a text are the same
+pub answers_same : (text : List ℕ) → HasOneAnswer text
+unfolding IsNamed
+answers_same text first second a b = elim a [
+  | inl m ↦ elim b [
+    | inl n ↦ m.name_is ∙ ap legacy (one_mangling (without_llvm text) m.part n.part m.elements n.elements m.rest n.rest m.mangling n.mangling) ∙ sym n.name_is
+    | inr n ↦ elim n [
+      | inl w ↦ absurd (w.not_legacy m.part m.elements m.rest m.mangling)
+      | inr w ↦ absurd (w.not_legacy m.part m.elements m.rest m.mangling)
+    ]
+  ]
+  | inr m ↦ elim b [
+    | inl n ↦ elim m [
+      | inl v ↦ absurd (v.not_legacy n.part n.elements n.rest n.mangling)
+      | inr v ↦ absurd (v.not_legacy n.part n.elements n.rest n.mangling)
+    ]
+    | inr n ↦ elim m [
+      | inl v ↦ elim n [
+        | inl w ↦ v.name_is ∙ ap v0 (one_tree (without_llvm text) v.part w.part v.tree w.tree v.mangling v.unfolds w.mangling w.unfolds) ∙ sym w.name_is
+        | inr w ↦ absurd (w.no_tree v.part v.tree v.mangling v.unfolds)
+      ]
+      | inr v ↦ elim n [ inl w ↦ absurd (v.no_tree w.part w.tree w.mangling w.unfolds) | inr w ↦ v.name_is ∙ sym w.name_is ]
+    ]
+  ]
 ]

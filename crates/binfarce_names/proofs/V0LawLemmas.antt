@@ -1,14 +1,15 @@
 -- The laws of v0 names.
 use Rattle.std.proofs.Common.{◌≡◌, ℕ, ◌+◌, ◌<◌, Bool, true, false, List, [], Option, Some, None, cond, nat_lt, max, refl, ap, sym, ◌∙◌, arith}
 use Rattle.std.proofs.lemmas.Bool.Decides.{nat_tests}
-use Rattle.binfarce_names.specs.Base62.{◌>>=◌, number, back_reference}
-use Rattle.binfarce_names.specs.Tree.{path_height, path_steps, name_text, path_root, InValue}
-use Rattle.binfarce_names.specs.V0Laws.{UnfoldsOneWay, ReadsOneWay, NamesAnEarlierPlace, KnowsNoLimit}
-use Rattle.binfarce_names.specs.machine.Printing.{State}
-use Rattle.binfarce_names.proofs.Complete.{path_complete}
-use Rattle.binfarce_names.proofs.ReadingTrees.{reads_one_tree}
+use Rattle.binfarce_text.specs.Steps.{◌>>=◌}
+use Rattle.binfarce_v0_grammar.specs.Base62.{number, back_reference}
+use Rattle.binfarce_v0_grammar.specs.Tree.{path_height, path_steps, name_text, path_root, InValue}
+use Rattle.binfarce_names.specs.machine.Laws.{UnfoldsOneWay, ReadsOneWay, NamesAnEarlierPosition, KnowsNoLimit}
+use Rattle.binfarce_v0.specs.machine.Printing.{State}
+use Rattle.binfarce_v0.proofs.Complete.{path_complete}
+use Rattle.binfarce_v0_grammar.proofs.ReadingTrees.{reads_one_tree}
 
--- a printing from a place with some steps
+-- a printing from a position with some steps
 abbrev from : Option ℕ → ℕ → State
 from at room =
     record { at = at; room = room; least = 0; over = false; text = []; muted = false; full = true; outside = true; root = None }
@@ -24,9 +25,9 @@ unfolds_one name t u at depth a b p q =
 pub reads_one : (name : List ℕ) → ReadsOneWay name
 reads_one name t u at a b p q = reads_one_tree name t u at a b p q
 
-pub earlier_place : (name : List ℕ) → NamesAnEarlierPlace name
+pub earlier_position : (name : List ℕ) → NamesAnEarlierPosition name
 unfolding back_reference
-earlier_place name at target after e = by (number name (at + 1)) e
+earlier_position name at target after e = by (number name (at + 1)) e
   where
     kept : (r : ℕ × ℕ) (b : Bool) → nat_lt r.0 at ≡ b → cond b (Some r) None ≡ Some (target, after) → target < at
     kept r true t h =

@@ -7,28 +7,31 @@ use Rattle.std.specs.Str.{IsAscii}
 use Rattle.std.proofs.lemmas.Bool.Decides.{nat_tests}
 use Rattle.std.specs.Fmt.{digits}
 use Rattle.binfarce_names.specs.declared.demangle.Kind.TheVariants.{V0}
-use Rattle.binfarce_names.specs.Base62.{digit_62, number, tagged, back_reference, hex_digits}
-use Rattle.binfarce_names.specs.Endings.{without_llvm, is_allowed_rest}
-use Rattle.binfarce_names.specs.Forms.{path_form_by, path_form, lifetime, basic_type, abi, type_form_by, type_form, unsigned_type, const_form}
-use Rattle.binfarce_names.specs.Identifier.{length_at, identifier_of, identifier_bytes, identifier, label, identifier_text}
-use Rattle.binfarce_names.specs.Legacy as legacy_names
-use Rattle.binfarce_names.specs.Legacy.{Element, IsLegacy}
-use Rattle.binfarce_names.specs.Mangling.{behind_prefix, is_upper_at, IsMangling}
+use Rattle.binfarce_v0_grammar.specs.Base62.{digit_62, number, tagged, back_reference, hex_digits}
+use Rattle.binfarce_text.specs.Suffixes.{without_llvm, is_allowed_rest}
+use Rattle.binfarce_v0_grammar.specs.Forms.{path_form_by, path_form, lifetime, basic_type, abi, type_form_by, type_form, unsigned_type, const_form}
+use Rattle.binfarce_v0_grammar.specs.Identifiers.{length_at, identifier_of, identifier_bytes, undisambiguated_identifier, identifier, identifier_text}
+use Rattle.binfarce_legacy.specs.Legacy as legacy_names
+use Rattle.binfarce_legacy.specs.Legacy.{Element, IsLegacy}
+use Rattle.binfarce_v0.specs.Mangling.{part_after_prefix, is_upper_at, IsMangling}
 use Rattle.binfarce_names.specs.Name.{Name}
 use Rattle.binfarce_names.specs.Named.{IsNotLegacy, IsNamed, unknown}
-use Rattle.binfarce_names.specs.Tree.{path_height, path_steps, lifetime_text, binder_text, nested_text, signature_text, number_text, InValue}
-use Rattle.binfarce_names.specs.Unfolding.{UnfoldsTo, bound_place}
-use Rattle.binfarce_names.specs.Punycode.{digit_of, weight, integer, scaled_bias, adapted_bias, decoder_after, text_of, punycode_decoded}
-use Rattle.binfarce_names.specs.V0Laws.{Counts}
-use Rattle.binfarce_names.specs.machine.Places.{const_place, bindings_place, item_place, items_place, type_place, path_place, places, paths_place}
-use Rattle.binfarce_names.specs.machine.Printing.{first_state, const_rule, bindings_rule, item_rule, items_rule, type_rule, path_rule, readers}
-use Rattle.binfarce_names.proofs.Manglings.{printed, printed_told, printed_over, paths_read, texts_tell}
-use Rattle.binfarce_names.proofs.SoundForms.{readers_sound}
-use Rattle.binfarce_names.proofs.TextLemmas.{some_same}
+use Rattle.binfarce_v0_grammar.specs.Tree.{path_height, path_steps, lifetime_text, binder_text, nested_text, signature_text, number_text, InValue}
+use Rattle.binfarce_v0_grammar.specs.Unfolding.{UnfoldsTo, bound_end}
+use Rattle.binfarce_v0_grammar.specs.Punycode.{digit_of, weight, integer, scaled_bias, adapted_bias, decoder_after, text_of, punycode_decoded}
+use Rattle.binfarce_names.specs.machine.Laws.{Counts}
+use Rattle.binfarce_v0_grammar.specs.machine.Ends.{const_end, bindings_end, item_end, items_end, type_end, path_end, ends}
+use Rattle.binfarce_v0_grammar.specs.declared.limits.TheConstants.{MAX_LEVELS, MAX_STEPS}
+use Rattle.binfarce_v0.specs.machine.Mangling.{paths_end}
+use Rattle.binfarce_v0.specs.machine.Outcome.{outcome_of}
+use Rattle.binfarce_v0.specs.machine.Printing.{first_state, const_rule, bindings_rule, item_rule, items_rule, type_rule, path_rule, readers}
+use Rattle.binfarce_v0.proofs.Manglings.{printed, printed_is_outcome, printed_over, paths_read, are_texts}
+use Rattle.binfarce_v0.proofs.SoundForms.{readers_sound}
+use Rattle.binfarce_text.proofs.TextLemmas.{some_same}
 
 -- all that a worked name computes with
 unfoldable pub computing : ℕ
-unfolding digits digit_62 number tagged back_reference hex_digits without_llvm is_allowed_rest path_form_by path_form lifetime basic_type abi type_form_by type_form unsigned_type const_form length_at identifier_of identifier_bytes identifier label identifier_text digit_of weight integer scaled_bias adapted_bias decoder_after text_of punycode_decoded legacy_names.behind_prefix behind_prefix path_height path_steps lifetime_text binder_text nested_text signature_text number_text bound_place const_place bindings_place item_place items_place type_place path_place places const_rule bindings_rule item_rule items_rule type_rule path_rule readers lib.Utf8.encode
+unfolding digits digit_62 number tagged back_reference hex_digits without_llvm is_allowed_rest path_form_by path_form lifetime basic_type abi type_form_by type_form unsigned_type const_form length_at identifier_of identifier_bytes undisambiguated_identifier identifier identifier_text digit_of weight integer scaled_bias adapted_bias decoder_after text_of punycode_decoded legacy_names.part_after_prefix part_after_prefix path_height path_steps lifetime_text binder_text nested_text signature_text number_text bound_end const_end bindings_end item_end items_end type_end path_end ends const_rule bindings_rule item_rule items_rule type_rule path_rule readers lib.Utf8.encode
 computing = 0
 
 both : (a b : Bool) → (a && b) ≡ true → (a ≡ true) × (b ≡ true)
@@ -42,13 +45,13 @@ ascii (c ∷ text) e zero =
 ascii (c ∷ text) e (suc i) = ascii text (both (nat_lt c 128) (list_all (λ c. nat_lt c 128) text) e).1 i
 
 -- a text without the prefix of a legacy mangling
-not_legacy : (text : List ℕ) → legacy_names.behind_prefix (without_llvm text) ≡ None → IsNotLegacy text
+not_legacy : (text : List ℕ) → legacy_names.part_after_prefix (without_llvm text) ≡ None → IsNotLegacy text
 not_legacy text e part elements rest l = let p = l.prefix in cc
 
--- a text whose part behind the prefix reads to its end and is printed
+-- a text whose part after the prefix reads to its end and is printed
 pub means : (text part : List ℕ) (name : Name)
-    → legacy_names.behind_prefix (without_llvm text) ≡ None → behind_prefix (without_llvm text) ≡ Some part
-    → paths_place part ≡ Some (length part)
+    → legacy_names.part_after_prefix (without_llvm text) ≡ None → part_after_prefix (without_llvm text) ≡ Some part
+    → paths_end part ≡ Some (length part)
     → (is_upper_at part 0 && (list_all (λ c. nat_lt c 128) part && is_allowed_rest (drop (length part) part))) ≡ true
     → (printed part true).1.over ≡ false → (printed part false).1.over ≡ false
     → name ≡ record { complete = (printed part true).1.text; trimmed = (printed part false).1.text; crate_name = option_map identifier_text (printed part true).1.root; kind = V0 }
@@ -57,24 +60,24 @@ unfolding IsNamed
 means text part name l b p w o s e =
     let first = both (is_upper_at part 0) (list_all (λ c. nat_lt c 128) part && is_allowed_rest (drop (length part) part)) w in
     let second = both (list_all (λ c. nat_lt c 128) part) (is_allowed_rest (drop (length part) part)) first.1 in
-    let tells = texts_tell part (printed part true).1.text (printed part false).1.text (printed part true).1.root (printed part false).1.root (option_map identifier_text (printed part true).1.root) (printed_told part true o) (printed_told part false s) refl in
-    let mangling : IsMangling (without_llvm text) part (length part) = record { behind = b; begins = first.0; ascii = ascii part second.0; paths = paths_read part (length part) p } in
-    inr (not_legacy text l, inl (part, tells.tree, record { after = length part; mangling = mangling; rest = second.1 }, tells.unfolds, e ∙ λ i. record { complete = tells.complete_is i; trimmed = tells.trimmed_is i; crate_name = tells.crate_is i; kind = V0 }))
+    let texts = are_texts part (outcome_of (printed part true).1) (outcome_of (printed part false).1) (option_map identifier_text (printed part true).1.root) (printed_is_outcome part true o) (printed_is_outcome part false s) refl in
+    let mangling : IsMangling (without_llvm text) part (length part) = record { prefix = b; begins = first.0; ascii = ascii part second.0; paths = paths_read part (length part) p } in
+    inr (inl (record { not_legacy = not_legacy text l; part = part; mangling = record { after = length part; mangling = mangling; rest = second.1 }; tree = texts.tree; unfolds = texts.unfolds; name_is = e ∙ λ i. record { complete = texts.complete_is i; trimmed = texts.trimmed_is i; crate_name = texts.crate_is i; kind = V0 } }))
 
--- a text whose part behind the prefix passes a limit
-pub means_nothing : (text part : List ℕ) → legacy_names.behind_prefix (without_llvm text) ≡ None
-    → behind_prefix (without_llvm text) ≡ Some part → (printed part true).1.over ≡ true
+-- a text whose part after the prefix passes a limit
+pub means_nothing : (text part : List ℕ) → legacy_names.part_after_prefix (without_llvm text) ≡ None
+    → part_after_prefix (without_llvm text) ≡ Some part → (printed part true).1.over ≡ true
     → IsNamed text (unknown text)
 unfolding IsNamed
 means_nothing text part l b o =
-    inr (not_legacy text l, inr (λ other tree v u. printed_over part true o tree (subst (λ x. UnfoldsTo x tree) (some_same other part (sym v.mangling.behind ∙ b)) u), refl))
+    inr (inr (record { not_legacy = not_legacy text l; no_tree = λ other tree v u. printed_over part true o tree (subst (λ x. UnfoldsTo x tree) (some_same other part (sym v.mangling.prefix ∙ b)) u); name_is = refl }))
 
--- levels and steps of what stands behind a prefix
+-- levels and steps of what stands after a prefix
 pub counts : (part : List ℕ) (levels steps : ℕ) → (printed part true).1.over ≡ false
     → path_height (printed part true).0 ≡ levels → path_steps (printed part true).0 ≡ steps
     → Counts part levels steps
 counts part levels steps o h n =
-    let H = readers_sound part 500 in
+    let H = readers_sound part MAX_LEVELS in
     let f = H.path InValue 0 (first_state true) o in
-    let within : path_steps (printed part true).0 ≤ 65536 = omega arith in
+    let within : path_steps (printed part true).0 ≤ MAX_STEPS = omega arith in
     record { tree = (printed part true).0; unfolds = record { after = (printed part true).1.at; is_path = f.is; levels = f.height; steps = within }; levels_are = h; steps_are = n }

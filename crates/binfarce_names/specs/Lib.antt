@@ -1,15 +1,3 @@
-pub mod Base62
-pub mod Endings
-pub mod Forms
-pub mod Identifier
-pub mod Legacy
-pub mod Mangling
 pub mod Name
 pub mod Named
-pub mod Punycode
-pub mod PunycodeText
-pub mod Reading
-pub mod Tree
-pub mod Unfolding
-pub mod V0Laws
 pub mod machine

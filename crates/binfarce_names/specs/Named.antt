@@ -1,20 +1,20 @@
 -- The answer of a name, by cases.
-use Rattle.std.specs.Prelude.{◌≡◌, ℕ, ◌⊎◌, List, None, true, false, drop, option_map}
+use Rattle.std.specs.Prelude.{◌≡◌, ℕ, ◌⊎◌, List, None, true, false, option_map}
 use Rattle.std.specs.Str.{encode_utf8_all}
 use Rattle.binfarce_names.specs.declared.demangle.Kind.TheVariants.{Unknown, Legacy, V0}
-use Rattle.binfarce_names.specs.Endings.{without_llvm, is_allowed_rest}
-use Rattle.binfarce_names.specs.Legacy.{Element, IsLegacy, legacy_chars, cut}
-use Rattle.binfarce_names.specs.Identifier.{identifier_text}
-use Rattle.binfarce_names.specs.Mangling.{IsMangling}
+use Rattle.binfarce_text.specs.Suffixes.{without_llvm}
+use Rattle.binfarce_legacy.specs.Legacy.{Element, IsLegacy, legacy_chars, without_last_part}
+use Rattle.binfarce_v0_grammar.specs.Identifiers.{identifier_text}
+use Rattle.binfarce_v0.specs.Mangling.{IsV0}
 use Rattle.binfarce_names.specs.Name.{Name, Mangled}
-use Rattle.binfarce_names.specs.Tree.{PathTree, name_text, path_root}
-use Rattle.binfarce_names.specs.Unfolding.{UnfoldsTo}
+use Rattle.binfarce_v0_grammar.specs.Tree.{PathTree, name_text, path_root}
+use Rattle.binfarce_v0_grammar.specs.Unfolding.{UnfoldsTo}
 
 -- the name of a legacy mangling: complete, and without the last part of its path
 abbrev pub legacy : List Element → Name
 legacy elements = record {
   complete = encode_utf8_all (legacy_chars elements);
-  trimmed = encode_utf8_all (cut (legacy_chars elements));
+  trimmed = encode_utf8_all (without_last_part (legacy_chars elements));
   crate_name = None;
   kind = Legacy;
 }
@@ -28,12 +28,6 @@ abbrev pub IsNotLegacy : List ℕ → Type 0
 IsNotLegacy text =
     (part : List ℕ) (elements : List Element) (rest : List ℕ)
     → ¬ (IsLegacy (without_llvm text) part elements rest)
-
--- text is a v0 mangling, of which part is what stands behind the prefix
-pub record IsV0 (text part : List ℕ) : Type 0 where
-  pub after : ℕ
-  pub mangling : IsMangling text part after
-  pub rest : is_allowed_rest (drop after part) ≡ true
 
 -- the name of a v0 mangling: both texts are of one tree
 abbrev pub v0 : PathTree → Name
@@ -52,26 +46,52 @@ IsNotV0 text = (part : List ℕ) → ¬ (IsV0 (without_llvm text) part)
 abbrev pub HasNoTree : List ℕ → Type 0
 HasNoTree text = (part : List ℕ) (tree : PathTree) → IsV0 (without_llvm text) part → ¬ (UnfoldsTo part tree)
 
--- what is kept of text is m
-unfoldable pub IsMangled : List ℕ → Mangled → Type 0
-IsMangled text m =
-    ((elements : List Element) × (rest : List ℕ)
-    × IsLegacy (without_llvm text) m.part elements rest × (m.kind ≡ Legacy))
-    ⊎ (IsNotLegacy text
-    × ((IsV0 (without_llvm text) m.part × (m.kind ≡ V0))
-    ⊎ (IsNotV0 text × (m ≡ record { part = text; kind = Unknown }))))
+-- text is a legacy mangling, and name is the one of its elements
+pub record IsLegacyName (text : List ℕ) (name : Name) : Type 0 where
+  pub part : List ℕ
+  pub elements : List Element
+  pub rest : List ℕ
+  pub mangling : IsLegacy (without_llvm text) part elements rest
+  pub name_is : name ≡ legacy elements
 
--- name is the answer of text: a legacy mangling is read, a v0 mangling is the tree that it unfolds to, and any other
--- text stands unchanged
+-- text is a v0 mangling, and name is the one of the tree that it unfolds to within the limits
+pub record IsV0Name (text : List ℕ) (name : Name) : Type 0 where
+  pub not_legacy : IsNotLegacy text
+  pub part : List ℕ
+  pub mangling : IsV0 (without_llvm text) part
+  pub tree : PathTree
+  pub unfolds : UnfoldsTo part tree
+  pub name_is : name ≡ v0 tree
+
+-- text is no mangling, or a v0 mangling that unfolds to no tree within the limits, and name is text
+pub record StandsUnchanged (text : List ℕ) (name : Name) : Type 0 where
+  pub not_legacy : IsNotLegacy text
+  pub no_tree : HasNoTree text
+  pub name_is : name ≡ unknown text
+
+-- name is the answer of text
 unfoldable pub IsNamed : List ℕ → Name → Type 0
-IsNamed text name =
-    ((part : List ℕ) × (elements : List Element) × (rest : List ℕ)
-    × IsLegacy (without_llvm text) part elements rest × (name ≡ legacy elements))
-    ⊎ (IsNotLegacy text
-    × (((part : List ℕ) × (tree : PathTree)
-    × IsV0 (without_llvm text) part × UnfoldsTo part tree × (name ≡ v0 tree))
-    ⊎ (HasNoTree text × (name ≡ unknown text))))
+IsNamed text name = IsLegacyName text name ⊎ (IsV0Name text name ⊎ StandsUnchanged text name)
 
--- text has one answer
-abbrev pub HasOneAnswer : List ℕ → Type 0
-HasOneAnswer text = (first second : Name) → IsNamed text first → IsNamed text second → first ≡ second
+-- m keeps of text the part after the prefix of a legacy mangling
+pub record IsLegacyMangled (text : List ℕ) (m : Mangled) : Type 0 where
+  pub elements : List Element
+  pub rest : List ℕ
+  pub mangling : IsLegacy (without_llvm text) m.part elements rest
+  pub kind_is : m.kind ≡ Legacy
+
+-- m keeps of text the part after the prefix of a v0 mangling
+pub record IsV0Mangled (text : List ℕ) (m : Mangled) : Type 0 where
+  pub not_legacy : IsNotLegacy text
+  pub mangling : IsV0 (without_llvm text) m.part
+  pub kind_is : m.kind ≡ V0
+
+-- m keeps all of text, which is no mangling
+pub record IsNotMangled (text : List ℕ) (m : Mangled) : Type 0 where
+  pub not_legacy : IsNotLegacy text
+  pub not_v0 : IsNotV0 text
+  pub all : m ≡ record { part = text; kind = Unknown }
+
+-- m is the kind of text, and the part that is kept
+unfoldable pub IsMangled : List ℕ → Mangled → Type 0
+IsMangled text m = IsLegacyMangled text m ⊎ (IsV0Mangled text m ⊎ IsNotMangled text m)

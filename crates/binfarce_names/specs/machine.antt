@@ -1,6 +1,2 @@
 -- Definitions that only private contracts cite.
-pub mod Endings
-pub mod Places
-pub mod Printing
-pub mod Reading
-pub mod Seen
+pub mod Laws

@@ -2,34 +2,33 @@
 
 ghost use Rattle.std.specs.Prelude.{◌≡◌, IfOk};
 ghost use Rattle.binfarce_names.specs.Name.{mangled_seen, name_seen};
-ghost use Rattle.binfarce_names.specs.Named.{HasOneAnswer, IsMangled, unknown};
+ghost use Rattle.binfarce_names.specs.Named.{IsMangled, unknown};
 
-use crate::endings::without_llvm;
-use crate::v0::Texts;
-use crate::{legacy, v0};
+use binfarce_legacy::legacy;
+use binfarce_text::suffixes::without_llvm;
+use binfarce_v0::mangling as v0;
+use binfarce_v0::mangling::Texts;
+pub use binfarce_v0_grammar::limits::{MAX_LEVELS, MAX_STEPS};
 use std::alloc::{AllocError, Global};
 
-/// How many levels of paths, types and consts within one another a v0 name may have, as it is read and as it is printed:
-/// what a back reference stands for lies a level below it. A name with more is `Kind::Unknown`.
-pub const MAX_LEVELS: usize = 500;
-
-/// How many steps the printing of a v0 name may take: one for each path, type, const and lifetime that it comes to, each
-/// time that it comes to it, and one for each lifetime that a binder announces. A name with more is `Kind::Unknown`.
-pub const MAX_STEPS: usize = 65_536;
-
-/// How a name was mangled.
+/// How a name is mangled.
 #[derive(Clone, Copy, PartialEq, Eq, Debug)]
 pub enum Kind {
+    /// Not at all, in a form that isn't read, or beyond the limits: the name stands unchanged.
     Unknown,
+    /// As `rustc` did at first: `_ZN`, the elements of a path, each after its length, and `E`.
     Legacy,
+    /// As RFC 2603 says: `_R` and a path.
     V0,
 }
 
 /// A function symbol of a file.
 #[derive(Drop)]
 pub struct SymbolData {
+    /// The symbol's name: readable where it is mangled, and else as the file stores it.
     pub name: SymbolName,
-    /// The symbol's address, as the file stores it.
+    /// The symbol's address as the file stores it. In PE it is no address: it is an offset in bytes within the symbol's
+    /// section.
     pub address: u64,
     /// The symbol's size in bytes.
     pub size: u64,
@@ -38,16 +37,20 @@ pub struct SymbolData {
 /// A symbol's name in readable form.
 #[derive(Drop)]
 pub struct SymbolName {
-    /// The readable name with all that tells it from others.
+    /// Of a legacy name its whole path, and of a v0 name its path with the disambiguators of crates. An Unknown name as
+    /// it was given.
     pub complete: String,
-    /// The readable name without hashes and crate disambiguators.
+    /// Of a legacy name its path without the last part, whether that is a hash or not, and of a v0 name its path without
+    /// the disambiguators of crates. An Unknown name as it was given.
     pub trimmed: String,
-    /// The crate that the name's path begins in, where the mangling tells it.
+    /// Of a v0 name the name of the first crate root in reading order that stands in no back reference: it may stand in
+    /// the path of an impl, which isn't shown, and may be empty. None where there is no such root, and of other names.
     pub crate_name: Option<String>,
+    /// How the name is mangled.
     pub kind: Kind,
 }
 
-/// A mangled name, whose mangling is a part of the text that was given: nothing is copied.
+/// A mangled name, of which a part of the text that was given is kept: nothing is copied.
 #[derive(Drop)]
 pub struct Demangled<'a> {
     kind: Kind,
@@ -58,7 +61,10 @@ impl SymbolName {
     ghost use Rattle.binfarce_names.specs.Name.{name_seen};
     ghost use Rattle.binfarce_names.specs.Named.{IsNamed};
 
-    /// The readable form of `name`. The only refusal is want of memory.
+    /// The readable form of `name`. A name that isn't mangled stands unchanged in both texts, with kind `Unknown`; so
+    /// does a v0 name that nests deeper than `MAX_LEVELS` levels or takes more than `MAX_STEPS` steps.
+    ///
+    /// The texts are copies in memory of `alloc`. The only refusal: an allocation was refused.
     #[tactic(auto, unfolding(crate::specs::Named::IsNamed, crate::specs::Named::IsMangled))]
     pub fn demangle(alloc: Global, name: &str) -> Result<SymbolName, AllocError>
         ensures named { IfOk result (λ n. IsNamed name.now (name_seen n)) }
@@ -108,9 +114,8 @@ fn unknown(alloc: Global, name: &str) -> Result<SymbolName, AllocError>
     })
 }
 
-/// Which mangling `name` is, decided without memory. What is kept of `name` is the part behind the
-/// mangling's prefix, up to the `.llvm.` ending that LLVM may have added; of a name that is no
-/// mangling, all of it.
+/// How `name` is mangled, decided without memory. What is kept of `name` is the part after the mangling's prefix, without
+/// the `.llvm.` suffix that LLVM may have added; of a name that isn't mangled, all of it.
 #[tactic(auto, unfolding(crate::specs::Named::IsMangled))]
 pub fn demangle(name: &str) -> Demangled<'_>
     ensures mangled { IsMangled name.now (mangled_seen result) }
@@ -122,7 +127,7 @@ pub fn demangle(name: &str) -> Demangled<'_>
             part,
         };
     }
-    match v0::mangle_part(text) {
+    match v0::mangled_part(text) {
         Some(part) => Demangled {
             kind: Kind::V0,
             part,
@@ -134,14 +139,8 @@ pub fn demangle(name: &str) -> Demangled<'_>
     }
 }
 
-/// A name has one answer.
-#[tactic(auto, unfolding(crate::specs::Named::IsNamed))]
-fn has_one_answer(name: &str)
-    ensures { HasOneAnswer name.now }
-{
-    let _ = name;
-}
-
+#[cfg(test)]
+mod legacy_real_tests;
 #[cfg(test)]
 mod tests;
 #[cfg(test)]

@@ -1,7 +1,5 @@
-//! Readable names of Rust symbols.
+//! Readable names of Rust symbols: which mangling a name is, and what it means.
 #![tactic(auto)]
 
 pub mod demangle;
-mod endings;
-mod legacy;
-mod v0;
+mod laws;

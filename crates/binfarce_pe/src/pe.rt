@@ -202,13 +202,13 @@ impl<'a> Pe<'a> {
     /// The function symbols of the section `.text`, by address and at equal addresses in table order, and the size in
     /// bytes that the section has in the file.
     ///
-    /// Their names, which are still mangled, are parts of the file. An address is the offset in the section that the
-    /// row holds, in bytes. Kept are rows of external functions that name the section by its number, and whose name is
-    /// a text: the row's own 8 bytes up to the first NUL, which may be none, or the text in the string table at an
-    /// offset ("COFF Symbol Table"). A symbol's size is the distance to the least greater one among the addresses of
-    /// the kept rows and the section's size, and 0 where none is greater. Refused, in this order: as `find_section`;
+    /// Their names, which are still mangled, are parts of the file. An address is what the row holds: the offset in the
+    /// section, in bytes. Kept are rows of external functions that name the section by its number and have a name: the
+    /// row's own 8 bytes up to the first NUL, which may be empty but have to be UTF-8, or the text at an offset in the
+    /// string table ("COFF Symbol Table"). A symbol's size is the distance to the least greater one among the addresses
+    /// of the kept rows and the section's size, and 0 where none is greater. Refused, in this order: as `find_section`;
     /// `SymbolsSectionIsMissing`; `UnexpectedEof` where the symbol table doesn't begin in the file, even an empty one,
-    /// or passes its end. `OutOfMemory` stands only in place of a list that isn't empty.
+    /// or passes its end. `OutOfMemory` comes only in place of a list that isn't empty.
     #[tactic(auto, unfolding(crate::specs::PeSymbols::pe_answer))]
     pub fn functions(&self, alloc: Global) -> Result<(Vec<FunctionSymbol<'a>>, u64), ParseError>
         ensures { Answers HoldsFunctions ListsSome (pe_answer self.now) result }
@@ -316,6 +316,3 @@ pub(crate) fn short_name(bytes: &[u8]) -> Option<&str>
         Err(_) => None,
     }
 }
-
-#[cfg(test)]
-mod tests;

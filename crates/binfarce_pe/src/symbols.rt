@@ -38,7 +38,7 @@ pub(crate) struct SymbolTable<'a> {
     pub(crate) strings: &'a [u8],
 }
 
-/// The numbers of a symbol record. The first two stand where a short name has its bytes.
+/// The numbers of a symbol record. A short name has its bytes where the first two are.
 #[derive(Clone, Copy)]
 struct SymbolRecord {
     zeroes: u32,

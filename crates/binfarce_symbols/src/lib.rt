@@ -3,3 +3,5 @@
 
 pub mod functions;
 pub mod sizes;
+#[cfg(test)]
+mod tests;

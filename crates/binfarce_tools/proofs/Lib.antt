@@ -1,3 +1,4 @@
+pub mod HeaderLengths
 pub mod Pads
 pub mod Told
 pub mod Listings

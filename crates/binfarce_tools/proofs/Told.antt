@@ -11,7 +11,7 @@ use Rattle.binfarce.specs.ElfSymbols.{sought, is_name, part_of, located, elf_ans
 use Rattle.binfarce.specs.Symbol.{Listed}
 use Rattle.std.specs.Str.{bytes_eq}
 use Rattle.binfarce.specs.Number.{bytes_at}
-use Rattle.binfarce.specs.Sizes.{arranged, least_above, size_up_to, macho_size}
+use Rattle.binfarce.specs.Sizes.{arranged, least_above}
 use Rattle.binfarce.specs.Pe as pe_file
 use Rattle.binfarce.specs.Pe.{least_length, walk as pe_walk}
 use Rattle.binfarce.specs.PeSymbols as pe
@@ -19,7 +19,7 @@ use Rattle.binfarce.specs.PeSymbols.{pe_answer}
 use Rattle.binfarce.specs.Macho as macho_file
 use Rattle.binfarce.specs.Macho.{Command, command_at, commands_from, commands, ended, ahead_of, body_of, header_at, segment, and_then, is_segment, sections_of, is_named, walk as macho_walk}
 use Rattle.binfarce.specs.MachoSymbols as macho
-use Rattle.binfarce.specs.MachoSymbols.{whole_table, part_at, text_end_of, symbol_table_at, some_size, symbol_command, located_by, row_addresses, kept, answer_of, macho_answer}
+use Rattle.binfarce.specs.MachoSymbols.{size_up_to, macho_size, whole_table, part_at, text_end_of, symbol_table_at, some_size, symbol_command, located_by, row_addresses, kept, answer_of, macho_answer}
 use Rattle.binfarce_tools.specs.Answer.{elf_file_answer, macho_file_answer, pe_file_answer, symbols_answer}
 
 -- a refusal that isn't want of memory

@@ -1,11 +1,11 @@
 //! Lists the function symbols of an executable, a line each.
 
-ghost use Rattle.std.specs.Prelude.{◌≡◌, ◌<◌, ◌≤◌, ℕ, List, Bool, true, false, length, take, Option, Some, None, IfSome, IfNone, IfOk};
+ghost use Rattle.std.specs.Prelude.{◌≡◌, ◌++◌, ◌<◌, ◌≤◌, ℕ, List, Bool, true, false, length, take, Option, Some, None, IfSome, IfNone, IfOk};
 ghost use Rattle.std.specs.String.{string_bytes};
 ghost use Rattle.std.specs.Io.KnownBytes.{Keeps, Appends};
 ghost use Rattle.binfarce.specs.Format.{format_of};
 ghost use Rattle.binfarce_tools.specs.Answer.{symbols_answer, NeedsMemory};
-ghost use Rattle.binfarce_tools.specs.Listing.{listing};
+ghost use Rattle.binfarce_tools.specs.Listing.{symbol_line, listing};
 ghost use Rattle.binfarce_tools.specs.Lists.{Tells, Takes, Fails, Leaves};
 
 use crate::symbols::symbols_of_file;
@@ -150,10 +150,11 @@ impl From<ParseError> for ListError {
 
 /// Lists the function symbols of a file's section: a line for each, and then the section's size.
 ///
-/// The format is told by the file's first bytes; the section is that of an ELF file, and of a Mach-O or PE file it is the text. A line is `{address:016x} {size:>10} {trimmed}`, the last one
-/// `text {size}`. Refused: `Unknown` where the format isn't one that is read; `Parse` where its reader refuses,
-/// other than for memory; `OutOfMemory` where an allocation was refused; `Write` where a write failed. The listing is
-/// made before its first byte is written, so only `Write` can leave a beginning of it written.
+/// The format is the one that the file's first bytes name; the section is that of an ELF file, and of a Mach-O or PE file
+/// it is the text. A line is `{address:016x} {size:>10} {trimmed}`, the last one `text {size}`. Refused: `Unknown` where
+/// the format isn't one that is read; `Parse` where its reader refuses, other than for memory; `OutOfMemory` where an
+/// allocation was refused; `Write` where a write failed. The listing is made before its first byte is written, so only
+/// `Write` can leave a beginning of it written.
 pub fn list<S: Sink>(
     alloc: Global,
     data: &[u8],
@@ -171,18 +172,25 @@ pub fn list<S: Sink>(
 }
 
 // The whole listing.
-#[tactic(auto, using(crate::proofs::Pads::address_padded, crate::proofs::Pads::size_padded))]
 fn listing(alloc: Global, symbols: &[SymbolData], size: u64) -> Result<String, AllocError>
     ensures { IfOk result (λ t. string_bytes t ≡ listing symbols.now size) }
 {
     let mut text = String::new(alloc);
     for symbol in symbols {
-        writeln!(
-            text,
-            "{:016x} {:>10} {}",
-            symbol.address, symbol.size, symbol.name.trimmed
-        )?;
+        push_line(&mut text, symbol)?;
     }
     writeln!(text, "text {size}")?;
     Ok(text)
+}
+
+// Writes the line of a symbol after the text.
+#[tactic(auto, using(crate::proofs::Pads::address_padded, crate::proofs::Pads::size_padded))]
+fn push_line(text: &mut String, symbol: &SymbolData) -> Result<(), AllocError>
+    ensures { IfOk result (λ _. string_bytes text.new ≡ string_bytes text.old ++ symbol_line symbol.now) }
+{
+    writeln!(
+        text,
+        "{:016x} {:>10} {}",
+        symbol.address, symbol.size, symbol.name.trimmed
+    )
 }

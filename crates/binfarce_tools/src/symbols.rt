@@ -42,7 +42,7 @@ fn read_symbols(
     }
 }
 
-#[tactic(auto, unfolding(binfarce::specs::Elf::elf32))]
+#[tactic(auto, using(crate::proofs::HeaderLengths::of_32_bits))]
 fn read_elf32(
     alloc: Global,
     data: &[u8],
@@ -54,7 +54,7 @@ fn read_elf32(
     elf32::parse(data, byte_order)?.symbols(alloc, section)
 }
 
-#[tactic(auto, unfolding(binfarce::specs::Elf::elf64))]
+#[tactic(auto, using(crate::proofs::HeaderLengths::of_64_bits))]
 fn read_elf64(
     alloc: Global,
     data: &[u8],

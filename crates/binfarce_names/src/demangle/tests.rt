@@ -31,7 +31,7 @@ Legacy|_ZN1$E|$|$|a lone `$`
 Legacy|_ZN7$ud800$E|$ud800$|$ud800$|half of a pair
 Legacy|_ZN3foo17h0123456789abcdefE|foo::h0123456789abcdef|foo|a hash
 Legacy|_ZN4testE.llvm.1f|test|test|an allowed rest
-Legacy|_ZN3fooE.llvm.A.llvm.B|foo|foo|two endings: the first is no number
+Legacy|_ZN3fooE.llvm.A.llvm.B|foo|foo|two suffixes: the first is no number
 Legacy|_ZN6_$LT$aE|<a|<a|a dropped mark
 Legacy|_ZN13$u0000000041$E|A|A|zeros before a number
 Legacy|_ZN31$SP$$BP$$RF$$LT$$GT$$LP$$RP$$C$E|@*&<>(),|@*&<>(),|each named escape

@@ -1,17 +1,18 @@
 use Rattle.std.proofs.Common.{ℕ, List, inl, inr, refl, subst}
-use Rattle.binfarce_names.specs.Legacy.{Element, IsLegacy}
-use Rattle.binfarce_names.specs.Named.{IsMangled, IsV0}
+use Rattle.binfarce_legacy.specs.Legacy.{Element, IsLegacy}
+use Rattle.binfarce_names.specs.Named.{IsMangled}
+use Rattle.binfarce_v0.specs.Mangling.{IsV0}
 use Rattle.binfarce_names.proofs.demangle.demangle.Goals as goal
 
-pub returns-in-Some-mangle_part : goal.returns-in-Some-mangle_part
+pub returns-in-Some-mangled_part : goal.returns-in-Some-mangled_part
 unfolding IsMangled
-returns-in-Some-mangle_part c =
+returns-in-Some-mangled_part c =
     let P : List ℕ → Type 0 = λ text. (part : List ℕ) (elements : List Element) (rest : List ℕ) → IsLegacy text part elements rest → ⊥ in
-    record { mangled = inr (subst P c.without_llvm-text.ensures c.in_default.ensures, inl (subst (λ text. IsV0 text c.in-Some-mangle_part.part.now) c.without_llvm-text.ensures c.in-Some-mangle_part.ensures, refl)) }
+    record { mangled = inr (inl (record { not_legacy = subst P c.without_llvm-text.ensures c.in_default.ensures; mangling = subst (λ text. IsV0 text c.in-Some-mangled_part.part.now) c.without_llvm-text.ensures c.in-Some-mangled_part.ensures; kind_is = refl })) }
 
 pub returns-in-None : goal.returns-in-None
 unfolding IsMangled
 returns-in-None c =
     let P : List ℕ → Type 0 = λ text. (part : List ℕ) (elements : List Element) (rest : List ℕ) → IsLegacy text part elements rest → ⊥ in
     let Q : List ℕ → Type 0 = λ text. (part : List ℕ) → IsV0 text part → ⊥ in
-    record { mangled = inr (subst P c.without_llvm-text.ensures c.in_default.ensures, inr (subst Q c.without_llvm-text.ensures c.in-None.ensures, refl)) }
+    record { mangled = inr (inr (record { not_legacy = subst P c.without_llvm-text.ensures c.in_default.ensures; not_v0 = subst Q c.without_llvm-text.ensures c.in-None.ensures; all = refl })) }

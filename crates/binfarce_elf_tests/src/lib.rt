@@ -1,0 +1,5 @@
+//! Tests of the ELF readers by public calls.
+#![tactic(auto)]
+
+#[cfg(test)]
+mod tests;

@@ -1,0 +1,103 @@
+-- Elements that are written one after the other, joined by `::`.
+use Rattle.std.proofs.Common.{◌≡◌, ℕ, ◌+◌, ◌<◌, cond, eqb, inl, inr, List, [], ◌∷◌, ◌++◌, get_or, drop, take, codes, ap, sym, ◌∙◌, arith, append_assoc}
+use Rattle.std.proofs.lemmas.Bool.{cases_eq, cond-true, cond-false, eq-eqb, ne_eqb}
+use Rattle.std.proofs.lemmas.List.{drop-drop, append-nil}
+use Rattle.std.proofs.lemmas.List.Sums.{prefix_len_passes}
+use Rattle.std.proofs.lemmas.Str.{encodes-append, encodes-IsAscii}
+use Rattle.std.proofs.lemmas.Str.Ascii.{IsAscii-cons, IsAscii-nil}
+use Rattle.std.specs.Char.{is_ascii_digit}
+use Rattle.std.specs.List.{flat_map}
+use Rattle.std.specs.Str.{encode_utf8_all}
+use Rattle.std.specs.Str.Parse.{digits_value}
+use Rattle.binfarce_legacy.specs.Legacy.{Element, Reads, name_chars, legacy_chars}
+use Rattle.binfarce_legacy.specs.machine.Reading.{name_start, name_end, HasElement, joined_left, IsLeft}
+use Rattle.binfarce_legacy.proofs.ElementLemmas.{not_digit, reads_fits, reads_name, reads_after}
+
+-- what is written before an element: nothing before the first, `::` before any other
+abbrev pub separator : ℕ → List ℕ
+separator at = cond (eqb at 0) [] (codes "::")
+
+pub separator-first : (at : ℕ) → at ≡ 0 → separator at ≡ []
+separator-first at e = cond-true (eqb at 0) [] (codes "::") (eq-eqb at 0 e)
+
+pub separator-later : (at : ℕ) → 0 < at → separator at ≡ codes "::"
+separator-later at l = cond-false (eqb at 0) [] (codes "::") (ne_eqb at 0 (λ z. absurd (omega (arith, z, l))))
+
+separator_ascii : (at : ℕ) → encode_utf8_all (separator at) ≡ separator at
+separator_ascii at = elim (cases_eq at 0) [
+  | inl e ↦ ap (λ b. encode_utf8_all (cond b [] (codes "::"))) (eq-eqb at 0 e) ∙ sym (ap (λ b. cond b [] (codes "::")) (eq-eqb at 0 e))
+  | inr ne ↦ ap (λ b. encode_utf8_all (cond b [] (codes "::"))) (ne_eqb at 0 ne)
+      ∙ encodes-IsAscii (codes "::") (IsAscii-cons 58 (58 ∷ []) (omega arith) (IsAscii-cons 58 [] (omega arith) IsAscii-nil))
+      ∙ sym (ap (λ b. cond b [] (codes "::")) (ne_eqb at 0 ne))
+]
+
+-- what is left is its first element, and what is left after that
+joined_left-step : (at end : ℕ) (e : Element) (others : List Element) → 0 < end
+    → joined_left at (e ∷ others) ≡ separator at ++ (name_chars e.name ++ joined_left end others)
+unfolding joined_left legacy_chars
+joined_left-step at end e others pos =
+    let more : List ℕ = flat_map (λ y. codes "::" ++ name_chars y.name) others in
+    let rest : joined_left end others ≡ more = cond-false (eqb end 0) _ _ (ne_eqb end 0 (λ z. absurd (omega (arith, z, pos)))) in
+    elim (cases_eq at 0) [
+      | inl z ↦ cond-true (eqb at 0) _ _ (eq-eqb at 0 z)
+          ∙ ap (λ (x : List ℕ). name_chars e.name ++ x) (sym rest)
+          ∙ sym (ap (λ b. cond b [] (codes "::") ++ (name_chars e.name ++ joined_left end others)) (eq-eqb at 0 z))
+      | inr ne ↦ cond-false (eqb at 0) _ _ (ne_eqb at 0 ne)
+          ∙ append_assoc (codes "::") (name_chars e.name) more
+          ∙ ap (λ (x : List ℕ). codes "::" ++ (name_chars e.name ++ x)) (sym rest)
+          ∙ sym (ap (λ b. cond b [] (codes "::") ++ (name_chars e.name ++ joined_left end others)) (ne_eqb at 0 ne))
+    ]
+
+joined_left-nil : (at : ℕ) → joined_left at [] ≡ []
+unfolding joined_left legacy_chars
+joined_left-nil at = elim (cases_eq at 0) [
+  | inl z ↦ cond-true (eqb at 0) _ _ (eq-eqb at 0 z)
+  | inr ne ↦ cond-false (eqb at 0) _ _ (ne_eqb at 0 ne)
+]
+
+-- before the first element, all are left
+pub left_at_start : (part printed : List ℕ) (elements : List Element) (rest : List ℕ) → printed ≡ [] → Reads part elements rest
+    → IsLeft part 0 printed elements rest elements
+unfolding joined_left
+left_at_start part printed elements rest none r = record {
+  ahead = r;
+  joined = ap (λ (x : List ℕ). x ++ encode_utf8_all (legacy_chars elements)) none;
+}
+
+-- an element is written
+pub left_step : (part : List ℕ) (at end : ℕ) (printed more name : List ℕ) (elements : List Element) (rest : List ℕ) (left : List Element)
+    → IsLeft part at printed elements rest left → HasElement (drop at part) → end ≡ at + name_end (drop at part)
+    → name ≡ take (digits_value 10 (take (name_start (drop at part)) (drop at part))) (drop (name_start (drop at part)) (drop at part))
+    → more ≡ (printed ++ separator at) ++ encode_utf8_all (name_chars name)
+    → (others : List Element) × IsLeft part end more elements rest others
+unfolding name_start name_end
+left_step part at end printed more name elements rest [] is has ends named wrote =
+    absurd (not_digit (get_or (drop at part) 0 0) (ap (λ (x : List ℕ). get_or x 0 0) is.ahead.1) (prefix_len_passes is_ascii_digit (drop at part) 0 0 has.0))
+left_step part at end printed more name elements rest (e ∷ others) is has ends named wrote =
+    let u : List ℕ = drop at part in
+    let after = reads_after u e others rest is.ahead in
+    let same : e.name ≡ name = reads_name u e others rest is.ahead ∙ sym named in
+    let next : drop end part ≡ drop (name_end u) u = ap (λ k. drop k part) ends ∙ sym (drop-drop (name_end u) at part) in
+    let later : List ℕ = joined_left end others in
+    let step : encode_utf8_all (joined_left at (e ∷ others)) ≡ separator at ++ (encode_utf8_all (name_chars name) ++ encode_utf8_all later) =
+    ap encode_utf8_all (joined_left-step at end e others (omega (arith, ends, has.0)) ∙ ap (λ (x : List ℕ). separator at ++ (name_chars x ++ later)) same)
+    ∙ encodes-append (separator at) (name_chars name ++ later)
+    ∙ ap (λ (x : List ℕ). x ++ encode_utf8_all (name_chars name ++ later)) (separator_ascii at)
+    ∙ ap (λ (x : List ℕ). separator at ++ x) (encodes-append (name_chars name) later) in (
+      others,
+      record {
+        ahead = (after.0, next ∙ after.1);
+        joined = ap (λ (x : List ℕ). x ++ encode_utf8_all later) wrote
+            ∙ append_assoc (printed ++ separator at) (encode_utf8_all (name_chars name)) (encode_utf8_all later)
+            ∙ append_assoc printed (separator at) (encode_utf8_all (name_chars name) ++ encode_utf8_all later)
+            ∙ ap (λ (x : List ℕ). printed ++ x) (sym step)
+            ∙ is.joined;
+      },
+    )
+
+-- with no element left, all is written
+pub left_at_end : (part : List ℕ) (at : ℕ) (printed : List ℕ) (elements : List Element) (rest : List ℕ) (left : List Element)
+    → IsLeft part at printed elements rest left → (HasElement (drop at part) → ⊥) → printed ≡ encode_utf8_all (legacy_chars elements)
+left_at_end part at printed elements rest [] is no_more =
+    sym (append-nil printed) ∙ ap (λ (x : List ℕ). printed ++ encode_utf8_all x) (sym (joined_left-nil at)) ∙ is.joined
+left_at_end part at printed elements rest (e ∷ others) is no_more = absurd (no_more (reads_fits (drop at part) e others rest is.ahead))

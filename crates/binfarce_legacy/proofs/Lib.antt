@@ -1,0 +1,4 @@
+pub mod LastPartLemmas
+pub mod ElementLemmas
+pub mod JoinLemmas
+pub mod PieceLemmas

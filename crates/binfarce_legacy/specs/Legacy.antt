@@ -1,0 +1,114 @@
+-- The legacy mangling that `rustc` writes: `_ZN`, elements that are each counted, and `E`.
+use Rattle.std.specs.Prelude.{◌≡◌, ℕ, zero, suc, ◌+◌, ◌-◌, ◌<◌, Bool, ◌&&◌, not, List, [], ◌∷◌, ◌++◌, length, take, drop, Option, Some, None, if◌then◌else◌, ◌==◌, nat_eq, nat_lt, slice_index, codes, IsTrue, ⊤}
+use Rattle.std.specs.Option.{option_map, unwrap_or}
+use Rattle.std.specs.List.{find, flat_map, join_by, list_any, starts_with, take_while, before_last}
+use Rattle.std.specs.Char.{is_ascii_digit, is_control}
+use Rattle.std.specs.Str.{IsAscii}
+use Rattle.std.specs.Str.Parse.{digits_value}
+use Rattle.binfarce_text.specs.Letters.{'$', ':', is_hex_digit}
+use Rattle.binfarce_text.specs.Characters.{is_scalar}
+use Rattle.binfarce_text.specs.Prefixes.{after_prefix}
+use Rattle.binfarce_text.specs.Suffixes.{is_allowed_rest}
+
+-- what stands after the prefix: `_ZN`, `ZN` or `__ZN`
+unfoldable pub part_after_prefix : List ℕ → Option (List ℕ)
+part_after_prefix text = after_prefix (codes "_ZN" ∷ codes "ZN" ∷ codes "__ZN" ∷ []) text
+
+-- an element: the digits of its length, and its name
+pub record Element : Type 0 where
+  pub digits : List ℕ
+  pub name : List ℕ
+
+-- the bytes of the elements, `E`, and the rest after it
+abbrev pub print : List Element → List ℕ → List ℕ
+print [] rest = codes "E" ++ rest
+print (e ∷ elements) rest = e.digits ++ (e.name ++ print elements rest)
+
+-- with these bytes after it, e is counted: its digits are the longest run of decimal digits, and
+-- the number that they write is the length of its name
+pub record IsCounted (e : Element) (after : List ℕ) : Type 0 where
+  pub longest : e.digits ≡ take_while is_ascii_digit (e.digits ++ (e.name ++ after))
+  pub some : 0 < length e.digits
+  pub counts : length e.name ≡ digits_value 10 e.digits
+
+-- each element is counted
+abbrev pub AreCounted : List Element → List ℕ → Type 0
+AreCounted [] rest = ⊤
+AreCounted (e ∷ elements) rest = IsCounted e (print elements rest) × AreCounted elements rest
+
+-- part is counted elements, `E` and the rest
+abbrev pub Reads : List ℕ → List Element → List ℕ → Type 0
+Reads part elements rest = AreCounted elements rest × (part ≡ print elements rest)
+
+-- text is a legacy mangling of these elements: part stands after its prefix, and the rest after
+-- its `E`
+pub record IsLegacy (text part : List ℕ) (elements : List Element) (rest : List ℕ) : Type 0 where
+  pub prefix : part_after_prefix text ≡ Some part
+  pub ascii : IsAscii part
+  pub reads : Reads part elements rest
+  pub allowed : IsTrue (is_allowed_rest rest)
+
+-- a piece of an element's name: how many bytes it has there, and the characters that it stands for
+pub record Piece : Type 0 where
+  pub len : ℕ
+  pub chars : List ℕ
+
+-- the escapes that have a name, and the character that each stands for
+abbrev pub named_escapes : List (List ℕ × List ℕ)
+named_escapes =
+    (codes "$LT$", codes "<") ∷ (codes "$GT$", codes ">") ∷ (codes "$RF$", codes "&") ∷ (codes "$C$", codes ",")
+    ∷ (codes "$LP$", codes "(") ∷ (codes "$RP$", codes ")") ∷ (codes "$BP$", codes "*") ∷ (codes "$SP$", codes "@") ∷ []
+
+-- the piece that such an escape makes where the name begins with it
+unfoldable pub named_escape : List ℕ → Option Piece
+named_escape name =
+    option_map (λ e. record { len = length e.0; chars = e.1 })
+    (find (λ e. starts_with nat_eq name e.0) named_escapes)
+
+-- a character that is printed: a scalar value that is no control character
+abbrev pub is_printed : ℕ → Bool
+is_printed c = is_scalar c && not (is_control c)
+
+-- the piece that `$u`, hexadecimal digits and `$` make where the name begins with them
+unfoldable pub numbered_escape : List ℕ → Option Piece
+numbered_escape name =
+    let digits = take_while is_hex_digit (drop 2 name) in
+    if starts_with nat_eq name (codes "$u") && nat_lt 0 (length digits)
+    && slice_index name (2 + length digits) == '$' && is_printed (digits_value 16 digits)
+    then Some (record { len = 3 + length digits; chars = digits_value 16 digits ∷ [] })
+    else None
+
+-- the piece that begins a name: `..` is `::`, an escape is its character, a `$` that begins no
+-- escape keeps all the rest as it is, and any other byte is itself
+unfoldable pub first_piece : List ℕ → Piece
+first_piece name =
+    if starts_with nat_eq name (codes "..") then record { len = 2; chars = codes "::" }
+    else (if starts_with nat_eq name (codes "$u")
+    then unwrap_or (numbered_escape name) (record { len = length name; chars = name })
+    else (if starts_with nat_eq name (codes "$")
+    then unwrap_or (named_escape name) (record { len = length name; chars = name })
+    else record { len = 1; chars = take 1 name }))
+
+-- the pieces of a name from left to right. The bytes of a piece after its first are skipped, and
+-- `skip` is how many are still to be skipped
+abbrev pub pieces : ℕ → List ℕ → List Piece
+pieces skip [] = []
+pieces (suc skip) (b ∷ name) = pieces skip name
+pieces zero (b ∷ name) = first_piece (b ∷ name) ∷ pieces ((first_piece (b ∷ name)).len - 1) name
+
+-- the characters that a name stands for: a leading `_` is dropped before a `$`
+unfoldable pub name_chars : List ℕ → List ℕ
+name_chars name =
+    flat_map (λ p. p.chars) (pieces (if starts_with nat_eq name (codes "_$") then 1 else 0) name)
+
+-- the characters of a mangling: those of the elements' names, joined by `::`
+unfoldable pub legacy_chars : List Element → List ℕ
+legacy_chars elements = join_by (λ e. name_chars e.name) (codes "::") elements
+
+-- the characters before the one that precedes the last `:`: none where that `:` is first, and all
+-- where there is no `:`
+unfoldable pub without_last_part : List ℕ → List ℕ
+without_last_part chars =
+    if list_any (λ c. c == ':') chars
+    then (let front = before_last (λ c. c == ':') chars in take (length front - 1) front)
+    else chars

@@ -1,0 +1,2 @@
+pub mod Legacy
+pub mod machine

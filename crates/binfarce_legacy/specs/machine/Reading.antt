@@ -1,0 +1,46 @@
+-- What the private functions of `legacy` compute; no public contract cites this.
+use Rattle.std.specs.Prelude.{ℕ, zero, ◌+◌, ◌<◌, ◌≤◌, ◌≡◌, Bool, ◌&&◌, not, List, [], ◌∷◌, ◌++◌, ◌==◌, length, take, drop, if◌then◌else◌, codes, Option}
+use Rattle.std.specs.Option.{unwrap_or}
+use Rattle.std.specs.List.{prefix_len, flat_map}
+use Rattle.std.specs.Char.{is_ascii_digit}
+use Rattle.std.specs.Str.{encode_utf8_all}
+use Rattle.std.specs.Str.Parse.{digits_value}
+use Rattle.binfarce_legacy.specs.Legacy.{Element, Piece, Reads, pieces, name_chars, legacy_chars}
+
+-- a byte that stands for itself whatever follows it
+abbrev pub is_plain : ℕ → Bool
+is_plain b = not (b == 46) && not (b == 36)
+
+-- a piece of one character
+abbrev pub piece_of : ℕ × ℕ → Piece
+piece_of p = record { len = p.1; chars = p.0 ∷ [] }
+
+-- the piece of an escape, or all of a name where none begins it
+abbrev pub piece_or_all : List ℕ → Option Piece → Piece
+piece_or_all name escape = unwrap_or escape (record { len = length name; chars = name })
+
+-- where the name of a first element begins and ends
+unfoldable pub name_start : List ℕ → ℕ
+name_start text = prefix_len is_ascii_digit text
+
+unfoldable pub name_end : List ℕ → ℕ
+name_end text = name_start text + digits_value 10 (take (name_start text) text)
+
+-- the text begins with a count and as many bytes
+abbrev pub HasElement : List ℕ → Type 0
+HasElement text = (0 < name_start text) × (name_end text ≤ length text)
+
+-- the characters of what is left of a name
+unfoldable pub chars_left : List ℕ → List ℕ
+chars_left name = flat_map (λ p. p.chars) (pieces zero name)
+
+-- the characters of the elements that are left after the first `at` bytes
+unfoldable pub joined_left : ℕ → List Element → List ℕ
+joined_left at elements =
+    if at == 0 then legacy_chars elements
+    else flat_map (λ e. codes "::" ++ name_chars e.name) elements
+
+-- after `at` bytes, `left` are the elements to print
+pub record IsLeft (part : List ℕ) (at : ℕ) (printed : List ℕ) (elements : List Element) (rest : List ℕ) (left : List Element) : Type 0 where
+  pub ahead : Reads (drop at part) left rest
+  pub joined : printed ++ encode_utf8_all (joined_left at left) ≡ encode_utf8_all (legacy_chars elements)

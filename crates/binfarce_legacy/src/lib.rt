@@ -1,0 +1,4 @@
+//! Legacy names of Rust symbols: reading them, and printing what they mean.
+#![tactic(auto)]
+
+pub mod legacy;

@@ -1,5 +1,0 @@
-use Rattle.binfarce_names.proofs.V0LawLemmas.{no_limit}
-use Rattle.binfarce_names.proofs.v0.laws.knows_no_limit.Goals as goal
-
-pub returns : goal.returns
-returns c = no_limit c.args.name.now

@@ -1,5 +1,0 @@
-use Rattle.binfarce_names.proofs.V0LawLemmas.{reads_one}
-use Rattle.binfarce_names.proofs.v0.laws.reads_one_way.Goals as goal
-
-pub returns : goal.returns
-returns c = reads_one c.args.name.now

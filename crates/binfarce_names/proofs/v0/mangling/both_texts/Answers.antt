@@ -1,8 +1,0 @@
-use Rattle.binfarce_names.proofs.Manglings.{texts_tell}
-use Rattle.binfarce_names.proofs.v0.mangling.both_texts.Goals as goal
-
-pub returns : goal.returns
-returns c =
-    let one = rw c.in-Some.is at c.in_ok-complete.ensures in
-    let two = rw c.in-Some-2.is at c.in_ok-trimmed.ensures in
-    texts_tell c.args.name.now _ _ _ _ _ one two c.in_ok-crate_name.ensures

@@ -1,8 +1,0 @@
-use Rattle.std.proofs.Common.{sym, ◌∙◌}
-use Rattle.binfarce_names.proofs.Numbers.{number_from_over}
-use Rattle.binfarce_names.proofs.v0.numbers.digits_62.Goals as goal
-
-pub returns-in_err-worth : goal.returns-in_err-worth
-returns-in_err-worth c =
-    let large = number_from_over c.args.name.now c.loop-at.at c.loop-at.worth c.in_ok-digit.digit c.loop-at-test.true c.if-c-eq95.false (cc (c.digit_62.ensures, c.in_ok-digit.was)) c.in_err-worth.ensures in
-    c.from_residual-in_err-worth.ensures ∙ sym (c.loop-at.invariant ∙ large)

@@ -1,6 +1,0 @@
-use Rattle.std.proofs.Common.{◌≡◌, drop}
-use Rattle.binfarce_names.specs.Base62.{number_from}
-use Rattle.binfarce_names.proofs.v0.numbers.digits_62.Given as goal
-
-abbrev pub invariant-loop-at : goal.invariant-loop-at
-invariant-loop-at l = number_from (drop l.start l.name) 0 l.start ≡ number_from (drop l.at l.name) l.worth l.at

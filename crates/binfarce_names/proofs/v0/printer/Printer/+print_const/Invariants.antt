@@ -1,4 +1,0 @@
-use Rattle.binfarce_names.proofs.v0.printer.Printer.+print_const.Given as goal
-
-abbrev pub decreases-print_const : goal.decreases-print_const
-decreases-print_const l = l.left

@@ -1,0 +1,5 @@
+//! Tests of the PE reader by public calls.
+#![tactic(auto)]
+
+#[cfg(test)]
+mod tests;

@@ -1,0 +1,27 @@
+use crate::sizes::{RowAddress, arrange, sweep};
+use std::alloc::{AllocError, Global};
+use std::test::Fail;
+
+// 4,096 rows at 2,048 addresses, 16 bytes apart, in this order or in the opposite one.
+fn many_rows(alloc: Global, opposite: bool) -> Result<Vec<RowAddress>, AllocError> {
+    let mut rows = Vec::new(alloc);
+    for row in 0..4096usize {
+        let at = if opposite { 4095 - row } else { row };
+        let address = 0x1000 + 16 * (at as u64 / 2);
+        rows.push(RowAddress { address, row })?;
+    }
+    Ok(rows)
+}
+
+// The walk visits each row once.
+#[test]
+fn one_walk(rt: HostRuntime) -> Result<(), Fail> {
+    for opposite in [false, true] {
+        let mut rows = many_rows(rt.alloc(), opposite)?;
+        arrange(&mut rows);
+        let swept = sweep(rt.alloc(), &rows)?;
+        assert_eq!(rt; swept.visited, 4096, "opposite: {opposite}");
+        assert_eq!(rt; swept.above.len(), 4096, "opposite: {opposite}");
+    }
+    Ok(())
+}

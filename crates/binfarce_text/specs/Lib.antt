@@ -1,0 +1,6 @@
+pub mod Letters
+pub mod Characters
+pub mod Steps
+pub mod Prefixes
+pub mod Suffixes
+pub mod machine

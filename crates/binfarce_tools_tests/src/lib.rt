@@ -1,0 +1,5 @@
+//! Tests of the listing by public calls.
+#![tactic(auto)]
+
+#[cfg(test)]
+mod tests;

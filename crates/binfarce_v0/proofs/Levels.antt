@@ -1,0 +1,27 @@
+-- What a reader of some levels does.
+use Rattle.std.proofs.Common.{◌≡◌, ℕ, zero, suc, ◌-◌, true, List, nat_le, if◌then◌else◌, ◌&&◌, refl, arith}
+use Rattle.std.proofs.lemmas.Bool.Decides.{nat_tests}
+use Rattle.binfarce_v0_grammar.specs.Forms.{path_form, type_form, const_form}
+use Rattle.binfarce_v0_grammar.specs.Tree.{Position, NoPath, NoType, NoConst}
+use Rattle.binfarce_v0.specs.machine.Printing.{State, readers, path_rule, type_rule, const_rule, entered, stopped}
+
+one_le_suc : (l : ℕ) → nat_le 1 (suc l) ≡ true
+one_le_suc l = grind (arith, nat_tests)
+
+suc-one : (l : ℕ) → suc l - 1 ≡ l
+suc-one l = omega arith
+
+pub constant_at : (name : List ℕ) (left : ℕ) (s : State) → (readers name left).constant s ≡ (if nat_le 1 left && nat_le 1 s.room then const_rule (readers name (left - 1)) (entered (left - 1) s) (const_form name s.at) else (NoConst, stopped s))
+unfolding readers
+constant_at name zero s = refl
+constant_at name (suc l) s = rw (one_le_suc l, suc-one l) refl
+
+pub type_at : (name : List ℕ) (left depth : ℕ) (s : State) → (readers name left).ty depth s ≡ (if nat_le 1 left && nat_le 1 s.room then type_rule name (readers name (left - 1)) depth (entered (left - 1) s) (type_form name s.at) else (NoType, stopped s))
+unfolding readers
+type_at name zero depth s = refl
+type_at name (suc l) depth s = rw (one_le_suc l, suc-one l) refl
+
+pub path_at : (name : List ℕ) (left : ℕ) (position : Position) (depth : ℕ) (s : State) → (readers name left).path position depth s ≡ (if nat_le 1 left && nat_le 1 s.room then path_rule name (readers name (left - 1)) position depth (entered (left - 1) s) (path_form name s.at) else (NoPath, stopped s))
+unfolding readers
+path_at name zero position depth s = refl
+path_at name (suc l) position depth s = rw (one_le_suc l, suc-one l) refl

@@ -1,0 +1,10 @@
+pub mod Complete
+pub mod Levels
+pub mod Lists
+pub mod Manglings
+pub mod Says
+pub mod Sound
+pub mod SoundForms
+pub mod States
+pub mod Texts
+pub mod RestLemmas

@@ -1,0 +1,111 @@
+-- What the reading and the printer do with a whole name.
+use Rattle.std.proofs.Common.{◌≡◌, ℕ, ◌≤◌, ◌-◌, min, Bool, true, false, List, Option, Some, None, cond, refl, ap, sym, ◌∙◌, subst, arith}
+use Rattle.std.specs.Option.{option_map}
+use Rattle.binfarce_v0_grammar.specs.Identifiers.{identifier_text}
+use Rattle.binfarce_v0_grammar.specs.Tree.{PathTree, path_height, path_steps, name_text, InValue}
+use Rattle.binfarce_v0_grammar.specs.Unfolding.{UnfoldsTo}
+use Rattle.binfarce_v0_grammar.specs.declared.limits.TheConstants.{MAX_LEVELS, MAX_STEPS}
+use Rattle.binfarce_v0.specs.Mangling.{is_upper_at, PathStands, SecondPath, ReadsPaths, IsMangling, part_after_prefix}
+use Rattle.binfarce_v0.specs.machine.Mangling.{paths_end}
+use Rattle.binfarce_v0.specs.machine.Outcome.{Outcome, outcome_of, IsOutcome, AreTexts}
+use Rattle.binfarce_v0.specs.machine.Printing.{State, readers, first_state}
+use Rattle.binfarce_v0_grammar.specs.machine.Ends.{ends}
+use Rattle.std.specs.Prelude.{MatchOption}
+use Rattle.binfarce_v0.proofs.SoundForms.{readers_sound}
+use Rattle.binfarce_v0.proofs.Complete.{path_complete}
+use Rattle.binfarce_v0_grammar.proofs.ReadingSound.{ends_read, between}
+use Rattle.binfarce_v0_grammar.proofs.ReadingComplete.{path_ends}
+
+-- the whole printing of a name
+abbrev pub printed : List ℕ → Bool → PathTree × State
+printed name full = (readers name MAX_LEVELS).path InValue 0 (first_state full)
+
+-- what is no longer left of a limit was taken
+levels_taken : (levels : ℕ) → levels ≤ MAX_LEVELS → MAX_LEVELS - min MAX_LEVELS (MAX_LEVELS - levels) ≡ levels
+levels_taken levels h = omega arith
+
+steps_taken : (steps : ℕ) → steps ≤ MAX_STEPS → MAX_STEPS - (MAX_STEPS - steps) ≡ steps
+steps_taken steps h = omega arith
+
+-- a printing that passed no limit is that of the tree that the name unfolds to
+pub printed_is_outcome : (name : List ℕ) (full : Bool) → (printed name full).1.over ≡ false → IsOutcome name full (outcome_of (printed name full).1)
+printed_is_outcome name full o =
+    let H = readers_sound name MAX_LEVELS in
+    let f = H.path InValue 0 (first_state full) o in
+    let within : path_steps (printed name full).0 ≤ MAX_STEPS = omega arith in
+    let same = path_complete (printed name full).0 name MAX_LEVELS InValue 0 (first_state full) (printed name full).1.at refl f.is f.height within in
+    record {
+      tree = (printed name full).0;
+      unfolds = record { after = (printed name full).1.at; is_path = f.is; levels = f.height; steps = within };
+      text_is = ap (λ r. r.1.text) same;
+      root_is = ap (λ r. r.1.root) same;
+      levels_are = ap (λ r. MAX_LEVELS - r.1.least) same ∙ levels_taken (path_height (printed name full).0) f.height;
+      steps_are = ap (λ r. MAX_STEPS - r.1.room) same ∙ steps_taken (path_steps (printed name full).0) within;
+    }
+
+pub printed_over : (name : List ℕ) (full : Bool) → (printed name full).1.over ≡ true → (tree : PathTree) → UnfoldsTo name tree → ⊥
+printed_over name full o tree u =
+    let same = path_complete tree name MAX_LEVELS InValue 0 (first_state full) u.after refl u.is_path u.levels u.steps in
+    let not_over : (printed name full).1.over ≡ false = ap (λ r. r.1.over) same in
+    let both : true ≡ false = sym o ∙ not_over in cc
+
+-- a path that the reading reads
+pub path_stands : (name : List ℕ) (at after : ℕ) → (ends name MAX_LEVELS).path at ≡ Some after → PathStands name at after
+path_stands name at after e =
+    let H = ends_read name MAX_LEVELS in
+    let f = H.path at after e in record { tree = f.tree; reads = f.reads; levels = f.height }
+
+pub path_read_at : (name : List ℕ) (at after : ℕ) → PathStands name at after → (ends name MAX_LEVELS).path at ≡ Some after
+path_read_at name at after p = path_ends p.tree name MAX_LEVELS at after p.reads p.levels
+
+second_path : (name : List ℕ) (at after : ℕ) (b : Bool) → (cond b ((ends name MAX_LEVELS).path at) (Some at)) ≡ Some after → SecondPath b name at after
+second_path name at after true e = path_stands name at after e
+second_path name at after false e = cc
+
+second_read : (name : List ℕ) (at after : ℕ) (b : Bool) → SecondPath b name at after → (cond b ((ends name MAX_LEVELS).path at) (Some at)) ≡ Some after
+second_read name at after true p = path_read_at name at after p
+second_read name at after false p = ap Some (sym p)
+
+pub paths_read : (name : List ℕ) (after : ℕ) → paths_end name ≡ Some after → ReadsPaths name after
+paths_read name after e =
+    let b = between ((ends name MAX_LEVELS).path 0) (λ mid. cond (is_upper_at name mid) ((ends name MAX_LEVELS).path mid) (Some mid)) after e in
+    record {
+      mid = b.mid;
+      path = path_stands name 0 b.mid b.first;
+      instantiating_crate = second_path name b.mid after (is_upper_at name b.mid) b.second;
+    }
+
+pub read_paths_at : (name : List ℕ) (after : ℕ) → ReadsPaths name after → paths_end name ≡ Some after
+read_paths_at name after p =
+    rw (path_read_at name 0 p.mid p.path) (second_read name p.mid after (is_upper_at name p.mid) p.instantiating_crate)
+
+-- where no paths are read there is no mangling
+pub not_mangling : (text read : List ℕ) → part_after_prefix text ≡ Some read → paths_end read ≡ None → (name : List ℕ) (after : ℕ) → IsMangling text name after → ⊥
+not_mangling text read b e name after m =
+    let same : read ≡ name = cc (b, m.prefix) in
+    let paths = subst (λ n. ReadsPaths n after) (sym same) m.paths in
+    let found = read_paths_at read after paths in cc
+
+pub print_gives_outcome : {P : Type 0} (seen : P → Outcome) (name : List ℕ) (full : Bool) (s : State) (r : Option P) → s ≡ (printed name full).1 → MatchOption r (s.over ≡ true) (λ p. (s.over ≡ false) × (seen p ≡ outcome_of s)) → MatchOption r ((tree : PathTree) → UnfoldsTo name tree → ⊥) (λ p. IsOutcome name full (seen p))
+print_gives_outcome seen name full s None e h =
+    let over : (printed name full).1.over ≡ true = ap (λ (v : State). v.over) (sym e) ∙ h in printed_over name full over
+print_gives_outcome seen name full s (Some p) e h =
+    let on : (printed name full).1.over ≡ false = ap (λ (v : State). v.over) (sym e) ∙ h.0 in
+    subst (IsOutcome name full) (sym (h.1 ∙ ap outcome_of e)) (printed_is_outcome name full on)
+
+-- a name unfolds to one tree
+pub unfolds_once : (name : List ℕ) (t u : PathTree) → UnfoldsTo name t → UnfoldsTo name u → t ≡ u
+unfolds_once name t u a b =
+    let first = path_complete t name MAX_LEVELS InValue 0 (first_state true) a.after refl a.is_path a.levels a.steps in
+    let second = path_complete u name MAX_LEVELS InValue 0 (first_state true) b.after refl b.is_path b.levels b.steps in
+    ap (λ r. r.0) (sym first ∙ second)
+
+pub are_texts : (name : List ℕ) (complete trimmed : Outcome) (crate_name : Option (List ℕ)) → IsOutcome name true complete → IsOutcome name false trimmed → crate_name ≡ option_map identifier_text complete.root → AreTexts name complete.text trimmed.text crate_name
+are_texts name complete trimmed crate_name c t e =
+    record {
+      tree = c.tree;
+      unfolds = c.unfolds;
+      complete_is = c.text_is;
+      trimmed_is = t.text_is ∙ ap (name_text false) (unfolds_once name t.tree c.tree t.unfolds c.unfolds);
+      crate_is = e ∙ ap (option_map identifier_text) c.root_is;
+    }

@@ -1,0 +1,2 @@
+pub mod Mangling
+pub mod machine

@@ -1,0 +1,45 @@
+-- What a whole printing tells of a name.
+use Rattle.std.specs.Prelude.{◌≡◌, ℕ, ◌-◌, List, Option, Bool, true, false}
+use Rattle.std.specs.Option.{option_map}
+use Rattle.std.specs.String.{string_bytes}
+use Rattle.binfarce_v0_grammar.specs.Identifiers.{UndisambiguatedIdentifier, identifier_text}
+use Rattle.binfarce_v0_grammar.specs.Tree.{PathTree, path_height, path_steps, path_root, name_text}
+use Rattle.binfarce_v0_grammar.specs.Unfolding.{UnfoldsTo}
+use Rattle.binfarce_v0_grammar.specs.machine.Seen.{undisambiguated_seen}
+use Rattle.binfarce_v0_grammar.specs.declared.limits.TheConstants.{MAX_LEVELS, MAX_STEPS}
+use Rattle.binfarce_v0.specs.declared.state.Printed.{Printed}
+use Rattle.binfarce_v0.specs.machine.Printing.{State}
+
+-- what a finished printing gives: a text, the first crate root, and how many levels and steps it took
+pub record Outcome : Type 0 where
+  pub text : List ℕ
+  pub root : Option UndisambiguatedIdentifier
+  pub levels : ℕ
+  pub steps : ℕ
+
+-- what a `Printed` gives, its texts as their bytes
+abbrev pub printed_seen : Printed → Outcome
+printed_seen p =
+    record { text = string_bytes p.text; root = option_map undisambiguated_seen p.root; levels = p.levels; steps = p.steps }
+
+-- what a state gives at the end: the levels and the steps that are no longer left were taken
+abbrev pub outcome_of : State → Outcome
+outcome_of s =
+    record { text = s.text; root = s.root; levels = MAX_LEVELS - s.least; steps = MAX_STEPS - s.room }
+
+-- they are the text, the crate root, the levels and the steps of the tree that a name unfolds to within the limits
+pub record IsOutcome (name : List ℕ) (full : Bool) (outcome : Outcome) : Type 0 where
+  pub tree : PathTree
+  pub unfolds : UnfoldsTo name tree
+  pub text_is : outcome.text ≡ name_text full tree
+  pub root_is : outcome.root ≡ path_root tree
+  pub levels_are : outcome.levels ≡ path_height tree
+  pub steps_are : outcome.steps ≡ path_steps tree
+
+-- both texts and the crate are those of one tree that a name unfolds to within the limits
+pub record AreTexts (name complete trimmed : List ℕ) (crate_name : Option (List ℕ)) : Type 0 where
+  pub tree : PathTree
+  pub unfolds : UnfoldsTo name tree
+  pub complete_is : complete ≡ name_text true tree
+  pub trimmed_is : trimmed ≡ name_text false tree
+  pub crate_is : crate_name ≡ option_map identifier_text (path_root tree)

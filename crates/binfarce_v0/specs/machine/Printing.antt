@@ -1,0 +1,355 @@
+-- The printer, step by step: a name is read and written in one pass. Each step gives the tree that it read, and the state that it leaves.
+use Rattle.std.specs.Prelude.{ℕ, zero, suc, ◌+◌, ◌-◌, ◌*◌, ◌≤◌, List, [], ◌++◌, Option, Some, None, Bool, true, false, if◌then◌else◌, nat_le, codes, min}
+use Rattle.binfarce_text.specs.Letters.{'K', 'L', 'p', 'u'}
+use Rattle.binfarce_v0_grammar.specs.Identifiers.{UndisambiguatedIdentifier, Identifier, identifier_text}
+use Rattle.binfarce_v0_grammar.specs.Forms.{Lifetime, NoLifetime, Signature, stands, after_byte, identifier_at, undisambiguated_at, lifetime, path_form, type_form, const_form, PathForm, NoPathForm, CrateRoot, NestedIn, InherentImpl, TraitImpl, TraitDefinition, WithArguments, BackToPath, TypeForm, NoTypeForm, BasicType, ReferenceTo, InvalidReference, PointerTo, SliceOf, ArrayOf, TupleOf, FunctionOf, InvalidAbi, DynOf, InvalidDyn, BackToType, PathType, ConstForm, NoConstForm, PlaceholderConst, DigitsConst, InvalidConst, BackToConst}
+use Rattle.binfarce_v0_grammar.specs.Tree.{PathTree, TypeTree, ConstTree, Item, Items, Bindings, NoConst, Placeholder, Number, InvalidNumber, BackConst, NoPath, Crate, Nested, InvalidNested, OfType, OfImpl, OfTrait, Generic, BackPath, NoType, Basic, Reference, InvalidReferenceType, Pointer, Slice, Array, Tuple, Function, FunctionTo, InvalidFunction, Dyn, InvalidDynType, Named, BackType, LifetimeItem, TypeItem, ConstItem, TraitItem, NoItems, ItemThen, NoBindings, Binding, InvalidBinding, lifetime_steps, first_of, Position, InType, OpenTrait, parent_position, binder_text, reference_lifetime, argument_lifetime, dyn_lifetime, disambiguator_text, nested_text, mutable_text, signature_text, number_text, value_mark, closing, is_left_open, separator, single_mark, open_mark, close_mark, Listed, Arguments, Types, Traits}
+use Rattle.binfarce_v0_grammar.specs.Unfolding.{bound_end, required_end, list_goes_on}
+use Rattle.binfarce_v0_grammar.specs.declared.limits.TheConstants.{MAX_LEVELS, MAX_STEPS}
+
+-- the state of a printing
+pub record State : Type 0 where
+  -- the position, None after a fault
+  pub at : Option ℕ
+  -- the steps that are left
+  pub room : ℕ
+  -- the least number of levels that were left so far
+  pub least : ℕ
+  -- a limit was passed
+  pub over : Bool
+  -- what was written, unless it is muted
+  pub text : List ℕ
+  pub muted : Bool
+  -- disambiguators of crates are written
+  pub full : Bool
+  -- in no back reference
+  pub outside : Bool
+  -- the first crate root
+  pub root : Option UndisambiguatedIdentifier
+
+abbrev pub heard : Bool → List ℕ → List ℕ
+heard true text = []
+heard false text = text
+
+abbrev pub say : List ℕ → State → State
+say text s = record s { text = s.text ++ heard s.muted text }
+
+abbrev pub go : Option ℕ → State → State
+go at s = record s { at = at }
+
+-- a fault
+abbrev pub faulted : State → State
+faulted s = say (codes "?") (go None s)
+
+-- a limit is passed
+abbrev pub stopped : State → State
+stopped s = record s { at = None; over = true }
+
+-- steps
+abbrev pub take : ℕ → State → State
+take n s = record s { room = s.room - n }
+
+-- a level and a step
+abbrev pub entered : ℕ → State → State
+entered left s = record s { room = s.room - 1; least = min s.least left }
+
+-- the first crate root outside back references
+abbrev pub kept_root : Bool → Option UndisambiguatedIdentifier → Option UndisambiguatedIdentifier → Option UndisambiguatedIdentifier
+kept_root true root other = first_of root other
+kept_root false root other = root
+
+abbrev pub rooted : UndisambiguatedIdentifier → State → State
+rooted name s = record s { root = kept_root s.outside s.root (Some name) }
+
+-- what is read in a back reference's target
+abbrev pub into : ℕ → State → State
+into target s = record s { at = Some target; outside = false }
+
+abbrev pub back_to : ℕ → Bool → State → State
+back_to q outside s = record s { at = if s.over then None else Some q; outside = outside }
+
+abbrev pub mute : State → State
+mute s = record s { muted = true }
+
+abbrev pub unmute : Bool → State → State
+unmute muted s = record s { muted = muted }
+
+-- the readers of one level less
+pub record Readers : Type 0 where
+  pub path : Position → ℕ → State → PathTree × State
+  pub ty : ℕ → State → TypeTree × State
+  pub constant : State → ConstTree × State
+
+-- Consts
+
+abbrev pub back_const : ℕ → Bool → ConstTree × State → ConstTree × State
+back_const q outside r = (BackConst r.0, back_to q outside r.1)
+
+unfoldable pub const_rule : Readers → State → ConstForm → ConstTree × State
+const_rule R s NoConstForm = (NoConst, faulted s)
+const_rule R s (PlaceholderConst type_name q) =
+    (Placeholder type_name, say type_name (say (codes ": ") (say (codes "_") (go (Some q) s))))
+const_rule R s (DigitsConst type_name hex q) =
+    (Number type_name hex, say type_name (say (codes ": ") (say (number_text hex) (go (Some q) s))))
+const_rule R s (InvalidConst type_name) = (InvalidNumber type_name, say type_name (say (codes ": ") (faulted s)))
+const_rule R s (BackToConst target q) = back_const q s.outside (R.constant (into target s))
+
+-- Lists
+
+abbrev pub lifetime_item : ℕ → Lifetime × Option ℕ → State → Item × State
+lifetime_item depth l s =
+    (LifetimeItem l.0, say (argument_lifetime depth l.0) (go (required_end depth l.0 l.1) s))
+
+-- what takes steps, where so many are left
+abbrev pub taking : {T : Type 0} → ℕ → T → State → (State → T × State) → T × State
+taking n none s f = if nat_le n s.room then f (take n s) else (none, stopped s)
+
+abbrev pub const_item : ConstTree × State → Item × State
+const_item r = (ConstItem r.0, r.1)
+
+abbrev pub type_item : TypeTree × State → Item × State
+type_item r = (TypeItem r.0, r.1)
+
+abbrev pub argument_rule : List ℕ → Readers → ℕ → State → Bool → Bool → Item × State
+argument_rule name R depth s true is_const =
+    taking 1 (LifetimeItem NoLifetime) s (lifetime_item depth (lifetime name s.at))
+argument_rule name R depth s false true = const_item (R.constant (go (after_byte s.at) s))
+argument_rule name R depth s false false = type_item (R.ty depth s)
+
+-- the bindings of a trait
+abbrev pub binding_then : UndisambiguatedIdentifier → TypeTree → Bindings × State → Bindings × State
+binding_then i t r = (Binding i t r.0, r.1)
+
+abbrev pub bound_type : (Bool → State → Bindings × State) → UndisambiguatedIdentifier → TypeTree × State → Bindings × State
+bound_type more i r = binding_then i r.0 (more true r.1)
+
+abbrev pub named_binding : Readers → ℕ → (Bool → State → Bindings × State) → Bool → State → Option (UndisambiguatedIdentifier × ℕ) → Bindings × State
+named_binding R depth more is_open s None = (InvalidBinding, faulted (say (open_mark is_open) s))
+named_binding R depth more is_open s (Some i) =
+    bound_type more i.0 (R.ty depth (say (codes " = ") (say (identifier_text i.0) (go (Some i.1) (say (open_mark is_open) s)))))
+
+abbrev pub binding_rule : List ℕ → Readers → ℕ → (Bool → State → Bindings × State) → Bool → State → Bool → Bindings × State
+binding_rule name R depth more is_open s true =
+    named_binding R depth more is_open s (undisambiguated_at name (after_byte s.at))
+binding_rule name R depth more is_open s false = (NoBindings, say (close_mark is_open) s)
+
+unfoldable pub bindings_rule : List ℕ → Readers → ℕ → ℕ → Bool → State → Bindings × State
+bindings_rule name R depth zero is_open s = (NoBindings, stopped s)
+bindings_rule name R depth (suc n) is_open s =
+    binding_rule name R depth (bindings_rule name R depth n) is_open s (stands name 'p' s.at)
+
+abbrev pub trait_item : PathTree → Bindings × State → Item × State
+trait_item p r = (TraitItem p r.0, r.1)
+
+abbrev pub trait_rule : List ℕ → Readers → ℕ → PathTree × State → Item × State
+trait_rule name R depth r =
+    trait_item r.0 (bindings_rule name R depth (suc r.1.room) (is_left_open r.0 OpenTrait) r.1)
+
+unfoldable pub item_rule : List ℕ → Readers → ℕ → Listed → State → Item × State
+item_rule name R depth Arguments s = argument_rule name R depth s (stands name 'L' s.at) (stands name 'K' s.at)
+item_rule name R depth Types s = type_item (R.ty depth s)
+item_rule name R depth Traits s = trait_rule name R depth (R.path OpenTrait depth s)
+
+abbrev pub item_then : Item → Items × State → Items × State
+item_then i r = (ItemThen i r.0, r.1)
+
+abbrev pub items_after : (State → Items × State) → Item × State → Items × State
+items_after more r = item_then r.0 (more r.1)
+
+abbrev pub list_rule : List ℕ → Readers → ℕ → Listed → List ℕ → (State → Items × State) → Bool → State → Bool → Items × State
+list_rule name R depth listed between more is_first s true =
+    items_after more (item_rule name R depth listed (say (separator is_first between) s))
+list_rule name R depth listed between more is_first s false = (NoItems, go (after_byte s.at) s)
+
+unfoldable pub items_rule : List ℕ → Readers → ℕ → Listed → List ℕ → ℕ → Bool → State → Items × State
+items_rule name R depth listed between zero is_first s = (NoItems, stopped s)
+items_rule name R depth listed between (suc n) is_first s =
+    list_rule name R depth listed between (items_rule name R depth listed between n false) is_first s (list_goes_on name s.at)
+
+abbrev pub items_count : Items → ℕ
+items_count NoItems = 0
+items_count (ItemThen i items) = suc (items_count items)
+
+-- a list, of no more items than there are steps left
+abbrev pub items_from : List ℕ → Readers → ℕ → Listed → List ℕ → State → Items × State
+items_from name R depth listed between s = items_rule name R depth listed between (suc s.room) true s
+
+-- Types
+
+abbrev pub type_then : List ℕ → (TypeTree → TypeTree) → TypeTree × State → TypeTree × State
+type_then text make r = (make r.0, say text r.1)
+
+abbrev pub type_as : (TypeTree → TypeTree) → TypeTree × State → TypeTree × State
+type_as make r = (make r.0, r.1)
+
+abbrev pub array_end : TypeTree → ConstTree × State → TypeTree × State
+array_end t r = (Array t r.0, say (codes "]") r.1)
+
+abbrev pub array_rule : Readers → TypeTree × State → TypeTree × State
+array_rule R r = array_end r.0 (R.constant (say (codes "; ") r.1))
+
+abbrev pub tuple_end : Items × State → TypeTree × State
+tuple_end r = (Tuple r.0, say (codes ")") (say (single_mark r.0) r.1))
+
+abbrev pub returned : List ℕ → Readers → ℕ → Signature → Items → State → Bool → TypeTree × State
+returned name R depth signature items s true = (Function signature items, go (after_byte s.at) s)
+returned name R depth signature items s false =
+    type_as (FunctionTo signature items) (R.ty depth (say (codes " -> ") s))
+
+abbrev pub function_end : List ℕ → Readers → ℕ → Signature → Items × State → TypeTree × State
+function_end name R depth signature r =
+    returned name R depth signature r.0 (say (codes ")") r.1) (stands name 'u' r.1.at)
+
+abbrev pub function_rule : List ℕ → Readers → ℕ → Signature → ℕ → State → TypeTree × State
+function_rule name R depth signature q s =
+    function_end name R (depth + signature.binder) signature (items_from name R (depth + signature.binder) Types (codes ", ") (say (signature_text signature) (say (binder_text depth signature.binder) (go (Some q) s))))
+
+abbrev pub dyn_lifetime_rule : ℕ → ℕ → Items → Lifetime × Option ℕ → State → TypeTree × State
+dyn_lifetime_rule depth binder items l s =
+    (Dyn binder items l.0, say (dyn_lifetime depth l.0) (go (required_end depth l.0 l.1) s))
+
+abbrev pub dyn_life : ℕ → ℕ → Items → Lifetime × Option ℕ → State → TypeTree × State
+dyn_life depth binder items l s =
+    taking (lifetime_steps l.0) NoType s (dyn_lifetime_rule depth binder items l)
+
+abbrev pub dyn_end : List ℕ → ℕ → ℕ → Items × State → TypeTree × State
+dyn_end name depth binder r = dyn_life depth binder r.0 (lifetime name r.1.at) r.1
+
+abbrev pub dyn_rule : List ℕ → Readers → ℕ → ℕ → ℕ → State → TypeTree × State
+dyn_rule name R depth binder q s =
+    dyn_end name depth binder (items_from name R (depth + binder) Traits (codes " + ") (say (binder_text depth binder) (say (codes "dyn ") (go (Some q) s))))
+
+abbrev pub reference_rule : Readers → ℕ → Bool → Lifetime → ℕ → State → TypeTree × State
+reference_rule R depth mutable life q s =
+    type_as (Reference mutable life) (R.ty depth (say (mutable_text mutable (codes "mut ") []) (say (reference_lifetime depth life) (say (codes "&") (go (bound_end depth life (Some q)) s)))))
+
+abbrev pub back_type : ℕ → Bool → TypeTree × State → TypeTree × State
+back_type q outside r = (BackType r.0, back_to q outside r.1)
+
+abbrev pub named_type : PathTree × State → TypeTree × State
+named_type r = (Named r.0, r.1)
+
+abbrev pub invalid_reference : State → TypeTree × State
+invalid_reference s = (InvalidReferenceType, say (codes "&?") (go None s))
+
+abbrev pub invalid_function : ℕ → ℕ → State → TypeTree × State
+invalid_function depth binder s = (InvalidFunction binder, faulted (say (binder_text depth binder) s))
+
+unfoldable pub type_rule : List ℕ → Readers → ℕ → State → TypeForm → TypeTree × State
+type_rule name R depth s NoTypeForm = (NoType, faulted s)
+type_rule name R depth s (BasicType text q) = (Basic text, say text (go (Some q) s))
+type_rule name R depth s (ReferenceTo mutable life q) =
+    taking (lifetime_steps life) NoType s (reference_rule R depth mutable life q)
+type_rule name R depth s InvalidReference = taking 1 NoType s invalid_reference
+type_rule name R depth s (PointerTo mutable q) =
+    type_as (Pointer mutable) (R.ty depth (say (mutable_text mutable (codes "*mut ") (codes "*const ")) (go (Some q) s)))
+type_rule name R depth s (SliceOf q) = type_then (codes "]") Slice (R.ty depth (say (codes "[") (go (Some q) s)))
+type_rule name R depth s (ArrayOf q) = array_rule R (R.ty depth (say (codes "[") (go (Some q) s)))
+type_rule name R depth s (TupleOf q) =
+    tuple_end (items_from name R depth Types (codes ", ") (say (codes "(") (go (Some q) s)))
+type_rule name R depth s (FunctionOf signature q) =
+    taking signature.binder NoType s (function_rule name R depth signature q)
+type_rule name R depth s (InvalidAbi binder) = taking binder NoType s (invalid_function depth binder)
+type_rule name R depth s (DynOf binder q) = taking binder NoType s (dyn_rule name R depth binder q)
+type_rule name R depth s InvalidDyn = (InvalidDynType, say (codes "dyn ??") (go None s))
+type_rule name R depth s (BackToType target q) = back_type q s.outside (R.ty depth (into target s))
+type_rule name R depth s PathType = named_type (R.path InType depth s)
+
+-- Paths
+
+abbrev pub named_tree : ℕ → PathTree → Option (Identifier × ℕ) → PathTree
+named_tree namespace p None = InvalidNested p
+named_tree namespace p (Some l) = Nested namespace p l.0
+
+abbrev pub named_state : ℕ → State → Option (Identifier × ℕ) → State
+named_state namespace s None = faulted s
+named_state namespace s (Some l) = say (nested_text namespace l.0) (go (Some l.1) s)
+
+abbrev pub nested_rule : List ℕ → ℕ → PathTree × State → PathTree × State
+nested_rule name namespace r =
+    (named_tree namespace r.0 (identifier_at name r.1.at), named_state namespace r.1 (identifier_at name r.1.at))
+
+-- the path of an impl is read and not written
+abbrev pub unmuted : Bool → PathTree × State → PathTree × State
+unmuted muted r = (r.0, unmute muted r.1)
+
+abbrev pub path_then : List ℕ → (PathTree → PathTree) → PathTree × State → PathTree × State
+path_then text make r = (make r.0, say text r.1)
+
+abbrev pub of_type_end : PathTree → TypeTree × State → PathTree × State
+of_type_end p r = (OfType p r.0, say (codes ">") r.1)
+
+abbrev pub of_type_rule : Readers → ℕ → PathTree × State → PathTree × State
+of_type_rule R depth r = of_type_end r.0 (R.ty depth (say (codes "<") r.1))
+
+abbrev pub as_trait : Readers → ℕ → (TypeTree → PathTree → PathTree) → TypeTree × State → PathTree × State
+as_trait R depth make r = path_then (codes ">") (make r.0) (R.path InType depth (say (codes " as ") r.1))
+
+abbrev pub of_impl_rule : Readers → ℕ → PathTree × State → PathTree × State
+of_impl_rule R depth r = as_trait R depth (OfImpl r.0) (R.ty depth (say (codes "<") r.1))
+
+abbrev pub generic_end : Position → PathTree → Items × State → PathTree × State
+generic_end position p r = (Generic p r.0, say (closing position) r.1)
+
+abbrev pub generic_rule : List ℕ → Readers → Position → ℕ → PathTree × State → PathTree × State
+generic_rule name R position depth r =
+    generic_end position r.0 (items_from name R depth Arguments (codes ", ") (say (codes "<") (say (value_mark position) r.1)))
+
+abbrev pub back_path : ℕ → Bool → PathTree × State → PathTree × State
+back_path q outside r = (BackPath r.0, back_to q outside r.1)
+
+abbrev pub crate_rule : Identifier → State → PathTree × State
+crate_rule root s =
+    (Crate root, say (disambiguator_text s.full root.disambiguator) (say (identifier_text root.name) (rooted root.name s)))
+
+unfoldable pub path_rule : List ℕ → Readers → Position → ℕ → State → PathForm → PathTree × State
+path_rule name R position depth s NoPathForm = (NoPath, faulted s)
+path_rule name R position depth s (CrateRoot root q) = crate_rule root (go (Some q) s)
+path_rule name R position depth s (NestedIn namespace q) =
+    nested_rule name namespace (R.path (parent_position position) depth (go (Some q) s))
+path_rule name R position depth s (InherentImpl q) =
+    of_type_rule R depth (unmuted s.muted (R.path (parent_position position) depth (mute (go (Some q) s))))
+path_rule name R position depth s (TraitImpl q) =
+    of_impl_rule R depth (unmuted s.muted (R.path (parent_position position) depth (mute (go (Some q) s))))
+path_rule name R position depth s (TraitDefinition q) =
+    as_trait R depth OfTrait (R.ty depth (say (codes "<") (go (Some q) s)))
+path_rule name R position depth s (WithArguments q) =
+    generic_rule name R position depth (R.path (parent_position position) depth (go (Some q) s))
+path_rule name R position depth s (BackToPath target q) =
+    back_path q s.outside (R.path position depth (into target s))
+
+-- a type and the trait after its " as "
+abbrev pub qualified : Readers → ℕ → State → PathTree × State
+qualified R depth s = as_trait R depth OfTrait (R.ty depth (say (codes "<") s))
+
+-- Levels
+
+-- a level and a step
+abbrev pub entering : {T : Type 0} → ℕ → T → State → (State → T × State) → T × State
+entering left none s f = if nat_le 1 s.room then f (entered left s) else (none, stopped s)
+
+unfoldable pub readers : List ℕ → ℕ → Readers
+readers name zero =
+    record { path = λ position depth s. (NoPath, stopped s); ty = λ depth s. (NoType, stopped s); constant = λ s. (NoConst, stopped s) }
+readers name (suc left) =
+    record { path = λ position depth s. entering left NoPath s (λ e. path_rule name (readers name left) position depth e (path_form name s.at)); ty = λ depth s. entering left NoType s (λ e. type_rule name (readers name left) depth e (type_form name s.at)); constant = λ s. entering left NoConst s (λ e. const_rule (readers name left) e (const_form name s.at)) }
+
+-- at most `MAX_LEVELS` levels are left, and the levels above them have announced at most `MAX_STEPS` lifetimes each
+abbrev pub WithinLevels : (left depth : ℕ) → Type 0
+WithinLevels left depth = (left ≤ MAX_LEVELS) × (depth ≤ MAX_STEPS * (MAX_LEVELS - left))
+
+-- a printing at its beginning
+abbrev pub first_state : Bool → State
+first_state full =
+    record { at = Some 0; room = MAX_STEPS; least = MAX_LEVELS; over = false; text = []; muted = false; full = full; outside = true; root = None }
+
+-- what clauses see of a printer: the name that it prints, which stays, and the state of the printing
+pub record Printing : Type 0 where
+  pub name : List ℕ
+  pub state : State
+
+abbrev pub with_state : State → Printing → Printing
+with_state s p = record p { state = s }
+
+abbrev pub first_printing : List ℕ → Bool → Printing
+first_printing name full = record { name = name; state = first_state full }

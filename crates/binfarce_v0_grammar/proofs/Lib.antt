@@ -1,0 +1,8 @@
+pub mod TextLemmas
+pub mod NumberLemmas
+pub mod PunycodeLemmas
+pub mod ReadingComplete
+pub mod ReadingForward
+pub mod ReadingLists
+pub mod ReadingSound
+pub mod ReadingTrees

@@ -1,0 +1,351 @@
+-- What is read stands before the position after it.
+use Rattle.std.proofs.Common.{◌≡◌, ℕ, ◌+◌, ◌*◌, ◌-◌, ◌^◌, ◌≤◌, ◌<◌, Bool, true, false, List, [], ◌∷◌, drop, Option, Some, None, cond, eqb, nat_lt, nat_le, length, get_or, refl, subst, arith}
+use Rattle.std.specs.Prelude.{⊤, codes}
+use Rattle.std.specs.List.{take_while}
+use Rattle.std.specs.Char.{is_ascii_alphanumeric, is_ascii_alphabetic, is_ascii_digit}
+use Rattle.std.specs.Str.Parse.{digits_value}
+use Rattle.std.proofs.lemmas.Bool.{cond_both}
+use Rattle.binfarce_text.specs.Letters.{is_hex_digit}
+use Rattle.binfarce_text.specs.Steps.{◌>>=◌}
+use Rattle.binfarce_v0_grammar.specs.Base62.{limited, value_62, number, tagged, back_reference, hex_digits}
+use Rattle.binfarce_v0_grammar.specs.Identifiers.{UndisambiguatedIdentifier, Identifier, length_at, past, identifier_of, identifier_bytes, undisambiguated_identifier, identifier}
+use Rattle.binfarce_v0_grammar.specs.Forms.{Lifetime, NoLifetime, stands, indexed_lifetime, lifetime, basic_type, unsigned_type, abi_name, abi, path_form_by, path_form, crate_form, impl_form, path_back_form, type_form_by, type_form, reference_form, signature_form, function_form, dyn_form, type_back_form, basic_form, const_form, typed_form, digits_form, const_back_form, PathForm, NoPathForm, CrateRoot, NestedIn, InherentImpl, TraitImpl, TraitDefinition, WithArguments, BackToPath, TypeForm, NoTypeForm, BasicType, ReferenceTo, InvalidReference, PointerTo, SliceOf, ArrayOf, TupleOf, FunctionOf, InvalidAbi, DynOf, InvalidDyn, BackToType, PathType, ConstForm, NoConstForm, PlaceholderConst, DigitsConst, InvalidConst, BackToConst}
+use Rattle.binfarce_v0_grammar.specs.Tree.{PathTree, TypeTree, ConstTree, Item, Items, Bindings, NoConst, Placeholder, Number, InvalidNumber, BackConst, ConstTarget, NoPath, Crate, Nested, InvalidNested, OfType, OfImpl, OfTrait, Generic, BackPath, PathTarget, NoType, Basic, Reference, InvalidReferenceType, Pointer, Slice, Array, Tuple, Function, FunctionTo, InvalidFunction, Dyn, InvalidDynType, Named, BackType, TypeTarget, LifetimeItem, TypeItem, ConstItem, TraitItem, NoItems, ItemThen, NoBindings, Binding, InvalidBinding, Listed, Arguments, Types, Traits}
+use Rattle.binfarce_v0_grammar.specs.Reading.{ReadsConst, ReadsPath, ReadsType, ReadsItem, ReadsItems, ReadsBindings}
+
+-- whatever is answered lies at a position or after it
+abbrev After : {A : Type 0} → ℕ → Option (A × ℕ) → Type 0
+After at None = ⊤
+After at (Some r) = at ≤ r.1
+
+after_is : {A : Type 0} (at : ℕ) (o : Option (A × ℕ)) (r : A × ℕ) → After at o → o ≡ Some r → at ≤ r.1
+after_is at o r h e = subst (After at) e h
+
+after_less : {A : Type 0} (less at : ℕ) (o : Option (A × ℕ)) → less ≤ at → After at o → After less o
+after_less less at None h b = tt
+after_less less at (Some r) h b = omega arith
+
+after_then : {A B : Type 0} (at : ℕ) (o : Option A) (f : A → Option (B × ℕ)) → ((a : A) → o ≡ Some a → After at (f a)) → After at (o >>= f)
+after_then at None f h = tt
+after_then at (Some a) f h = h a refl
+
+-- both branches
+each : {A : Type 0} (P : A → Type 0) (b : Bool) (x y : A) → P x → P y → P (cond b x y)
+each P b x y h k = cond_both b x y P (λ e. h) (λ e. k)
+
+-- Numbers
+
+limited_after : (value at : ℕ) → After at (limited value at)
+limited_after value at = each (After at) (nat_lt value (2 ^ 64)) (Some (value, at)) None (omega arith) tt
+
+number_after : (name : List ℕ) (at : ℕ) → After (at + 1) (number name at)
+unfolding number
+number_after name at =
+    let digits : List ℕ = take_while is_ascii_alphanumeric (drop at name) in
+    let end : ℕ = at + length digits in
+    let value : ℕ = cond (eqb (length digits) 0) 0 (value_62 digits + 1) in
+    each (After (at + 1)) (eqb (get_or name end 0) 95) (limited value (end + 1)) None (after_less (at + 1) (end + 1) (limited value (end + 1)) (omega arith) (limited_after value (end + 1))) tt
+
+tagged_after : (name : List ℕ) (tag at : ℕ) → After at (tagged name tag at)
+unfolding tagged
+tagged_after name tag at =
+    each (After at) (eqb (get_or name at 0) tag) _ (Some (0, at)) (after_then at (number name (at + 1)) _ (λ r e. after_less at r.1 (limited (r.0 + 1) r.1) (omega (arith, after_is (at + 1 + 1) _ r (number_after name (at + 1)) e)) (limited_after (r.0 + 1) r.1))) (omega arith)
+
+back_reference_after : (name : List ℕ) (at : ℕ) → After (at + 1) (back_reference name at)
+unfolding back_reference
+back_reference_after name at =
+    after_then (at + 1) (number name (at + 1)) _ (λ r e. each (After (at + 1)) (nat_lt r.0 at) (Some r) None (omega (arith, after_is (at + 1 + 1) _ r (number_after name (at + 1)) e)) tt)
+
+hex_digits_after : (name : List ℕ) (at : ℕ) → After (at + 1) (hex_digits name at)
+unfolding hex_digits
+hex_digits_after name at =
+    let digits : List ℕ = take_while is_hex_digit (drop at name) in
+    let end : ℕ = at + length digits in
+    each (After (at + 1)) (eqb (get_or name end 0) 95) (Some (digits, end + 1)) None (omega arith) tt
+
+-- Identifiers
+
+length_at_after : (name : List ℕ) (at : ℕ) → After at (length_at name at)
+unfolding length_at
+length_at_after name at =
+    let digits : List ℕ = take_while is_ascii_digit (drop at name) in
+    let value : ℕ = digits_value 10 digits in
+    let more : After at (limited value (at + length digits)) = after_less at (at + length digits) (limited value (at + length digits)) (omega arith) (limited_after value (at + length digits)) in
+    each (After at) (eqb (get_or name at 0) 48) (Some (0, at + 1)) _ (omega arith) (each (After at) (eqb (length digits) 0) None (limited value (at + length digits)) tt more)
+
+past_after : (name : List ℕ) (byte at : ℕ) → at ≤ past name byte at
+past_after name byte at = each (λ (q : ℕ). at ≤ q) (eqb (get_or name at 0) byte) (at + 1) at (omega arith) (omega arith)
+
+identifier_bytes_after : (name : List ℕ) (is_punycode : Bool) (start size : ℕ) → After start (identifier_bytes name is_punycode start size)
+unfolding identifier_bytes
+identifier_bytes_after name is_punycode start size =
+    each (After start) (nat_le (start + size) (length name)) _ None (after_then start (identifier_of is_punycode _) _ (λ i e. omega arith)) tt
+
+undisambiguated_after : (name : List ℕ) (at : ℕ) → After at (undisambiguated_identifier name at)
+unfolding undisambiguated_identifier
+undisambiguated_after name at =
+    after_then at (length_at name (past name 117 at)) _ (λ n e. after_less at (past name 95 n.1) _ (omega (arith, past_after name 117 at, after_is (past name 117 at) _ n (length_at_after name (past name 117 at)) e, past_after name 95 n.1)) (identifier_bytes_after name _ (past name 95 n.1) n.0))
+
+undisambiguated_forward : (name : List ℕ) (at after : ℕ) (i : UndisambiguatedIdentifier) → undisambiguated_identifier name at ≡ Some (i, after) → at ≤ after
+undisambiguated_forward name at after i e = after_is at (undisambiguated_identifier name at) (i, after) (undisambiguated_after name at) e
+
+identifier_after : (name : List ℕ) (at : ℕ) → After at (identifier name at)
+unfolding identifier
+identifier_after name at =
+    after_then at (tagged name 115 at) _ (λ d e. after_then at (undisambiguated_identifier name d.1) _ (λ i f. omega (arith, after_is at _ d (tagged_after name 115 at) e, after_is d.1 _ i (undisambiguated_after name d.1) f)))
+
+-- Forms
+
+abbrev PositionAfter : ℕ → Option ℕ → Type 0
+PositionAfter at None = ⊤
+PositionAfter at (Some q) = at ≤ q
+
+indexed_after : (at : ℕ) (n : Option (ℕ × ℕ)) → After at n → PositionAfter at (indexed_lifetime n).1
+indexed_after at None h = tt
+indexed_after at (Some n) h = h
+
+lifetime_after : (name : List ℕ) (at : ℕ) → PositionAfter at (lifetime name (Some at)).1
+unfolding lifetime
+lifetime_after name at =
+    each (λ (l : Lifetime × Option ℕ). PositionAfter at l.1) (eqb (get_or name at 0) 76) (indexed_lifetime (number name (at + 1))) (NoLifetime, Some at) (indexed_after at (number name (at + 1)) (after_less at (at + 1 + 1) _ (omega arith) (number_after name (at + 1)))) (omega arith)
+
+-- an "L" that is read
+lifetime_forward : (name : List ℕ) (at after : ℕ) (life : Lifetime) → stands name 76 (Some at) ≡ true → lifetime name (Some at) ≡ (life, Some after) → at < after
+unfolding lifetime
+lifetime_forward name at after life e r =
+    let past : PositionAfter (at + 1) (lifetime name (Some at)).1 = rw e (indexed_after (at + 1) (number name (at + 1)) (after_less (at + 1) (at + 1 + 1) _ (omega arith) (number_after name (at + 1)))) in
+    let here : at + 1 ≤ after = subst (λ (l : Lifetime × Option ℕ). PositionAfter (at + 1) l.1) r past in omega arith
+
+abbrev PathAfter : ℕ → PathForm → Type 0
+PathAfter at NoPathForm = ⊤
+PathAfter at (CrateRoot root q) = at < q
+PathAfter at (NestedIn namespace q) = at < q
+PathAfter at (InherentImpl q) = at < q
+PathAfter at (TraitImpl q) = at < q
+PathAfter at (TraitDefinition q) = at < q
+PathAfter at (WithArguments q) = at < q
+PathAfter at (BackToPath target q) = at < q
+
+crate_after : (at : ℕ) (l : Option (Identifier × ℕ)) → After (at + 1) l → PathAfter at (crate_form l)
+crate_after at None h = tt
+crate_after at (Some l) h = omega arith
+
+impl_after : (at : ℕ) (form : ℕ → PathForm) (d : Option (ℕ × ℕ)) → ((q : ℕ) → at < q → PathAfter at (form q)) → After (at + 1) d → PathAfter at (impl_form form d)
+impl_after at form None f h = tt
+impl_after at form (Some d) f h = f d.1 (omega arith)
+
+path_back_after : (at : ℕ) (b : Option (ℕ × ℕ)) → After (at + 1) b → PathAfter at (path_back_form b)
+path_back_after at None h = tt
+path_back_after at (Some b) h = omega arith
+
+path_form_after : (name : List ℕ) (at : ℕ) → PathAfter at (path_form name (Some at))
+unfolding path_form path_form_by
+path_form_after name at =
+    let P = PathAfter at in
+    let tag = get_or name at 0 in
+    each P (eqb tag 67) _ _ (crate_after at (identifier name (at + 1)) (identifier_after name (at + 1))) (
+    each P (eqb tag 78) _ _ (each P (is_ascii_alphabetic (get_or name (at + 1) 0)) (NestedIn (get_or name (at + 1) 0) (at + 2)) NoPathForm (omega arith) tt) (
+    each P (eqb tag 77) _ _ (impl_after at InherentImpl (tagged name 115 (at + 1)) (λ q h. h) (tagged_after name 115 (at + 1))) (
+    each P (eqb tag 88) _ _ (impl_after at TraitImpl (tagged name 115 (at + 1)) (λ q h. h) (tagged_after name 115 (at + 1))) (
+    each P (eqb tag 89) (TraitDefinition (at + 1)) _ (omega arith) (
+    each P (eqb tag 73) (WithArguments (at + 1)) _ (omega arith) (
+    each P (eqb tag 66) _ NoPathForm (path_back_after at (back_reference name at) (back_reference_after name at)) tt))))))
+
+abi_name_after : (i : UndisambiguatedIdentifier × ℕ) → After i.1 (abi_name i)
+abi_name_after i = by i.0.ascii i.0.punycode
+  where
+    by : (ascii punycode : List ℕ) → After i.1 (abi_name (record { ascii = ascii; punycode = punycode }, i.1))
+    by [] punycode = tt
+    by (c ∷ ascii) [] = omega arith
+    by (c ∷ ascii) (d ∷ punycode) = tt
+
+abi_after : (name : List ℕ) (at : ℕ) → After at (abi name at)
+unfolding abi
+abi_after name at =
+    each (After at) (eqb (get_or name at 0) 75) _ (Some (None, at)) (each (After at) (eqb (get_or name (at + 1) 0) 67) (Some (Some (codes "C"), at + 2)) _ (omega arith) (after_then at (undisambiguated_identifier name (at + 1)) abi_name (λ i e. after_less at i.1 _ (omega (arith, after_is (at + 1) _ i (undisambiguated_after name (at + 1)) e)) (abi_name_after i)))) (omega arith)
+
+abbrev TypeAfter : ℕ → TypeForm → Type 0
+TypeAfter at NoTypeForm = ⊤
+TypeAfter at (BasicType text q) = at < q
+TypeAfter at (ReferenceTo mutable life q) = at < q
+TypeAfter at InvalidReference = ⊤
+TypeAfter at (PointerTo mutable q) = at < q
+TypeAfter at (SliceOf q) = at < q
+TypeAfter at (ArrayOf q) = at < q
+TypeAfter at (TupleOf q) = at < q
+TypeAfter at (FunctionOf signature q) = at < q
+TypeAfter at (InvalidAbi binder) = ⊤
+TypeAfter at (DynOf binder q) = at < q
+TypeAfter at InvalidDyn = ⊤
+TypeAfter at (BackToType target q) = at < q
+TypeAfter at PathType = ⊤
+
+reference_after : (at : ℕ) (mutable : Bool) (l : Lifetime × Option ℕ) → PositionAfter (at + 1) l.1 → TypeAfter at (reference_form mutable l)
+reference_after at mutable l h = by l.1 h
+  where
+    by : (o : Option ℕ) → PositionAfter (at + 1) o → TypeAfter at (reference_form mutable (l.0, o))
+    by None h = tt
+    by (Some q) h = omega arith
+
+signature_after : (at binder : ℕ) (is_unsafe : Bool) (a : Option (Option (List ℕ) × ℕ)) → After (at + 1) a → TypeAfter at (signature_form binder is_unsafe a)
+signature_after at binder is_unsafe None h = tt
+signature_after at binder is_unsafe (Some a) h = omega arith
+
+function_after : (name : List ℕ) (at : ℕ) (b : Option (ℕ × ℕ)) → After (at + 1) b → TypeAfter at (function_form name b)
+function_after name at None h = tt
+function_after name at (Some b) h =
+    let q = past name 85 b.1 in
+    signature_after at b.0 (eqb (get_or name b.1 0) 85) (abi name q) (after_less (at + 1) q (abi name q) (omega (arith, past_after name 85 b.1)) (abi_after name q))
+
+dyn_after : (at : ℕ) (b : Option (ℕ × ℕ)) → After (at + 1) b → TypeAfter at (dyn_form b)
+dyn_after at None h = tt
+dyn_after at (Some b) h = omega arith
+
+type_back_after : (at : ℕ) (b : Option (ℕ × ℕ)) → After (at + 1) b → TypeAfter at (type_back_form b)
+type_back_after at None h = tt
+type_back_after at (Some b) h = omega arith
+
+basic_after : (at : ℕ) (text : Option (List ℕ)) (other : TypeForm) → TypeAfter at other → TypeAfter at (basic_form text at other)
+basic_after at None other h = h
+basic_after at (Some text) other h = omega arith
+
+type_form_by_after : (name : List ℕ) (at tag : ℕ) → TypeAfter at (type_form_by name at tag)
+unfolding type_form_by
+type_form_by_after name at tag =
+    let T = TypeAfter at in
+    each T (eqb tag 82) _ _ (reference_after at false (lifetime name (Some (at + 1))) (lifetime_after name (at + 1))) (
+    each T (eqb tag 81) _ _ (reference_after at true (lifetime name (Some (at + 1))) (lifetime_after name (at + 1))) (
+    each T (eqb tag 80) (PointerTo false (at + 1)) _ (omega arith) (
+    each T (eqb tag 79) (PointerTo true (at + 1)) _ (omega arith) (
+    each T (eqb tag 83) (SliceOf (at + 1)) _ (omega arith) (
+    each T (eqb tag 65) (ArrayOf (at + 1)) _ (omega arith) (
+    each T (eqb tag 84) (TupleOf (at + 1)) _ (omega arith) (
+    each T (eqb tag 70) _ _ (function_after name at (tagged name 71 (at + 1)) (tagged_after name 71 (at + 1))) (
+    each T (eqb tag 68) _ _ (dyn_after at (tagged name 71 (at + 1)) (tagged_after name 71 (at + 1))) (
+    each T (eqb tag 66) _ PathType (type_back_after at (back_reference name at) (back_reference_after name at)) tt)))))))))
+
+type_form_after : (name : List ℕ) (at : ℕ) → TypeAfter at (type_form name (Some at))
+unfolding type_form
+type_form_after name at =
+    let tag = get_or name at 0 in
+    each (TypeAfter at) (nat_lt at (length name)) _ NoTypeForm (basic_after at (basic_type tag) (type_form_by name at tag) (type_form_by_after name at tag)) tt
+
+abbrev ConstAfter : ℕ → ConstForm → Type 0
+ConstAfter at NoConstForm = ⊤
+ConstAfter at (PlaceholderConst type_name q) = at < q
+ConstAfter at (DigitsConst type_name digits q) = at < q
+ConstAfter at (InvalidConst type_name) = ⊤
+ConstAfter at (BackToConst target q) = at < q
+
+digits_after : (at : ℕ) (type_name : List ℕ) (d : Option (List ℕ × ℕ)) → After (at + 1) d → ConstAfter at (digits_form type_name d)
+digits_after at type_name None h = tt
+digits_after at type_name (Some d) h = omega arith
+
+const_back_after : (at : ℕ) (b : Option (ℕ × ℕ)) → After (at + 1) b → ConstAfter at (const_back_form b)
+const_back_after at None h = tt
+const_back_after at (Some b) h = omega arith
+
+typed_after : (name : List ℕ) (at : ℕ) (type_name : Option (List ℕ)) → ConstAfter at (typed_form name (at + 1) type_name)
+typed_after name at None = tt
+typed_after name at (Some type_name) =
+    each (ConstAfter at) (eqb (get_or name (at + 1) 0) 112) (PlaceholderConst type_name (at + 1 + 1)) _ (omega arith) (digits_after at type_name (hex_digits name (at + 1)) (after_less (at + 1) (at + 1 + 1) _ (omega arith) (hex_digits_after name (at + 1))))
+
+const_form_after : (name : List ℕ) (at : ℕ) → ConstAfter at (const_form name (Some at))
+unfolding const_form
+const_form_after name at =
+    each (ConstAfter at) (eqb (get_or name at 0) 66) _ _ (const_back_after at (back_reference name at) (back_reference_after name at)) (typed_after name at (unsigned_type (get_or name at 0)))
+
+path_front : (name : List ℕ) (at : ℕ) (form : PathForm) → path_form name (Some at) ≡ form → PathAfter at form
+path_front name at form e = subst (PathAfter at) e (path_form_after name at)
+
+type_front : (name : List ℕ) (at : ℕ) (form : TypeForm) → type_form name (Some at) ≡ form → TypeAfter at form
+type_front name at form e = subst (TypeAfter at) e (type_form_after name at)
+
+const_front : (name : List ℕ) (at : ℕ) (form : ConstForm) → const_form name (Some at) ≡ form → ConstAfter at form
+const_front name at form e = subst (ConstAfter at) e (const_form_after name at)
+
+-- Trees
+
+pub const_forward : (c : ConstTree) (name : List ℕ) (at after : ℕ) → ReadsConst name c at after → at < after
+unfolding ReadsConst
+const_forward NoConst name at after r = absurd r
+const_forward (Placeholder type_name) name at after r = const_front name at _ r
+const_forward (Number type_name digits) name at after r = const_front name at _ r
+const_forward (InvalidNumber type_name) name at after r = absurd r
+const_forward (BackConst c) name at after r = absurd r
+const_forward (ConstTarget target) name at after r = const_front name at _ r
+
+mutual
+  unfolding ReadsPath
+
+  pub path_forward : (t : PathTree) (name : List ℕ) (at after : ℕ) → ReadsPath name t at after → at < after
+  path_forward NoPath name at after r = absurd r
+  path_forward (Crate root) name at after r = path_front name at _ r
+  path_forward (Nested namespace p l) name at after r =
+      omega (arith, path_front name at _ r.2, path_forward p name r.0 r.1 r.3, after_is r.1 (identifier name r.1) _ (identifier_after name r.1) r.4)
+  path_forward (InvalidNested p) name at after r = absurd r
+  path_forward (OfType p t) name at after r =
+      omega (arith, path_front name at _ r.2, path_forward p name r.0 r.1 r.3, type_forward t name r.1 after r.4)
+  path_forward (OfImpl p t u) name at after r =
+      omega (arith, path_front name at _ r.3, path_forward p name r.0 r.1 r.4, type_forward t name r.1 r.2 r.5, path_forward u name r.2 after r.6)
+  path_forward (OfTrait t u) name at after r =
+      omega (arith, path_front name at _ r.2, type_forward t name r.0 r.1 r.3, path_forward u name r.1 after r.4)
+  path_forward (Generic p items) name at after r =
+      omega (arith, path_front name at _ r.2, path_forward p name r.0 r.1 r.3, items_forward items name Arguments r.1 after r.4)
+  path_forward (BackPath p) name at after r = absurd r
+  path_forward (PathTarget target) name at after r = path_front name at _ r
+
+  pub type_forward : (t : TypeTree) (name : List ℕ) (at after : ℕ) → ReadsType name t at after → at < after
+  type_forward NoType name at after r = absurd r
+  type_forward (Basic text) name at after r = type_front name at _ r
+  type_forward (Reference mutable life t) name at after r =
+      omega (arith, type_front name at _ r.1, type_forward t name r.0 after r.2)
+  type_forward InvalidReferenceType name at after r = absurd r
+  type_forward (Pointer mutable t) name at after r =
+      omega (arith, type_front name at _ r.1, type_forward t name r.0 after r.2)
+  type_forward (Slice t) name at after r = omega (arith, type_front name at _ r.1, type_forward t name r.0 after r.2)
+  type_forward (Array t c) name at after r =
+      omega (arith, type_front name at _ r.2, type_forward t name r.0 r.1 r.3, const_forward c name r.1 after r.4)
+  type_forward (Tuple items) name at after r =
+      omega (arith, type_front name at _ r.1, items_forward items name Types r.0 after r.2)
+  type_forward (Function signature items) name at after r =
+      omega (arith, type_front name at _ r.2, items_forward items name Types r.0 r.1 r.3, r.5)
+  type_forward (FunctionTo signature items t) name at after r =
+      omega (arith, type_front name at _ r.2, items_forward items name Types r.0 r.1 r.3, type_forward t name r.1 after r.5)
+  type_forward (InvalidFunction binder) name at after r = absurd r
+  type_forward (Dyn binder items life) name at after r =
+      omega (arith, type_front name at _ r.2, items_forward items name Traits r.0 r.1 r.3, lifetime_forward name r.1 after life r.4 r.5)
+  type_forward InvalidDynType name at after r = absurd r
+  type_forward (Named p) name at after r = path_forward p name at after r.1
+  type_forward (BackType t) name at after r = absurd r
+  type_forward (TypeTarget target) name at after r = type_front name at _ r
+
+  pub item_forward : (i : Item) (name : List ℕ) (listed : Listed) (at after : ℕ) → ReadsItem name listed i at after → at < after
+  item_forward (LifetimeItem life) name Arguments at after r = lifetime_forward name at after life r.0 r.1
+  item_forward (LifetimeItem life) name Types at after r = absurd r
+  item_forward (LifetimeItem life) name Traits at after r = absurd r
+  item_forward (TypeItem t) name Arguments at after r = type_forward t name at after r.2
+  item_forward (TypeItem t) name Types at after r = type_forward t name at after r
+  item_forward (TypeItem t) name Traits at after r = absurd r
+  item_forward (ConstItem c) name Arguments at after r = omega (arith, const_forward c name (at + 1) after r.2)
+  item_forward (ConstItem c) name Types at after r = absurd r
+  item_forward (ConstItem c) name Traits at after r = absurd r
+  item_forward (TraitItem p bound) name Arguments at after r = absurd r
+  item_forward (TraitItem p bound) name Types at after r = absurd r
+  item_forward (TraitItem p bound) name Traits at after r =
+      omega (arith, path_forward p name at r.0 r.1, bindings_forward bound name r.0 after r.2)
+
+  pub items_forward : (items : Items) (name : List ℕ) (listed : Listed) (at after : ℕ) → ReadsItems name listed items at after → at < after
+  items_forward NoItems name listed at after r = omega (arith, r.1)
+  items_forward (ItemThen i items) name listed at after r =
+      omega (arith, item_forward i name listed at r.0 r.2, items_forward items name listed r.0 after r.3)
+
+  pub bindings_forward : (bound : Bindings) (name : List ℕ) (at after : ℕ) → ReadsBindings name bound at after → at ≤ after
+  bindings_forward NoBindings name at after r = omega (arith, r.1)
+  bindings_forward (Binding i t more) name at after r =
+      omega (arith, undisambiguated_forward name (at + 1) r.0 i r.3, type_forward t name r.0 r.1 r.4, bindings_forward more name r.1 after r.5)
+  bindings_forward InvalidBinding name at after r = absurd r
+
+-- a binding, from its "p"
+pub bound_forward : (i : UndisambiguatedIdentifier) (t : TypeTree) (name : List ℕ) (at q mid : ℕ) → undisambiguated_identifier name (at + 1) ≡ Some (i, q) → ReadsType name t q mid → at < mid
+bound_forward i t name at q mid e r = omega (arith, undisambiguated_forward name (at + 1) q i e, type_forward t name q mid r)

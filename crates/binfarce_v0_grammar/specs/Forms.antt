@@ -1,0 +1,254 @@
+-- Which form of the grammar stands at a position of a v0 name: the front of each row, up to where it asks for a path, a type or a const
+-- (RFC 2603, "Syntax of mangled names"). A position is None after a fault, where no form stands.
+use Rattle.std.specs.Prelude.{ℕ, ◌+◌, List, [], ◌∷◌, Option, Some, None, Bool, true, false, ◌||◌, if◌then◌else◌, ◌==◌, nat_lt, slice_index, length, codes}
+use Rattle.std.specs.Char.{is_ascii_alphabetic}
+use Rattle.binfarce_text.specs.Letters.{'A', 'B', 'C', 'D', 'F', 'G', 'I', 'K', 'L', 'M', 'N', 'O', 'P', 'Q', 'R', 'S', 'T', 'U', 'X', 'Y', 'a', 'b', 'c', 'd', 'e', 'f', 'h', 'i', 'j', 'l', 'm', 'n', 'o', 'p', 's', 't', 'u', 'v', 'x', 'y', 'z'}
+use Rattle.binfarce_text.specs.Steps.{◌>>=◌}
+use Rattle.binfarce_v0_grammar.specs.Base62.{number, tagged, back_reference, hex_digits}
+use Rattle.binfarce_v0_grammar.specs.Identifiers.{UndisambiguatedIdentifier, undisambiguated_identifier, Identifier, identifier, past}
+
+-- a byte stands at a position
+abbrev pub stands : List ℕ → ℕ → Option ℕ → Bool
+stands name byte None = false
+stands name byte (Some at) = slice_index name at == byte
+
+-- the position after a byte that stands there
+abbrev pub after_byte : Option ℕ → Option ℕ
+after_byte None = None
+after_byte (Some at) = Some (at + 1)
+
+-- a label asked for at a position
+abbrev pub identifier_at : List ℕ → Option ℕ → Option (Identifier × ℕ)
+identifier_at name None = None
+identifier_at name (Some at) = identifier name at
+
+abbrev pub undisambiguated_at : List ℕ → Option ℕ → Option (UndisambiguatedIdentifier × ℕ)
+undisambiguated_at name None = None
+undisambiguated_at name (Some at) = undisambiguated_identifier name at
+
+-- <path>
+pub data PathForm : Type 0 where
+  -- none of the forms, or one whose number, name or namespace is invalid
+  NoPathForm : PathForm
+  -- "C" <identifier>
+  CrateRoot : (root : Identifier) (after : ℕ) → PathForm
+  -- "N" <namespace> ..
+  NestedIn : (namespace after : ℕ) → PathForm
+  -- "M" [<disambiguator>] ..
+  InherentImpl : (after : ℕ) → PathForm
+  -- "X" [<disambiguator>] ..
+  TraitImpl : (after : ℕ) → PathForm
+  -- "Y" ..
+  TraitDefinition : (after : ℕ) → PathForm
+  -- "I" ..
+  WithArguments : (after : ℕ) → PathForm
+  -- <backref>
+  BackToPath : (target after : ℕ) → PathForm
+
+abbrev pub crate_form : Option (Identifier × ℕ) → PathForm
+crate_form None = NoPathForm
+crate_form (Some l) = CrateRoot l.0 l.1
+
+abbrev pub impl_form : (ℕ → PathForm) → Option (ℕ × ℕ) → PathForm
+impl_form form None = NoPathForm
+impl_form form (Some d) = form d.1
+
+abbrev pub path_back_form : Option (ℕ × ℕ) → PathForm
+path_back_form None = NoPathForm
+path_back_form (Some b) = BackToPath b.0 b.1
+
+-- <namespace> = <a-zA-Z>
+abbrev pub nested_form : ℕ → ℕ → PathForm
+nested_form namespace after = if is_ascii_alphabetic namespace then NestedIn namespace after else NoPathForm
+
+-- the form that a path's first byte announces
+unfoldable pub path_form_by : List ℕ → ℕ → ℕ → PathForm
+path_form_by name at tag =
+    if tag == 'C' then crate_form (identifier name (at + 1)) else (
+    if tag == 'N' then nested_form (slice_index name (at + 1)) (at + 2) else (
+    if tag == 'M' then impl_form InherentImpl (tagged name 's' (at + 1)) else (
+    if tag == 'X' then impl_form TraitImpl (tagged name 's' (at + 1)) else (
+    if tag == 'Y' then TraitDefinition (at + 1) else (
+    if tag == 'I' then WithArguments (at + 1) else (
+    if tag == 'B' then path_back_form (back_reference name at) else NoPathForm))))))
+
+unfoldable pub path_form : List ℕ → Option ℕ → PathForm
+path_form name None = NoPathForm
+path_form name (Some at) = path_form_by name at (slice_index name at)
+
+-- a lifetime that may stand at a position
+pub data Lifetime : Type 0 where
+  -- no "L"
+  NoLifetime : Lifetime
+  -- an "L" whose number is invalid
+  InvalidLifetime : Lifetime
+  -- <lifetime> = "L" <base-62-number>
+  IndexedLifetime : (index : ℕ) → Lifetime
+
+abbrev pub indexed_lifetime : Option (ℕ × ℕ) → Lifetime × Option ℕ
+indexed_lifetime None = (InvalidLifetime, None)
+indexed_lifetime (Some n) = (IndexedLifetime n.0, Some n.1)
+
+unfoldable pub lifetime : List ℕ → Option ℕ → Lifetime × Option ℕ
+lifetime name None = (NoLifetime, None)
+lifetime name (Some at) =
+    if slice_index name at == 'L' then indexed_lifetime (number name (at + 1)) else (NoLifetime, Some at)
+
+-- <basic-type>
+unfoldable pub basic_type : ℕ → Option (List ℕ)
+basic_type c =
+    if c == 'b' then Some (codes "bool") else (
+    if c == 'c' then Some (codes "char") else (
+    if c == 'e' then Some (codes "str") else (
+    if c == 'u' then Some (codes "()") else (
+    if c == 'a' then Some (codes "i8") else (
+    if c == 's' then Some (codes "i16") else (
+    if c == 'l' then Some (codes "i32") else (
+    if c == 'x' then Some (codes "i64") else (
+    if c == 'n' then Some (codes "i128") else (
+    if c == 'i' then Some (codes "isize") else (
+    if c == 'h' then Some (codes "u8") else (
+    if c == 't' then Some (codes "u16") else (
+    if c == 'm' then Some (codes "u32") else (
+    if c == 'y' then Some (codes "u64") else (
+    if c == 'o' then Some (codes "u128") else (
+    if c == 'j' then Some (codes "usize") else (
+    if c == 'f' then Some (codes "f32") else (
+    if c == 'd' then Some (codes "f64") else (
+    if c == 'z' then Some (codes "!") else (
+    if c == 'p' then Some (codes "_") else (
+    if c == 'v' then Some (codes "...") else None))))))))))))))))))))
+
+-- the front of a <fn-sig>: [<binder>] ["U"] ["K" <abi>]
+pub record Signature : Type 0 where
+  pub binder : ℕ
+  pub is_unsafe : Bool
+  pub abi : Option (List ℕ)
+
+-- an <abi> that is an identifier has an ASCII part, and no Punycode part
+abbrev pub abi_name : UndisambiguatedIdentifier × ℕ → Option (Option (List ℕ) × ℕ)
+abi_name i = abi_of i.0.ascii i.0.punycode i.1
+  where
+    abi_of : List ℕ → List ℕ → ℕ → Option (Option (List ℕ) × ℕ)
+    abi_of [] punycode after = None
+    abi_of (c ∷ ascii) [] after = Some (Some (c ∷ ascii), after)
+    abi_of (c ∷ ascii) (d ∷ punycode) after = None
+
+-- ["K" <abi>], where <abi> = "C" | <undisambiguated-identifier>
+unfoldable pub abi : List ℕ → ℕ → Option (Option (List ℕ) × ℕ)
+abi name at =
+    if slice_index name at == 'K' then (if slice_index name (at + 1) == 'C' then Some (Some (codes "C"), at + 2) else (undisambiguated_identifier name (at + 1) >>= abi_name)) else Some (None, at)
+
+-- <type>
+pub data TypeForm : Type 0 where
+  -- no byte, or a form whose binder or back reference is invalid
+  NoTypeForm : TypeForm
+  -- <basic-type>, by its name
+  BasicType : (name : List ℕ) (after : ℕ) → TypeForm
+  -- "R" [<lifetime>] .. and "Q" [<lifetime>] ..
+  ReferenceTo : (mutable : Bool) (life : Lifetime) (after : ℕ) → TypeForm
+  -- the same with an "L" whose number is invalid
+  InvalidReference : TypeForm
+  -- "P" .. and "O" ..
+  PointerTo : (mutable : Bool) (after : ℕ) → TypeForm
+  -- "S" ..
+  SliceOf : (after : ℕ) → TypeForm
+  -- "A" ..
+  ArrayOf : (after : ℕ) → TypeForm
+  -- "T" ..
+  TupleOf : (after : ℕ) → TypeForm
+  -- "F" and the front of a <fn-sig>
+  FunctionOf : (signature : Signature) (after : ℕ) → TypeForm
+  -- the same with an <abi> that is invalid
+  InvalidAbi : (binder : ℕ) → TypeForm
+  -- "D" [<binder>] ..
+  DynOf : (binder after : ℕ) → TypeForm
+  -- the same with a binder that is invalid
+  InvalidDyn : TypeForm
+  -- <backref>
+  BackToType : (target after : ℕ) → TypeForm
+  -- another byte: a path
+  PathType : TypeForm
+
+abbrev pub reference_form : Bool → Lifetime × Option ℕ → TypeForm
+reference_form mutable l = form_of l.0 l.1
+  where
+    form_of : Lifetime → Option ℕ → TypeForm
+    form_of life None = InvalidReference
+    form_of life (Some after) = ReferenceTo mutable life after
+
+abbrev pub signature_form : ℕ → Bool → Option (Option (List ℕ) × ℕ) → TypeForm
+signature_form binder is_unsafe None = InvalidAbi binder
+signature_form binder is_unsafe (Some a) =
+    FunctionOf (record { binder = binder; is_unsafe = is_unsafe; abi = a.0 }) a.1
+
+abbrev pub function_form : List ℕ → Option (ℕ × ℕ) → TypeForm
+function_form name None = NoTypeForm
+function_form name (Some b) = signature_form b.0 (slice_index name b.1 == 'U') (abi name (past name 'U' b.1))
+
+abbrev pub dyn_form : Option (ℕ × ℕ) → TypeForm
+dyn_form None = InvalidDyn
+dyn_form (Some b) = DynOf b.0 b.1
+
+abbrev pub type_back_form : Option (ℕ × ℕ) → TypeForm
+type_back_form None = NoTypeForm
+type_back_form (Some b) = BackToType b.0 b.1
+
+-- the form of a type that is no basic type
+unfoldable pub type_form_by : List ℕ → ℕ → ℕ → TypeForm
+type_form_by name at tag =
+    if tag == 'R' then reference_form false (lifetime name (Some (at + 1))) else (
+    if tag == 'Q' then reference_form true (lifetime name (Some (at + 1))) else (
+    if tag == 'P' then PointerTo false (at + 1) else (
+    if tag == 'O' then PointerTo true (at + 1) else (
+    if tag == 'S' then SliceOf (at + 1) else (
+    if tag == 'A' then ArrayOf (at + 1) else (
+    if tag == 'T' then TupleOf (at + 1) else (
+    if tag == 'F' then function_form name (tagged name 'G' (at + 1)) else (
+    if tag == 'D' then dyn_form (tagged name 'G' (at + 1)) else (
+    if tag == 'B' then type_back_form (back_reference name at) else PathType)))))))))
+
+abbrev pub basic_form : Option (List ℕ) → ℕ → TypeForm → TypeForm
+basic_form None at other = other
+basic_form (Some text) at other = BasicType text (at + 1)
+
+unfoldable pub type_form : List ℕ → Option ℕ → TypeForm
+type_form name None = NoTypeForm
+type_form name (Some at) =
+    if nat_lt at (length name) then basic_form (basic_type (slice_index name at)) at (type_form_by name at (slice_index name at)) else NoTypeForm
+
+-- <const> of an unsigned integer
+pub data ConstForm : Type 0 where
+  -- another type, or a back reference that is invalid
+  NoConstForm : ConstForm
+  -- <type> "p"
+  PlaceholderConst : (type_name : List ℕ) (after : ℕ) → ConstForm
+  -- <type> <const-data>
+  DigitsConst : (type_name digits : List ℕ) (after : ℕ) → ConstForm
+  -- the same with digits that are invalid
+  InvalidConst : (type_name : List ℕ) → ConstForm
+  -- <backref>
+  BackToConst : (target after : ℕ) → ConstForm
+
+abbrev pub const_back_form : Option (ℕ × ℕ) → ConstForm
+const_back_form None = NoConstForm
+const_back_form (Some b) = BackToConst b.0 b.1
+
+abbrev pub digits_form : List ℕ → Option (List ℕ × ℕ) → ConstForm
+digits_form type_name None = InvalidConst type_name
+digits_form type_name (Some d) = DigitsConst type_name d.0 d.1
+
+-- the types of unsigned integers
+unfoldable pub unsigned_type : ℕ → Option (List ℕ)
+unsigned_type c =
+    if c == 'h' || (c == 't' || (c == 'm' || (c == 'y' || (c == 'o' || c == 'j')))) then basic_type c else None
+
+abbrev pub typed_form : List ℕ → ℕ → Option (List ℕ) → ConstForm
+typed_form name at None = NoConstForm
+typed_form name at (Some type_name) =
+    if slice_index name at == 'p' then PlaceholderConst type_name (at + 1) else digits_form type_name (hex_digits name at)
+
+unfoldable pub const_form : List ℕ → Option ℕ → ConstForm
+const_form name None = NoConstForm
+const_form name (Some at) =
+    if slice_index name at == 'B' then const_back_form (back_reference name at) else typed_form name (at + 1) (unsigned_type (slice_index name at))

@@ -1,0 +1,455 @@
+-- What a v0 name means: trees of paths, types and consts, and what is counted and shown of a tree. No byte of a name is seen here.
+use Rattle.std.specs.Prelude.{ℕ, zero, suc, ◌+◌, ◌-◌, ◌*◌, List, [], ◌∷◌, ◌++◌, Option, Some, None, Bool, true, false, if◌then◌else◌, nat_le, length, codes, max, map, ◌==◌, fold}
+use Rattle.std.specs.Char.{is_ascii_uppercase, digit_value}
+use Rattle.std.specs.Fmt.{decimal, digits}
+use Rattle.binfarce_text.specs.Letters.{'a', 'C', 'S', '_', '-', is_hex_digit}
+use Rattle.binfarce_v0_grammar.specs.Identifiers.{UndisambiguatedIdentifier, Identifier, identifier_text, is_unnamed}
+use Rattle.binfarce_v0_grammar.specs.Forms.{Lifetime, NoLifetime, InvalidLifetime, IndexedLifetime, Signature}
+
+pub data ConstTree : Type 0 where
+  -- what is invalid
+  NoConst : ConstTree
+  Placeholder : (type_name : List ℕ) → ConstTree
+  Number : (type_name digits : List ℕ) → ConstTree
+  InvalidNumber : (type_name : List ℕ) → ConstTree
+  -- what a back reference stands for, in an unfolding
+  BackConst : ConstTree → ConstTree
+  -- the position that a back reference names, in a reading
+  ConstTarget : ℕ → ConstTree
+
+mutual
+  pub data PathTree : Type 0 where
+    -- what is invalid
+    NoPath : PathTree
+    Crate : (root : Identifier) → PathTree
+    Nested : (namespace : ℕ) (parent : PathTree) (name : Identifier) → PathTree
+    -- a nested path whose name is invalid
+    InvalidNested : (parent : PathTree) → PathTree
+    -- <T>, with the path of its impl
+    OfType : (impl_path : PathTree) (self_type : TypeTree) → PathTree
+    -- <T as Trait>, with the path of its impl
+    OfImpl : (impl_path : PathTree) (self_type : TypeTree) (trait_path : PathTree) → PathTree
+    -- <T as Trait>
+    OfTrait : (self_type : TypeTree) (trait_path : PathTree) → PathTree
+    Generic : (path : PathTree) (arguments : Items) → PathTree
+    -- what a back reference stands for, in an unfolding
+    BackPath : PathTree → PathTree
+    -- the position that a back reference names, in a reading
+    PathTarget : ℕ → PathTree
+
+  pub data TypeTree : Type 0 where
+    -- what is invalid
+    NoType : TypeTree
+    Basic : (name : List ℕ) → TypeTree
+    Reference : (mutable : Bool) (life : Lifetime) (to : TypeTree) → TypeTree
+    InvalidReferenceType : TypeTree
+    Pointer : (mutable : Bool) (to : TypeTree) → TypeTree
+    Slice : TypeTree → TypeTree
+    Array : (of_type : TypeTree) (size : ConstTree) → TypeTree
+    Tuple : Items → TypeTree
+    -- a function type that returns ()
+    Function : (signature : Signature) (parameters : Items) → TypeTree
+    FunctionTo : (signature : Signature) (parameters : Items) (returned : TypeTree) → TypeTree
+    InvalidFunction : (binder : ℕ) → TypeTree
+    Dyn : (binder : ℕ) (traits : Items) (life : Lifetime) → TypeTree
+    InvalidDynType : TypeTree
+    Named : PathTree → TypeTree
+    -- what a back reference stands for, in an unfolding
+    BackType : TypeTree → TypeTree
+    -- the position that a back reference names, in a reading
+    TypeTarget : ℕ → TypeTree
+
+  -- an item of a list: an argument, a type, or a trait with its bindings
+  pub data Item : Type 0 where
+    LifetimeItem : Lifetime → Item
+    TypeItem : TypeTree → Item
+    ConstItem : ConstTree → Item
+    TraitItem : (path : PathTree) (bindings : Bindings) → Item
+
+  pub data Items : Type 0 where
+    NoItems : Items
+    ItemThen : Item → Items → Items
+
+  pub data Bindings : Type 0 where
+    NoBindings : Bindings
+    Binding : (name : UndisambiguatedIdentifier) (bound : TypeTree) → Bindings → Bindings
+    -- a binding whose name is invalid
+    InvalidBinding : Bindings
+
+-- what the items of a list are: arguments, types or traits
+pub data Listed : Type 0 where
+  Arguments : Listed
+  Types : Listed
+  Traits : Listed
+
+-- Levels and steps
+
+abbrev pub const_height : ConstTree → ℕ
+const_height (BackConst c) = suc (const_height c)
+const_height _ = 1
+
+-- 1 and the greatest height of what a tree asks for
+unfoldable mutual
+  pub path_height : PathTree → ℕ
+  path_height NoPath = 1
+  path_height (Crate root) = 1
+  path_height (Nested namespace p name) = suc (path_height p)
+  path_height (InvalidNested p) = suc (path_height p)
+  path_height (OfType p t) = suc (max (path_height p) (type_height t))
+  path_height (OfImpl p t u) = suc (max (path_height p) (max (type_height t) (path_height u)))
+  path_height (OfTrait t u) = suc (max (type_height t) (path_height u))
+  path_height (Generic p items) = suc (max (path_height p) (items_height items))
+  path_height (BackPath p) = suc (path_height p)
+  path_height (PathTarget at) = 1
+
+  pub type_height : TypeTree → ℕ
+  type_height NoType = 1
+  type_height (Basic name) = 1
+  type_height (Reference mutable life t) = suc (type_height t)
+  type_height InvalidReferenceType = 1
+  type_height (Pointer mutable t) = suc (type_height t)
+  type_height (Slice t) = suc (type_height t)
+  type_height (Array t c) = suc (max (type_height t) (const_height c))
+  type_height (Tuple items) = suc (items_height items)
+  type_height (Function signature items) = suc (items_height items)
+  type_height (FunctionTo signature items t) = suc (max (items_height items) (type_height t))
+  type_height (InvalidFunction binder) = 1
+  type_height (Dyn binder items life) = suc (items_height items)
+  type_height InvalidDynType = 1
+  type_height (Named p) = suc (path_height p)
+  type_height (BackType t) = suc (type_height t)
+  type_height (TypeTarget at) = 1
+
+  pub item_height : Item → ℕ
+  item_height (LifetimeItem life) = 0
+  item_height (TypeItem t) = type_height t
+  item_height (ConstItem c) = const_height c
+  item_height (TraitItem p bindings) = max (path_height p) (bindings_height bindings)
+
+  pub items_height : Items → ℕ
+  items_height NoItems = 0
+  items_height (ItemThen i items) = max (item_height i) (items_height items)
+
+  pub bindings_height : Bindings → ℕ
+  bindings_height NoBindings = 0
+  bindings_height (Binding name t bindings) = max (type_height t) (bindings_height bindings)
+  bindings_height InvalidBinding = 0
+
+-- an "L" that was read
+abbrev pub lifetime_steps : Lifetime → ℕ
+lifetime_steps NoLifetime = 0
+lifetime_steps InvalidLifetime = 1
+lifetime_steps (IndexedLifetime index) = 1
+
+abbrev pub const_steps : ConstTree → ℕ
+const_steps (BackConst c) = suc (const_steps c)
+const_steps _ = 1
+
+-- 1 for each path, type and const, holes among them, 1 for each "L" read, and 1 for each lifetime announced
+unfoldable mutual
+  pub path_steps : PathTree → ℕ
+  path_steps NoPath = 1
+  path_steps (Crate root) = 1
+  path_steps (Nested namespace p name) = suc (path_steps p)
+  path_steps (InvalidNested p) = suc (path_steps p)
+  path_steps (OfType p t) = suc (path_steps p + type_steps t)
+  path_steps (OfImpl p t u) = suc (path_steps p + type_steps t + path_steps u)
+  path_steps (OfTrait t u) = suc (type_steps t + path_steps u)
+  path_steps (Generic p items) = suc (path_steps p + items_steps items)
+  path_steps (BackPath p) = suc (path_steps p)
+  path_steps (PathTarget at) = 1
+
+  pub type_steps : TypeTree → ℕ
+  type_steps NoType = 1
+  type_steps (Basic name) = 1
+  type_steps (Reference mutable life t) = suc (lifetime_steps life + type_steps t)
+  type_steps InvalidReferenceType = 2
+  type_steps (Pointer mutable t) = suc (type_steps t)
+  type_steps (Slice t) = suc (type_steps t)
+  type_steps (Array t c) = suc (type_steps t + const_steps c)
+  type_steps (Tuple items) = suc (items_steps items)
+  type_steps (Function signature items) = suc (signature.binder + items_steps items)
+  type_steps (FunctionTo signature items t) = suc (signature.binder + items_steps items + type_steps t)
+  type_steps (InvalidFunction binder) = suc binder
+  type_steps (Dyn binder items life) = suc (binder + items_steps items + lifetime_steps life)
+  type_steps InvalidDynType = 1
+  type_steps (Named p) = suc (path_steps p)
+  type_steps (BackType t) = suc (type_steps t)
+  type_steps (TypeTarget at) = 1
+
+  pub item_steps : Item → ℕ
+  item_steps (LifetimeItem life) = lifetime_steps life
+  item_steps (TypeItem t) = type_steps t
+  item_steps (ConstItem c) = const_steps c
+  item_steps (TraitItem p bindings) = path_steps p + bindings_steps bindings
+
+  pub items_steps : Items → ℕ
+  items_steps NoItems = 0
+  items_steps (ItemThen i items) = item_steps i + items_steps items
+
+  pub bindings_steps : Bindings → ℕ
+  bindings_steps NoBindings = 0
+  bindings_steps (Binding name t bindings) = type_steps t + bindings_steps bindings
+  bindings_steps InvalidBinding = 0
+
+-- The crate's name
+
+abbrev pub first_of : Option UndisambiguatedIdentifier → Option UndisambiguatedIdentifier → Option UndisambiguatedIdentifier
+first_of None other = other
+first_of (Some root) other = Some root
+
+-- the first crate root in reading order that is in no back reference
+unfoldable mutual
+  pub path_root : PathTree → Option UndisambiguatedIdentifier
+  path_root NoPath = None
+  path_root (Crate root) = Some root.name
+  path_root (Nested namespace p name) = path_root p
+  path_root (InvalidNested p) = path_root p
+  path_root (OfType p t) = first_of (path_root p) (type_root t)
+  path_root (OfImpl p t u) = first_of (first_of (path_root p) (type_root t)) (path_root u)
+  path_root (OfTrait t u) = first_of (type_root t) (path_root u)
+  path_root (Generic p items) = first_of (path_root p) (items_root items)
+  path_root (BackPath p) = None
+  path_root (PathTarget at) = None
+
+  pub type_root : TypeTree → Option UndisambiguatedIdentifier
+  type_root NoType = None
+  type_root (Basic name) = None
+  type_root (Reference mutable life t) = type_root t
+  type_root InvalidReferenceType = None
+  type_root (Pointer mutable t) = type_root t
+  type_root (Slice t) = type_root t
+  type_root (Array t c) = type_root t
+  type_root (Tuple items) = items_root items
+  type_root (Function signature items) = items_root items
+  type_root (FunctionTo signature items t) = first_of (items_root items) (type_root t)
+  type_root (InvalidFunction binder) = None
+  type_root (Dyn binder items life) = items_root items
+  type_root InvalidDynType = None
+  type_root (Named p) = path_root p
+  type_root (BackType t) = None
+  type_root (TypeTarget at) = None
+
+  pub item_root : Item → Option UndisambiguatedIdentifier
+  item_root (LifetimeItem life) = None
+  item_root (TypeItem t) = type_root t
+  item_root (ConstItem c) = None
+  item_root (TraitItem p bindings) = first_of (path_root p) (bindings_root bindings)
+
+  pub items_root : Items → Option UndisambiguatedIdentifier
+  items_root NoItems = None
+  items_root (ItemThen i items) = first_of (item_root i) (items_root items)
+
+  pub bindings_root : Bindings → Option UndisambiguatedIdentifier
+  bindings_root NoBindings = None
+  bindings_root (Binding name t bindings) = first_of (type_root t) (bindings_root bindings)
+  bindings_root InvalidBinding = None
+
+-- Text
+
+-- where a tree is shown: a path as a value, a path as a type, and a trait, whose <..> its bindings may go on with
+pub data Position : Type 0 where
+  InValue : Position
+  InType : Position
+  OpenTrait : Position
+
+-- what a path hands on to its parent: only a back reference hands on an open trait
+abbrev pub parent_position : Position → Position
+parent_position InValue = InValue
+parent_position InType = InType
+parent_position OpenTrait = InType
+
+-- an index counts the lifetimes that the binders around it announce, from the innermost out; 0 is none of them
+abbrev pub is_announced : ℕ → ℕ → Bool
+is_announced depth index = nat_le index depth
+
+-- the lifetime of an index under a depth of binders: '_ for 0, a letter or a number for one that is announced, and '? for any other
+abbrev pub numbered_lifetime : ℕ → List ℕ
+numbered_lifetime n = if nat_le 26 n then codes "'_" ++ decimal n else codes "'" ++ ('a' + n) ∷ []
+
+unfoldable pub lifetime_text : ℕ → ℕ → List ℕ
+lifetime_text depth zero = codes "'_"
+lifetime_text depth (suc k) = if is_announced depth (suc k) then numbered_lifetime (depth - suc k) else codes "'?"
+
+-- the lifetimes that a binder announces, each printed as index 1 under the depth that it raises
+abbrev pub more_announced : ℕ → ℕ → List ℕ
+more_announced depth zero = []
+more_announced depth (suc n) = codes ", " ++ (lifetime_text (depth + 1) 1 ++ more_announced (depth + 1) n)
+
+unfoldable pub binder_text : ℕ → ℕ → List ℕ
+binder_text depth zero = []
+binder_text depth (suc n) =
+    codes "for<" ++ (lifetime_text (depth + 1) 1 ++ (more_announced (depth + 1) n ++ codes "> "))
+
+-- the lifetime of a reference, of an argument, and of a dyn type
+abbrev pub reference_lifetime : ℕ → Lifetime → List ℕ
+reference_lifetime depth NoLifetime = []
+reference_lifetime depth InvalidLifetime = []
+reference_lifetime depth (IndexedLifetime k) = if k == 0 then [] else lifetime_text depth k ++ codes " "
+
+abbrev pub argument_lifetime : ℕ → Lifetime → List ℕ
+argument_lifetime depth NoLifetime = codes "?"
+argument_lifetime depth InvalidLifetime = codes "?"
+argument_lifetime depth (IndexedLifetime k) = lifetime_text depth k
+
+abbrev pub dyn_lifetime : ℕ → Lifetime → List ℕ
+dyn_lifetime depth NoLifetime = codes "?"
+dyn_lifetime depth InvalidLifetime = codes "?"
+dyn_lifetime depth (IndexedLifetime k) = if k == 0 then [] else codes " + " ++ lifetime_text depth k
+
+-- a crate's name, and its disambiguator in lower-case hexadecimal where that is asked for
+abbrev pub disambiguator_text : Bool → ℕ → List ℕ
+disambiguator_text false n = []
+disambiguator_text true n = codes "[" ++ (digits 16 false n ++ codes "]")
+
+-- the words of a special namespace, as "closure"
+abbrev pub namespace_text : ℕ → List ℕ
+namespace_text c = if c == 'C' then codes "closure" else (if c == 'S' then codes "shim" else c ∷ [])
+
+abbrev pub after_mark : List ℕ → UndisambiguatedIdentifier → List ℕ
+after_mark mark name = if is_unnamed name then [] else mark ++ identifier_text name
+
+-- what a nested path adds to its parent: an upper-case namespace is a special one
+unfoldable pub nested_text : ℕ → Identifier → List ℕ
+nested_text c l =
+    if is_ascii_uppercase c then codes "::{" ++ (namespace_text c ++ (after_mark (codes ":") l.name ++ (codes "#" ++ (decimal l.disambiguator ++ codes "}")))) else after_mark (codes "::") l.name
+
+abbrev pub mutable_text : Bool → List ℕ → List ℕ → List ℕ
+mutable_text true mutable constant = mutable
+mutable_text false mutable constant = constant
+
+-- the name of an ABI, in which "_" stands for "-"
+abbrev pub abi_text : Option (List ℕ) → List ℕ
+abi_text None = []
+abi_text (Some name) = codes "extern \"" ++ (map (λ c. if c == '_' then '-' else c) name ++ codes "\" ")
+
+-- "unsafe ", the ABI and "fn("
+unfoldable pub signature_text : Signature → List ℕ
+signature_text s = mutable_text s.is_unsafe (codes "unsafe ") [] ++ (abi_text s.abi ++ codes "fn(")
+
+-- hexadecimal digits of at most 64 bits are shown in decimal
+abbrev pub hex_digit : ℕ → ℕ
+hex_digit c = if is_hex_digit c then digit_value c else 0
+
+unfoldable pub number_text : List ℕ → List ℕ
+number_text hex =
+    if nat_le (length hex) 16 then decimal (fold (λ n c. n * 16 + hex_digit c) 0 hex) else codes "0x" ++ hex
+
+abbrev pub const_text : ConstTree → List ℕ
+const_text NoConst = codes "?"
+const_text (Placeholder type_name) = codes "_" ++ (codes ": " ++ type_name)
+const_text (Number type_name hex) = number_text hex ++ (codes ": " ++ type_name)
+const_text (InvalidNumber type_name) = codes "?" ++ (codes ": " ++ type_name)
+const_text (BackConst c) = const_text c
+-- a position stands in readings alone, which are never shown
+const_text (ConstTarget at) = []
+
+-- "::" before the arguments of a value
+abbrev pub value_mark : Position → List ℕ
+value_mark InValue = codes "::"
+value_mark InType = []
+value_mark OpenTrait = []
+
+-- the arguments of an open trait are not closed
+abbrev pub closing : Position → List ℕ
+closing InValue = codes ">"
+closing InType = codes ">"
+closing OpenTrait = []
+
+abbrev pub is_open_trait : Position → Bool
+is_open_trait InValue = false
+is_open_trait InType = false
+is_open_trait OpenTrait = true
+
+-- a path with arguments that a position leaves open
+abbrev pub is_left_open : PathTree → Position → Bool
+is_left_open (Generic p items) position = is_open_trait position
+is_left_open (BackPath p) position = is_left_open p position
+is_left_open _ position = false
+
+-- between two items
+abbrev pub separator : Bool → List ℕ → List ℕ
+separator true text = []
+separator false text = text
+
+-- a tuple of one has a ","
+abbrev pub single_mark : Items → List ℕ
+single_mark NoItems = []
+single_mark (ItemThen i NoItems) = codes ","
+single_mark (ItemThen i (ItemThen j items)) = []
+
+abbrev pub open_mark : Bool → List ℕ
+open_mark true = codes ", "
+open_mark false = codes "<"
+
+abbrev pub close_mark : Bool → List ℕ
+close_mark true = codes ">"
+close_mark false = []
+
+-- the text of a tree, with or without the disambiguators of crates, under a depth of binders
+unfoldable mutual
+  pub path_text : Bool → PathTree → Position → ℕ → List ℕ
+  path_text full NoPath position depth = codes "?"
+  path_text full (Crate root) position depth = identifier_text root.name ++ disambiguator_text full root.disambiguator
+  path_text full (Nested namespace p name) position depth =
+      path_text full p (parent_position position) depth ++ nested_text namespace name
+  path_text full (InvalidNested p) position depth =
+      path_text full p (parent_position position) depth ++ codes "?"
+  path_text full (OfType p t) position depth = codes "<" ++ (type_text full t depth ++ codes ">")
+  path_text full (OfImpl p t u) position depth =
+      codes "<" ++ (type_text full t depth ++ (codes " as " ++ (path_text full u InType depth ++ codes ">")))
+  path_text full (OfTrait t u) position depth =
+      codes "<" ++ (type_text full t depth ++ (codes " as " ++ (path_text full u InType depth ++ codes ">")))
+  path_text full (Generic p items) position depth =
+      path_text full p (parent_position position) depth ++ (value_mark position ++ (codes "<" ++ (items_text full items (codes ", ") true depth ++ closing position)))
+  path_text full (BackPath p) position depth = path_text full p position depth
+  -- a position stands in readings alone, which are never shown
+  path_text full (PathTarget at) position depth = []
+
+  pub type_text : Bool → TypeTree → ℕ → List ℕ
+  type_text full NoType depth = codes "?"
+  type_text full (Basic name) depth = name
+  type_text full (Reference mutable life t) depth =
+      codes "&" ++ (reference_lifetime depth life ++ (mutable_text mutable (codes "mut ") [] ++ type_text full t depth))
+  type_text full InvalidReferenceType depth = codes "&?"
+  type_text full (Pointer mutable t) depth =
+      mutable_text mutable (codes "*mut ") (codes "*const ") ++ type_text full t depth
+  type_text full (Slice t) depth = codes "[" ++ (type_text full t depth ++ codes "]")
+  type_text full (Array t c) depth =
+      codes "[" ++ (type_text full t depth ++ (codes "; " ++ (const_text c ++ codes "]")))
+  type_text full (Tuple items) depth =
+      codes "(" ++ (items_text full items (codes ", ") true depth ++ (single_mark items ++ codes ")"))
+  type_text full (Function s items) depth =
+      binder_text depth s.binder ++ (signature_text s ++ (items_text full items (codes ", ") true (depth + s.binder) ++ codes ")"))
+  type_text full (FunctionTo s items t) depth =
+      binder_text depth s.binder ++ (signature_text s ++ (items_text full items (codes ", ") true (depth + s.binder) ++ (codes ")" ++ (codes " -> " ++ type_text full t (depth + s.binder)))))
+  type_text full (InvalidFunction binder) depth = binder_text depth binder ++ codes "?"
+  type_text full (Dyn binder items life) depth =
+      codes "dyn " ++ (binder_text depth binder ++ (items_text full items (codes " + ") true (depth + binder) ++ dyn_lifetime depth life))
+  type_text full InvalidDynType depth = codes "dyn ??"
+  type_text full (Named p) depth = path_text full p InType depth
+  type_text full (BackType t) depth = type_text full t depth
+  -- a position stands in readings alone, which are never shown
+  type_text full (TypeTarget at) depth = []
+
+  pub item_text : Bool → Item → ℕ → List ℕ
+  item_text full (LifetimeItem life) depth = argument_lifetime depth life
+  item_text full (TypeItem t) depth = type_text full t depth
+  item_text full (ConstItem c) depth = const_text c
+  item_text full (TraitItem p bindings) depth =
+      path_text full p OpenTrait depth ++ bindings_text full bindings (is_left_open p OpenTrait) depth
+
+  pub items_text : Bool → Items → List ℕ → Bool → ℕ → List ℕ
+  items_text full NoItems between is_first depth = []
+  items_text full (ItemThen i items) between is_first depth =
+      separator is_first between ++ (item_text full i depth ++ items_text full items between false depth)
+
+  pub bindings_text : Bool → Bindings → Bool → ℕ → List ℕ
+  bindings_text full NoBindings is_open depth = close_mark is_open
+  bindings_text full (Binding name t bindings) is_open depth =
+      open_mark is_open ++ (identifier_text name ++ (codes " = " ++ (type_text full t depth ++ bindings_text full bindings true depth)))
+  bindings_text full InvalidBinding is_open depth = open_mark is_open ++ codes "?"
+
+-- the text of a name that means a tree
+abbrev pub name_text : Bool → PathTree → List ℕ
+name_text full tree = path_text full tree InValue 0

@@ -1,0 +1,394 @@
+//! The form of the grammar that stands at a position of a v0 name: the front of a row, up to where it asks for a path, a
+//! type or a const (RFC 2603, "Syntax of mangled names").
+
+mod signature;
+
+ghost use Rattle.std.specs.Prelude.{◌≡◌, ◌+◌, ◌<◌, IfSome, Some, length};
+ghost use Rattle.std.specs.Option.{ForSome, option_map};
+ghost use Rattle.std.specs.Str.{IsAscii};
+ghost use Rattle.binfarce_v0_grammar.specs.Base62.{hex_digits};
+ghost use Rattle.binfarce_v0_grammar.specs.Forms.{
+  nested_form,
+  path_form_by,
+  path_form,
+  lifetime,
+  basic_type,
+  abi,
+  function_form,
+  reference_form,
+  type_form_by,
+  type_form,
+  unsigned_type,
+  typed_form,
+  const_form,
+};
+ghost use Rattle.binfarce_v0_grammar.specs.machine.Seen.{
+  path_seen,
+  lifetime_seen,
+  type_seen,
+  const_seen,
+};
+
+use crate::identifiers::{Identifier, identifier_at, part, undisambiguated_at};
+use crate::numbers::{back_reference, byte_at, hex_end, number, past, tagged};
+pub use signature::Signature;
+
+/// `<path>`, up to where it asks for a path or a type. The last number of a form is the position after it.
+#[derive(Clone, Copy)]
+pub enum PathForm<'a> {
+    /// No form, or one whose number, name or namespace is invalid.
+    Nothing,
+    /// `"C" <identifier>`
+    CrateRoot(Identifier<'a>, usize),
+    /// `"N" <namespace> ..`, with the letter of the namespace.
+    NestedIn(u8, usize),
+    /// `"M" [<disambiguator>] ..`
+    InherentImpl(usize),
+    /// `"X" [<disambiguator>] ..`
+    TraitImpl(usize),
+    /// `"Y" ..`
+    TraitDefinition(usize),
+    /// `"I" ..`
+    WithArguments(usize),
+    /// `<backref>`, with the position that it names.
+    Back(usize, usize),
+}
+
+/// `[<lifetime>]`
+#[derive(Clone, Copy)]
+pub enum Lifetime {
+    /// No `L`.
+    Nothing,
+    /// An `L` whose number is invalid.
+    Invalid,
+    /// A lifetime by its index.
+    Indexed(u64),
+}
+
+/// `<type>`, up to where it asks for a path, a type or a list. The last number of a form is the position after it.
+#[derive(Clone, Copy)]
+pub enum TypeForm<'a> {
+    /// No byte, or a form whose binder or back reference is invalid.
+    Nothing,
+    /// `<basic-type>`, by its name.
+    Basic(&'static str, usize),
+    /// `"R" [<lifetime>] ..`, or `"Q" [<lifetime>] ..` for a mutable one.
+    ReferenceTo(bool, Lifetime, usize),
+    /// The same with an `L` whose number is invalid.
+    InvalidReference,
+    /// `"P" ..`, or `"O" ..` for a mutable one.
+    PointerTo(bool, usize),
+    /// `"S" ..`
+    SliceOf(usize),
+    /// `"A" ..`
+    ArrayOf(usize),
+    /// `"T" ..`
+    TupleOf(usize),
+    /// `"F"` and the front of a `<fn-sig>`.
+    FunctionOf(Signature<'a>, usize),
+    /// The same with an invalid ABI, by its binder.
+    InvalidAbi(u64),
+    /// `"D" [<binder>] ..`, with how many lifetimes the binder announces.
+    DynOf(u64, usize),
+    /// The same with an invalid binder.
+    InvalidDyn,
+    /// `<backref>`, with the position that it names.
+    Back(usize, usize),
+    /// Any other byte: a path.
+    Path,
+}
+
+/// `<const>` of an unsigned integer. The last number of a form is the position after it.
+#[derive(Clone, Copy)]
+pub enum ConstForm<'a> {
+    /// Another type, or an invalid back reference.
+    Nothing,
+    /// `<type> "p"`, with the name of the type.
+    Placeholder(&'static str, usize),
+    /// `<type> <const-data>`, with the name of the type and the digits.
+    Digits(&'static str, &'a str, usize),
+    /// The same with invalid digits.
+    Invalid(&'static str),
+    /// `<backref>`, with the position that it names.
+    Back(usize, usize),
+}
+
+/// Where a tree is shown: a path as a value, a path as a type, and a trait, whose `<..>` its bindings may go on with.
+#[derive(Clone, Copy)]
+pub enum Position {
+    InValue,
+    InType,
+    OpenTrait,
+}
+
+/// What the items of a list are.
+#[derive(Clone, Copy)]
+pub enum Listed {
+    /// `<generic-arg>`
+    Arguments,
+    /// `<type>`
+    Types,
+    /// `<dyn-trait>`
+    Traits,
+}
+
+// `<const-data>`
+#[tactic(auto, using(crate::proofs::NumberLemmas::hex_digits_step))]
+fn hex_digits<'a>(name: &'a str, at: usize) -> Option<(&'a str, usize)>
+    requires ascii { IsAscii name.now }
+    ensures { option_map (λ d. (d.0.now, d.1)) result ≡ hex_digits name.now at }
+{
+    let end = hex_end(name.as_bytes(), at)?;
+    Some((part(name, at, end), end + 1))
+}
+
+// A nested path's namespace.
+fn nested_form<'a>(namespace: u8, after: usize) -> PathForm<'a>
+    ensures { path_seen result ≡ nested_form namespace after }
+{
+    match namespace {
+        b'A'..=b'Z' | b'a'..=b'z' => PathForm::NestedIn(namespace, after),
+        _ => PathForm::Nothing,
+    }
+}
+
+/// The form of a path that stands at a position, where there is one.
+#[tactic(auto, unfolding(crate::specs::Forms::path_form, crate::specs::Forms::path_form_by))]
+pub fn path_form<'a>(name: &'a str, at: Option<usize>) -> PathForm<'a>
+    requires ascii { IsAscii name.now }
+    ensures { path_seen result ≡ path_form name.now at }
+{
+    let Some(at) = at else {
+        return PathForm::Nothing;
+    };
+    let bytes = name.as_bytes();
+    match byte_at(bytes, at) {
+        b'C' => match identifier_at(name, at + 1) {
+            Some((root, after)) => PathForm::CrateRoot(root, after),
+            None => PathForm::Nothing,
+        },
+        b'N' => {
+            let namespace = byte_at(bytes, at + 1);
+            if namespace == 0 {
+                PathForm::Nothing
+            } else {
+                nested_form(namespace, at + 2)
+            }
+        }
+        b'M' => match tagged(bytes, b's', at + 1) {
+            Some((_, after)) => PathForm::InherentImpl(after),
+            None => PathForm::Nothing,
+        },
+        b'X' => match tagged(bytes, b's', at + 1) {
+            Some((_, after)) => PathForm::TraitImpl(after),
+            None => PathForm::Nothing,
+        },
+        b'Y' => PathForm::TraitDefinition(at + 1),
+        b'I' => PathForm::WithArguments(at + 1),
+        b'B' => match back_reference(bytes, at) {
+            Some((target, after)) => PathForm::Back(target, after),
+            None => PathForm::Nothing,
+        },
+        _ => PathForm::Nothing,
+    }
+}
+
+/// The lifetime that stands at a position, and the position after it: None for an invalid one.
+#[tactic(auto, unfolding(crate::specs::Forms::lifetime))]
+pub fn lifetime_form(name: &[u8], at: Option<usize>) -> (Lifetime, Option<usize>)
+    ensures { (lifetime_seen result.0, result.1) ≡ lifetime name.now at }
+{
+    let Some(at) = at else {
+        return (Lifetime::Nothing, None);
+    };
+    if byte_at(name, at) != b'L' {
+        return (Lifetime::Nothing, Some(at));
+    }
+    match number(name, at + 1) {
+        Some((index, after)) => (Lifetime::Indexed(index), Some(after)),
+        None => (Lifetime::Invalid, None),
+    }
+}
+
+// `<basic-type>`, by its letter.
+#[tactic(auto, unfolding(crate::specs::Forms::basic_type))]
+fn basic_type(letter: u8) -> Option<&'static str>
+    ensures { option_map (λ n. n.now) result ≡ basic_type letter }
+{
+    match letter {
+        b'b' => Some("bool"),
+        b'c' => Some("char"),
+        b'e' => Some("str"),
+        b'u' => Some("()"),
+        b'a' => Some("i8"),
+        b's' => Some("i16"),
+        b'l' => Some("i32"),
+        b'x' => Some("i64"),
+        b'n' => Some("i128"),
+        b'i' => Some("isize"),
+        b'h' => Some("u8"),
+        b't' => Some("u16"),
+        b'm' => Some("u32"),
+        b'y' => Some("u64"),
+        b'o' => Some("u128"),
+        b'j' => Some("usize"),
+        b'f' => Some("f32"),
+        b'd' => Some("f64"),
+        b'z' => Some("!"),
+        b'p' => Some("_"),
+        b'v' => Some("..."),
+        _ => None,
+    }
+}
+
+// `["K" <abi>]`
+#[tactic(auto, unfolding(crate::specs::Forms::abi))]
+fn abi<'a>(name: &'a str, at: usize) -> Option<(Option<&'a str>, usize)>
+    requires ascii { IsAscii name.now }
+    ensures value { option_map (λ a. (option_map (λ t. t.now) a.0, a.1)) result ≡ abi name.now at }
+    ensures ascii { IfSome result (λ a. ForSome a.0 (λ t. IsAscii t.now)) }
+{
+    let bytes = name.as_bytes();
+    if byte_at(bytes, at) != b'K' {
+        return Some((None, at));
+    }
+    if byte_at(bytes, at + 1) == b'C' {
+        return Some((Some("C"), at + 2));
+    }
+    let (name_of_abi, after) = undisambiguated_at(name, at + 1)?;
+    if name_of_abi.ascii.is_empty() || !name_of_abi.punycode.is_empty() {
+        return None;
+    }
+    Some((Some(name_of_abi.ascii), after))
+}
+
+// `"F"` and the front of a `<fn-sig>`.
+fn function_form<'a>(name: &'a str, binder: Option<(u64, usize)>) -> TypeForm<'a>
+    requires ascii { IsAscii name.now }
+    ensures { type_seen result ≡ function_form name.now binder }
+{
+    let Some((binder, at)) = binder else {
+        return TypeForm::Nothing;
+    };
+    let bytes = name.as_bytes();
+    let is_unsafe = byte_at(bytes, at) == b'U';
+    match abi(name, past(bytes, b'U', at)) {
+        Some((abi, after)) => TypeForm::FunctionOf(
+            Signature {
+                binder,
+                is_unsafe,
+                abi,
+            },
+            after,
+        ),
+        None => TypeForm::InvalidAbi(binder),
+    }
+}
+
+// `"R"` or `"Q"` with the lifetime after it.
+fn reference_form<'a>(mutable: bool, life: (Lifetime, Option<usize>)) -> TypeForm<'a>
+    ensures { type_seen result ≡ reference_form mutable (lifetime_seen life.0, life.1) }
+{
+    let (life, after) = life;
+    match after {
+        Some(after) => TypeForm::ReferenceTo(mutable, life, after),
+        None => TypeForm::InvalidReference,
+    }
+}
+
+// A type that is no basic type.
+#[tactic(auto, unfolding(crate::specs::Forms::type_form_by))]
+fn type_form_by<'a>(name: &'a str, at: usize, tag: u8) -> TypeForm<'a>
+    requires ascii { IsAscii name.now }
+    requires within { at < length name.now }
+    ensures { type_seen result ≡ type_form_by name.now at tag }
+{
+    let bytes = name.as_bytes();
+    match tag {
+        b'R' => reference_form(false, lifetime_form(bytes, Some(at + 1))),
+        b'Q' => reference_form(true, lifetime_form(bytes, Some(at + 1))),
+        b'P' => TypeForm::PointerTo(false, at + 1),
+        b'O' => TypeForm::PointerTo(true, at + 1),
+        b'S' => TypeForm::SliceOf(at + 1),
+        b'A' => TypeForm::ArrayOf(at + 1),
+        b'T' => TypeForm::TupleOf(at + 1),
+        b'F' => function_form(name, tagged(bytes, b'G', at + 1)),
+        b'D' => match tagged(bytes, b'G', at + 1) {
+            Some((binder, after)) => TypeForm::DynOf(binder, after),
+            None => TypeForm::InvalidDyn,
+        },
+        b'B' => match back_reference(bytes, at) {
+            Some((target, after)) => TypeForm::Back(target, after),
+            None => TypeForm::Nothing,
+        },
+        _ => TypeForm::Path,
+    }
+}
+
+/// The form of a type that stands at a position, where there is one.
+#[tactic(auto, unfolding(crate::specs::Forms::type_form))]
+pub fn type_form<'a>(name: &'a str, at: Option<usize>) -> TypeForm<'a>
+    requires ascii { IsAscii name.now }
+    ensures { type_seen result ≡ type_form name.now at }
+{
+    let Some(at) = at else {
+        return TypeForm::Nothing;
+    };
+    if at >= name.len() {
+        return TypeForm::Nothing;
+    }
+    let tag = byte_at(name.as_bytes(), at);
+    match basic_type(tag) {
+        Some(text) => TypeForm::Basic(text, at + 1),
+        None => type_form_by(name, at, tag),
+    }
+}
+
+// The types of unsigned integers.
+#[tactic(auto, unfolding(crate::specs::Forms::unsigned_type))]
+fn unsigned_type(letter: u8) -> Option<&'static str>
+    ensures value { option_map (λ n. n.now) result ≡ unsigned_type letter }
+    ensures letter { IfSome result (λ _. 0 < letter) }
+{
+    match letter {
+        b'h' | b't' | b'm' | b'y' | b'o' | b'j' => basic_type(letter),
+        _ => None,
+    }
+}
+
+// The value of a const of a type.
+fn typed_form<'a>(name: &'a str, at: usize, type_name: &'static str) -> ConstForm<'a>
+    requires ascii { IsAscii name.now }
+    ensures { const_seen result ≡ typed_form name.now at (Some type_name.now) }
+{
+    if byte_at(name.as_bytes(), at) == b'p' {
+        return ConstForm::Placeholder(type_name, at + 1);
+    }
+    match hex_digits(name, at) {
+        Some((digits, after)) => ConstForm::Digits(type_name, digits, after),
+        None => ConstForm::Invalid(type_name),
+    }
+}
+
+/// The form of a const that stands at a position, where there is one.
+#[tactic(auto, unfolding(crate::specs::Forms::const_form))]
+pub fn const_form<'a>(name: &'a str, at: Option<usize>) -> ConstForm<'a>
+    requires ascii { IsAscii name.now }
+    ensures { const_seen result ≡ const_form name.now at }
+{
+    let Some(at) = at else {
+        return ConstForm::Nothing;
+    };
+    let bytes = name.as_bytes();
+    let letter = byte_at(bytes, at);
+    if letter == b'B' {
+        return match back_reference(bytes, at) {
+            Some((target, after)) => ConstForm::Back(target, after),
+            None => ConstForm::Nothing,
+        };
+    }
+    match unsigned_type(letter) {
+        Some(type_name) => typed_form(name, at + 1, type_name),
+        None => ConstForm::Nothing,
+    }
+}

@@ -1,0 +1,11 @@
+//! The grammar of Rust's v0 mangling (RFC 2603): its numbers, its identifiers with their Punycode (RFC 3492), its forms,
+//! and the reading of a name by the grammar alone.
+#![tactic(auto)]
+
+pub mod forms;
+pub mod identifiers;
+pub mod limits;
+pub mod numbers;
+pub mod positions;
+pub mod punycode;
+pub mod reading;

@@ -1,0 +1,70 @@
+//! Positions of a v0 name after a byte, a list and a lifetime.
+
+ghost use Rattle.std.specs.Prelude.{◌≡◌, ◌<◌, Some, true, false, MatchOption};
+ghost use Rattle.binfarce_v0_grammar.specs.Forms.{stands, after_byte};
+ghost use Rattle.binfarce_v0_grammar.specs.Tree.{lifetime_steps};
+ghost use Rattle.binfarce_v0_grammar.specs.Unfolding.{list_goes_on, bound_end, required_end};
+ghost use Rattle.binfarce_v0_grammar.specs.machine.Seen.{lifetime_seen};
+
+use crate::forms::Lifetime;
+use crate::numbers::byte_at;
+
+/// The position after a byte. None where the byte doesn't stand there.
+pub fn eat(name: &[u8], byte: u8, at: Option<usize>) -> Option<usize>
+    requires { 0 < byte }
+    ensures { MatchOption result (stands name.now byte at ≡ false) (λ after. (stands name.now byte at ≡ true) × (after_byte at ≡ Some after)) }
+{
+    let at = at?;
+    if byte_at(name, at) == byte {
+        Some(at + 1)
+    } else {
+        None
+    }
+}
+
+/// The position after a list, where the list ends there: at an `E`, and after a fault.
+pub fn list_end(name: &[u8], at: Option<usize>) -> Option<Option<usize>>
+    ensures { MatchOption result (list_goes_on name.now at ≡ true) (λ after. (list_goes_on name.now at ≡ false) × (after_byte at ≡ after)) }
+{
+    let Some(at) = at else {
+        return Some(None);
+    };
+    if byte_at(name, at) == b'E' {
+        Some(Some(at + 1))
+    } else {
+        None
+    }
+}
+
+/// How many steps a lifetime is: 1 for an `L` that stands there.
+pub fn lifetime_steps(life: Lifetime) -> u64
+    ensures { result ≡ lifetime_steps (lifetime_seen life) }
+{
+    match life {
+        Lifetime::Nothing => 0,
+        Lifetime::Invalid | Lifetime::Indexed(_) => 1,
+    }
+}
+
+/// The position after a lifetime that may stand there: None for one that is invalid, or that the binders around it don't
+/// announce.
+#[tactic(auto, unfolding(crate::specs::Unfolding::bound_end))]
+pub fn bound_end(depth: usize, life: Lifetime, after: Option<usize>) -> Option<usize>
+    ensures { result ≡ bound_end depth (lifetime_seen life) after }
+{
+    match life {
+        Lifetime::Nothing => after,
+        Lifetime::Invalid => None,
+        Lifetime::Indexed(index) => { if index > depth as u64 { None } else { after } }
+    }
+}
+
+/// The position after a lifetime that has to stand there: None for one that isn't there either.
+pub fn required_end(depth: usize, life: Lifetime, after: Option<usize>) -> Option<usize>
+    ensures { result ≡ required_end depth (lifetime_seen life) after }
+{
+    match life {
+        Lifetime::Nothing | Lifetime::Invalid => None,
+        Lifetime::Indexed(_) => bound_end(depth, life, after),
+    }
+}

@@ -1,0 +1,216 @@
+//! Reading a v0 name by the grammar alone: it is validated in one pass, without memory.
+
+ghost use Rattle.std.specs.Prelude.{◌≡◌, ◌≤◌, length, suc};
+ghost use Rattle.std.specs.Str.{IsAscii};
+ghost use Rattle.binfarce_v0_grammar.specs.declared.limits.TheConstants.{MAX_LEVELS};
+ghost use Rattle.binfarce_v0_grammar.specs.machine.Seen.{listed_seen};
+ghost use Rattle.binfarce_v0_grammar.specs.machine.Ends.{
+  ends,
+  bindings_end,
+  item_end,
+  list_end,
+  return_end,
+  lifetime_end,
+  argument_end,
+};
+
+use crate::forms::{
+    ConstForm, Listed, PathForm, TypeForm, const_form, lifetime_form, path_form, type_form,
+};
+use crate::identifiers::{identifier_at, undisambiguated_at};
+use crate::positions::eat;
+
+// `<const>`
+#[tactic(auto, using(crate::proofs::ReadingComplete::const_end_at, crate::proofs::ReadingComplete::const_end_none), unfolding(crate::specs::machine::Ends::const_end))]
+fn read_const(name: &str, left: usize, at: usize) -> Option<usize>
+    requires ascii { IsAscii name.now }
+    requires levels { left ≤ MAX_LEVELS }
+    ensures { result ≡ (ends name.now left).constant at }
+{
+    if left == 0 {
+        return None;
+    }
+    match const_form(name, Some(at)) {
+        ConstForm::Placeholder(_, after) => Some(after),
+        ConstForm::Digits(_, _, after) => Some(after),
+        ConstForm::Back(_, after) => Some(after),
+        ConstForm::Nothing | ConstForm::Invalid(_) => None,
+    }
+}
+
+// The lifetime of a dyn type.
+fn read_lifetime(name: &str, at: usize) -> Option<usize>
+    ensures { result ≡ lifetime_end name.now at }
+{
+    let bytes = name.as_bytes();
+    let _start = eat(bytes, b'L', Some(at))?;
+    let (_life, after) = lifetime_form(bytes, Some(at));
+    after
+}
+
+/// The position after the `<path>` that stands at a position. None where no path stands there, and where it has more than
+/// `left` levels. What a back reference names isn't looked at, nor what a lifetime's index means.
+#[cycle(reading)]
+#[tactic(auto, using(crate::proofs::ReadingComplete::path_end_at, crate::proofs::ReadingComplete::path_end_none), unfolding(crate::specs::machine::Ends::path_end))]
+pub fn read_path(name: &str, left: usize, at: usize) -> Option<usize>
+    requires ascii { IsAscii name.now }
+    requires levels { left ≤ MAX_LEVELS }
+    ensures { result ≡ (ends name.now left).path at }
+{
+    if left == 0 {
+        return None;
+    }
+    let inner = left - 1;
+    match path_form(name, Some(at)) {
+        PathForm::Nothing => None,
+        PathForm::CrateRoot(_, after) => Some(after),
+        PathForm::Back(_, after) => Some(after),
+        PathForm::NestedIn(_, after) => {
+            let mid = read_path(name, inner, after)?;
+            let (_identifier, end) = identifier_at(name, mid)?;
+            Some(end)
+        }
+        PathForm::InherentImpl(after) => {
+            let mid = read_path(name, inner, after)?;
+            read_type(name, inner, mid)
+        }
+        PathForm::TraitImpl(after) => {
+            let mid = read_path(name, inner, after)?;
+            let end = read_type(name, inner, mid)?;
+            read_path(name, inner, end)
+        }
+        PathForm::TraitDefinition(after) => {
+            let mid = read_type(name, inner, after)?;
+            read_path(name, inner, mid)
+        }
+        PathForm::WithArguments(after) => {
+            let mid = read_path(name, inner, after)?;
+            read_items(name, inner, Listed::Arguments, mid)
+        }
+    }
+}
+
+// `<type>`
+#[cycle(reading)]
+#[tactic(auto, using(crate::proofs::ReadingComplete::type_end_at, crate::proofs::ReadingComplete::type_end_none), unfolding(crate::specs::machine::Ends::type_end))]
+fn read_type(name: &str, left: usize, at: usize) -> Option<usize>
+    requires ascii { IsAscii name.now }
+    requires levels { left ≤ MAX_LEVELS }
+    ensures { result ≡ (ends name.now left).ty at }
+{
+    if left == 0 {
+        return None;
+    }
+    let inner = left - 1;
+    match type_form(name, Some(at)) {
+        TypeForm::Nothing | TypeForm::InvalidReference | TypeForm::InvalidDyn => None,
+        TypeForm::InvalidAbi(_) => None,
+        TypeForm::Basic(_, after) => Some(after),
+        TypeForm::Back(_, after) => Some(after),
+        TypeForm::ReferenceTo(_, _, after) => read_type(name, inner, after),
+        TypeForm::PointerTo(_, after) => read_type(name, inner, after),
+        TypeForm::SliceOf(after) => read_type(name, inner, after),
+        TypeForm::ArrayOf(after) => {
+            let mid = read_type(name, inner, after)?;
+            read_const(name, inner, mid)
+        }
+        TypeForm::TupleOf(after) => read_items(name, inner, Listed::Types, after),
+        TypeForm::FunctionOf(_, after) => {
+            let mid = read_items(name, inner, Listed::Types, after)?;
+            read_return(name, inner, mid)
+        }
+        TypeForm::DynOf(_, after) => {
+            let mid = read_items(name, inner, Listed::Traits, after)?;
+            read_lifetime(name, mid)
+        }
+        TypeForm::Path => read_path(name, inner, at),
+    }
+}
+
+// The return of a function type.
+#[cycle(reading)]
+fn read_return(name: &str, left: usize, at: usize) -> Option<usize>
+    requires ascii { IsAscii name.now }
+    requires levels { left ≤ MAX_LEVELS }
+    ensures { result ≡ return_end name.now (ends name.now left) at }
+{
+    match eat(name.as_bytes(), b'u', Some(at)) {
+        Some(after) => Some(after),
+        None => read_type(name, left, at),
+    }
+}
+
+// A list up to its `E`.
+#[cycle(reading)]
+#[tactic(auto, using(crate::proofs::ReadingLists::items_end_step, crate::proofs::ReadingLists::items_end_none, crate::proofs::ReadingLists::items_end_more))]
+fn read_items(name: &str, left: usize, listed: Listed, start: usize) -> Option<usize>
+    requires ascii { IsAscii name.now }
+    requires levels { left ≤ MAX_LEVELS }
+    ensures { result ≡ list_end name.now (ends name.now left) (listed_seen listed) start }
+{
+    let bytes = name.as_bytes();
+    let mut at = start;
+    for _turn in 0..bytes.len() + 1 {
+        if let Some(after) = eat(bytes, b'E', Some(at)) {
+            return Some(after);
+        }
+        at = read_item(name, left, listed, at)?;
+    }
+    None
+}
+
+// An item of a list.
+#[cycle(reading)]
+#[tactic(auto, unfolding(crate::specs::machine::Ends::item_end))]
+fn read_item(name: &str, left: usize, listed: Listed, at: usize) -> Option<usize>
+    requires ascii { IsAscii name.now }
+    requires levels { left ≤ MAX_LEVELS }
+    ensures { result ≡ item_end name.now (ends name.now left) (listed_seen listed) at }
+{
+    match listed {
+        Listed::Types => read_type(name, left, at),
+        Listed::Arguments => read_argument(name, left, at),
+        Listed::Traits => {
+            let mid = read_path(name, left, at)?;
+            read_bindings(name, left, mid)
+        }
+    }
+}
+
+// `<generic-arg>`
+#[cycle(reading)]
+fn read_argument(name: &str, left: usize, at: usize) -> Option<usize>
+    requires ascii { IsAscii name.now }
+    requires levels { left ≤ MAX_LEVELS }
+    ensures { result ≡ argument_end name.now (ends name.now left) at }
+{
+    let bytes = name.as_bytes();
+    if eat(bytes, b'L', Some(at)).is_some() {
+        let (_life, after) = lifetime_form(bytes, Some(at));
+        return after;
+    }
+    match eat(bytes, b'K', Some(at)) {
+        Some(after) => read_const(name, left, after),
+        None => read_type(name, left, at),
+    }
+}
+
+// The bindings of a trait.
+#[cycle(reading)]
+#[tactic(auto, using(crate::proofs::ReadingLists::bindings_end_step, crate::proofs::ReadingLists::bindings_end_none, crate::proofs::ReadingLists::bindings_end_more))]
+fn read_bindings(name: &str, left: usize, start: usize) -> Option<usize>
+    requires ascii { IsAscii name.now }
+    requires levels { left ≤ MAX_LEVELS }
+    ensures { result ≡ bindings_end name.now (ends name.now left) (suc (length name.now)) start }
+{
+    let bytes = name.as_bytes();
+    let mut at = start;
+    for _turn in 0..bytes.len() + 1 {
+        let Some(binding) = eat(bytes, b'p', Some(at)) else {
+            return Some(at);
+        };
+        let (_name, bound) = undisambiguated_at(name, binding)?;
+        at = read_type(name, left, bound)?;
+    }
+    None
+}

@@ -1,197 +1,224 @@
 //! Reports by crate.
 
 use super::images::{file_beside, file_of};
-use super::{Short, with};
-use crate::bench_files::{E_ELF32_BIG, E_ELF32_LITTLE, E_ELF64_BIG, E_ELF64_LITTLE, M, P};
-use crate::list::Out;
-use crate::report::{ReportError, report};
-use binfarce::ParseError;
-use std::alloc::{AllocError, Global};
+use super::{File, MACHO_MAGIC, PE_MAGIC, Short, TRUNCATED, UNKNOWN, WHOLE, WRITERS, bytes_of};
+use binfarce_samples::elf::Layout;
+use binfarce_samples::{Patch, first_bytes, patched};
+use binfarce_tools::list::{Out, Sink};
+use binfarce_tools::report::{ReportError, report};
+use std::alloc::Global;
 use std::io::ErrorKind;
 use std::test::Fail;
 
 const REPORT: &str = "        16 foo\nsum 16\ntext 32\n";
 
-fn reported(alloc: Global, data: &[u8], section: &str) -> (Result<(), ReportError>, Vec<u8>) {
+// What is written, or the words of the refusal, on which nothing may be written.
+fn reported(alloc: Global, data: &[u8], section: &str) -> Result<String, Fail> {
     let mut out = Out::new(Vec::new(alloc));
     let result = report(alloc, data, section, &mut out);
-    (result, out.into_inner())
-}
-
-#[test]
-fn reports_on_files(rt: HostRuntime) {
-    let rows = [
-        (
-            "ELF32 little endian",
-            &E_ELF32_LITTLE[..],
-            ".text",
-            REPORT,
-        ),
-        ("ELF32 big endian", &E_ELF32_BIG[..], ".text", REPORT),
-        (
-            "ELF64 little endian",
-            &E_ELF64_LITTLE[..],
-            ".text",
-            REPORT,
-        ),
-        ("ELF64 big endian", &E_ELF64_BIG[..], ".text", REPORT),
-        (
-            "no symbol",
-            &E_ELF64_LITTLE[..],
-            ".shstrtab",
-            "sum 0\ntext 33\n",
-        ),
-        (
-            "Mach-O",
-            &M[..],
-            ".data",
-            "       320 [unknown]\nsum 320\ntext 256\n",
-        ),
-        (
-            "PE",
-            &P[..],
-            ".data",
-            "       448 [unknown]\nsum 448\ntext 256\n",
-        ),
-    ];
-    for (label, data, section, text) in rows {
-        let (result, bytes) = reported(rt.alloc(), data, section);
-        assert!(&rt; result == Ok(()), "{label}");
-        assert!(&rt; bytes.as_slice() == text.as_bytes(), "{label}");
+    let written = String::from_utf8(out.into_inner())?;
+    match result {
+        Ok(()) => Ok(written),
+        Err(error) => Ok(format!(in alloc; "{written}{error}")?),
     }
 }
 
-// Which crate a name counts for, beside a function of the crate `foo`. Both have 16 bytes.
+struct Row {
+    what: &'static str,
+    file: File,
+    // The length that is kept of the file, and the bytes that are changed.
+    len: usize,
+    patches: &'static [Patch<'static>],
+    section: &'static str,
+    text: &'static str,
+}
+
+const ROWS: [Row; 9] = [
+    Row {
+        what: "ELF32 big endian",
+        file: File::Elf(Layout::Elf32Big),
+        len: WHOLE,
+        patches: &[],
+        section: ".text",
+        text: REPORT,
+    },
+    Row {
+        what: "ELF64 little endian",
+        file: File::Elf(Layout::Elf64Little),
+        len: WHOLE,
+        patches: &[],
+        section: ".text",
+        text: REPORT,
+    },
+    Row {
+        what: "Mach-O",
+        file: File::Macho,
+        len: WHOLE,
+        patches: MACHO_MAGIC,
+        section: ".data",
+        text: "       320 [unknown]\nsum 320\ntext 256\n",
+    },
+    Row {
+        what: "PE",
+        file: File::Pe,
+        len: WHOLE,
+        patches: PE_MAGIC,
+        section: ".data",
+        text: "       448 [unknown]\nsum 448\ntext 256\n",
+    },
+    Row {
+        what: "no symbol",
+        file: File::Elf(Layout::Elf64Little),
+        len: WHOLE,
+        patches: &[],
+        section: ".shstrtab",
+        text: "sum 0\ntext 33\n",
+    },
+    Row {
+        what: "no such section",
+        file: File::Elf(Layout::Elf64Little),
+        len: WHOLE,
+        patches: &[],
+        section: "text",
+        text: "symbols section is missing",
+    },
+    Row {
+        what: "a truncated file",
+        file: File::Elf(Layout::Elf64Little),
+        len: 331,
+        patches: &[],
+        section: ".text",
+        text: TRUNCATED,
+    },
+    Row {
+        what: "nothing",
+        file: File::Elf(Layout::Elf64Little),
+        len: 0,
+        patches: &[],
+        section: ".text",
+        text: UNKNOWN,
+    },
+    Row {
+        what: "no class",
+        file: File::Elf(Layout::Elf64Little),
+        len: WHOLE,
+        patches: &[(4, &[3])],
+        section: ".text",
+        text: UNKNOWN,
+    },
+];
+
+#[test]
+fn reports_on_files(rt: HostRuntime) -> Result<(), Fail> {
+    for row in &ROWS {
+        let file = patched(rt.alloc(), bytes_of(row.file), row.patches)?;
+        let text = reported(rt.alloc(), first_bytes(&file, row.len), row.section)?;
+        assert!(&rt; text.as_str() == row.text, "{}: {text}", row.what);
+    }
+    Ok(())
+}
+
+// A name, and the lines of the crates of a file with a function of this name beside `foo::bar`, both of 16 bytes.
+const CRATES: [(&str, &str); 12] = [
+    ("_RNvC6_123foo3bar", "        16 123foo\n        16 foo\n"),
+    ("_ZN11_$LT$a$GT$bE", "        16 [unknown]\n        16 foo\n"),
+    ("a", "        16 [unknown]\n        16 foo\n"),
+    ("_ZN4testE", "        16 foo\n        16 test\n"),
+    ("_ZN1a1b1cE", "        16 a\n        16 foo\n"),
+    ("_ZN3foo1aE", "        32 foo\n"),
+    ("_ZNE", "        16 \n        16 foo\n"),
+    ("_RMC0INtC8arrayvec8ArrayVechKj7b_E", "        16 \n        16 foo\n"),
+    ("_RYhB0_", "        16 [unknown]\n        16 foo\n"),
+    ("_RNvB_1a", "        16 [unknown]\n        16 foo\n"),
+    ("_RNvC3fop1a", "        16 foo\n        16 fop\n"),
+    ("_RNvC2fo1a", "        16 fo\n        16 foo\n"),
+];
+
 #[test]
 fn counts_for_the_crate_of_a_name(rt: HostRuntime) -> Result<(), Fail> {
-    let rows = [
-        ("_RNvC6_123foo3bar", "        16 123foo\n        16 foo\n"),
-        (
-            "_ZN11_$LT$a$GT$bE",
-            "        16 [unknown]\n        16 foo\n",
-        ),
-        ("a", "        16 [unknown]\n        16 foo\n"),
-        ("_ZN4testE", "        16 foo\n        16 test\n"),
-        ("_ZN1a1b1cE", "        16 a\n        16 foo\n"),
-        ("_ZN3foo1aE", "        32 foo\n"),
-        ("_ZNE", "        16 \n        16 foo\n"),
-        (
-            "_RMC0INtC8arrayvec8ArrayVechKj7b_E",
-            "        16 \n        16 foo\n",
-        ),
-        ("_RYhB0_", "        16 [unknown]\n        16 foo\n"),
-        ("_RNvB_1a", "        16 [unknown]\n        16 foo\n"),
-        ("_RNvC3fop1a", "        16 foo\n        16 fop\n"),
-        ("_RNvC2fo1a", "        16 fo\n        16 foo\n"),
-    ];
-    for (name, crates) in rows {
+    for (name, crates) in &CRATES {
         let file = file_beside(rt.alloc(), name)?;
-        let (result, text) = reported(rt.alloc(), &file, ".text");
+        let text = reported(rt.alloc(), &file, ".text")?;
         let want = format!(in rt.alloc(); "{crates}sum 32\ntext 32\n")?;
-        assert!(&rt; result == Ok(()), "{name}");
-        assert!(&rt; text.as_slice() == want.as_bytes(), "{name}");
+        assert!(&rt; text.as_str() == want.as_str(), "{name}: {text}");
     }
     Ok(())
 }
 
-// The symbols of a crate need not follow one another, and one that is named `[unknown]` is counted with those of which
-// the crate isn't known.
+// Names of functions of 16 bytes, and the report before its last line. The functions of a crate need not follow one
+// another, and a crate that is named `[unknown]` is counted with the functions of which none is known.
+const SUMS: [(&[&str], &str); 3] = [
+    (
+        &["_RNvC1b1x", "_RNvC1a1x", "_RNvC1b1y"],
+        "        16 a\n        32 b\nsum 48\n",
+    ),
+    (
+        &["a", "_ZN1b1fE", "_ZN9[unknown]1fE"],
+        "        32 [unknown]\n        16 b\nsum 48\n",
+    ),
+    (&[], "sum 0\n"),
+];
+
 #[test]
 fn sums_by_crate(rt: HostRuntime) -> Result<(), Fail> {
-    let rows = [
-        (
-            &["_RNvC1b1x", "_RNvC1a1x", "_RNvC1b1y"][..],
-            "        16 a\n        32 b\nsum 48\n",
-        ),
-        (
-            &["a", "_ZN1b1fE", "_ZN9[unknown]1fE"][..],
-            "        32 [unknown]\n        16 b\nsum 48\n",
-        ),
-        (&[][..], "sum 0\n"),
-    ];
-    for (names, crates) in rows {
+    for (names, sums) in &SUMS {
         let file = file_of(rt.alloc(), names)?;
-        let (result, text) = reported(rt.alloc(), &file, ".text");
-        let want = format!(in rt.alloc(); "{crates}text 32\n")?;
-        assert!(&rt; result == Ok(()), "{names:?}");
-        assert!(&rt; text.as_slice() == want.as_bytes(), "{names:?}");
+        let text = reported(rt.alloc(), &file, ".text")?;
+        let want = format!(in rt.alloc(); "{sums}text 32\n")?;
+        assert!(&rt; text.as_str() == want.as_str(), "{names:?}: {text}");
     }
     Ok(())
 }
 
-// The sizes of the first function of a file: its row's size stands at 112.
+// The size of a file's first function, which stands at 112; the section that is asked for; and the answer.
+const GREAT_SIZES: [(&[u8; 8], &str, &str); 3] = [
+    (&[0xFF; 8], ".text", "sizes are too large"),
+    (
+        &[0xEF, 0xFF, 0xFF, 0xFF, 0xFF, 0xFF, 0xFF, 0xFF],
+        ".text",
+        "18446744073709551599 [unknown]\n        16 foo\nsum 18446744073709551615\ntext 32\n",
+    ),
+    (&[0xFF; 8], "text", "symbols section is missing"),
+];
+
 #[test]
 fn sizes_may_be_too_large(rt: HostRuntime) -> Result<(), Fail> {
-    let file = file_beside(rt.alloc(), "a")?;
-    let mut large = Vec::from_slice(rt.alloc(), &file)?;
-    for at in 112..120 {
-        large = with(rt.alloc(), &large, at, 0xFF)?;
+    for (size, section, want) in &GREAT_SIZES {
+        let file = file_beside(rt.alloc(), "a")?;
+        let file = patched(rt.alloc(), &file, &[(112, &size[..])])?;
+        let text = reported(rt.alloc(), &file, section)?;
+        assert!(&rt; text.as_str() == *want, "{size:?}: {text}");
     }
-    let (result, text) = reported(rt.alloc(), &large, ".text");
-    assert!(&rt; result == Err(ReportError::TooLarge), "too large");
-    assert!(&rt; text.is_empty(), "too large");
-    let greatest = with(rt.alloc(), &large, 112, 0xEF)?;
-    let (result, text) = reported(rt.alloc(), &greatest, ".text");
-    let want = "18446744073709551599 [unknown]\n        16 foo\nsum 18446744073709551615\ntext 32\n";
-    assert!(&rt; result == Ok(()), "the greatest sum");
-    assert!(&rt; text.as_slice() == want.as_bytes(), "the greatest sum");
-    let (result, text) = reported(rt.alloc(), &large, "text");
-    let missing = ParseError::SymbolsSectionIsMissing;
-    assert!(&rt; result == Err(ReportError::Parse(missing)), "the reader's refusal comes first");
-    assert!(&rt; text.is_empty(), "the reader's refusal comes first");
     Ok(())
 }
 
-#[test]
-fn refuses_what_is_not_listed(rt: HostRuntime) {
-    let end = ReportError::Parse(ParseError::UnexpectedEof);
-    let rows = [
-        ("nothing", &[][..], ReportError::Unknown),
-        ("text", &b"ELF\x7F0000"[..], ReportError::Unknown),
-        ("a truncated file", &E_ELF64_LITTLE[..331], end),
-    ];
-    for (label, data, refusal) in rows {
-        let (result, bytes) = reported(rt.alloc(), data, ".text");
-        assert!(&rt; result == Err(refusal), "{label}");
-        assert!(&rt; bytes.is_empty(), "{label}");
-    }
-}
-
-#[test]
-fn says_why(rt: HostRuntime) -> Result<(), AllocError> {
-    let rows = [
-        (ReportError::Unknown, "unknown file format"),
-        (
-            ReportError::Parse(ParseError::UnexpectedEof),
-            "unexpected end of file",
-        ),
-        (ReportError::OutOfMemory, "out of memory"),
-        (ReportError::TooLarge, "sizes are too large"),
-        (ReportError::Write, "write failed"),
-    ];
-    for (error, want) in rows {
-        let words = format!(in rt.alloc(); "{error}")?;
-        assert!(&rt; words.as_str() == want, "{want}");
-    }
-    Ok(())
+// Whether a writer that takes so many bytes gets the first ones of the report, and `report` tells whether it got all.
+fn takes_a_beginning(alloc: Global, left: usize, most: usize, end: Option<ErrorKind>) -> bool {
+    let mut out = Out::new(Short {
+        taken: Vec::new(alloc),
+        left,
+        most,
+        end,
+    });
+    let result = report(alloc, Layout::Elf64Little.bytes(), ".text", &mut out);
+    let whole = left == REPORT.len();
+    let is_told = match result {
+        Ok(()) => whole,
+        Err(error) => !whole && error == ReportError::Write,
+    };
+    let has_failed = out.failed();
+    let taken = out.into_inner().taken;
+    is_told && has_failed != whole && taken.as_slice() == first_bytes(REPORT.as_bytes(), left)
 }
 
 #[test]
 fn writes_a_beginning_of_the_report(rt: HostRuntime) {
-    let ends = [None, Some(ErrorKind::Other), Some(ErrorKind::Interrupted)];
-    for left in 0..=REPORT.len() {
-        for most in [1, 7, 100] {
-            for end in ends {
-                let mut out = Out::new(Short::new(rt.alloc(), left, most, end));
-                let result = report(rt.alloc(), &E_ELF64_LITTLE, ".text", &mut out);
-                let whole = left == REPORT.len();
-                let label = (left, most);
-                assert!(&rt; (result == Ok(())) == whole, "{label:?}");
-                assert!(&rt; (result == Err(ReportError::Write)) != whole, "{label:?}");
-                assert!(&rt; out.failed() != whole, "{label:?}");
-                let taken = out.into_inner().taken;
-                assert!(&rt; taken.as_slice() == &REPORT.as_bytes()[..left], "{label:?}");
-            }
-        }
+    for case in 0..31 * WRITERS.len() {
+        let (most, end) = WRITERS[case % WRITERS.len()];
+        let left = case / WRITERS.len();
+        assert!(&rt;
+            takes_a_beginning(rt.alloc(), left, most, end),
+            "{left} bytes, {most} a call, {end:?}"
+        );
     }
 }

@@ -1,14 +1,11 @@
 -- A path is split where it first has `::`.
 use Rattle.std.proofs.Common.{◌≡◌, ℕ, zero, suc, ◌<◌, ◌≤◌, true, false, Bool, List, [], ◌∷◌, ◌++◌, length, take, drop, refl, sym, ◌∙◌, ap, arith}
-use Rattle.std.specs.Bool.{Decides}
 use Rattle.std.specs.List.{starts_with}
 use Rattle.std.specs.Prelude.{nat_eq, codes}
 use Rattle.std.specs.Str.Pattern.{LacksTextAt}
-use Rattle.std.specs.Str.{bytes_eq}
 use Rattle.std.proofs.lemmas.List.{take-append-drop}
 use Rattle.std.proofs.lemmas.Slice.Eq.{bytes_eq-Decides}
 use Rattle.binfarce_tools.specs.Report.{first_part}
-
 
 begins : (s rest : List ℕ) → s ≡ codes "::" ++ rest → starts_with nat_eq s (codes "::") ≡ true
 begins s rest is = rw is refl

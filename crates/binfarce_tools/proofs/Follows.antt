@@ -2,7 +2,7 @@
 use Rattle.std.proofs.Common.{◌≡◌, ℕ, zero, suc, ◌+◌, ◌<◌, ◌≤◌, true, false, List, [], ◌∷◌, ◌++◌, length, get_or, drop, refl, sym, ◌∙◌, ap, append_assoc, append-nil, drop_of_length-le, Bool, not, arith}
 use Rattle.binfarce_tools.specs.Report.{total, crate_line}
 use Rattle.binfarce_tools.specs.declared.report.CrateSize.{CrateSize}
-use Rattle.binfarce_tools.specs.machine.Shares.{follows, begins_with, share_seen, shares_seen}
+use Rattle.binfarce_tools.specs.machine.Shares.{follows, share_seen, shares_seen}
 use Rattle.binfarce_tools.proofs.Sums.{total-cons}
 use Rattle.binfarce_tools.proofs.Runs.{lines_from}
 

@@ -11,12 +11,10 @@ use Rattle.binfarce.specs.declared.ParseError.TheVariants as errors
 use Rattle.binfarce.specs.Refusal.{Refusal, refusal_of, out_of_memory}
 use Rattle.binfarce.specs.Symbol.{Listed}
 use Rattle.binfarce_tools.specs.declared.list.ListError.{ListError}
-use Rattle.binfarce_tools.specs.declared.list.ListError.TheVariants.{Unknown, Parse, OutOfMemory, Write}
-use Rattle.binfarce_tools.specs.Listing.{listing}
-use Rattle.binfarce_tools.specs.Lists.{Tells, Takes}
+use Rattle.binfarce_tools.specs.declared.list.ListError.TheVariants.{Parse, OutOfMemory}
 use Rattle.binfarce_tools.specs.Writing.{AppendsBeginning}
 use Rattle.binfarce_tools.specs.ListWords.{list_error_of}
-use Rattle.binfarce_tools.specs.machine.Lists.{Reads, Gets, Writes}
+use Rattle.binfarce_tools.specs.machine.Lists.{Reads, Gets}
 use Rattle.binfarce_tools.proofs.Told.{is_told, ToldAnswer}
 
 -- want of memory is told as such
@@ -56,38 +54,6 @@ pub refused : (memory : Result Listed Refusal → Type 0) (answer : Option (Resu
 refused memory answer e (Ok x) told reads is = absurd is
 refused memory answer e (Err f) told reads is =
     let P : ListError → Type 0 = λ f. Gets memory answer (Err f) in subst P (sym is) (gets_refusal memory answer e told reads)
-
--- and so is what it read
-pub got : (memory : Result Listed Refusal → Type 0) (answer : Option (Result Listed Refusal)) (value : Vec SymbolData × ℕ) → Reads memory answer (Some (Ok value)) → Gets memory answer (Ok value)
-got memory None value reads = absurd reads
-got memory (Some (Ok listed)) value reads = reads
-got memory (Some (Err refusal)) value reads = absurd reads
-
--- a format that no reader reads
-pub unread : (memory : Result Listed Refusal → Type 0) (answer : Option (Result Listed Refusal)) → Reads memory answer None → Gets memory answer (Err Unknown)
-unread memory None reads = refl
-unread memory (Some (Ok listed)) reads = absurd reads
-unread memory (Some (Err refusal)) reads = absurd reads
-
--- why nothing was got is why nothing is listed
-pub tells : (memory : Result Listed Refusal → Type 0) (answer : Option (Result Listed Refusal)) (e : ListError) → Gets memory answer (Err e) → Tells memory answer (Err e)
-tells memory None e is = ap Err is
-tells memory (Some (Ok listed)) e is = inr (inl (ap Err is))
-tells memory (Some (Err refusal)) e (inl (p, is, same)) = inl (p, is, ap Err same)
-tells memory (Some (Err refusal)) e (inr (needs, is)) = inr (needs, ap Err is)
-
--- what was taken is the listing of what was got, or a beginning of it
-pub takes : (memory : Result Listed Refusal → Type 0) (answer : Option (Result Listed Refusal)) (symbols : Vec SymbolData) (size : ℕ) (text : List ℕ) (old new : Option (List ℕ)) (result : Result (Unit {0}) ListError)
-    → Gets memory answer (Ok (symbols, size)) → text ≡ listing symbols.items size → Writes old new text result → Takes answer old new result
-takes memory None symbols size text old new result gets is written = absurd gets
-takes memory (Some (Err refusal)) symbols size text old new result gets is written = absurd gets
-takes memory (Some (Ok listed)) symbols size text old new (Ok x) gets is written =
-    (text, (symbols.items, gets.0, is ∙ ap (listing symbols.items) gets.1), written)
-takes memory (Some (Ok listed)) symbols size text old new (Err Write) gets is written =
-    (text, (symbols.items, gets.0, is ∙ ap (listing symbols.items) gets.1), written.1)
-takes memory (Some (Ok listed)) symbols size text old new (Err Unknown) gets is written = let e = written.0 in absurd cc
-takes memory (Some (Ok listed)) symbols size text old new (Err (Parse p)) gets is written = let e = written.0 in absurd cc
-takes memory (Some (Ok listed)) symbols size text old new (Err OutOfMemory) gets is written = let e = written.0 in absurd cc
 
 -- bytes that stay as they were have grown by nothing more
 kept : (old mid new : Option (List ℕ)) (xs : List ℕ) → Appends old mid xs → Keeps mid new → Appends old new xs

@@ -1,8 +1,8 @@
 -- The crates of sorted shares, and those of the shares in another order.
-use Rattle.std.proofs.Common.{◌≡◌, ℕ, zero, suc, ◌+◌, ◌<◌, ◌≤◌, ◌++◌, true, false, Bool, List, [], ◌∷◌, length, get_or, refl, sym, ◌∙◌, ap, subst, map, arith, add-one}
+use Rattle.std.proofs.Common.{◌≡◌, ℕ, zero, suc, ◌+◌, ◌<◌, ◌++◌, false, List, [], ◌∷◌, get_or, refl, sym, ◌∙◌, ap, subst, map, arith, add-one}
 use Rattle.std.specs.Cmp.Lexicographic.{slice_cmp, nat_list_eq_equiv, nat_list_cmp_total, texts_ties}
-use Rattle.std.specs.List.{All, Contains, dedup, flat_map}
-use Rattle.std.specs.List.Sorted.{IsPermutation, IsSorted, IsSortedBy, IsStrictlySortedBy}
+use Rattle.std.specs.List.{Contains, dedup}
+use Rattle.std.specs.List.Sorted.{IsPermutation, IsSorted}
 use Rattle.std.specs.Ordering.{nat_cmp, is_lt, ordering_then}
 use Rattle.std.specs.declared.cmp.Ordering.{Ordering}
 use Rattle.std.specs.declared.cmp.Ordering.TheVariants.{Less, Equal, Greater}
@@ -13,7 +13,7 @@ use Rattle.std.proofs.lemmas.List.Sorted.{All-permutation, Contains-permutation,
 use Rattle.std.proofs.lemmas.Slice.Eq.{bytes_eq-Decides}
 use Rattle.binfarce.specs.declared.demangle.SymbolData.{SymbolData}
 use Rattle.binfarce_tools.specs.Listing.{size_line}
-use Rattle.binfarce_tools.specs.Report.{Share, share_of, total, sum_of, AreCratesOf, crate_line, crate_lines, total_line, IsReportOf}
+use Rattle.binfarce_tools.specs.Report.{Share, share_of, total, AreCratesOf, crate_lines, total_line, IsReportOf}
 use Rattle.binfarce_tools.specs.declared.report.CrateSize.{CrateSize}
 use Rattle.binfarce_tools.specs.machine.Shares.{AreCrateLines, share_seen, shares_seen, IsByCrate}
 use Rattle.binfarce_tools.proofs.Sums.{sum-permutation, total-permutation}
@@ -37,8 +37,8 @@ sorted_names (x ∷ []) sorted k d low within = absurd (omega arith)
 sorted_names (x ∷ y ∷ ys) sorted zero d low within = sorted 0 x low (omega arith)
 sorted_names (x ∷ y ∷ ys) sorted (suc k) d low within =
     let tail : IsByCrate (y ∷ ys) = λ j e l i.
-      let P : CrateSize → Type 0 = λ c. is_lt (slice_cmp nat_cmp c.name.now (get_or (y ∷ ys) j e).name.now) ≡ false in
-      subst P (later x (y ∷ ys) j e) (sorted (suc j) e (omega arith) (omega arith)) in
+    let P : CrateSize → Type 0 = λ c. is_lt (slice_cmp nat_cmp c.name.now (get_or (y ∷ ys) j e).name.now) ≡ false in
+    subst P (later x (y ∷ ys) j e) (sorted (suc j) e (omega arith) (omega arith)) in
     let ns = names_of (shares_seen (y ∷ ys)) in
     let Q : List ℕ → Type 0 = λ n. is_lt (slice_cmp nat_cmp n (get_or ns k d)) ≡ false in
     subst Q (sym (later x.name.now ns k d)) (sorted_names (y ∷ ys) tail k d (omega arith) (omega arith))
@@ -78,10 +78,12 @@ pub report_is : (symbols : List SymbolData) (size sum : ℕ) (given in_order : L
 report_is symbols size sum given in_order lines text are moved (names, crates, is) sums e =
     let shares = map share_of symbols in
     let P : List Share → Type 0 = λ xs. IsPermutation xs (shares_seen in_order) in
-    let moved_shares : IsPermutation shares (shares_seen in_order) = subst P are (IsPermutation-map share_seen given in_order moved) in
-    (names, same_crates shares (shares_seen in_order) names moved_shares crates,
-     e ∙ ap (λ (xs : List ℕ). xs ++ (total_line sum ++ size_line size)) (is ∙ same_lines shares (shares_seen in_order) names moved_shares)
-       ∙ ap (λ (n : ℕ). crate_lines shares names ++ (total_line n ++ size_line size)) sums)
+    let moved_shares : IsPermutation shares (shares_seen in_order) = subst P are (IsPermutation-map share_seen given in_order moved) in (
+      names,
+      same_crates shares (shares_seen in_order) names moved_shares crates,
+      e ∙ ap (λ (xs : List ℕ). xs ++ (total_line sum ++ size_line size)) (is ∙ same_lines shares (shares_seen in_order) names moved_shares)
+          ∙ ap (λ (n : ℕ). crate_lines shares names ++ (total_line n ++ size_line size)) sums,
+    )
 
 -- the sum of what is in another order fits where that of all symbols does
 pub fits : (symbols : List SymbolData) (given in_order : List CrateSize) (sum limit : ℕ)

@@ -1,5 +1,7 @@
 -- What `report` answers and what was taken follows from the symbols that it got and what its sink took.
-use Rattle.std.proofs.Common.{◌≡◌, ℕ, ◌+◌, ◌<◌, ◌≤◌, ◌^◌, List, [], ◌∷◌, Option, Some, None, Result, Ok, Err, refl, sym, ap, subst, ◌∙◌, inl, inr, ◌⊎◌, map}
+use Rattle.std.proofs.Common.{◌≡◌, ℕ, ◌+◌, ◌<◌, ◌≤◌, ◌^◌, List, [], ◌∷◌, Option, Some, None, Result, Ok, Err, refl, sym, ap, subst, ◌∙◌, inl, inr, ◌⊎◌, map, arith}
+use Rattle.std.specs.Option.{SomeIff, ok_or}
+use Rattle.std.specs.Result.{IsErrAnd}
 use Rattle.std.specs.List.{sum_by}
 use Rattle.std.specs.Global.{Vec}
 use Rattle.std.proofs.lemmas.List.Sums.{sum_by-cons}
@@ -9,19 +11,12 @@ use Rattle.binfarce.specs.Symbol.{Entry, Listed, AreSymbolsOf}
 use Rattle.binfarce_tools.specs.declared.list.ListError.{ListError}
 use Rattle.binfarce_tools.specs.declared.list.ListError.TheVariants as errors
 use Rattle.binfarce_tools.specs.declared.report.ReportError.{ReportError}
-use Rattle.binfarce_tools.specs.declared.report.ReportError.TheVariants.{Unknown, Parse, OutOfMemory, TooLarge, Write}
-use Rattle.binfarce_tools.specs.Report.{Share, share_of, total, IsReportOf}
-use Rattle.binfarce_tools.specs.Reports.{Tells, Takes, total_size}
+use Rattle.binfarce_tools.specs.declared.report.ReportError.TheVariants.{OutOfMemory, TooLarge, Write}
+use Rattle.binfarce_tools.specs.Report.{share_of, total, IsReportOf}
+use Rattle.binfarce_tools.specs.Reports.{Tells, Takes}
 use Rattle.binfarce_tools.specs.ReportWords.{report_error_of}
 use Rattle.binfarce_tools.specs.machine.Lists.{Gets, Writes}
 use Rattle.binfarce_tools.proofs.Sums.{total-cons}
-
--- why nothing was got is why nothing is reported
-pub tells : (memory : Result Listed Refusal → Type 0) (answer : Option (Result Listed Refusal)) (e : ListError) → Gets memory answer (Err e) → Tells memory answer (Err (report_error_of e))
-tells memory None e is = ap (λ (e : ListError). Err (report_error_of e)) is
-tells memory (Some (Ok listed)) e is = inl (ap (λ (e : ListError). Err (report_error_of e)) is)
-tells memory (Some (Err refusal)) e (inl (p, is, same)) = inl (p, is, ap (λ (e : ListError). Err (report_error_of e)) same)
-tells memory (Some (Err refusal)) e (inr (needs, is)) = inr (needs, ap (λ (e : ListError). Err (report_error_of e)) is)
 
 -- the sizes of symbols are those of their entries
 total_is : (entries : List Entry) (symbols : List SymbolData) → AreSymbolsOf entries symbols → total (map share_of symbols) ≡ sum_by (λ (e : Entry). e.size) entries
@@ -45,6 +40,45 @@ told memory (Some (Err refusal)) symbols size result gets is = absurd gets
 told memory (Some (Ok listed)) symbols size result gets is =
     let P : ℕ → Type 0 = λ n. TellsOf n result in subst P (total_is listed.entries symbols.items gets.0) is
 
+is_err : (result : Result (Unit {0}) ReportError) (e : ReportError) → IsErrAnd result (λ f. f ≡ e) → result ≡ Err e
+is_err (Ok x) e is = absurd is
+is_err (Err f) e is = ap Err is
+
+abbrev pub Found : List SymbolData → Option ℕ → Type 0
+Found given found = SomeIff found (total (map share_of given) < 2 ^ 64) (total (map share_of given))
+
+fits : (given : List SymbolData) (found : Option ℕ) (sum : ℕ) → Found given found → found ≡ Some sum → total (map share_of given) < 2 ^ 64
+fits given found sum is e = (subst (Found given) e is).0
+
+exceeds : (given : List SymbolData) (found : Option ℕ) → Found given found → found ≡ None → 2 ^ 64 ≤ total (map share_of given)
+exceeds given found is e = let not : ¬ (total (map share_of given) < 2 ^ 64) = subst (Found given) e is in omega (arith, not)
+
+-- where no sum was found
+pub too_large : (memory : Result Listed Refusal → Type 0) (answer : Option (Result Listed Refusal)) (symbols : Vec SymbolData) (size : ℕ) (given : List SymbolData) (found : Option ℕ) (e : ReportError) (result : Result (Unit {0}) ReportError)
+    → Gets memory answer (Ok (symbols, size)) → given ≡ symbols.items → Found given found → found ≡ None → e ≡ TooLarge → IsErrAnd result (λ f. f ≡ e) → Tells memory answer result
+too_large memory answer symbols size given found e result gets are is none large err =
+    let P : List SymbolData → Type 0 = λ xs. TellsOf (total (map share_of xs)) result in
+    told memory answer symbols size result gets (subst P are (inr (inr (exceeds given found is none, is_err result e err ∙ ap Err large))))
+
+-- where the text was written
+pub was_written : (memory : Result Listed Refusal → Type 0) (answer : Option (Result Listed Refusal)) (symbols : Vec SymbolData) (size : ℕ) (given : List SymbolData) (found : Option ℕ) (sum : ℕ)
+    → Gets memory answer (Ok (symbols, size)) → given ≡ symbols.items → Found given found → found ≡ Some sum → Tells memory answer (Ok tt)
+was_written memory answer symbols size given found sum gets are is some =
+    let P : List SymbolData → Type 0 = λ xs. TellsOf (total (map share_of xs)) (Ok tt) in
+    told memory answer symbols size (Ok tt) gets (subst P are (inr (inl (fits given found sum is some, inl refl))))
+
+-- where a write failed
+pub not_written : (memory : Result Listed Refusal → Type 0) (answer : Option (Result Listed Refusal)) (symbols : Vec SymbolData) (size : ℕ) (given : List SymbolData) (found : Option ℕ) (sum : ℕ) (e : ListError) (result : Result (Unit {0}) ReportError)
+    → Gets memory answer (Ok (symbols, size)) → given ≡ symbols.items → Found given found → found ≡ Some sum → e ≡ errors.Write → IsErrAnd result (λ f. f ≡ report_error_of e) → Tells memory answer result
+not_written memory answer symbols size given found sum e result gets are is some write err =
+    let P : List SymbolData → Type 0 = λ xs. TellsOf (total (map share_of xs)) result in
+    told memory answer symbols size result gets (subst P are (inr (inl (fits given found sum is some, inr (is_err result (report_error_of e) err ∙ ap (λ (e : ListError). Err (report_error_of e)) write)))))
+
+-- the error that a sum which isn't found becomes
+pub made : (found : Option ℕ) (e : ReportError) → Err e ≡ ok_or found TooLarge → e ≡ TooLarge
+made None e is = cc
+made (Some sum) e is = absurd cc
+
 -- what a report returns where its text was written like this
 abbrev pub written : Result (Unit {0}) ListError → Result (Unit {0}) ReportError
 written (Ok x) = Ok x
@@ -62,3 +96,10 @@ takes memory (Some (Ok listed)) symbols size text old new (Err errors.Write) get
 takes memory (Some (Ok listed)) symbols size text old new (Err errors.Unknown) gets is wrote = let e = wrote.0 in absurd cc
 takes memory (Some (Ok listed)) symbols size text old new (Err (errors.Parse p)) gets is wrote = let e = wrote.0 in absurd cc
 takes memory (Some (Ok listed)) symbols size text old new (Err errors.OutOfMemory) gets is wrote = let e = wrote.0 in absurd cc
+
+-- and that of a failed write
+pub takes_beginning : (memory : Result Listed Refusal → Type 0) (answer : Option (Result Listed Refusal)) (symbols : Vec SymbolData) (size : ℕ) (text : List ℕ) (old new : Option (List ℕ)) (e : ListError) (result : Result (Unit {0}) ReportError)
+    → Gets memory answer (Ok (symbols, size)) → IsReportOf symbols.items size text → Writes old new text (Err e) → IsErrAnd result (λ f. f ≡ report_error_of e) → Takes answer old new result
+takes_beginning memory answer symbols size text old new e result gets is wrote err =
+    let P : Result (Unit {0}) ReportError → Type 0 = λ r. Takes answer old new r in
+    subst P (sym (is_err result (report_error_of e) err)) (takes memory answer symbols size text old new (Err e) gets is wrote)

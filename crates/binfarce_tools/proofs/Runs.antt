@@ -1,16 +1,15 @@
 -- Shares in the order of their crates: a line for each run of one crate is the line of that crate.
-use Rattle.std.proofs.Common.{◌≡◌, ℕ, ◌+◌, true, false, Bool, List, [], ◌∷◌, ◌++◌, refl, sym, ◌∙◌, ap, subst, map, append_assoc, arith}
-use Rattle.std.specs.Bool.{Decides}
-use Rattle.std.specs.Cmp.Lexicographic.{slice_cmp, nat_list_eq_equiv, nat_list_cmp_total, texts_ties}
-use Rattle.std.specs.List.{AllByRecursion, flat_map, filter, dedup, dedup_from}
+use Rattle.std.proofs.Common.{◌≡◌, ℕ, ◌+◌, true, false, Bool, List, [], ◌∷◌, ◌++◌, refl, sym, ◌∙◌, ap, subst, map, arith}
+use Rattle.std.specs.Cmp.Lexicographic.{slice_cmp, nat_list_eq_equiv, nat_list_cmp_total}
+use Rattle.std.specs.List.{AllByRecursion, filter, dedup, dedup_from}
 use Rattle.std.specs.List.Sorted.{IsStrictlySortedBy}
 use Rattle.std.specs.Ordering.{nat_cmp}
-use Rattle.std.specs.declared.cmp.Ordering.TheVariants.{Less, Equal, Greater}
+use Rattle.std.specs.declared.cmp.Ordering.TheVariants.{Less}
 use Rattle.std.specs.Prelude.{if◌then◌else◌}
 use Rattle.std.specs.Str.{bytes_eq}
 use Rattle.std.proofs.lemmas.Cmp.{tied_itself}
 use Rattle.std.proofs.lemmas.Slice.Eq.{bytes_eq-Decides}
-use Rattle.binfarce_tools.specs.Report.{Share, total, sum_of, crate_line, crate_lines}
+use Rattle.binfarce_tools.specs.Report.{Share, sum_of, crate_line, crate_lines}
 use Rattle.binfarce_tools.specs.machine.Shares.{begins_with}
 use Rattle.binfarce_tools.proofs.Sums.{zero-plus, total-cons}
 
@@ -115,12 +114,12 @@ same_crate : (sum : ℕ) (s t : Share) (others : List Share) → s.name ≡ t.na
 same_crate sum s t others e is ih =
     let ns = names_of others in
     let left : others_from s.name (t.name ∷ ns) ≡ others_from t.name ns =
-      others-same s.name t.name ns (ap (λ (k : List ℕ). bytes_eq t.name k) e ∙ own t.name) ∙ ap (λ (k : List ℕ). others_from k ns) e in
+    others-same s.name t.name ns (ap (λ (k : List ℕ). bytes_eq t.name k) e ∙ own t.name) ∙ ap (λ (k : List ℕ). others_from k ns) e in
     let P : List (List ℕ) → Type 0 = λ ms. Apart (s.name ∷ ms) in
     let Q : List ℕ → Type 0 = λ n. Apart (n ∷ others_from t.name ns) in
     let later : Apart (t.name ∷ others_from t.name ns) = subst Q e (subst P left is) in
     let sums : sum + s.size + sum_of (t ∷ others) t.name ≡ sum + sum_of (s ∷ t ∷ others) s.name =
-      more sum s.size (sum_of (t ∷ others) t.name) (sum_of (s ∷ t ∷ others) s.name) (sum_of (t ∷ others) s.name) (sum-own s (t ∷ others) s.name (own s.name)) (ap (λ (n : List ℕ). sum_of (t ∷ others) n) e) in
+    more sum s.size (sum_of (t ∷ others) t.name) (sum_of (s ∷ t ∷ others) s.name) (sum_of (t ∷ others) s.name) (sum-own s (t ∷ others) s.name (own s.name)) (ap (λ (n : List ℕ). sum_of (t ∷ others) n) e) in
     ih later
     ∙ ap (λ (n : List ℕ). crate_line n (sum + s.size + sum_of (t ∷ others) t.name) ++ crate_lines others (others_from t.name ns)) (sym e)
     ∙ ap (λ (n : ℕ). crate_line s.name n ++ crate_lines others (others_from t.name ns)) sums
@@ -138,7 +137,7 @@ other_crate sum s t others e is ih =
     let later = subst P left is in
     let none : sum_of (t ∷ others) s.name ≡ 0 = sum-other t others s.name back ∙ no_sum t.name s.name others back later.0.1 in
     let sums : sum + s.size ≡ sum + sum_of (s ∷ t ∷ others) s.name =
-      whole sum s.size (sum_of (s ∷ t ∷ others) s.name) (sum_of (t ∷ others) s.name) (sum-own s (t ∷ others) s.name (own s.name)) none in
+    whole sum s.size (sum_of (s ∷ t ∷ others) s.name) (sum_of (t ∷ others) s.name) (sum-own s (t ∷ others) s.name (own s.name)) none in
     ap (λ (text : List ℕ). crate_line s.name (sum + s.size) ++ text) (ih later.1)
     ∙ ap (λ (n : ℕ). crate_line s.name (sum + s.size) ++ (crate_line t.name n ++ crate_lines others (others_from t.name ns))) (zero-plus (sum_of (t ∷ others) t.name))
     ∙ ap (λ (n : ℕ). crate_line s.name n ++ (crate_line t.name (sum_of (t ∷ others) t.name) ++ crate_lines others (others_from t.name ns))) sums
@@ -148,7 +147,7 @@ other_crate sum s t others e is ih =
 lines_test : (sum : ℕ) (s t : Share) (others : List Share) (b : Bool) → bytes_eq s.name t.name ≡ b → Apart (s.name ∷ others_from s.name (names_of (t ∷ others)))
     → ((sum : ℕ) → Apart (t.name ∷ others_from t.name (names_of others)) → LinesAre sum t others)
     → (if b then lines_from (sum + s.size) (t ∷ others) else crate_line s.name (sum + s.size) ++ lines_from 0 (t ∷ others))
-      ≡ crate_line s.name (sum + sum_of (s ∷ t ∷ others) s.name) ++ crate_lines (t ∷ others) (others_from s.name (names_of (t ∷ others)))
+    ≡ crate_line s.name (sum + sum_of (s ∷ t ∷ others) s.name) ++ crate_lines (t ∷ others) (others_from s.name (names_of (t ∷ others)))
 lines_test sum s t others true e is ih = same_crate sum s t others ((bytes_eq-Decides s.name t.name).0 e) is (ih (sum + s.size))
 lines_test sum s t others false e is ih = other_crate sum s t others e is (ih 0)
 

@@ -1,4 +1,4 @@
-use Rattle.std.proofs.Common.{◌≡◌, sym, ◌∙◌, drop}
+use Rattle.std.proofs.Common.{sym, ◌∙◌, drop}
 use Rattle.binfarce_tools.proofs.FirstPart.{before_match, no_match}
 use Rattle.binfarce_tools.proofs.report.first_part.Goals as goal
 

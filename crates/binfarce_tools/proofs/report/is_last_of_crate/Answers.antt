@@ -1,5 +1,4 @@
-use Rattle.std.proofs.Common.{◌≡◌, false, arith}
-use Rattle.binfarce_tools.specs.machine.Shares.{follows}
+use Rattle.std.proofs.Common.{arith}
 use Rattle.binfarce_tools.proofs.Follows.{last}
 use Rattle.binfarce_tools.proofs.report.is_last_of_crate.Goals as goal
 

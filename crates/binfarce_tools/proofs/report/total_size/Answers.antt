@@ -10,6 +10,6 @@ pub returns : goal.returns
 returns c =
     let symbols = c.args.symbols.now in
     let is : c.loop-symbol.total ≡ total (map share_of symbols) =
-      c.loop-symbol.invariant.is ∙ ap (λ (xs : List SymbolData). sum_by (λ (s : SymbolData). s.size) xs) (take_all c.loop-symbol.symbol-index symbols (omega arith)) ∙ sym (total_of_symbols symbols) in
+    c.loop-symbol.invariant.is ∙ ap (λ (xs : List SymbolData). sum_by (λ (s : SymbolData). s.size) xs) (take_all c.loop-symbol.symbol-index symbols (omega arith)) ∙ sym (total_of_symbols symbols) in
     let P : ℕ → Type 0 = λ n. n < 2 ^ 64 in
     (subst P is c.loop-symbol.invariant.fits, is)

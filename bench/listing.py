@@ -101,11 +101,10 @@ def unescape(field):
     return re.sub(rb"\\([tnr\\])", lambda m: {b"t": b"\t", b"n": b"\n", b"r": b"\r", b"\\": b"\\"}[m[1]], field)
 
 
-def ask(peer, names):
-    """What the peer answers for each name: (kind, readable name).
+def answered(peer, names):
+    """What the peer answers for each name: the fields of its line, with \\t \\n \\r \\\\ in them written out.
 
-    An answer with tabs is kind, complete name, trimmed name and crate, with \\t \\n \\r \\\\ written out. Any other
-    answer is the readable name. Names that hold a line feed are not asked; kind and name are None for them.
+    Names that hold a line feed or a return are not asked, and have no answer.
     """
     unique = [n for n in dict.fromkeys(names) if b"\n" not in n and b"\r" not in n]
     if not unique:
@@ -114,13 +113,20 @@ def ask(peer, names):
     lines = done.stdout.split(b"\n")[:-1]
     if len(lines) != len(unique):
         sys.exit("the peer answered %d lines for %d names" % (len(lines), len(unique)))
+    return {name: line.split(b"\t") for name, line in zip(unique, lines)}
+
+
+def ask(peer, names):
+    """What the peer answers for each name: (kind, readable name).
+
+    An answer with tabs is kind, complete name, trimmed name and crate. Any other answer is the readable name.
+    """
     answers = {}
-    for name, line in zip(unique, lines):
-        fields = line.split(b"\t")
+    for name, fields in answered(peer, names).items():
         if len(fields) == 4:
             answers[name] = (fields[0].decode(), unescape(fields[2]))
         else:
-            answers[name] = ("", line)
+            answers[name] = ("", b"\t".join(fields))
     return answers
 
 

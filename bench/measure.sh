@@ -2,6 +2,7 @@
 # Measures the listing program beside its peers on the files given, into /dev/null, and prints ratios to the program.
 #
 #   LIST      (optional) the listing program, if not the one that the repository has built
+#   SIZE      (optional) the reporting program, if not the one that the repository has built
 #   ORIGINAL  (optional) a command that makes the same listing, called as `ORIGINAL FILE`
 #   RUNS      (optional) runs of each command, 15
 #   COUNT     (optional) 1 counts instructions too, by callgrind (slow)
@@ -12,6 +13,7 @@
 # each command counts. The peak is the greatest resident set of one run.
 set -eu
 LIST=${LIST:-$(dirname "$0")/../crates/binfarce_list/out/binfarce_list}
+SIZE=${SIZE:-$(dirname "$0")/../crates/binfarce_size/out/binfarce_size}
 runs=${RUNS:-15}
 scratch=$(mktemp -d)
 trap 'rm -rf "$scratch"' EXIT
@@ -19,6 +21,7 @@ trap 'rm -rf "$scratch"' EXIT
 # The commands that are there, one a line: its title, a tab, the command.
 commands() {
     printf 'program\t%s %s\n' "$LIST" "$1"
+    [ ! -x "$SIZE" ] || printf 'report\t%s %s\n' "$SIZE" "$1"
     [ -z "${ORIGINAL:-}" ] || printf 'original\t%s %s\n' "$ORIGINAL" "$1"
     printf 'nm -S\tnm -S --defined-only %s\n' "$1"
     printf 'nm -SC\tnm -S -C --defined-only %s\n' "$1"

@@ -1,13 +1,16 @@
 #!/bin/sh
-# Refuses each of the program's requests for memory in turn and tells how it ends: it may print the usage (the arguments
-# are texts too), `out of memory`, or the whole listing; anything else is told as WRONG, and ends with status 1.
+# Refuses each of a program's requests for memory in turn and says how it ends: it may print the usage (the arguments are
+# texts too), `out of memory`, or all that it prints of the file; anything else is shown as WRONG, and ends with status 1.
 #
-#   LAST   (optional) the last request that is refused, 30; from some number on no request is left to refuse
+#   PROGRAM  (optional) the program: binfarce_list, or binfarce_size
+#   LAST     (optional) the last request that is refused, 30; from some number on no request is left to refuse
 #
 # Usage: ./refuse-memory.sh FILE
 set -eu
 file=$(realpath "$1")
-cd "$(dirname "$0")/../crates/binfarce_list"
+program=${PROGRAM:-binfarce_list}
+shown=$(echo "$program" | tr _ -)
+cd "$(dirname "$0")/../crates/$program"
 scratch=$(mktemp -d)
 trap 'rm -rf "$scratch"' EXIT
 
@@ -21,9 +24,9 @@ request=1 wrong=0
 while [ "$request" -le "${LAST:-30}" ]; do
     ends --fail-alloc "$request" >"$scratch/end"
     case $(cat "$scratch/end") in
-        "binfarce-list: out of memory") how="out of memory" ;;
-        "usage: binfarce-list FILE [SECTION]") how="the usage" ;;
-        "$(cat "$scratch/whole")") how="the listing" ;;
+        "$shown: out of memory") how="out of memory" ;;
+        "usage: $shown FILE [SECTION]") how="the usage" ;;
+        "$(cat "$scratch/whole")") how="the whole" ;;
         *) how="WRONG: $(head -n 1 "$scratch/end")" wrong=1 ;;
     esac
     echo "request $request refused: $how"

@@ -1,4 +1,4 @@
--- What `list` tells and takes follows from what its reader returned and its sink took.
+-- What `list` reports and what was taken follows from what its reader returned and its sink took.
 use Rattle.std.proofs.Common.{◌≡◌, ℕ, ◌+◌, ◌-◌, true, List, ◌++◌, length, take, drop, Option, Some, None, Result, Ok, Err, refl, sym, ap, subst, ◌∙◌, inl, inr, append_assoc, arith}
 use Rattle.std.specs.Result.{IsErrAnd, result_ok}
 use Rattle.std.specs.Global.{Vec}
@@ -11,11 +11,10 @@ use Rattle.binfarce.specs.declared.ParseError.TheVariants as errors
 use Rattle.binfarce.specs.Refusal.{Refusal, refusal_of, out_of_memory}
 use Rattle.binfarce.specs.Symbol.{Listed}
 use Rattle.binfarce_tools.specs.declared.list.ListError.{ListError}
-use Rattle.binfarce_tools.specs.declared.list.ListError.TheVariants.{Unknown, Parse, OutOfMemory, Write}
-use Rattle.binfarce_tools.specs.Listing.{listing}
-use Rattle.binfarce_tools.specs.Lists.{Tells, Takes, AppendsBeginning}
+use Rattle.binfarce_tools.specs.declared.list.ListError.TheVariants.{Parse, OutOfMemory}
+use Rattle.binfarce_tools.specs.Writing.{AppendsBeginning}
 use Rattle.binfarce_tools.specs.ListWords.{list_error_of}
-use Rattle.binfarce_tools.specs.machine.Lists.{Reads, Writes}
+use Rattle.binfarce_tools.specs.machine.Lists.{Reads, Gets}
 use Rattle.binfarce_tools.proofs.Told.{is_told, ToldAnswer}
 
 -- want of memory is told as such
@@ -36,11 +35,11 @@ parse errors.MalformedInput told = refl
 parse errors.UnexpectedEof told = refl
 parse errors.OutOfMemory told = absurd cc
 
-tells : (memory : Result Listed Refusal → Type 0) (answer : Option (Result Listed Refusal)) (e : ParseError) → ToldAnswer answer → Reads memory answer (Some (Err e)) → Tells memory answer (Err (list_error_of e))
-tells memory None e told reads = absurd reads
-tells memory (Some (Ok listed)) e told reads = inr (inl (ap Err (as_memory e reads.0)))
-tells memory (Some (Err refusal)) e told (inl is) = inl (e, is, ap Err (parse e (ap is_told is ∙ told)))
-tells memory (Some (Err refusal)) e told (inr h) = inr (h.1, ap Err (as_memory e h.0))
+gets_refusal : (memory : Result Listed Refusal → Type 0) (answer : Option (Result Listed Refusal)) (e : ParseError) → ToldAnswer answer → Reads memory answer (Some (Err e)) → Gets memory answer (Err (list_error_of e))
+gets_refusal memory None e told reads = absurd reads
+gets_refusal memory (Some (Ok listed)) e told reads = as_memory e reads.0
+gets_refusal memory (Some (Err refusal)) e told (inl is) = inl (e, is, parse e (ap is_told is ∙ told))
+gets_refusal memory (Some (Err refusal)) e told (inr h) = inr (h.1, as_memory e h.0)
 
 -- what a reader returned, where it came through a refusal of the format
 pub returned : (memory : Result Listed Refusal → Type 0) (answer : Option (Result Listed Refusal)) (from : Option (Result (Vec SymbolData × ℕ) ParseError)) (through : Result (Result (Vec SymbolData × ℕ) ParseError) ListError)
@@ -49,25 +48,12 @@ pub returned : (memory : Result Listed Refusal → Type 0) (answer : Option (Res
 returned memory answer from through inner value reads a b c =
     let P : Option (Result (Vec SymbolData × ℕ) ParseError) → Type 0 = λ r. Reads memory answer r in subst P (a ∙ ap result_ok b ∙ ap Some c) reads
 
--- a reader's refusal is told
-pub refused : (memory : Result Listed Refusal → Type 0) (answer : Option (Result Listed Refusal)) (e : ParseError) (result : Result (Unit {0}) ListError)
-    → ToldAnswer answer → Reads memory answer (Some (Err e)) → IsErrAnd result (λ f. f ≡ list_error_of e) → Tells memory answer result
+-- a reader's refusal is what is got
+pub refused : (memory : Result Listed Refusal → Type 0) (answer : Option (Result Listed Refusal)) (e : ParseError) (result : Result (Vec SymbolData × ℕ) ListError)
+    → ToldAnswer answer → Reads memory answer (Some (Err e)) → IsErrAnd result (λ f. f ≡ list_error_of e) → Gets memory answer result
 refused memory answer e (Ok x) told reads is = absurd is
 refused memory answer e (Err f) told reads is =
-    let P : ListError → Type 0 = λ f. Tells memory answer (Err f) in subst P (sym is) (tells memory answer e told reads)
-
--- what was taken is the listing of what the reader returned, or a beginning of it
-pub takes : (memory : Result Listed Refusal → Type 0) (answer : Option (Result Listed Refusal)) (symbols : Vec SymbolData) (size : ℕ) (text : List ℕ) (old new : Option (List ℕ)) (result : Result (Unit {0}) ListError)
-    → Reads memory answer (Some (Ok (symbols, size))) → text ≡ listing symbols.items size → Writes old new text result → Takes answer old new result
-takes memory None symbols size text old new result reads is written = absurd reads
-takes memory (Some (Err refusal)) symbols size text old new result reads is written = absurd reads
-takes memory (Some (Ok listed)) symbols size text old new (Ok x) reads is written =
-    (text, (symbols.items, reads.0, is ∙ ap (listing symbols.items) reads.1), written)
-takes memory (Some (Ok listed)) symbols size text old new (Err Write) reads is written =
-    (text, (symbols.items, reads.0, is ∙ ap (listing symbols.items) reads.1), written.1)
-takes memory (Some (Ok listed)) symbols size text old new (Err Unknown) reads is written = let e = written.0 in absurd cc
-takes memory (Some (Ok listed)) symbols size text old new (Err (Parse p)) reads is written = let e = written.0 in absurd cc
-takes memory (Some (Ok listed)) symbols size text old new (Err OutOfMemory) reads is written = let e = written.0 in absurd cc
+    let P : ListError → Type 0 = λ f. Gets memory answer (Err f) in subst P (sym is) (gets_refusal memory answer e told reads)
 
 -- bytes that stay as they were have grown by nothing more
 kept : (old mid new : Option (List ℕ)) (xs : List ℕ) → Appends old mid xs → Keeps mid new → Appends old new xs

@@ -1,6 +1,6 @@
 -- No file's answer is want of memory.
 use Rattle.std.proofs.Common.{◌≡◌, ℕ, zero, suc, ◌*◌, ◌-◌, [], ◌∷◌, Bool, true, false, ◌&&◌, List, Option, Some, None, Result, Ok, Err, refl, ltb, leb, length}
-use Rattle.std.specs.Prelude.{if◌then◌else◌, find, nat_eq, codes, ◌+◌, ◌%◌, ◌^◌}
+use Rattle.std.specs.Prelude.{if◌then◌else◌, find, nat_eq, codes, ◌+◌, ◌%◌, ◌^◌, drop}
 use Rattle.binfarce.specs.declared.ByteOrder.{ByteOrder}
 use Rattle.binfarce.specs.declared.Format.{Format}
 use Rattle.binfarce.specs.declared.Format.TheVariants.{Elf32, Elf64, Macho, PE, Unknown}
@@ -102,10 +102,9 @@ told_found None (Some refusal) t = t
 told_symbol_table : (file : List ℕ) → Told (pe.symbol_table file)
 unfolding pe.symbol_table
 told_symbol_table file =
-    let header = pe_file.header_of file in
-    let whole : Result pe.SymbolTable Refusal = Ok (record { file = file; place = header.pointer_to_symbol_table; count = header.number_of_symbols }) in
-    told_if (leb (length file) header.pointer_to_symbol_table) (Err unexpected_eof) _ refl
-    (told_if (ltb (length file) (header.pointer_to_symbol_table + header.number_of_symbols * 18)) (Err unexpected_eof) whole refl tt)
+    let end = pe.table_offset file + pe.table_size file in
+    let whole : Result pe.SymbolTable Refusal = Ok (record { rows = bytes_at file (pe.table_offset file) (pe.table_size file); strings = drop end file }) in
+    told_if (leb (length file) (pe.table_offset file)) (Err unexpected_eof) _ refl (told_if (ltb (length file) end) (Err unexpected_eof) whole refl tt)
 
 told_pe : (file : List ℕ) → Told (pe_file_answer file)
 unfolding pe_answer pe.located pe_walk

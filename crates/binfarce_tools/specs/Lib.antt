@@ -2,5 +2,9 @@ pub mod Answer
 pub mod Listing
 pub mod Lists
 pub mod ListWords
+pub mod Report
+pub mod Reports
+pub mod ReportWords
 pub mod Sink
+pub mod Writing
 pub mod machine

@@ -1,5 +1,7 @@
-//! What the programs are made of: listings of the function symbols of executables.
+//! What the programs are made of: listings of the function symbols of executables, and reports of their sizes by crate.
 #![tactic(auto)]
 
 pub mod list;
+pub mod report;
 mod symbols;
+mod writing;

@@ -7,9 +7,9 @@ ghost use Rattle.binfarce.specs.Format.{format_of};
 ghost use Rattle.binfarce_tools.specs.Answer.{symbols_answer, NeedsMemory};
 ghost use Rattle.binfarce_tools.specs.Listing.{symbol_line, listing};
 ghost use Rattle.binfarce_tools.specs.Lists.{Tells, Takes, Fails, Leaves};
-ghost use Rattle.binfarce_tools.specs.machine.Lists.{Writes};
 
-use crate::symbols::read_symbols;
+use crate::symbols::symbols_of_file;
+use crate::writing::write_whole;
 use binfarce::ParseError;
 use binfarce::demangle::SymbolData;
 use std::alloc::{AllocError, Global};
@@ -101,7 +101,7 @@ pub enum ListError {
     Unknown,
     /// The reader of the file's format refused it.
     Parse(ParseError),
-    /// A growth of memory was refused.
+    /// An allocation was refused.
     OutOfMemory,
     /// A write of the sink failed. What it took before is a beginning of the listing.
     Write,
@@ -139,7 +139,7 @@ impl From<ParseError> for ListError {
 
     ghost from_gives = { λ e l. l ≡ list_error_of e };
 
-    /// Want of memory is told as such, whichever call it comes from.
+    /// A refused allocation is reported as such, whichever call it comes from.
     fn from(e: ParseError) -> Self {
         match e {
             ParseError::OutOfMemory => ListError::OutOfMemory,
@@ -150,10 +150,11 @@ impl From<ParseError> for ListError {
 
 /// Lists the function symbols of a file's section: a line for each, and then the section's size.
 ///
-/// The format is told by the file's first bytes; the section is that of an ELF file, and of a Mach-O or PE file it is the text. A line is `{address:016x} {size:>10} {trimmed}`, the last one
-/// `text {size}`. Refused: `Unknown` where the format isn't one that is read; `Parse` where its reader refuses,
-/// other than for memory; `OutOfMemory` where a growth was refused; `Write` where a write failed. The listing is
-/// made before its first byte is written, so only `Write` can leave a beginning of it written.
+/// The format is the one that the file's first bytes name; the section is that of an ELF file, and of a Mach-O or PE file
+/// it is the text. A line is `{address:016x} {size:>10} {trimmed}`, the last one `text {size}`. Refused: `Unknown` where
+/// the format isn't one that is read; `Parse` where its reader refuses, other than for memory; `OutOfMemory` where an
+/// allocation was refused; `Write` where a write failed. The listing is made before its first byte is written, so only
+/// `Write` can leave a beginning of it written.
 pub fn list<S: Sink>(
     alloc: Global,
     data: &[u8],
@@ -165,7 +166,7 @@ pub fn list<S: Sink>(
     ensures fails { Fails (S.has_failed out.old) (S.has_failed out.new) result }
     ensures leaves { Leaves out.old out.new result }
 {
-    let (symbols, size) = read_symbols(alloc, data, section).ok_or(ListError::Unknown)??;
+    let (symbols, size) = symbols_of_file(alloc, data, section)?;
     let text = listing(alloc, symbols.as_slice(), size)?;
     write_whole(out, text.as_bytes())
 }
@@ -182,6 +183,7 @@ fn listing(alloc: Global, symbols: &[SymbolData], size: u64) -> Result<String, A
     Ok(text)
 }
 
+// Writes the line of a symbol after the text.
 #[tactic(auto, using(crate::proofs::Pads::address_padded, crate::proofs::Pads::size_padded))]
 fn push_line(text: &mut String, symbol: &SymbolData) -> Result<(), AllocError>
     ensures { IfOk result (λ _. string_bytes text.new ≡ string_bytes text.old ++ symbol_line symbol.now) }
@@ -191,19 +193,4 @@ fn push_line(text: &mut String, symbol: &SymbolData) -> Result<(), AllocError>
         "{:016x} {:>10} {}",
         symbol.address, symbol.size, symbol.name.trimmed
     )
-}
-
-// Writes the bytes in as many calls as the sink needs.
-fn write_whole<S: Sink>(out: &mut S, bytes: &[u8]) -> Result<(), ListError>
-    ensures takes { Writes (S.taken out.old) (S.taken out.new) bytes.now result }
-    ensures fails { Fails (S.has_failed out.old) (S.has_failed out.new) result }
-{
-    let mut at = 0;
-    while at < bytes.len() {
-        match out.write(&bytes[at..]) {
-            None => return Err(ListError::Write),
-            Some(n) => at += n,
-        }
-    }
-    Ok(())
 }

@@ -5,15 +5,28 @@ ghost use Rattle.binfarce.specs.Elf.{elf32, elf64};
 ghost use Rattle.binfarce.specs.MachoSymbols.{HasAddress};
 ghost use Rattle.binfarce.specs.Symbol.{HoldsSymbols, ListsSome, Answers};
 ghost use Rattle.binfarce_tools.specs.Answer.{elf_file_answer, macho_file_answer, pe_file_answer, symbols_answer, NeedsMemory};
-ghost use Rattle.binfarce_tools.specs.machine.Lists.{Reads};
+ghost use Rattle.binfarce_tools.specs.machine.Lists.{Reads, Gets};
 
+use crate::list::ListError;
 use binfarce::demangle::SymbolData;
 use binfarce::{ByteOrder, Format, ParseError, detect_format, elf32, elf64, macho, pe};
 use std::alloc::Global;
 
+// The function symbols of a file and the size of their section, or why a listing or a report of them can't be had.
+pub(crate) fn symbols_of_file(
+    alloc: Global,
+    data: &[u8],
+    section: &str,
+) -> Result<(Vec<SymbolData>, u64), ListError>
+    ensures { Gets (NeedsMemory (format_of data.now) data.now) (symbols_answer (format_of data.now) data.now section.now) result }
+{
+    let found = read_symbols(alloc, data, section).ok_or(ListError::Unknown)??;
+    Ok(found)
+}
+
 // What the reader of the file's format returns; `None` where no reader reads it.
 #[tactic(auto, unfolding(crate::specs::Answer::symbols_answer, crate::specs::Answer::NeedsMemory))]
-pub(crate) fn read_symbols(
+fn read_symbols(
     alloc: Global,
     data: &[u8],
     section: &str,

@@ -1,4 +1,4 @@
-//! Tests of the listing by public calls.
+//! Tests of listings and reports by public calls.
 #![tactic(auto)]
 
 #[cfg(test)]

@@ -1,4 +1,5 @@
 mod images;
+mod reports;
 
 use binfarce_samples::elf::Layout;
 use binfarce_samples::macho::MACHO;

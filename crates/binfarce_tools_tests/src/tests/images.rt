@@ -117,16 +117,24 @@ fn past_the_levels(alloc: Global) -> Result<String, AllocError> {
     Ok(name)
 }
 
-// The listing of a file with two functions, the first of this name and the second of another.
-fn listed_beside(alloc: Global, name: &str) -> Result<String, Fail> {
+// A file with functions of these names, each of 16 bytes.
+pub(crate) fn file_of(alloc: Global, names: &[&str]) -> Result<Vec<u8>, Fail> {
     let mut strings = Vec::from_slice(alloc, b"\0")?;
-    strings.extend_from_slice(name.as_bytes())?;
-    strings.extend_from_slice(b"\0_ZN3foo3barE\0")?;
-    let second = u32::try_from(name.len()).unwrap_or(0).wrapping_add(2);
-    let rows = [function(1, 0x1000), function(second, 0x1010)];
+    let mut rows = Vec::new(alloc);
+    let mut address = 0x1000;
+    for name in names {
+        rows.push(function(u32::try_from(strings.len()).unwrap_or(0), address))?;
+        strings.extend_from_slice(name.as_bytes())?;
+        strings.extend_from_slice(b"\0")?;
+        address = address.wrapping_add(16);
+    }
     let image = image(alloc, 3, &strings, &rows)?;
-    let file = lay_out(alloc, &image, ElfLayout::Elf64Little)?;
-    answered(alloc, &file, ".text")
+    Ok(lay_out(alloc, &image, ElfLayout::Elf64Little)?)
+}
+
+// A file with two functions, the first of this name and the second `foo::bar`.
+pub(crate) fn file_beside(alloc: Global, name: &str) -> Result<Vec<u8>, Fail> {
+    file_of(alloc, &[name, "_ZN3foo3barE"])
 }
 
 #[test]
@@ -139,7 +147,8 @@ fn a_hostile_name_changes_no_other(rt: HostRuntime) -> Result<(), Fail> {
         ("_ZN7$u3b1$:E", ""),
     ];
     for (name, shown) in rows {
-        let text = listed_beside(rt.alloc(), name)?;
+        let file = file_beside(rt.alloc(), name)?;
+        let text = answered(rt.alloc(), &file, ".text")?;
         let want = format!(in rt.alloc();
             "0000000000001000         16 {shown}\n0000000000001010         16 foo\ntext 32\n"
         )?;

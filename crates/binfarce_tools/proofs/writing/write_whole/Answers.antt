@@ -1,7 +1,7 @@
 use Rattle.std.proofs.Common.{refl, ◌∙◌, arith}
 use Rattle.std.proofs.lemmas.Grind.{common_steps}
 use Rattle.binfarce_tools.proofs.Listings.{begins, further}
-use Rattle.binfarce_tools.proofs.list.write_whole.Goals as goal
+use Rattle.binfarce_tools.proofs.writing.write_whole.Goals as goal
 
 pub returns-in-None-clause-takes : goal.returns-in-None-clause-takes
 returns-in-None-clause-takes g c = (refl, begins _ _ _ c.args.bytes.now c.loop-at.at c.loop-at.invariant.taken c.in-None.ensures.none)

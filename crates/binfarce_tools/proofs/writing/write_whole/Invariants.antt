@@ -1,6 +1,6 @@
 use Rattle.std.proofs.Common.{◌≡◌, ◌≤◌, ◌-◌, length, take}
 use Rattle.std.specs.Io.KnownBytes.{Appends}
-use Rattle.binfarce_tools.proofs.list.write_whole.Given as goal
+use Rattle.binfarce_tools.proofs.writing.write_whole.Given as goal
 
 -- what was taken are the bytes before `at`, and no write has failed
 abbrev pub invariant-loop-at : goal.invariant-loop-at

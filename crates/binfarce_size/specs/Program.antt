@@ -1,0 +1,43 @@
+-- What the program's functions answer.
+use Rattle.std.specs.Prelude.{◌≡◌, ℕ, List, [], ◌∷◌, codes, true, Option, Some, None, Result, Ok, Err}
+use Rattle.binfarce.specs.Refusal.{Refusal}
+use Rattle.binfarce.specs.Symbol.{Listed}
+use Rattle.binfarce_tools.specs.Reports as reports
+use Rattle.binfarce_tools.specs.declared.list.Out.{Out}
+use Rattle.binfarce_tools.specs.declared.report.ReportError.TheVariants as errors
+use Rattle.binfarce_tools.specs.Sink.{has_failed}
+use Rattle.binfarce_size.specs.declared.program.Fault.{Fault}
+use Rattle.binfarce_size.specs.declared.program.Fault.TheVariants.{Usage, File, Report}
+
+-- the file and the section that arguments give, if there are one or two
+abbrev pub words_of : List (List ℕ) → Option (List ℕ × List ℕ)
+words_of [] = None
+words_of (file ∷ []) = Some (file, codes ".text")
+words_of (file ∷ section ∷ []) = Some (file, section)
+words_of (file ∷ section ∷ more ∷ others) = None
+
+-- the status that a fault ends the program with
+abbrev pub status_of : Fault → ℕ
+status_of Usage = 2
+status_of File = 1
+status_of (Report e) = 1
+
+-- what is reported where the file's answer is this: what its report tells; that the file can't be read, and that an allocation was refused, may be reported of any
+abbrev pub Tells : (Result Listed Refusal → Type 0) → Option (Result Listed Refusal) → Result (Unit {0}) Fault → Type 0
+Tells NeedsMemory answer (Ok x) = reports.Tells NeedsMemory answer (Ok x)
+Tells NeedsMemory answer (Err Usage) = ⊥
+Tells NeedsMemory answer (Err File) = Unit {0}
+Tells NeedsMemory answer (Err (Report errors.OutOfMemory)) = Unit {0}
+Tells NeedsMemory answer (Err (Report e)) = reports.Tells NeedsMemory answer (Err e)
+
+-- what the writer holds afterwards: what its report wrote
+abbrev pub Takes : Option (Result Listed Refusal) → Option (List ℕ) → Option (List ℕ) → Result (Unit {0}) Fault → Type 0
+Takes answer old new (Ok x) = reports.Takes answer old new (Ok x)
+Takes answer old new (Err (Report e)) = reports.Takes answer old new (Err e)
+Takes answer old new (Err _) = reports.Takes answer old new (Err errors.OutOfMemory)
+
+-- a fault but a failed write leaves the sink as it was; after a failed write the sink has failed, and success leaves it as it was
+abbrev pub Fails : {W : Type 0} → Out W → Out W → Result (Unit {0}) Fault → Type 0
+Fails old new (Ok x) = has_failed new ≡ has_failed old
+Fails old new (Err (Report errors.Write)) = has_failed new ≡ true
+Fails old new (Err _) = new ≡ old

@@ -1,0 +1,21 @@
+//! How a text is written whole.
+
+ghost use Rattle.binfarce_tools.specs.Lists.{Fails};
+ghost use Rattle.binfarce_tools.specs.machine.Lists.{Writes};
+
+use crate::list::{ListError, Sink};
+
+// Writes the bytes in as many calls as the sink needs.
+pub(crate) fn write_whole<S: Sink>(out: &mut S, bytes: &[u8]) -> Result<(), ListError>
+    ensures takes { Writes (S.taken out.old) (S.taken out.new) bytes.now result }
+    ensures fails { Fails (S.has_failed out.old) (S.has_failed out.new) result }
+{
+    let mut at = 0;
+    while at < bytes.len() {
+        match out.write(&bytes[at..]) {
+            None => return Err(ListError::Write),
+            Some(n) => at += n,
+        }
+    }
+    Ok(())
+}

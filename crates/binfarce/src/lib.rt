@@ -77,6 +77,5 @@ fn elf_format(class: u8, order: u8) -> Format
 }
 
 mod laws;
-
 #[cfg(test)]
 mod tests;

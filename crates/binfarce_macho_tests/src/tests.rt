@@ -194,7 +194,12 @@ fn shown(
 const SECTIONS: [(&str, &[Patch<'static>], Ask, &str); 6] = [
     ("the first", &[], Ask::First, "0..256"),
     ("by its names", &[], Ask::Text, "0..256"),
-    ("a name that isn't UTF-8", &[(104, &[0xFF])], Ask::First, "none"),
+    (
+        "a name that isn't UTF-8",
+        &[(104, &[0xFF])],
+        Ask::First,
+        "none",
+    ),
     ("an empty name", &[(104, &[0])], Ask::First, "none"),
     (
         "past 2^32 - 1 commands",

@@ -67,7 +67,12 @@ fn tells_why_no_report_is_made(rt: HostRuntime) -> Result<(), AllocError> {
     let elf = &b"\x7FELF\x02\x01\x00\x00"[..];
     let rows = [
         ("empty", &[][..], None, "binfarce-size: unknown file format"),
-        ("truncated", elf, None, "binfarce-size: unexpected end of file"),
+        (
+            "truncated",
+            elf,
+            None,
+            "binfarce-size: unexpected end of file",
+        ),
         (
             "fails at once",
             &[][..],

@@ -121,13 +121,19 @@ fn reports_on_files(rt: HostRuntime) -> Result<(), Fail> {
 // A name, and the lines of the crates of a file with a function of this name beside `foo::bar`, both of 16 bytes.
 const CRATES: [(&str, &str); 12] = [
     ("_RNvC6_123foo3bar", "        16 123foo\n        16 foo\n"),
-    ("_ZN11_$LT$a$GT$bE", "        16 [unknown]\n        16 foo\n"),
+    (
+        "_ZN11_$LT$a$GT$bE",
+        "        16 [unknown]\n        16 foo\n",
+    ),
     ("a", "        16 [unknown]\n        16 foo\n"),
     ("_ZN4testE", "        16 foo\n        16 test\n"),
     ("_ZN1a1b1cE", "        16 a\n        16 foo\n"),
     ("_ZN3foo1aE", "        32 foo\n"),
     ("_ZNE", "        16 \n        16 foo\n"),
-    ("_RMC0INtC8arrayvec8ArrayVechKj7b_E", "        16 \n        16 foo\n"),
+    (
+        "_RMC0INtC8arrayvec8ArrayVechKj7b_E",
+        "        16 \n        16 foo\n",
+    ),
     ("_RYhB0_", "        16 [unknown]\n        16 foo\n"),
     ("_RNvB_1a", "        16 [unknown]\n        16 foo\n"),
     ("_RNvC3fop1a", "        16 foo\n        16 fop\n"),

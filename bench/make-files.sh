@@ -67,6 +67,16 @@ make c.exe x86_64-w64-mingw32-gcc -O2 "$out/some.c"
 printf 'int weak(int a) { return a; }\nint main(int a) { return weak(a); }\n' >"$out/plain.c"
 make macho.o clang -target arm64-apple-macos11 -g -c "$out/plain.c"
 make macho-x86_64.o clang -target x86_64-apple-darwin -c "$out/plain.c"
+# Its section of classes has a name of 16 full bytes, `__objc_classlist`.
+cat >"$out/class.m" <<'OBJC'
+__attribute__((objc_root_class)) @interface Counter
+- (int)next;
+@end
+@implementation Counter { int count; }
+- (int)next { return ++count; }
+@end
+OBJC
+make macho-class.o clang -target x86_64-apple-macos -c "$out/class.m"
 for mangling in legacy v0; do
     RUSTC_BOOTSTRAP=1 make "rust-$mangling" rustc --edition 2021 -A warnings -Zunstable-options \
         -C symbol-mangling-version=$mangling -C opt-level=0 -C codegen-units=16 "$out/grid.rs"

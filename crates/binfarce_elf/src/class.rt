@@ -9,15 +9,22 @@ ghost use Rattle.binfarce_elf.specs.machine.RawElf.{row_seen, header_of, section
 use binfarce_bytes::ByteOrder;
 use binfarce_bytes::parser::{RawNumber, Stream, UnexpectedEof};
 
+// The standard's data types (gABI, "Data Representation"); a word of the class stands for its addresses and offsets.
+pub type Half = u16;
+
+pub type Word = u32;
+
+pub type XWord = u64;
+
 /// A row of a symbol table, with values as wide as the wider class has them.
 #[derive(Clone, Copy)]
 pub struct Row {
-    pub name: u32,
-    pub value: u64,
-    pub size: u64,
+    pub name: Word,
+    pub value: XWord,
+    pub size: XWord,
     pub info: u8,
     pub other: u8,
-    pub section: u16,
+    pub section: Half,
 }
 
 /// A class of ELF files, known by its word: `u32` for ELFCLASS32, `u64` for ELFCLASS64.

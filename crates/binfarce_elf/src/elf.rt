@@ -10,7 +10,7 @@ ghost use Rattle.binfarce_elf.specs.ElfSymbols.{is_name, elf_answer};
 ghost use Rattle.binfarce_elf.specs.ElfSeen.{header_seen, section_seen, functions_seen};
 ghost use Rattle.binfarce_elf.specs.machine.RawElf.{table_seen};
 
-use crate::class::Class;
+use crate::class::{Class, Half, Word};
 use crate::sections::{self, Table};
 use crate::symbols::{self, Functions};
 use binfarce_bytes::parser::{UnexpectedEof, number_at, range};
@@ -26,11 +26,11 @@ use std::ops::Range;
 #[derive(Clone, Copy)]
 pub struct Header<C> {
     /// The file's type (`e_type`): 1 relocatable, 2 executable, 3 shared object, 4 core.
-    pub elf_type: u16,
+    pub elf_type: Half,
     /// The architecture (`e_machine`).
-    pub machine: u16,
+    pub machine: Half,
     /// The version of the format (`e_version`).
-    pub version: u32,
+    pub version: Word,
     /// The address where the program begins (`e_entry`); 0 for none.
     pub entry: C,
     /// The offset of the program header table in the file, in bytes (`e_phoff`); 0 for none.
@@ -38,19 +38,19 @@ pub struct Header<C> {
     /// The offset of the section header table in the file, in bytes (`e_shoff`); 0 for none.
     pub shoff: C,
     /// Flags of the architecture (`e_flags`).
-    pub flags: u32,
+    pub flags: Word,
     /// The size of the file header in bytes, as the file says (`e_ehsize`).
-    pub ehsize: u16,
+    pub ehsize: Half,
     /// The size of a program header in bytes, as the file says (`e_phentsize`).
-    pub phentsize: u16,
+    pub phentsize: Half,
     /// How many program headers there are (`e_phnum`).
-    pub phnum: u16,
+    pub phnum: Half,
     /// The size of a section header in bytes, as the file says (`e_shentsize`); the readers take the class's own.
-    pub shentsize: u16,
+    pub shentsize: Half,
     /// How many section headers there are (`e_shnum`).
-    pub shnum: u16,
+    pub shnum: Half,
     /// The index of the section that holds the section names (`e_shstrndx`).
-    pub shstrndx: u16,
+    pub shstrndx: Half,
 }
 
 impl<C: Class + fmt::Debug> fmt::Debug for Header<C> {
@@ -76,10 +76,10 @@ impl<C: Class + fmt::Debug> fmt::Debug for Header<C> {
 /// A section header's values (gABI, "Section Header"), and the section's index. It borrows nothing.
 #[derive(Debug, Clone, Copy)]
 pub struct Section<C> {
-    pub(crate) index: u16,
-    pub(crate) name_offset: u32,
-    pub(crate) kind: u32,
-    pub(crate) link: u32,
+    pub(crate) index: Half,
+    pub(crate) name_offset: Word,
+    pub(crate) kind: Word,
+    pub(crate) link: Word,
     pub(crate) offset: C,
     pub(crate) size: C,
     pub(crate) entry_size: C,

@@ -9,7 +9,7 @@ ghost use Rattle.binfarce_elf.specs.ElfSymbols.{is_name};
 ghost use Rattle.binfarce_elf.specs.ElfSeen.{section_seen};
 ghost use Rattle.binfarce_elf.specs.machine.RawElf.{table_seen, names_bytes, name_among};
 
-use crate::class::Class;
+use crate::class::{Class, Half, Word};
 use crate::elf::Section;
 use binfarce_bytes::ByteOrder;
 use binfarce_bytes::parser::{Stream, UnexpectedEof, parse_null_string, part};
@@ -20,8 +20,8 @@ pub(crate) struct Table<'a> {
     pub(crate) bytes: &'a [u8],
     pub(crate) byte_order: ByteOrder,
     pub(crate) shoff: usize,
-    pub(crate) shnum: u16,
-    pub(crate) shstrndx: u16,
+    pub(crate) shnum: Half,
+    pub(crate) shstrndx: Half,
 }
 
 /// The section header at `start`, of the section with this index; refused where it is truncated.
@@ -29,7 +29,7 @@ fn section_at<C: Class>(
     bytes: &[u8],
     start: usize,
     byte_order: ByteOrder,
-    index: u16,
+    index: Half,
 ) -> Result<Section<C>, UnexpectedEof>
     ensures { MatchResult result
         (λ s. (start + C.table.section_length ≤ length bytes.now) × (section_seen C.number_of s ≡ section_at C.table byte_order bytes.now start index))
@@ -110,7 +110,7 @@ pub(crate) fn section_name<'a, C: Class>(table: Table<'a>, section: Section<C>) 
     name_at(names_bytes::<C>(table), section.name_offset)
 }
 
-fn name_at(names: Option<&[u8]>, offset: u32) -> Option<&str>
+fn name_at(names: Option<&[u8]>, offset: Word) -> Option<&str>
     ensures { option_map (λ t. t.now) result ≡ name_among (option_map (λ b. b.now) names.entry) offset }
 {
     parse_null_string(names?, offset as usize)

@@ -10,7 +10,7 @@ ghost use Rattle.binfarce_elf.specs.ElfSymbols.{is_name, sought, string_table_ki
 ghost use Rattle.binfarce_elf.specs.ElfSeen.{section_seen, functions_left, functions_seen};
 ghost use Rattle.binfarce_elf.specs.machine.RawElf.{row_seen, table_seen, found_seen};
 
-use crate::class::{Class, Row};
+use crate::class::{Class, Half, Row, Word};
 use crate::elf::Section;
 use crate::sections::{Table, first_section, section_with_name};
 use binfarce_bytes::parser::{UnexpectedEof, parse_null_string};
@@ -18,9 +18,11 @@ use binfarce_bytes::{ByteOrder, ParseError};
 use binfarce_symbols::functions::FunctionSymbol;
 use std::marker::PhantomData;
 
-const SHT_SYMTAB: u32 = 2;
+/// `SHT_SYMTAB`.
+const SYMBOL_TABLE: Word = 2;
 
-const SHT_STRTAB: u32 = 3;
+/// `SHT_STRTAB`.
+const STRING_TABLE: Word = 3;
 
 // Where the symbols of a section are in the file.
 #[derive(Clone, Copy)]
@@ -77,12 +79,12 @@ fn symbol_table<C: Class>(table: Table<'_>) -> Result<Section<C>, ParseError>
     ensures { Gives refusal_of (section_seen C.number_of) result
         (sought (section_is_missing (codes ".symtab")) (λ s. nat_eq s.kind 2) (walk C.table (table_seen table.entry))) }
 {
-    section_of_kind::<C>(table, SHT_SYMTAB)?.ok_or(ParseError::SectionIsMissing(".symtab"))
+    section_of_kind::<C>(table, SYMBOL_TABLE)?.ok_or(ParseError::SectionIsMissing(".symtab"))
 }
 
 fn section_of_kind<C: Class>(
     table: Table<'_>,
-    kind: u32,
+    kind: Word,
 ) -> Result<Option<Section<C>>, UnexpectedEof>
     ensures { Gives (λ _. unexpected_eof) (option_map (section_seen C.number_of)) result
         (first (λ s. nat_eq s.kind kind) (walk C.table (table_seen table.entry))) }
@@ -90,7 +92,7 @@ fn section_of_kind<C: Class>(
     first_section::<C, _>(table, |section| section.kind == kind)
 }
 
-fn linked_section<C: Class>(table: Table<'_>, link: u32) -> Result<Section<C>, ParseError>
+fn linked_section<C: Class>(table: Table<'_>, link: Word) -> Result<Section<C>, ParseError>
     ensures { Gives refusal_of (section_seen C.number_of) result
         (sought (section_is_missing (codes ".strtab")) (λ s. nat_eq s.index link) (walk C.table (table_seen table.entry))) }
 {
@@ -99,7 +101,7 @@ fn linked_section<C: Class>(table: Table<'_>, link: u32) -> Result<Section<C>, P
 
 fn section_of_index<C: Class>(
     table: Table<'_>,
-    index: u32,
+    index: Word,
 ) -> Result<Option<Section<C>>, UnexpectedEof>
     ensures { Gives (λ _. unexpected_eof) (option_map (section_seen C.number_of)) result
         (first (λ s. nat_eq s.index index) (walk C.table (table_seen table.entry))) }
@@ -110,11 +112,11 @@ fn section_of_index<C: Class>(
 fn string_table<C: Class>(section: Section<C>) -> Result<Section<C>, ParseError>
     ensures { Gives refusal_of (section_seen C.number_of) result (string_table_kind (section_seen C.number_of section)) }
 {
-    if section.kind == SHT_STRTAB {
+    if section.kind == STRING_TABLE {
         Ok(section)
     } else {
         Err(ParseError::UnexpectedSectionType {
-            expected: SHT_STRTAB,
+            expected: STRING_TABLE,
             actual: section.kind,
         })
     }
@@ -146,7 +148,7 @@ pub struct Functions<'a, C> {
     rows: &'a [u8],
     strings: &'a [u8],
     byte_order: ByteOrder,
-    index: u16,
+    index: Half,
     next: usize,
     class: PhantomData<C>,
 }
@@ -154,7 +156,7 @@ pub struct Functions<'a, C> {
 impl<'a, C: Class> Functions<'a, C> {
     // The functions of the section `index` in whole rows.
     #[tactic(auto, using(crate::proofs::RowsLeft::from_first))]
-    fn new(rows: &'a [u8], strings: &'a [u8], byte_order: ByteOrder, index: u16) -> Self
+    fn new(rows: &'a [u8], strings: &'a [u8], byte_order: ByteOrder, index: Half) -> Self
         ensures { functions_left C.table result ≡ entries_of C.table byte_order strings.entry.now index rows.entry.now (length rows.entry.now / C.table.symbol_length) }
     {
         Functions {
@@ -213,7 +215,7 @@ impl<'a, C: Class> Iterator for Functions<'a, C> {
 
 // The name of a function of the section `index`, with a size and a name offset.
 #[tactic(auto, unfolding(crate::specs::ElfSymbols::function_name))]
-fn function_name(strings: &[u8], index: u16, row: Row) -> Option<&str>
+fn function_name(strings: &[u8], index: Half, row: Row) -> Option<&str>
     ensures { option_map (λ t. t.now) result ≡ function_name strings.now index (row_seen row) }
 {
     const STT_FUNC: u8 = 2;

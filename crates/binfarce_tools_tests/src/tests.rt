@@ -1,3 +1,4 @@
+mod hostile_names;
 mod images;
 mod reports;
 

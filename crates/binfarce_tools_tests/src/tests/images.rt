@@ -106,17 +106,6 @@ fn lists_the_bench_image(rt: HostRuntime) -> Result<(), Fail> {
     Ok(())
 }
 
-// A name of 499 slices within one another.
-fn past_the_levels(alloc: Global) -> Result<String, AllocError> {
-    let mut name = String::new(alloc);
-    name.push_str("_RMC0")?;
-    for _ in 0..499 {
-        name.push_str("S")?;
-    }
-    name.push_str("u")?;
-    Ok(name)
-}
-
 // A file with functions of these names, each of 16 bytes.
 pub(crate) fn file_of(alloc: Global, names: &[&str]) -> Result<Vec<u8>, Fail> {
     let mut strings = Vec::from_slice(alloc, b"\0")?;
@@ -135,24 +124,4 @@ pub(crate) fn file_of(alloc: Global, names: &[&str]) -> Result<Vec<u8>, Fail> {
 // A file with two functions, the first of this name and the second `foo::bar`.
 pub(crate) fn file_beside(alloc: Global, name: &str) -> Result<Vec<u8>, Fail> {
     file_of(alloc, &[name, "_ZN3foo3barE"])
-}
-
-#[test]
-fn a_hostile_name_changes_no_other(rt: HostRuntime) -> Result<(), Fail> {
-    let deep = past_the_levels(rt.alloc())?;
-    let rows = [
-        (deep.as_str(), deep.as_str()),
-        ("_RNvB_1a", "_RNvB_1a"),
-        ("_RINvC1a1bB3_hE", "a::b::<?, u8>"),
-        ("_ZN7$u3b1$:E", ""),
-    ];
-    for (name, shown) in rows {
-        let file = file_beside(rt.alloc(), name)?;
-        let text = answered(rt.alloc(), &file, ".text")?;
-        let want = format!(in rt.alloc();
-            "0000000000001000         16 {shown}\n0000000000001010         16 foo\ntext 32\n"
-        )?;
-        assert!(&rt; text.as_str() == want.as_str(), "{name}");
-    }
-    Ok(())
 }

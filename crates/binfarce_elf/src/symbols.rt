@@ -170,7 +170,7 @@ impl<'a, C: Class> Functions<'a, C> {
     }
 
     // The first function that is left, and the number of the row after it.
-    #[inline]
+    #[inline(always)]
     #[tactic(auto, using(crate::proofs::RowsLeft::passed, crate::proofs::RowsLeft::kept, crate::proofs::RowsLeft::ended))]
     fn first_left(&self) -> Option<(FunctionSymbol<'a>, usize)>
         ensures { MatchOption result (functions_left C.table self.now ≡ [])
@@ -205,7 +205,7 @@ impl<'a, C: Class> Iterator for Functions<'a, C> {
 
     ghost remaining = { item_count (functions_left C.table) };
 
-    #[inline]
+    #[inline(always)]
     fn next(&mut self) -> Option<FunctionSymbol<'a>> {
         let (function, next) = self.first_left()?;
         self.next = next;

@@ -39,6 +39,7 @@ pub fn symbols_of<'a, I: Iterator<Item = FunctionSymbol<'a>> + Drop>(
     Ok(symbols)
 }
 
+#[inline(always)]
 fn symbol_of(alloc: Global, function: FunctionSymbol<'_>) -> Result<SymbolData, AllocError>
     ensures { IfOk result (IsSymbolOf (function_seen function.entry)) }
 {

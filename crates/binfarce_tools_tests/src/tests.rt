@@ -331,17 +331,19 @@ impl Write for Short {
 }
 
 // How many bytes are taken in a call, and how a call ends that takes none.
-const WRITERS: [(usize, Option<ErrorKind>); 9] = [
-    (1, None),
-    (1, Some(ErrorKind::Other)),
-    (1, Some(ErrorKind::Interrupted)),
-    (7, None),
-    (7, Some(ErrorKind::Other)),
-    (7, Some(ErrorKind::Interrupted)),
-    (100, None),
-    (100, Some(ErrorKind::Other)),
-    (100, Some(ErrorKind::Interrupted)),
-];
+fn writers() -> [(usize, Option<ErrorKind>); 9] {
+    [
+        (1, None),
+        (1, Some(ErrorKind::Other)),
+        (1, Some(ErrorKind::Interrupted)),
+        (7, None),
+        (7, Some(ErrorKind::Other)),
+        (7, Some(ErrorKind::Interrupted)),
+        (100, None),
+        (100, Some(ErrorKind::Other)),
+        (100, Some(ErrorKind::Interrupted)),
+    ]
+}
 
 // Whether a writer that takes so many bytes gets the first ones of the listing, and `list` tells that it got all.
 fn takes_a_beginning(alloc: Global, left: usize, most: usize, end: Option<ErrorKind>) -> bool {
@@ -362,14 +364,20 @@ fn takes_a_beginning(alloc: Global, left: usize, most: usize, end: Option<ErrorK
     is_told && has_failed != whole && taken.as_slice() == first_bytes(LISTING.as_bytes(), left)
 }
 
+// The first number of bytes, up to the whole listing, of which that isn't so.
+fn not_a_beginning(alloc: Global, most: usize, end: Option<ErrorKind>) -> Option<usize> {
+    for left in 0..LISTING.len() + 1 {
+        if !takes_a_beginning(alloc, left, most, end) {
+            return Some(left);
+        }
+    }
+    None
+}
+
 #[test]
 fn writes_a_beginning(rt: HostRuntime) {
-    for case in 0..41 * WRITERS.len() {
-        let (most, end) = WRITERS[case % WRITERS.len()];
-        let left = case / WRITERS.len();
-        assert!(&rt;
-            takes_a_beginning(rt.alloc(), left, most, end),
-            "{left} bytes, {most} a call, {end:?}"
-        );
+    for (most, end) in writers() {
+        let left = not_a_beginning(rt.alloc(), most, end);
+        assert!(&rt; left.is_none(), "{left:?} bytes, {most} a call, {end:?}");
     }
 }

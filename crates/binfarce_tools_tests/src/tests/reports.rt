@@ -1,7 +1,7 @@
 //! Reports by crate.
 
 use super::images::{file_beside, file_of};
-use super::{File, MACHO_MAGIC, PE_MAGIC, Short, TRUNCATED, UNKNOWN, WHOLE, WRITERS, bytes_of};
+use super::{File, MACHO_MAGIC, PE_MAGIC, Short, TRUNCATED, UNKNOWN, WHOLE, bytes_of, writers};
 use binfarce_samples::elf::Layout;
 use binfarce_samples::{Patch, first_bytes, patched};
 use binfarce_tools::list::{Out, Sink};
@@ -217,14 +217,20 @@ fn takes_a_beginning(alloc: Global, left: usize, most: usize, end: Option<ErrorK
     is_told && has_failed != whole && taken.as_slice() == first_bytes(REPORT.as_bytes(), left)
 }
 
+// The first number of bytes, up to the whole report, of which that isn't so.
+fn not_a_beginning(alloc: Global, most: usize, end: Option<ErrorKind>) -> Option<usize> {
+    for left in 0..REPORT.len() + 1 {
+        if !takes_a_beginning(alloc, left, most, end) {
+            return Some(left);
+        }
+    }
+    None
+}
+
 #[test]
 fn writes_a_beginning_of_the_report(rt: HostRuntime) {
-    for case in 0..31 * WRITERS.len() {
-        let (most, end) = WRITERS[case % WRITERS.len()];
-        let left = case / WRITERS.len();
-        assert!(&rt;
-            takes_a_beginning(rt.alloc(), left, most, end),
-            "{left} bytes, {most} a call, {end:?}"
-        );
+    for (most, end) in writers() {
+        let left = not_a_beginning(rt.alloc(), most, end);
+        assert!(&rt; left.is_none(), "{left:?} bytes, {most} a call, {end:?}");
     }
 }

@@ -5,21 +5,23 @@ use binfarce::{FunctionSymbol, ParseError, elf32, elf64};
 use binfarce_samples::elf::Layout;
 use std::test::Fail;
 
-// The first function symbol of `.text`, how many follow it, and the section's size.
-type Found = (Option<FunctionSymbol<'static>>, usize, u64);
+// The first function symbol of `.text`, whether it is the only one, and the section's size.
+type Found = (Option<FunctionSymbol<'static>>, bool, u64);
 
 fn found_32(layout: Layout) -> Result<Found, ParseError> {
     let file = elf32::parse(layout.bytes(), order_of(layout))?;
     let (mut functions, size) = file.functions(".text")?;
     let first = functions.next();
-    Ok((first, functions.count(), size))
+    let is_only = functions.next().is_none();
+    Ok((first, is_only, size))
 }
 
 fn found_64(layout: Layout) -> Result<Found, ParseError> {
     let file = elf64::parse(layout.bytes(), order_of(layout))?;
     let (mut functions, size) = file.functions(".text")?;
     let first = functions.next();
-    Ok((first, functions.count(), size))
+    let is_only = functions.next().is_none();
+    Ok((first, is_only, size))
 }
 
 fn found(layout: Layout) -> Result<Found, ParseError> {
@@ -32,12 +34,12 @@ fn found(layout: Layout) -> Result<Found, ParseError> {
 #[test]
 fn functions(rt: HostRuntime) -> Result<(), Fail> {
     for layout in LAYOUTS {
-        let (first, others, size) = found(layout)?;
+        let (first, is_only, size) = found(layout)?;
         let first = first.ok_or("no function symbol")?;
         assert_eq!(rt; first.name, "_ZN3foo3barE");
         assert_eq!(rt;
-            (first.address, first.size, others, size),
-            (4096, 16, 0, 32)
+            (first.address, first.size, is_only, size),
+            (4096, 16, true, 32)
         );
     }
     Ok(())

@@ -22,7 +22,7 @@ status_of Usage = 2
 status_of File = 1
 status_of (Listing e) = 1
 
--- what is told of a file that has this answer: what its listing tells; a file that can't be read, and want of memory, may be told of any
+-- what is reported where the file's answer is this: what its listing tells; that the file can't be read, and that an allocation was refused, may be reported of any
 abbrev pub Tells : (Result Listed Refusal → Type 0) → Option (Result Listed Refusal) → Result (Unit {0}) Fault → Type 0
 Tells NeedsMemory answer (Ok x) = lists.Tells NeedsMemory answer (Ok x)
 Tells NeedsMemory answer (Err Usage) = ⊥
@@ -36,7 +36,7 @@ Takes answer old new (Ok x) = lists.Takes answer old new (Ok x)
 Takes answer old new (Err (Listing e)) = lists.Takes answer old new (Err e)
 Takes answer old new (Err _) = lists.Takes answer old new (Err errors.OutOfMemory)
 
--- a fault but a failed write leaves the sink as it was; a failed write is one that the sink tells, and success leaves what it tells
+-- a fault but a failed write leaves the sink as it was; after a failed write the sink has failed, and success leaves it as it was
 abbrev pub Fails : {W : Type 0} → Out W → Out W → Result (Unit {0}) Fault → Type 0
 Fails old new (Ok x) = has_failed new ≡ has_failed old
 Fails old new (Err (Listing errors.Write)) = has_failed new ≡ true

@@ -22,7 +22,7 @@ fn main(rt: HostRuntime) -> ExitCode {
     }
 }
 
-// The first fault is the one told.
+// The first fault is the one reported.
 fn list_file(rt: &HostRuntime) -> Result<(), Fault> {
     let arguments = arguments(rt).map_err(|_| Fault::Usage)?;
     let (path, section) = words(arguments.as_slice())?;
@@ -34,7 +34,7 @@ fn list_file(rt: &HostRuntime) -> Result<(), Fault> {
     flushed.map_err(|_| Fault::List(ListError::Write))
 }
 
-// The arguments behind the program's own name.
+// The arguments after the program's own name.
 fn arguments(rt: &HostRuntime) -> io::Result<Vec<String>> {
     let words = env::args(rt)?.skip(1).collect(rt.alloc())?;
     Ok(words)

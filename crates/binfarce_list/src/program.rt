@@ -28,7 +28,7 @@ pub enum Fault {
     List(ListError),
 }
 
-/// The file and the section that the arguments behind the program's own name give. The section is by default `.text`.
+/// The file and the section that the arguments after the program's own name give. The section is by default `.text`.
 ///
 /// `Usage` for none, and for more than two.
 pub fn words(arguments: &[String]) -> Result<(&str, &str), Fault>
@@ -44,7 +44,7 @@ pub fn words(arguments: &[String]) -> Result<(&str, &str), Fault>
 
 /// Reads the file to its end, and lists the function symbols of its section.
 ///
-/// `File` where the reader fails; `List` where a growth was refused while it is read, and as `list` refuses.
+/// `File` where the reader fails; `List` where an allocation was refused while it is read, and as `list` refuses.
 pub fn run<R: Read, W: Write>(
     alloc: Global,
     file: &mut R,
@@ -72,7 +72,7 @@ fn read_whole<R: Read>(alloc: Global, file: &mut R) -> Result<Vec<u8>, Fault>
     }
 }
 
-// A refused growth is told as such.
+// A refused allocation is reported as such.
 fn of_reading(e: io::Error) -> Fault
     ensures { IsOfReading result }
 {

@@ -19,7 +19,7 @@ text_of bytes n = if nat_lt 0 n && is_utf8 (take n bytes) then Some (take n byte
 unfoldable pub text_at : List ℕ → ℕ → Option (List ℕ)
 text_at bytes start = option_and_then (text_of (drop start bytes)) (nul_at (drop start bytes))
 
--- text stands at the place: a non-empty UTF-8 text without NUL, and a NUL behind it
+-- text stands at the offset: a non-empty UTF-8 text without NUL, and a NUL after it
 pub record IsTextAt (bytes : List ℕ) (start : ℕ) (text : List ℕ) : Type 0 where
   pub stands : (rest : List ℕ) × (drop start bytes ≡ text ++ 0 ∷ rest)
   pub no_nul : All (λ b. b ≢ 0) text

@@ -21,7 +21,7 @@ pub enum ParseError {
     MalformedInput,
     /// The file ends before what it should hold.
     UnexpectedEof,
-    /// A growth of memory was refused.
+    /// An allocation was refused.
     OutOfMemory,
 }
 

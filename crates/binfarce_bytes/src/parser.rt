@@ -239,7 +239,7 @@ impl<'a> Stream<'a> {
         }
     }
 
-    /// Moves the offset behind a `T` without a look at the bytes.
+    /// Moves the offset past a `T` without a look at the bytes.
     #[inline]
     pub fn skip<T: RawNumber>(&mut self) -> Result<(), UnexpectedEof>
         ensures { MatchResult result
@@ -249,7 +249,7 @@ impl<'a> Stream<'a> {
         self.skip_len(T::SIZE)
     }
 
-    /// The number at the offset, which moves behind it; refused where a byte is missing.
+    /// The number at the offset, which moves past it; refused where a byte is missing.
     #[inline]
     pub fn read<T: RawNumber>(&mut self) -> Result<T, UnexpectedEof>
         ensures number { MatchResult result
@@ -265,7 +265,7 @@ impl<'a> Stream<'a> {
         Ok(number)
     }
 
-    /// The `len` bytes at the offset, a part of the bytes; the offset moves behind them.
+    /// The `len` bytes at the offset, a part of the bytes; the offset moves past them.
     ///
     /// Refused where the offset plus `len` passes `usize` or the length.
     #[inline]

@@ -50,7 +50,7 @@ refusal_due image layout =
     else if nat_le (2 ^ 32) (length (bytes image layout)) then Some TooLarge
     else None
 
--- an image is refused as it is due; want of memory is told only where nothing else is due
+-- an image is refused as it is due; `OutOfMemory` is reported only where nothing else is due
 abbrev pub Refuses : Option ImageError → Result (Vec ℕ) ImageError → Type 0
 Refuses due (Ok file) = due ≡ None
 Refuses due (Err OutOfMemory) = due ≡ None

@@ -17,7 +17,7 @@ use Rattle.binfarce_tools.specs.ListWords.{list_error_of}
 use Rattle.binfarce_tools.specs.machine.Lists.{Reads, Gets}
 use Rattle.binfarce_tools.proofs.Told.{is_told, ToldAnswer}
 
--- want of memory is told as such
+-- a refused allocation is reported as such
 as_memory : (e : ParseError) → refusal_of e ≡ out_of_memory → list_error_of e ≡ OutOfMemory
 as_memory errors.SymbolsSectionIsMissing is = absurd cc
 as_memory (errors.SectionIsMissing name) is = absurd cc

@@ -1,4 +1,4 @@
--- No file's answer is want of memory.
+-- No file's answer is that an allocation was refused.
 use Rattle.std.proofs.Common.{◌≡◌, ℕ, zero, suc, ◌*◌, ◌-◌, [], ◌∷◌, Bool, true, false, ◌&&◌, List, Option, Some, None, Result, Ok, Err, refl, ltb, leb, length}
 use Rattle.std.specs.Prelude.{if◌then◌else◌, find, nat_eq, codes, ◌+◌, ◌%◌, ◌^◌, drop}
 use Rattle.binfarce.specs.declared.ByteOrder.{ByteOrder}
@@ -22,7 +22,7 @@ use Rattle.binfarce.specs.MachoSymbols as macho
 use Rattle.binfarce.specs.MachoSymbols.{size_up_to, macho_size, whole_table, part_at, text_end_of, symbol_table_at, some_size, symbol_command, located_by, row_addresses, kept, answer_of, macho_answer}
 use Rattle.binfarce_tools.specs.Answer.{elf_file_answer, macho_file_answer, pe_file_answer, symbols_answer}
 
--- a refusal that isn't want of memory
+-- a refusal that isn't that an allocation was refused
 abbrev pub is_told : Refusal → Bool
 is_told symbols_section_is_missing = true
 is_told (section_is_missing name) = true
@@ -80,7 +80,7 @@ told_elf class order file section =
     let table = section_table class (record { order = order; bytes = file }) in
     told_if (ltb (length file) class.header_length) (Err unexpected_eof) _ refl (told_step (located class table section) _ (told_located class table section) (λ found. tt))
 
--- a walk doesn't end with want of memory
+-- a walk doesn't end with a refused allocation
 abbrev ToldEnd : Option Refusal → Type 0
 ToldEnd None = Unit {0}
 ToldEnd (Some refusal) = is_told refusal ≡ true
@@ -201,7 +201,7 @@ told_macho : (file : List ℕ) → Told (macho_file_answer file)
 unfolding macho_answer
 told_macho file = told_if (ltb (length file) 28) (Err unexpected_eof) _ refl (told_step (macho.located file) answer_of (told_macho_located file) told_answer_of)
 
--- the answer, where there is one, isn't want of memory
+-- the answer, where there is one, isn't that an allocation was refused
 abbrev pub ToldAnswer : Option (Result Listed Refusal) → Type 0
 ToldAnswer None = Unit {0}
 ToldAnswer (Some answer) = Told answer

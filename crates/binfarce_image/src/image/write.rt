@@ -38,7 +38,7 @@ fn order(layout: ElfLayout) -> ByteOrder
     }
 }
 
-// The identification, and zeros behind it.
+// The identification, and zeros after it.
 fn identified(layout: ElfLayout) -> [u8; LONGEST]
     ensures { result ≡ identification layout ++ replicate 48 0 }
 {

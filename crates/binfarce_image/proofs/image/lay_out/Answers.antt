@@ -16,7 +16,7 @@ use Rattle.binfarce_image.proofs.Refusing.{many_due, table_due, names_due, large
 use Rattle.binfarce_image.proofs.ReadsBack.{reads_back}
 use Rattle.binfarce_image.proofs.image.lay_out.Goals as goal
 
--- nothing but want of memory is due where every test was passed
+-- nothing but `OutOfMemory` is due where every test was passed
 none : (image : Image) (layout : ElfLayout) (seen : ElfClass) (parts : List Part) (end whole : ℕ) (table names : Bool)
     → seen ≡ class_of layout → parts ≡ image.parts.items
     → end ≡ min (bodies_end seen seen.header_length parts) (2 ^ 64 - 1) → whole ≡ min (end + seen.section_length * length parts) (2 ^ 64 - 1)

@@ -1,5 +1,5 @@
 -- Elements that are written one after the other, joined by `::`.
-use Rattle.std.proofs.Common.{◌≡◌, ℕ, ◌+◌, ◌<◌, cond, eqb, inl, inr, List, [], ◌∷◌, ◌++◌, get_or, drop, take, codes, ap, sym, ◌∙◌, arith, append_assoc}
+use Rattle.std.proofs.Common.{◌≡◌, ℕ, ◌+◌, ◌<◌, cond, eqb, inl, inr, List, [], ◌∷◌, ◌++◌, get_or, drop, take, codes, ap, sym, ◌∙◌, arith, append_assoc, refl}
 use Rattle.std.proofs.lemmas.Bool.{cases_eq, cond-true, cond-false, eq-eqb, ne_eqb}
 use Rattle.std.proofs.lemmas.List.{drop-drop, append-nil}
 use Rattle.std.proofs.lemmas.List.Sums.{prefix_len_passes}
@@ -56,24 +56,20 @@ joined_left-nil at = elim (cases_eq at 0) [
 ]
 
 -- before the first element, all are left
-pub left_at_start : (part printed : List ℕ) (elements : List Element) (rest : List ℕ) → printed ≡ [] → Reads part elements rest
-    → IsLeft part 0 printed elements rest elements
+pub left_at_start : (part before : List ℕ) (elements : List Element) (rest : List ℕ) → Reads part elements rest → IsLeft part 0 before before elements rest elements
 unfolding joined_left
-left_at_start part printed elements rest none r = record {
-  ahead = r;
-  joined = ap (λ (x : List ℕ). x ++ encode_utf8_all (legacy_chars elements)) none;
-}
+left_at_start part before elements rest r = record { ahead = r; joined = refl }
 
 -- an element is written
-pub left_step : (part : List ℕ) (at end : ℕ) (printed more name : List ℕ) (elements : List Element) (rest : List ℕ) (left : List Element)
-    → IsLeft part at printed elements rest left → HasElement (drop at part) → end ≡ at + name_end (drop at part)
+pub left_step : (part : List ℕ) (at end : ℕ) (before printed more name : List ℕ) (elements : List Element) (rest : List ℕ) (left : List Element)
+    → IsLeft part at before printed elements rest left → HasElement (drop at part) → end ≡ at + name_end (drop at part)
     → name ≡ take (digits_value 10 (take (name_start (drop at part)) (drop at part))) (drop (name_start (drop at part)) (drop at part))
     → more ≡ (printed ++ separator at) ++ encode_utf8_all (name_chars name)
-    → (others : List Element) × IsLeft part end more elements rest others
+    → (others : List Element) × IsLeft part end before more elements rest others
 unfolding name_start name_end
-left_step part at end printed more name elements rest [] is has ends named wrote =
+left_step part at end before printed more name elements rest [] is has ends named wrote =
     absurd (not_digit (get_or (drop at part) 0 0) (ap (λ (x : List ℕ). get_or x 0 0) is.ahead.1) (prefix_len_passes is_ascii_digit (drop at part) 0 0 has.0))
-left_step part at end printed more name elements rest (e ∷ others) is has ends named wrote =
+left_step part at end before printed more name elements rest (e ∷ others) is has ends named wrote =
     let u : List ℕ = drop at part in
     let after = reads_after u e others rest is.ahead in
     let same : e.name ≡ name = reads_name u e others rest is.ahead ∙ sym named in
@@ -96,8 +92,8 @@ left_step part at end printed more name elements rest (e ∷ others) is has ends
     )
 
 -- with no element left, all is written
-pub left_at_end : (part : List ℕ) (at : ℕ) (printed : List ℕ) (elements : List Element) (rest : List ℕ) (left : List Element)
-    → IsLeft part at printed elements rest left → (HasElement (drop at part) → ⊥) → printed ≡ encode_utf8_all (legacy_chars elements)
-left_at_end part at printed elements rest [] is no_more =
+pub left_at_end : (part : List ℕ) (at : ℕ) (before printed : List ℕ) (elements : List Element) (rest : List ℕ) (left : List Element)
+    → IsLeft part at before printed elements rest left → (HasElement (drop at part) → ⊥) → printed ≡ before ++ encode_utf8_all (legacy_chars elements)
+left_at_end part at before printed elements rest [] is no_more =
     sym (append-nil printed) ∙ ap (λ (x : List ℕ). printed ++ encode_utf8_all x) (sym (joined_left-nil at)) ∙ is.joined
-left_at_end part at printed elements rest (e ∷ others) is no_more = absurd (no_more (reads_fits (drop at part) e others rest is.ahead))
+left_at_end part at before printed elements rest (e ∷ others) is no_more = absurd (no_more (reads_fits (drop at part) e others rest is.ahead))

@@ -1,7 +1,8 @@
 -- Where the last part of a text of characters begins.
-use Rattle.std.proofs.Common.{◌≡◌, ℕ, zero, suc, ◌+◌, ◌-◌, ◌<◌, Bool, true, false, eqb, not, List, [], ◌∷◌, ◌++◌, length, get_or, take, Option, Some, None, MatchOption, refl, ap, sym, ◌∙◌, arith, length-append}
+use Rattle.std.proofs.Common.{◌≡◌, ℕ, zero, suc, ◌+◌, ◌-◌, ◌<◌, Bool, true, false, eqb, not, List, [], ◌∷◌, ◌++◌, length, get_or, take, drop, Option, Some, None, MatchOption, refl, ap, sym, ◌∙◌, arith, length-append, append_assoc}
 use Rattle.std.proofs.lemmas.Bool.{cond-true, cond-false, or_from, or_right}
-use Rattle.std.proofs.lemmas.List.{take_at, get_or_at, get_or-append_right, nil_from_length, append-nil}
+use Rattle.std.proofs.Math.Seq.{take-append_seam}
+use Rattle.std.proofs.lemmas.List.{take-append-drop, take_at, get_or_at, get_or-append_right, nil_from_length, append-nil}
 use Rattle.std.proofs.lemmas.List.Sums.{suffix_len_is}
 use Rattle.std.proofs.lemmas.Str.{encodes_same, encodes-append, length-le-encodes}
 use Rattle.std.specs.List.{list_any, before_last, suffix_len}
@@ -61,6 +62,16 @@ without_last cs s t (Some c) e u same h =
     encodes_same cs (u.0 ++ (c ∷ [])) (e ∙ h ∙ ap (λ (x : List ℕ). x ++ encode_utf8 c) (sym u.1.1) ∙ ap (λ (x : List ℕ). encode_utf8_all u.0 ++ x) (sym one) ∙ sym (encodes-append u.0 (c ∷ []))) in
     let len : length cs - 1 ≡ length u.0 = omega (arith, ap length split, length-append u.0 (c ∷ [])) in
     sym u.1.1 ∙ ap encode_utf8_all (sym (ap (λ k. take k cs) len ∙ ap (take (length u.0)) split ∙ take_at u.0 (c ∷ []) (length u.0) refl))
+
+-- and a text without its last character is its beginning
+pub front_of : {X : Type 0} (all s t : List ℕ) (k : ℕ) (r : Option ℕ) → s ≡ take k all → (X → t ≡ s) → MatchOption r ((length s ≡ 0) × X) (λ c. s ≡ t ++ encode_utf8 c) → t ≡ take (length t) all
+front_of all s t k None e same h =
+    let nil : t ≡ [] = nil_from_length t (omega (arith, ap length (same h.1), h.0)) in
+    nil ∙ sym (ap (λ (x : List ℕ). take (length x) all) nil)
+front_of all s t k (Some c) e same h =
+    let split : all ≡ t ++ (encode_utf8 c ++ drop k all) =
+    sym (take-append-drop k all) ∙ ap (λ (x : List ℕ). x ++ drop k all) (sym e ∙ h) ∙ append_assoc t (encode_utf8 c) (drop k all) in
+    sym (ap (take (length t)) split ∙ take-append_seam t (encode_utf8 c ++ drop k all))
 
 -- the characters of a text that a `:` splits
 pub split_chars : (cs s front back : List ℕ) → s ≡ encode_utf8_all cs → s ≡ encode_utf8_all front ++ (encode_utf8 58 ++ encode_utf8_all back)

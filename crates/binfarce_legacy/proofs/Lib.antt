@@ -2,3 +2,4 @@ pub mod LastPartLemmas
 pub mod ElementLemmas
 pub mod JoinLemmas
 pub mod PieceLemmas
+pub mod Growing

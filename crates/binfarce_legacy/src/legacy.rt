@@ -1,6 +1,6 @@
 //! The legacy mangling: `_ZN`, elements that are each counted, and `E`.
 
-ghost use Rattle.std.specs.Prelude.{◌≡◌, ℕ, ◌+◌, ◌-◌, ◌^◌, ◌<◌, ◌≤◌, ◌++◌, List, MatchOption, SomeIff, IfOk, OnOk, IfSome, true, false, length, take, drop, min, nat_eq, codes, slice_index};
+ghost use Rattle.std.specs.Prelude.{◌≡◌, ℕ, ◌+◌, ◌-◌, ◌^◌, ◌<◌, ◌≤◌, ◌++◌, List, MatchOption, SomeIff, IfOk, OnOk, OnErr, IfSome, true, false, length, take, drop, min, nat_eq, codes, slice_index};
 ghost use Rattle.std.specs.Option.{option_copied, option_map};
 ghost use Rattle.std.specs.List.{prefix_len, starts_with};
 ghost use Rattle.std.specs.Char.{is_ascii_digit, digit_value};
@@ -9,7 +9,7 @@ ghost use Rattle.std.specs.Str.Parse.{digits_value};
 ghost use Rattle.std.specs.String.{string_bytes};
 ghost use Rattle.binfarce_text.specs.Letters.{is_hex_digit};
 ghost use Rattle.binfarce_legacy.specs.Legacy.{Element, Reads, IsLegacy, part_after_prefix, named_escape, numbered_escape, first_piece, name_chars, legacy_chars, is_printed, without_last_part};
-ghost use Rattle.binfarce_legacy.specs.machine.Reading.{is_plain, piece_of, piece_or_all, chars_left, name_start, name_end, HasElement};
+ghost use Rattle.binfarce_legacy.specs.machine.Reading.{is_plain, piece_of, piece_or_all, chars_left, name_start, name_end, HasElement, Grows};
 
 use binfarce_text::digits::hex_value;
 use binfarce_text::suffixes::is_allowed_rest;
@@ -214,6 +214,7 @@ fn push_piece(text: &mut String, name: &str) -> Result<usize, AllocError>
     ensures within { IfOk result (λ len. (0 < len) × (len ≤ length name.now)) }
     ensures bytes { OnOk result (string_bytes text.new
         ≡ string_bytes text.old ++ encode_utf8_all (first_piece name.now).chars) }
+    ensures grows { Grows (string_bytes text.old) (string_bytes text.new) }
 {
     let bytes = name.as_bytes();
     if bytes.starts_with(b"..") {
@@ -239,8 +240,9 @@ fn push_piece(text: &mut String, name: &str) -> Result<usize, AllocError>
 // Writes an element's name in readable form.
 fn push_name(text: &mut String, name: &str) -> Result<(), AllocError>
     requires { IsAscii name.now }
-    ensures { OnOk result (string_bytes text.new
+    ensures bytes { OnOk result (string_bytes text.new
         ≡ string_bytes text.old ++ encode_utf8_all (name_chars name.now)) }
+    ensures grows { Grows (string_bytes text.old) (string_bytes text.new) }
 {
     let bytes = name.as_bytes();
     let mut at = mark_len(bytes);
@@ -255,6 +257,24 @@ fn push_name(text: &mut String, name: &str) -> Result<(), AllocError>
     Ok(())
 }
 
+// Writes the path of a mangling, of which `part` stands after the prefix, after the text.
+fn push_path(text: &mut String, part: &str) -> Result<(), AllocError>
+    requires { IsAscii part.now }
+    ensures bytes { OnOk result ((elements : List Element) (rest : List ℕ)
+        → Reads part.now elements rest → string_bytes text.new ≡ string_bytes text.old ++ encode_utf8_all (legacy_chars elements)) }
+    ensures grows { Grows (string_bytes text.old) (string_bytes text.new) }
+{
+    let mut at = 0;
+    while let Some((start, end)) = element(part.as_bytes(), at) {
+        if at > 0 {
+            text.push_str("::")?;
+        }
+        push_name(text, &part[start..end])?;
+        at = end;
+    }
+    Ok(())
+}
+
 /// The readable text of a mangling, of which `part` stands after the prefix. The only refusal is that an allocation was
 /// refused.
 pub fn complete(alloc: Global, part: &str) -> Result<String, AllocError>
@@ -263,29 +283,52 @@ pub fn complete(alloc: Global, part: &str) -> Result<String, AllocError>
         → Reads part.now elements rest → string_bytes text ≡ encode_utf8_all (legacy_chars elements)) }
 {
     let mut text = String::with_capacity(alloc, part.len())?;
-    let mut at = 0;
-    while let Some((start, end)) = element(part.as_bytes(), at) {
-        if at > 0 {
-            text.push_str("::")?;
-        }
-        push_name(&mut text, &part[start..end])?;
-        at = end;
-    }
+    push_path(&mut text, part)?;
     Ok(text)
 }
 
-/// A copy of `complete` without its last part, whether that is a hash or not: up to the character before its last `:`,
-/// and all of it where it has no `:`. The only refusal is that an allocation was refused.
+/// Writes the readable text of a mangling without its last part after the text. The only refusal is that an allocation
+/// was refused; the text is then as it was.
+pub fn push_trimmed(text: &mut String, part: &str) -> Result<(), AllocError>
+    requires { IsAscii part.now }
+    ensures bytes { OnOk result ((elements : List Element) (rest : List ℕ)
+        → Reads part.now elements rest → string_bytes text.new ≡ string_bytes text.old ++ encode_utf8_all (without_last_part (legacy_chars elements))) }
+    ensures unchanged { OnErr result (string_bytes text.new ≡ string_bytes text.old) }
+{
+    let start = text.as_str().len();
+    match push_path(text, part) {
+        Ok(()) => {
+            let kept = without_last_part(&text.as_str()[start..]).len();
+            text.truncate(start + kept);
+            Ok(())
+        }
+        Err(refused) => {
+            text.truncate(start);
+            Err(refused)
+        }
+    }
+}
+
+// `complete` without its last part, whether that is a hash or not: up to the character before its last `:`, and all of it
+// where it has no `:`. Nothing is copied.
+fn without_last_part(complete: &str) -> &str
+    ensures front { result.now ≡ take (length result.now) complete.now }
+    ensures text { (chars : List ℕ) → complete.now ≡ encode_utf8_all chars → result.now ≡ encode_utf8_all (without_last_part chars) }
+{
+    match complete.rfind(':') {
+        None => complete,
+        Some(colon) => {
+            let mut front = complete[..colon].chars();
+            let _ = front.next_back();
+            front.as_str()
+        }
+    }
+}
+
+/// A copy of `complete` without its last part. The only refusal is that an allocation was refused.
 pub fn trimmed(alloc: Global, complete: &str) -> Result<String, AllocError>
     ensures { IfOk result (λ text. (chars : List ℕ)
         → complete.now ≡ encode_utf8_all chars → string_bytes text ≡ encode_utf8_all (without_last_part chars)) }
 {
-    match complete.rfind(':') {
-        None => String::from_str(alloc, complete),
-        Some(colon) => {
-            let mut front = complete[..colon].chars();
-            let _ = front.next_back();
-            String::from_str(alloc, front.as_str())
-        }
-    }
+    String::from_str(alloc, without_last_part(complete))
 }

@@ -21,13 +21,13 @@ one_tree text p q t u v a w b =
     let same = one_part text p q v.after w.after v.mangling w.mangling in
     unfolds_once p t u a (subst (λ x. UnfoldsTo x u) (sym same) b)
 
-legacy_not_v0 : (text : List ℕ) (m : Mangled) → IsLegacyMangled text m → m.kind ≡ V0 → ⊥
+pub legacy_not_v0 : (text : List ℕ) (m : Mangled) → IsLegacyMangled text m → m.kind ≡ V0 → ⊥
 legacy_not_v0 text m a k = let both : Legacy ≡ V0 = sym a.kind_is ∙ k in cc
 
-legacy_not_unknown : (text : List ℕ) (m : Mangled) → IsLegacyMangled text m → m.kind ≡ Unknown → ⊥
+pub legacy_not_unknown : (text : List ℕ) (m : Mangled) → IsLegacyMangled text m → m.kind ≡ Unknown → ⊥
 legacy_not_unknown text m a k = let both : Legacy ≡ Unknown = sym a.kind_is ∙ k in cc
 
-v0_not_unknown : (text : List ℕ) (m : Mangled) → IsV0Mangled text m → m.kind ≡ Unknown → ⊥
+pub v0_not_unknown : (text : List ℕ) (m : Mangled) → IsV0Mangled text m → m.kind ≡ Unknown → ⊥
 v0_not_unknown text m a k = let both : V0 ≡ Unknown = sym a.kind_is ∙ k in cc
 
 pub if_ok : {T E : Type 0} (P Q : T → Type 0) (r : Result T E) → ((x : T) → P x → Q x) → IfOk r P → IfOk r Q

@@ -1,3 +1,4 @@
 pub mod Name
 pub mod Named
+pub mod Crates
 pub mod machine

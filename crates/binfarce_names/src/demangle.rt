@@ -1,8 +1,12 @@
 //! What a symbol's name means.
 
-ghost use Rattle.std.specs.Prelude.{◌≡◌, IfOk};
-ghost use Rattle.binfarce_names.specs.Name.{mangled_seen, name_seen};
-ghost use Rattle.binfarce_names.specs.Named.{IsMangled, unknown};
+ghost use Rattle.std.specs.Prelude.{◌≡◌, ◌++◌, ℕ, List, IfOk, OnOk, OnErr, option_map, encode_utf8_all};
+ghost use Rattle.std.specs.Str.{IsAscii};
+ghost use Rattle.std.specs.String.{string_bytes};
+ghost use Rattle.binfarce_legacy.specs.Legacy.{Element, Reads, legacy_chars};
+ghost use Rattle.binfarce_names.specs.Crates.{crate_of, first_part, path_crate};
+ghost use Rattle.binfarce_names.specs.Name.{Name, mangled_seen, name_seen};
+ghost use Rattle.binfarce_names.specs.Named.{IsNamed, IsMangled, legacy, unknown};
 
 use binfarce_legacy::legacy;
 use binfarce_text::suffixes::without_llvm;
@@ -65,41 +69,99 @@ impl SymbolName {
     /// does a v0 name that nests deeper than `MAX_LEVELS` levels or takes more than `MAX_STEPS` steps.
     ///
     /// The texts are copies in memory of `alloc`. The only refusal: an allocation was refused.
-    #[tactic(auto, unfolding(crate::specs::Named::IsNamed, crate::specs::Named::IsMangled))]
     pub fn demangle(alloc: Global, name: &str) -> Result<SymbolName, AllocError>
         ensures named { IfOk result (λ n. IsNamed name.now (name_seen n)) }
     {
-        let demangled = demangle(name);
-        match demangled.kind {
-            Kind::Legacy => {
-                let complete = legacy::complete(alloc, demangled.part)?;
-                let trimmed = legacy::trimmed(alloc, complete.as_str())?;
+        let stripped = without_llvm(name);
+        if let Some(part) = legacy::mangling(stripped) {
+            return legacy_name(alloc, part);
+        }
+        match v0::both_texts(alloc, stripped)? {
+            Some(texts) => {
+                let Texts {
+                    complete,
+                    trimmed,
+                    crate_name,
+                } = texts;
                 Ok(SymbolName {
                     complete,
                     trimmed,
-                    crate_name: None,
-                    kind: Kind::Legacy,
+                    crate_name,
+                    kind: Kind::V0,
                 })
             }
-            Kind::V0 => match v0::both_texts(alloc, demangled.part)? {
-                Some(texts) => {
-                    let Texts {
-                        complete,
-                        trimmed,
-                        crate_name,
-                    } = texts;
-                    Ok(SymbolName {
-                        complete,
-                        trimmed,
-                        crate_name,
-                        kind: Kind::V0,
-                    })
-                }
-                None => unknown(alloc, name),
-            },
-            Kind::Unknown => unknown(alloc, name),
+            None => unknown(alloc, name),
         }
     }
+}
+
+/// Writes the trimmed text of `name`, the one that `SymbolName::demangle` gives, after `text`.
+///
+/// The only refusal: an allocation was refused. `text` is then as it was.
+pub fn push_trimmed(alloc: Global, text: &mut String, name: &str) -> Result<(), AllocError>
+    ensures trimmed { OnOk result ((n : Name) × IsNamed name.now n × (string_bytes text.new ≡ string_bytes text.old ++ n.trimmed)) }
+    ensures unchanged { OnErr result (string_bytes text.new ≡ string_bytes text.old) }
+{
+    let stripped = without_llvm(name);
+    if let Some(part) = legacy::mangling(stripped) {
+        return legacy::push_trimmed(text, part);
+    }
+    match v0::print_mangling(alloc, stripped, false)? {
+        Some((_, printed)) => text.push_str(printed.text.as_str()),
+        None => text.push_str(name),
+    }
+}
+
+/// The crate that `name` tells: of a v0 name its `crate_name`, and of a legacy name the first part of its path, unless
+/// that begins with `<`. None where no crate is told, and of other names.
+///
+/// The only refusal: an allocation was refused.
+pub fn crate_of(alloc: Global, name: &str) -> Result<Option<String>, AllocError>
+    ensures told { IfOk result (λ c. (n : Name) × IsNamed name.now n × (option_map string_bytes c ≡ crate_of n)) }
+{
+    let text = without_llvm(name);
+    match legacy::mangling(text) {
+        Some(part) => path_crate(alloc, part),
+        None => v0::crate_name(alloc, text),
+    }
+}
+
+// The crate that the path of a legacy mangling begins with.
+fn path_crate(alloc: Global, part: &str) -> Result<Option<String>, AllocError>
+    requires { IsAscii part.now }
+    ensures { IfOk result (λ c. (elements : List Element) (rest : List ℕ)
+        → Reads part.now elements rest → option_map string_bytes c ≡ path_crate (encode_utf8_all (legacy_chars elements))) }
+{
+    let path = legacy::complete(alloc, part)?;
+    if path.starts_with("<") {
+        return Ok(None);
+    }
+    Ok(Some(String::from_str(alloc, first_part(path.as_str()))?))
+}
+
+// A path up to its first `::`, or all of it.
+fn first_part(path: &str) -> &str
+    ensures { result.now ≡ first_part path.now }
+{
+    match path.split_once("::") {
+        Some((first, _)) => first,
+        None => path,
+    }
+}
+
+// The name of a legacy mangling, of which `part` stands after the prefix.
+fn legacy_name(alloc: Global, part: &str) -> Result<SymbolName, AllocError>
+    requires { IsAscii part.now }
+    ensures { IfOk result (λ n. (elements : List Element) (rest : List ℕ) → Reads part.now elements rest → name_seen n ≡ legacy elements) }
+{
+    let complete = legacy::complete(alloc, part)?;
+    let trimmed = legacy::trimmed(alloc, complete.as_str())?;
+    Ok(SymbolName {
+        complete,
+        trimmed,
+        crate_name: None,
+        kind: Kind::Legacy,
+    })
 }
 
 // A name that stands unchanged.
@@ -143,6 +205,8 @@ pub fn demangle(name: &str) -> Demangled<'_>
 mod legacy_real_tests;
 #[cfg(test)]
 mod tests;
+#[cfg(test)]
+mod v0_const_tests;
 #[cfg(test)]
 mod v0_real_tests;
 #[cfg(test)]

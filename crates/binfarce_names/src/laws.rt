@@ -78,3 +78,19 @@ pub fn worked_names()
     ensures lifetimes { Counts (codes "MC0FG_TRL0_hB6_EEu") 6 12 }
     ensures cycle { IsNamed (codes "_RNvB_1a") (unknown (codes "_RNvB_1a")) }
 {}
+
+/// Worked names with consts of the other types: what the definitions give for each.
+pub fn worked_consts()
+    ensures signed { Means (codes "_RIC1aKan80_Kan0_E") (codes "a[0]::<-128: i8, -0: i8>") (codes "a::<-128: i8, -0: i8>") (Some (codes "a")) }
+    ensures without_a_sign { Means (codes "_RIC1aKl7fffffff_KipE") (codes "a[0]::<2147483647: i32, _: isize>") (codes "a::<2147483647: i32, _: isize>") (Some (codes "a")) }
+    ensures above_64_bits { Means (codes "_RIC1aKnn10000000000000000_E") (codes "a[0]::<-0x10000000000000000: i128>") (codes "a::<-0x10000000000000000: i128>") (Some (codes "a")) }
+    ensures untyped { Means (codes "_RIC1aKpE") (codes "a[0]::<_>") (codes "a::<_>") (Some (codes "a")) }
+    ensures untyped_size { Means (codes "_RMC0Ahp") (codes "<[u8; _]>") (codes "<[u8; _]>") (Some []) }
+    ensures booleans { Means (codes "_RIC1aKb0_Kb1_E") (codes "a[0]::<false: bool, true: bool>") (codes "a::<false: bool, true: bool>") (Some (codes "a")) }
+    ensures characters { Means (codes "_RIC1aKc41_Kc27_Kc3b1_E") (codes "a[0]::<'A': char, '\\u{27}': char, '\\u{3b1}': char>") (codes "a::<'A': char, '\\u{27}': char, '\\u{3b1}': char>") (Some (codes "a")) }
+    ensures fault { Means (codes "_RINvC1a3b2_KB6_E") (codes "a[0]::b2_::<?: bool>") (codes "a::b2_::<?: bool>") (Some (codes "a")) }
+    ensures boolean_of_2 { IsNamed (codes "_RIC1aKb2_E") (unknown (codes "_RIC1aKb2_E")) }
+    ensures surrogate { IsNamed (codes "_RIC1aKcd800_E") (unknown (codes "_RIC1aKcd800_E")) }
+    ensures sign_of_a_placeholder { IsNamed (codes "_RIC1aKanpE") (unknown (codes "_RIC1aKanpE")) }
+    ensures counted { Counts (codes "IC1aKan80_E") 2 3 }
+{}

@@ -1,10 +1,10 @@
 -- Whatever the relation relates within the limits is what the printer reads, shown as the tree's text.
-use Rattle.std.proofs.Common.{◌≡◌, ℕ, zero, suc, ◌+◌, ◌-◌, ◌≤◌, ◌<◌, Bool, true, false, ◌&&◌, List, [], Option, Some, None, nat_le, if◌then◌else◌, refl, ap, sym, ◌∙◌, arith}
+use Rattle.std.proofs.Common.{◌≡◌, ℕ, zero, suc, ◌+◌, ◌-◌, ◌≤◌, ◌<◌, Bool, true, false, ◌&&◌, List, [], ◌++◌, Option, Some, None, nat_le, if◌then◌else◌, refl, ap, sym, ◌∙◌, arith}
 use Rattle.std.proofs.lemmas.Bool.Decides.{nat_tests}
 use Rattle.std.specs.Prelude.{codes}
 use Rattle.binfarce_v0_grammar.specs.Identifiers.{identifier_text}
-use Rattle.binfarce_v0_grammar.specs.Forms.{Lifetime, NoLifetime, stands, after_byte, lifetime, path_form, type_form, const_form, PathForm, NoPathForm, CrateRoot, NestedIn, InherentImpl, TraitImpl, TraitDefinition, WithArguments, BackToPath, TypeForm, NoTypeForm, BasicType, ReferenceTo, InvalidReference, PointerTo, SliceOf, ArrayOf, TupleOf, FunctionOf, InvalidAbi, DynOf, InvalidDyn, BackToType, PathType, ConstForm, NoConstForm, PlaceholderConst, DigitsConst, InvalidConst, BackToConst}
-use Rattle.binfarce_v0_grammar.specs.Tree.{PathTree, TypeTree, ConstTree, Item, Items, Bindings, NoConst, Placeholder, Number, InvalidNumber, BackConst, ConstTarget, NoPath, Crate, Nested, InvalidNested, OfType, OfImpl, OfTrait, Generic, BackPath, PathTarget, NoType, Basic, Reference, InvalidReferenceType, Pointer, Slice, Array, Tuple, Function, FunctionTo, InvalidFunction, Dyn, InvalidDynType, Named, BackType, TypeTarget, LifetimeItem, TypeItem, ConstItem, TraitItem, NoItems, ItemThen, NoBindings, Binding, InvalidBinding, lifetime_steps, path_height, type_height, const_height, item_height, items_height, bindings_height, path_steps, type_steps, const_steps, item_steps, items_steps, bindings_steps, path_root, type_root, item_root, items_root, bindings_root, path_text, type_text, const_text, item_text, items_text, bindings_text, Position, InType, OpenTrait, parent_position, value_mark, closing, is_left_open, separator, single_mark, open_mark, close_mark, binder_text, signature_text, nested_text, number_text, disambiguator_text, reference_lifetime, argument_lifetime, dyn_lifetime, mutable_text, Listed, Arguments, Types, Traits}
+use Rattle.binfarce_v0_grammar.specs.Forms.{Lifetime, NoLifetime, stands, after_byte, lifetime, path_form, type_form, const_form, PathForm, NoPathForm, CrateRoot, NestedIn, InherentImpl, TraitImpl, TraitDefinition, WithArguments, BackToPath, TypeForm, NoTypeForm, BasicType, ReferenceTo, InvalidReference, PointerTo, SliceOf, ArrayOf, TupleOf, FunctionOf, InvalidAbi, DynOf, InvalidDyn, BackToType, PathType, ConstForm, NoConstForm, UntypedPlaceholderConst, PlaceholderConst, ValueConst, InvalidConst, BackToConst}
+use Rattle.binfarce_v0_grammar.specs.Tree.{PathTree, TypeTree, ConstTree, Item, Items, Bindings, NoConst, UntypedPlaceholder, Placeholder, Value, InvalidValue, BackConst, ConstTarget, NoPath, Crate, Nested, InvalidNested, OfType, OfImpl, OfTrait, Generic, BackPath, PathTarget, NoType, Basic, Reference, InvalidReferenceType, Pointer, Slice, Array, Tuple, Function, FunctionTo, InvalidFunction, Dyn, InvalidDynType, Named, BackType, TypeTarget, LifetimeItem, TypeItem, ConstItem, TraitItem, NoItems, ItemThen, NoBindings, Binding, InvalidBinding, lifetime_steps, path_height, type_height, const_height, item_height, items_height, bindings_height, path_steps, type_steps, const_steps, item_steps, items_steps, bindings_steps, path_root, type_root, item_root, items_root, bindings_root, path_text, type_text, const_text, item_text, items_text, bindings_text, Position, InType, OpenTrait, parent_position, value_mark, closing, is_left_open, separator, single_mark, open_mark, close_mark, binder_text, signature_text, nested_text, sign_text, value_text, disambiguator_text, reference_lifetime, argument_lifetime, dyn_lifetime, mutable_text, Listed, Arguments, Types, Traits}
 use Rattle.binfarce_v0_grammar.specs.Unfolding.{bound_end, required_end, IsConst, IsPath, IsType, IsItem, AreItems, AreBindings}
 use Rattle.binfarce_v0.specs.machine.Printing.{State, say, go, stopped, take, entered, into, mute, unmute, unmuted, taking, const_rule, const_item, type_item, lifetime_item, argument_rule, binding_then, binding_rule, bound_type, named_binding, bindings_rule, trait_item, trait_rule, item_rule, item_then, list_rule, items_after, items_rule, type_then, type_as, array_rule, array_end, tuple_end, returned, function_end, function_rule, dyn_life, dyn_lifetime_rule, dyn_end, dyn_rule, reference_rule, invalid_reference, invalid_function, back_type, back_const, back_path, named_type, type_rule, nested_rule, of_type_rule, of_type_end, of_impl_rule, as_trait, path_then, generic_rule, generic_end, path_rule, readers}
 use Rattle.binfarce_v0.proofs.Sound.{lifetime_step}
@@ -46,12 +46,14 @@ pub const_complete : (c : ConstTree) (name : List ℕ) (l : ℕ) (s : State) (af
 unfolding IsConst const_rule
 const_complete NoConst name l s after o is h n =
     enter_const name l s NoConstForm h n is.0 ∙ rw is.1 (at_tree _ _ _ (shown_leaf s l None (codes "?")))
+const_complete UntypedPlaceholder name l s after o is h n =
+    enter_const name l s (UntypedPlaceholderConst is.0) h n is.1 ∙ rw is.2 (at_tree _ _ _ (shown_leaf s l (Some is.0) (codes "_")))
 const_complete (Placeholder type_name) name l s after o is h n =
     enter_const name l s (PlaceholderConst type_name is.0) h n is.1 ∙ rw is.2 (at_tree _ _ _ (shown_three s l (Some is.0) (codes "_") (codes ": ") type_name))
-const_complete (Number type_name digits) name l s after o is h n =
-    enter_const name l s (DigitsConst type_name digits is.0) h n is.1 ∙ rw is.2 (at_tree _ _ _ (shown_three s l (Some is.0) (number_text digits) (codes ": ") type_name))
-const_complete (InvalidNumber type_name) name l s after o is h n =
-    enter_const name l s (InvalidConst type_name) h n is.0 ∙ rw is.1 (at_tree _ _ _ (shown_three s l None (codes "?") (codes ": ") type_name))
+const_complete (Value type_name value) name l s after o is h n =
+    enter_const name l s (ValueConst type_name value is.0) h n is.1 ∙ rw is.2 (at_tree _ _ _ (shown_three s l (Some is.0) (value_text value) (codes ": ") type_name))
+const_complete (InvalidValue negative type_name) name l s after o is h n =
+    enter_const name l s (InvalidConst negative type_name) h n is.0 ∙ rw is.1 (at_tree _ _ _ (shown_three s l None (sign_text negative ++ codes "?") (codes ": ") type_name))
 const_complete (BackConst c) name l s after o is h n =
     let e = entered (l - 1) s in
     enter_const name l s (BackToConst is.0 is.1) (omega arith) (omega arith) is.3 ∙ ap (back_const is.1 s.outside) (const_complete c name (l - 1) (into is.0 e) is.2 o is.4 (omega arith) (omega arith)) ∙ rw is.5 (at_tree _ _ _ (shown_back s l is.0 is.1 is.2 (const_text c) None (const_height c) (const_steps c) o))
@@ -96,9 +98,10 @@ path_steps_some (PathTarget at) = omega arith
 
 const_steps_some : (c : ConstTree) → 1 ≤ const_steps c
 const_steps_some NoConst = omega arith
+const_steps_some UntypedPlaceholder = omega arith
 const_steps_some (Placeholder type_name) = omega arith
-const_steps_some (Number type_name digits) = omega arith
-const_steps_some (InvalidNumber type_name) = omega arith
+const_steps_some (Value type_name value) = omega arith
+const_steps_some (InvalidValue negative type_name) = omega arith
 const_steps_some (BackConst c) = omega arith
 const_steps_some (ConstTarget at) = omega arith
 

@@ -1,10 +1,13 @@
 pub mod Complete
+pub mod Folding
 pub mod Levels
 pub mod Lists
 pub mod Manglings
 pub mod Says
+pub mod Shown
 pub mod Sound
 pub mod SoundForms
 pub mod States
 pub mod Texts
+pub mod Validating
 pub mod RestLemmas

@@ -1,18 +1,19 @@
 -- What the reading and the printer do with a whole name.
-use Rattle.std.proofs.Common.{◌≡◌, ℕ, ◌≤◌, ◌-◌, min, Bool, true, false, List, Option, Some, None, cond, refl, ap, sym, ◌∙◌, subst, arith}
+use Rattle.std.proofs.Common.{◌≡◌, ℕ, ◌≤◌, ◌-◌, min, inl, inr, Bool, true, false, List, Option, Some, None, cond, refl, ap, sym, ◌∙◌, subst, arith}
 use Rattle.std.specs.Option.{option_map}
 use Rattle.binfarce_v0_grammar.specs.Identifiers.{identifier_text}
 use Rattle.binfarce_v0_grammar.specs.Tree.{PathTree, path_height, path_steps, name_text, InValue}
-use Rattle.binfarce_v0_grammar.specs.Unfolding.{UnfoldsTo}
+use Rattle.binfarce_v0_grammar.specs.Unfolding.{IsPath, UnfoldsTo}
 use Rattle.binfarce_v0_grammar.specs.declared.limits.TheConstants.{MAX_LEVELS, MAX_STEPS}
-use Rattle.binfarce_v0.specs.Mangling.{is_upper_at, PathStands, SecondPath, ReadsPaths, IsMangling, part_after_prefix}
+use Rattle.binfarce_v0.specs.Mangling.{is_upper_at, PathStands, SecondPath, ReadsPaths, IsMangling, IsV0, part_after_prefix}
 use Rattle.binfarce_v0.specs.machine.Mangling.{paths_end}
-use Rattle.binfarce_v0.specs.machine.Outcome.{Outcome, outcome_of, IsOutcome, AreTexts}
+use Rattle.binfarce_v0.specs.machine.Outcome.{Outcome, outcome_of, ReadsUpTo, HasNoTree, IsOutcome, IsCrateName, AreTexts}
 use Rattle.binfarce_v0.specs.machine.Printing.{State, readers, first_state}
 use Rattle.binfarce_v0_grammar.specs.machine.Ends.{ends}
 use Rattle.std.specs.Prelude.{MatchOption}
 use Rattle.binfarce_v0.proofs.SoundForms.{readers_sound}
 use Rattle.binfarce_v0.proofs.Complete.{path_complete}
+use Rattle.binfarce_v0.proofs.Folding.{path_folds}
 use Rattle.binfarce_v0_grammar.proofs.ReadingSound.{ends_read, between}
 use Rattle.binfarce_v0_grammar.proofs.ReadingComplete.{path_ends}
 
@@ -26,6 +27,12 @@ levels_taken levels h = omega arith
 
 steps_taken : (steps : ℕ) → steps ≤ MAX_STEPS → MAX_STEPS - (MAX_STEPS - steps) ≡ steps
 steps_taken steps h = omega arith
+
+-- a tree that ends at a position is read up to there
+reads_up_to : (name : List ℕ) (tree : PathTree) (after : Option ℕ) → IsPath name tree (Some 0) 0 after → path_height tree ≤ MAX_LEVELS → ReadsUpTo name after
+reads_up_to name tree None is h = tt
+reads_up_to name tree (Some q) is h =
+    let f = path_folds tree name 0 0 q is in record { tree = f.tree; reads = f.reads; levels = omega (arith, f.levels, h) }
 
 -- a printing that passed no limit is that of the tree that the name unfolds to
 pub printed_is_outcome : (name : List ℕ) (full : Bool) → (printed name full).1.over ≡ false → IsOutcome name full (outcome_of (printed name full).1)
@@ -41,6 +48,7 @@ printed_is_outcome name full o =
       root_is = ap (λ r. r.1.root) same;
       levels_are = ap (λ r. MAX_LEVELS - r.1.least) same ∙ levels_taken (path_height (printed name full).0) f.height;
       steps_are = ap (λ r. MAX_STEPS - r.1.room) same ∙ steps_taken (path_steps (printed name full).0) within;
+      reads = reads_up_to name (printed name full).0 (printed name full).1.at f.is f.height;
     }
 
 pub printed_over : (name : List ℕ) (full : Bool) → (printed name full).1.over ≡ true → (tree : PathTree) → UnfoldsTo name tree → ⊥
@@ -57,6 +65,11 @@ path_stands name at after e =
 
 pub path_read_at : (name : List ℕ) (at after : ℕ) → PathStands name at after → (ends name MAX_LEVELS).path at ≡ Some after
 path_read_at name at after p = path_ends p.tree name MAX_LEVELS at after p.reads p.levels
+
+-- a first path that is known to be read need not be read again
+pub first_path_known : (name : List ℕ) (first : Option ℕ) (mid : ℕ) → ReadsUpTo name first → first ≡ Some mid → (ends name MAX_LEVELS).path 0 ≡ Some mid
+first_path_known name first mid reads e =
+    let stands : PathStands name 0 mid = subst (ReadsUpTo name) e reads in path_read_at name 0 mid stands
 
 second_path : (name : List ℕ) (at after : ℕ) (b : Bool) → (cond b ((ends name MAX_LEVELS).path at) (Some at)) ≡ Some after → SecondPath b name at after
 second_path name at after true e = path_stands name at after e
@@ -100,12 +113,23 @@ unfolds_once name t u a b =
     let second = path_complete u name MAX_LEVELS InValue 0 (first_state true) b.after refl b.is_path b.levels b.steps in
     ap (λ r. r.0) (sym first ∙ second)
 
-pub are_texts : (name : List ℕ) (complete trimmed : Outcome) (crate_name : Option (List ℕ)) → IsOutcome name true complete → IsOutcome name false trimmed → crate_name ≡ option_map identifier_text complete.root → AreTexts name complete.text trimmed.text crate_name
-are_texts name complete trimmed crate_name c t e =
+pub are_texts : (text part : List ℕ) (complete trimmed : Outcome) (whole short : List ℕ) (crate_name : Option (List ℕ)) → IsV0 text part → IsOutcome part true complete → IsOutcome part false trimmed → whole ≡ complete.text → short ≡ trimmed.text → crate_name ≡ option_map identifier_text complete.root → AreTexts text whole short crate_name
+are_texts text part complete trimmed whole short crate_name v c t w s e =
     record {
       tree = c.tree;
-      unfolds = c.unfolds;
-      complete_is = c.text_is;
-      trimmed_is = t.text_is ∙ ap (name_text false) (unfolds_once name t.tree c.tree t.unfolds c.unfolds);
+      has_tree = record { part = part; mangling = v; unfolds = c.unfolds };
+      complete_is = w ∙ c.text_is;
+      trimmed_is = s ∙ t.text_is ∙ ap (name_text false) (unfolds_once part t.tree c.tree t.unfolds c.unfolds);
       crate_is = e ∙ ap (option_map identifier_text) c.root_is;
     }
+
+-- what is printed once is printed again
+pub printed_twice : (text part : List ℕ) (outcome : Outcome) → IsOutcome part true outcome → ((tree : PathTree) → UnfoldsTo part tree → ⊥) → HasNoTree text
+printed_twice text part outcome is none = absurd (none is.tree is.unfolds)
+
+pub has_crate : (text part : List ℕ) (outcome : Outcome) (crate_name : Option (List ℕ)) → IsV0 text part → IsOutcome part false outcome → crate_name ≡ option_map identifier_text outcome.root → IsCrateName text crate_name
+has_crate text part outcome crate_name v is e =
+    inl (is.tree, record { part = part; mangling = v; unfolds = is.unfolds }, e ∙ ap (option_map identifier_text) is.root_is)
+
+pub has_no_crate : (text : List ℕ) (crate_name : Option (List ℕ)) → HasNoTree text → crate_name ≡ None → IsCrateName text crate_name
+has_no_crate text crate_name none e = inr (none, e)

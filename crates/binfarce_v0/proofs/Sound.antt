@@ -2,7 +2,7 @@
 use Rattle.std.proofs.Common.{◌≡◌, ℕ, zero, suc, ◌+◌, ◌≤◌, Bool, true, false, List, Option, Some, None, cond, nat_le, if◌then◌else◌, refl, arith}
 use Rattle.std.proofs.lemmas.Bool.Decides.{nat_tests}
 use Rattle.binfarce_v0_grammar.specs.Identifiers.{UndisambiguatedIdentifier}
-use Rattle.binfarce_v0_grammar.specs.Forms.{NoLifetime, stands, after_byte, undisambiguated_at, lifetime, indexed_lifetime, const_form, ConstForm, NoConstForm, PlaceholderConst, DigitsConst, InvalidConst, BackToConst}
+use Rattle.binfarce_v0_grammar.specs.Forms.{NoLifetime, stands, after_byte, undisambiguated_at, lifetime, indexed_lifetime, const_form, ConstForm, NoConstForm, UntypedPlaceholderConst, PlaceholderConst, ValueConst, InvalidConst, BackToConst}
 use Rattle.binfarce_v0_grammar.specs.Base62.{number}
 use Rattle.binfarce_v0_grammar.specs.Tree.{PathTree, TypeTree, ConstTree, Item, Items, Bindings, LifetimeItem, lifetime_steps, path_height, type_height, const_height, item_height, items_height, bindings_height, path_steps, type_steps, const_steps, item_steps, items_steps, bindings_steps, Position, OpenTrait, separator, Listed, Arguments, Types, Traits}
 use Rattle.binfarce_v0_grammar.specs.Unfolding.{list_goes_on, IsConst, IsPath, IsType, IsItem, AreItems, AreBindings}
@@ -69,11 +69,13 @@ pub const_sound : (name : List ℕ) (left : ℕ) (R : Readers) → Sound name le
 unfolding const_rule IsConst
 const_sound name left R H s NoConstForm e o =
     record { is = (e, refl); height = omega arith; steps = omega arith; before = o }
+const_sound name left R H s (UntypedPlaceholderConst q) e o =
+    record { is = (q, e, refl); height = omega arith; steps = omega arith; before = o }
 const_sound name left R H s (PlaceholderConst type_name q) e o =
     record { is = (q, e, refl); height = omega arith; steps = omega arith; before = o }
-const_sound name left R H s (DigitsConst type_name digits q) e o =
+const_sound name left R H s (ValueConst type_name value q) e o =
     record { is = (q, e, refl); height = omega arith; steps = omega arith; before = o }
-const_sound name left R H s (InvalidConst type_name) e o =
+const_sound name left R H s (InvalidConst negative type_name) e o =
     record { is = (e, refl); height = omega arith; steps = omega arith; before = o }
 const_sound name left R H s (BackToConst target q) e o =
     let f = H.constant (into target s) o in

@@ -1,22 +1,14 @@
--- One more lifetime of a binder, and numbers of at most 16 hexadecimal digits.
-use Rattle.std.proofs.Common.{◌≡◌, ℕ, suc, ◌+◌, ◌-◌, ◌*◌, ◌^◌, ◌<◌, ◌≤◌, List, [], ◌∷◌, ◌++◌, length, take, get_or, refl, ap, ◌∙◌, append-nil, arith}
+-- One more lifetime of a binder, and one more character.
+use Rattle.std.proofs.Common.{◌≡◌, ℕ, suc, ◌+◌, ◌-◌, ◌<◌, List, [], ◌∷◌, ◌++◌, length, take, get_or, refl, ap, ◌∙◌, append-nil, arith}
 use Rattle.std.specs.Prelude.{codes, encode_utf8, encode_utf8_all}
 use Rattle.std.proofs.lemmas.List.{take_more}
 use Rattle.std.proofs.lemmas.Str.{encodes-append}
-use Rattle.std.proofs.Math.Nat.{pow-le-pow_right}
-use Rattle.std.proofs.lemmas.Grind.{pow_more}
 use Rattle.binfarce_v0_grammar.specs.Tree.{lifetime_text, more_announced}
 
 pub more_announced_step : (depth i count : ℕ) → i < count → more_announced (depth + i) (count - i) ≡ codes ", " ++ (lifetime_text (depth + i + 1) 1 ++ more_announced (depth + (i + 1)) (count - (i + 1)))
 more_announced_step depth i count h =
     let e : count - i ≡ suc (count - (i + 1)) = omega arith in
     let d : depth + (i + 1) ≡ depth + i + 1 = omega arith in rw (e, d) refl
-
-pub hex_fits : (i value digit : ℕ) → i < 16 → value < 16 ^ i → digit < 16 → (value * 16 + digit < 16 ^ (i + 1)) × (value * 16 + digit < 2 ^ 64)
-hex_fits i value digit h small d =
-    let below : value * 16 + digit < 16 ^ (i + 1) = omega (arith, pow_more 16 i) in
-    let top : 16 ^ (i + 1) ≤ 16 ^ 16 = pow-le-pow_right {n = 16} (omega arith) {i = i + 1} {j = 16} (omega arith) in
-    (below, omega arith)
 
 pub encodes_more : (cs : List ℕ) (i : ℕ) → i < length cs → encode_utf8_all (take (i + 1) cs) ≡ encode_utf8_all (take i cs) ++ encode_utf8 (get_or cs i 0)
 encodes_more cs i h =

@@ -1,6 +1,6 @@
 //! A whole v0 mangling.
 
-ghost use Rattle.std.specs.Prelude.{◌≡◌, ℕ, List, IfOk, MatchOption, option_map, drop};
+ghost use Rattle.std.specs.Prelude.{◌≡◌, ℕ, List, IfOk, MatchOption, Some, true, option_map, drop};
 ghost use Rattle.std.specs.Option.{option_copied};
 ghost use Rattle.std.specs.Str.{IsAscii};
 ghost use Rattle.std.specs.String.{string_bytes};
@@ -10,7 +10,14 @@ ghost use Rattle.binfarce_v0_grammar.specs.Unfolding.{UnfoldsTo};
 ghost use Rattle.binfarce_v0_grammar.specs.machine.Seen.{undisambiguated_seen};
 ghost use Rattle.binfarce_v0.specs.Mangling.{part_after_prefix, is_upper_at, IsMangling, IsV0};
 ghost use Rattle.binfarce_v0.specs.machine.Mangling.{paths_end};
-ghost use Rattle.binfarce_v0.specs.machine.Outcome.{IsOutcome, AreTexts, printed_seen};
+ghost use Rattle.binfarce_v0.specs.machine.Outcome.{
+  HasNoTree,
+  ReadsUpTo,
+  IsOutcome,
+  IsCrateName,
+  AreTexts,
+  printed_seen,
+};
 
 use crate::state::{Printed, Printer};
 use crate::text::push_identifier;
@@ -46,16 +53,34 @@ fn is_upper_at(name: &[u8], at: usize) -> bool
     byte_at(name, at).is_ascii_uppercase()
 }
 
-// The position after the paths of a name.
-fn read_paths(name: &str) -> Option<usize>
+// The position after the paths of a name, where the one after the first path may be known.
+#[tactic(auto, using(crate::proofs::Manglings::first_path_known))]
+fn paths_end(name: &str, first: Option<usize>) -> Option<usize>
     requires ascii { IsAscii name.now }
+    requires known { ReadsUpTo name.now first }
     ensures { result ≡ paths_end name.now }
 {
-    let mid = read_path(name, MAX_LEVELS, 0)?;
+    let mid = match first {
+        Some(mid) => mid,
+        None => read_path(name, MAX_LEVELS, 0)?,
+    };
     if is_upper_at(name.as_bytes(), mid) {
         read_path(name, MAX_LEVELS, mid)
     } else {
         Some(mid)
+    }
+}
+
+// What stands after the prefix of a text that may begin with a v0 mangling.
+fn candidate(text: &str) -> Option<&str>
+    ensures { MatchOption result ((name : List ℕ) (after : ℕ) → IsMangling text.now name after → ⊥)
+        (λ name. (part_after_prefix text.now ≡ Some name.now) × (is_upper_at name.now 0 ≡ true) × IsAscii name.now) }
+{
+    let name = part_after_prefix(text)?;
+    if is_upper_at(name.as_bytes(), 0) && name.is_ascii() {
+        Some(name)
+    } else {
+        None
     }
 }
 
@@ -64,11 +89,8 @@ fn read_paths(name: &str) -> Option<usize>
 pub fn read(text: &str) -> Option<(&str, usize)>
     ensures { MatchOption result ((name : List ℕ) (after : ℕ) → IsMangling text.now name after → ⊥) (λ r. IsMangling text.now r.0.now r.1) }
 {
-    let name = part_after_prefix(text)?;
-    if !is_upper_at(name.as_bytes(), 0) || !name.is_ascii() {
-        return None;
-    }
-    let after = read_paths(name)?;
+    let name = candidate(text)?;
+    let after = paths_end(name, None)?;
     Some((name, after))
 }
 
@@ -107,6 +129,34 @@ fn rest_from(name: &[u8], at: usize) -> &[u8]
     if at <= name.len() { &name[at..] } else { &[] }
 }
 
+/// What stands after the prefix of the v0 mangling `text`, and the text of what it unfolds to, with or without the
+/// disambiguators of crates. None where `text` is no v0 mangling whose reading has at most `MAX_LEVELS` levels, and where it unfolds to no tree of
+/// at most `MAX_LEVELS` levels and `MAX_STEPS` steps.
+///
+/// What was printed without a fault outside back references was read: only a second path is then still to be read.
+pub fn print_mangling<'a>(
+    alloc: Global,
+    text: &'a str,
+    full: bool,
+) -> Result<Option<(&'a str, Printed<'a>)>, AllocError>
+    ensures { IfOk result (λ p. MatchOption p (HasNoTree text.entry.now) (λ p. IsV0 text.entry.now p.0.now × IsOutcome p.0.now full (printed_seen p.1))) }
+{
+    let Some(name) = candidate(text) else {
+        return Ok(None);
+    };
+    let Some(printed) = print(alloc, name, full)? else {
+        return Ok(None);
+    };
+    let Some(after) = paths_end(name, printed.after) else {
+        return Ok(None);
+    };
+    if is_allowed_rest(rest_from(name.as_bytes(), after)) {
+        Ok(Some((name, printed)))
+    } else {
+        Ok(None)
+    }
+}
+
 /// Both texts of a name, and its crate.
 #[derive(Drop)]
 pub struct Texts {
@@ -130,33 +180,35 @@ fn root_text(
     Ok(Some(text))
 }
 
-/// Both texts of what `name` unfolds to, and its crate. None where it unfolds to no tree within the limits.
-pub fn both_texts(alloc: Global, name: &str) -> Result<Option<Texts>, AllocError>
-    requires { IsAscii name.now }
-    ensures { IfOk result (λ t. MatchOption t ((tree : PathTree) → UnfoldsTo name.now tree → ⊥) (λ t. AreTexts name.now (string_bytes t.complete) (string_bytes t.trimmed) (option_map string_bytes t.crate_name))) }
+/// The name of the first crate root of what the v0 mangling `text` unfolds to. None where the tree has no crate root, and
+/// where `text` is no v0 mangling that unfolds to a tree within the limits.
+#[tactic(auto, using(crate::proofs::Manglings::has_crate, crate::proofs::Manglings::has_no_crate))]
+pub fn crate_name(alloc: Global, text: &str) -> Result<Option<String>, AllocError>
+    ensures { IfOk result (λ c. IsCrateName text.now (option_map string_bytes c)) }
 {
-    let Some(complete) = print(alloc, name, true)? else {
+    match print_mangling(alloc, text, false)? {
+        Some((_, printed)) => root_text(alloc, printed.root),
+        None => Ok(None),
+    }
+}
+
+/// Both texts of what the v0 mangling `text` unfolds to, and its crate. None where `text` is no v0 mangling that unfolds
+/// to a tree within the limits.
+///
+/// The texts are copies of what was printed, whose memory fits them: a printing's text has room for a whole name.
+pub fn both_texts(alloc: Global, text: &str) -> Result<Option<Texts>, AllocError>
+    ensures { IfOk result (λ t. MatchOption t (HasNoTree text.now) (λ t. AreTexts text.now (string_bytes t.complete) (string_bytes t.trimmed) (option_map string_bytes t.crate_name))) }
+{
+    let Some((part, complete)) = print_mangling(alloc, text, true)? else {
         return Ok(None);
     };
-    let Some(trimmed) = print(alloc, name, false)? else {
+    let Some(trimmed) = print(alloc, part, false)? else {
         return Ok(None);
     };
-    let Printed {
-        text,
-        root,
-        levels: _,
-        steps: _,
-    } = complete;
-    let crate_name = root_text(alloc, root)?;
-    let Printed {
-        text: short,
-        root: _,
-        levels: _,
-        steps: _,
-    } = trimmed;
+    let crate_name = root_text(alloc, complete.root)?;
     Ok(Some(Texts {
-        complete: text,
-        trimmed: short,
+        complete: String::from_str(alloc, complete.text.as_str())?,
+        trimmed: String::from_str(alloc, trimmed.text.as_str())?,
         crate_name,
     }))
 }

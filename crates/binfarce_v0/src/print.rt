@@ -1,15 +1,24 @@
-//! Printing a v0 name: what an offset unfolds to is written as it is read, form by form.
+//! Printing a v0 name: what a position unfolds to is written as it is read, by the letter that a form begins with.
 
-ghost use Rattle.std.specs.Prelude.{◌≡◌, ℕ, ◌+◌, ◌≤◌, ◌==◌, IfOk, OnOk, Some, None, [], if◌then◌else◌, codes, suc};
-ghost use Rattle.binfarce_v0_grammar.specs.declared.limits.TheConstants.{MAX_LEVELS};
-ghost use Rattle.binfarce_v0_grammar.specs.Forms.{identifier_at, lifetime};
+mod consts;
+mod identifiers;
+
+ghost use Rattle.std.specs.Prelude.{◌≡◌, ℕ, ◌+◌, ◌≤◌, ◌<◌, ◌==◌, IfOk, IsTrue, OnOk, Some, None, [], if◌then◌else◌, codes, length, suc};
+ghost use Rattle.std.specs.Char.{is_ascii_alphabetic};
+ghost use Rattle.binfarce_v0_grammar.specs.Base62.{tagged};
+ghost use Rattle.binfarce_v0_grammar.specs.Forms.{
+  lifetime,
+  InherentImpl,
+  TraitImpl,
+  path_form,
+  reference_form,
+  function_form,
+  type_form_by,
+  type_form,
+};
 ghost use Rattle.binfarce_v0_grammar.specs.Tree as tree;
 ghost use Rattle.binfarce_v0_grammar.specs.Tree.{Items, NoType, parent_position, value_mark, closing, is_open_trait, is_left_open, Arguments, Types};
 ghost use Rattle.binfarce_v0_grammar.specs.machine.Seen.{
-  identifier_seen,
-  path_seen,
-  type_seen,
-  const_seen,
   lifetime_seen,
   signature_seen,
   position_seen,
@@ -25,13 +34,10 @@ ghost use Rattle.binfarce_v0.specs.machine.Printing.{
   items_from,
   items_count,
   qualified,
-  named_state,
   bindings_rule,
   function_rule,
   dyn_rule,
   dyn_life,
-  reference_rule,
-  crate_rule,
   into,
   back_to,
   taking,
@@ -48,14 +54,15 @@ ghost use Rattle.binfarce_v0.specs.machine.Printing.{
 
 use crate::state::Printer;
 use binfarce_v0_grammar::forms::{
-    ConstForm, Lifetime, Listed, PathForm, Position, Signature, TypeForm, const_form,
-    lifetime_form, path_form, type_form,
+    Listed, Position, Signature, TypeForm, basic_type, function_form, lifetime_form,
 };
-use binfarce_v0_grammar::identifiers::{Identifier, identifier_at, undisambiguated_at};
+use binfarce_v0_grammar::identifiers::undisambiguated_at;
+use binfarce_v0_grammar::numbers::{back_reference, byte_at, skip_tagged, tagged};
 use binfarce_v0_grammar::positions::{bound_end, eat, lifetime_steps, list_end, required_end};
 use std::alloc::AllocError;
 
 // The position of a path's parent.
+#[inline(always)]
 fn parent(position: Position) -> Position
     ensures { position_seen result ≡ parent_position (position_seen position) }
 {
@@ -65,7 +72,17 @@ fn parent(position: Position) -> Position
     }
 }
 
+// A letter that may be a namespace.
+#[inline(always)]
+fn is_namespace(letter: u8) -> bool
+    ensures value { result ≡ is_ascii_alphabetic letter }
+    ensures some { IsTrue result → 0 < letter }
+{
+    letter.is_ascii_alphabetic()
+}
+
 // What stands before the arguments of a path.
+#[inline(always)]
 fn value_mark(position: Position) -> &'static str
     ensures { result.now ≡ value_mark (position_seen position) }
 {
@@ -76,6 +93,7 @@ fn value_mark(position: Position) -> &'static str
 }
 
 // What stands after the arguments of a path.
+#[inline(always)]
 fn closing(position: Position) -> &'static str
     ensures { result.now ≡ closing (position_seen position) }
 {
@@ -86,6 +104,7 @@ fn closing(position: Position) -> &'static str
 }
 
 // A position that leaves arguments open.
+#[inline(always)]
 fn is_open_trait(position: Position) -> bool
     ensures { result ≡ is_open_trait (position_seen position) }
 {
@@ -93,6 +112,7 @@ fn is_open_trait(position: Position) -> bool
 }
 
 // What stands after the items of a tuple of so many.
+#[inline(always)]
 fn single_mark(count: usize) -> &'static str
     ensures { result.now ≡ (if count == 1 then codes "," else []) }
 {
@@ -100,72 +120,6 @@ fn single_mark(count: usize) -> &'static str
 }
 
 impl<'a> Printer<'a> {
-    /// `<const>`
-    #[tactic(auto, using(crate::proofs::Levels::constant_at), unfolding(crate::specs::machine::Printing::const_rule))]
-    pub fn print_const(&mut self, left: usize) -> Result<(), AllocError>
-        requires levels { left ≤ MAX_LEVELS }
-        ensures { OnOk result (self.new ≡ with_state ((readers self.old.name left).constant self.old.state).1 self.old) }
-    {
-        let form = const_form(self.name, self.at);
-        let Some(below) = self.enter(left) else {
-            return Ok(());
-        };
-        match form {
-            ConstForm::Nothing => self.fault(),
-            ConstForm::Placeholder(type_name, after) => {
-                self.go(Some(after));
-                self.say("_")?;
-                self.say(": ")?;
-                self.say(type_name)
-            }
-            ConstForm::Digits(type_name, digits, after) => {
-                self.go(Some(after));
-                self.say_number(digits)?;
-                self.say(": ")?;
-                self.say(type_name)
-            }
-            ConstForm::Invalid(type_name) => {
-                self.fault()?;
-                self.say(": ")?;
-                self.say(type_name)
-            }
-            ConstForm::Back(target, after) => {
-                let outside = self.outside;
-                self.enter_target(target);
-                self.print_const(below)?;
-                self.leave_target(after, outside);
-                Ok(())
-            }
-        }
-    }
-
-    // The name of a nested path after its parent.
-    fn print_nested_name(&mut self, namespace: u8) -> Result<(), AllocError>
-        ensures { OnOk result (self.new ≡ with_state (named_state namespace self.old.state (identifier_at self.old.name self.old.state.at)) self.old) }
-    {
-        let found = match self.at {
-            Some(at) => identifier_at(self.name, at),
-            None => None,
-        };
-        match found {
-            Some((identifier, after)) => {
-                self.go(Some(after));
-                self.say_nested(namespace, identifier)
-            }
-            None => self.fault(),
-        }
-    }
-
-    // `"C" <identifier>`
-    fn print_crate_root(&mut self, root: Identifier<'a>, after: usize) -> Result<(), AllocError>
-        ensures { OnOk result (self.new ≡ with_state ((crate_rule (identifier_seen root.entry) (go (Some after) self.old.state)).1) self.old) }
-    {
-        self.go(Some(after));
-        self.keep_root(root.name);
-        self.say_identifier(root.name)?;
-        self.say_disambiguator(root.disambiguator)
-    }
-
     /// `<path>`: whether it was left open.
     #[cycle(printing)]
     #[tactic(auto, using(crate::proofs::Levels::path_at))]
@@ -179,56 +133,67 @@ impl<'a> Printer<'a> {
         ensures printed { OnOk result (self.new ≡ with_state (((readers self.old.name left).path (position_seen position) depth self.old.state).1) self.old) }
         ensures opened { IfOk result (λ opened. opened ≡ is_left_open ((readers self.old.name left).path (position_seen position) depth self.old.state).0 (position_seen position)) }
     {
-        let form = path_form(self.name, self.at);
+        let start = self.at;
         let Some(below) = self.enter(left) else {
             return Ok(false);
         };
-        self.print_path_form(below, depth, position, form)
+        self.print_path_by_letter(below, depth, position, start)
     }
 
-    // A path of a form.
+    // A path by the letter that it begins with.
     #[cycle(printing)]
-    #[tactic(auto, unfolding(crate::specs::machine::Printing::path_rule))]
-    fn print_path_form(
+    #[tactic(auto, using(crate::proofs::Shown::root_state, crate::proofs::Shown::root_closed), unfolding(crate::specs::machine::Printing::path_rule, binfarce_v0_grammar::specs::Forms::path_form, binfarce_v0_grammar::specs::Forms::path_form_by))]
+    fn print_path_by_letter(
         &mut self,
         left: usize,
         depth: usize,
         position: Position,
-        form: PathForm<'a>,
+        start: Option<usize>,
     ) -> Result<bool, AllocError>
         requires levels { WithinLevels (left + 1) depth }
-        ensures printed { OnOk result (self.new ≡ with_state ((path_rule self.old.name (readers self.old.name left) (position_seen position) depth self.old.state (path_seen form.entry)).1) self.old) }
-        ensures opened { IfOk result (λ opened. opened ≡ is_left_open (path_rule self.old.name (readers self.old.name left) (position_seen position) depth self.old.state (path_seen form.entry)).0 (position_seen position)) }
+        ensures printed { OnOk result (self.new ≡ with_state ((path_rule self.old.name (readers self.old.name left) (position_seen position) depth self.old.state (path_form self.old.name start)).1) self.old) }
+        ensures opened { IfOk result (λ opened. opened ≡ is_left_open (path_rule self.old.name (readers self.old.name left) (position_seen position) depth self.old.state (path_form self.old.name start)).0 (position_seen position)) }
     {
-        match form {
-            PathForm::Nothing => self.fault()?,
-            PathForm::CrateRoot(root, after) => self.print_crate_root(root, after)?,
-            PathForm::NestedIn(namespace, after) => {
-                self.go(Some(after));
-                self.print_path(left, depth, parent(position))?;
-                self.print_nested_name(namespace)?;
+        let Some(at) = start else {
+            self.fault()?;
+            return Ok(false);
+        };
+        let bytes = self.name.as_bytes();
+        match byte_at(bytes, at) {
+            b'C' => self.print_crate_root(at + 1)?,
+            b'N' => {
+                let namespace = byte_at(bytes, at + 1);
+                if is_namespace(namespace) {
+                    self.go(Some(at + 2));
+                    self.print_path(left, depth, parent(position))?;
+                    self.print_nested_name(namespace)?;
+                } else {
+                    self.fault()?;
+                }
             }
-            PathForm::InherentImpl(after) => {
-                self.print_impl_path(left, depth, position, after)?;
-                self.say("<")?;
-                self.print_type(left, depth)?;
-                self.say(">")?;
-            }
-            PathForm::TraitImpl(after) => {
-                self.print_impl_path(left, depth, position, after)?;
+            b'M' => match skip_tagged(bytes, b's', at + 1) {
+                Some(after) => self.print_inherent_impl(left, depth, position, after)?,
+                None => self.fault()?,
+            },
+            b'X' => match skip_tagged(bytes, b's', at + 1) {
+                Some(after) => self.print_trait_impl(left, depth, position, after)?,
+                None => self.fault()?,
+            },
+            b'Y' => {
+                self.go(Some(at + 1));
                 self.print_qualified(left, depth)?;
             }
-            PathForm::TraitDefinition(after) => {
-                self.go(Some(after));
-                self.print_qualified(left, depth)?;
-            }
-            PathForm::WithArguments(after) => {
-                self.print_generic(left, depth, position, after)?;
+            b'I' => {
+                self.print_generic(left, depth, position, at + 1)?;
                 return Ok(is_open_trait(position));
             }
-            PathForm::Back(target, after) => {
-                return self.print_path_target(left, depth, position, target, after);
-            }
+            b'B' => match back_reference(bytes, at) {
+                Some((target, after)) => {
+                    return self.print_path_target(left, depth, position, target, after);
+                }
+                None => self.fault()?,
+            },
+            _ => self.fault()?,
         }
         Ok(false)
     }
@@ -252,6 +217,42 @@ impl<'a> Printer<'a> {
         let opened = self.print_path(left, depth, position)?;
         self.leave_target(after, outside);
         Ok(opened)
+    }
+
+    // `"M" [<disambiguator>] ..`
+    #[cycle(printing)]
+    #[tactic(auto, unfolding(crate::specs::machine::Printing::path_rule))]
+    fn print_inherent_impl(
+        &mut self,
+        left: usize,
+        depth: usize,
+        position: Position,
+        after: usize,
+    ) -> Result<(), AllocError>
+        requires levels { WithinLevels left depth }
+        ensures { OnOk result (self.new ≡ with_state ((path_rule self.old.name (readers self.old.name left) (position_seen position) depth self.old.state (InherentImpl after)).1) self.old) }
+    {
+        self.print_impl_path(left, depth, position, after)?;
+        self.say("<")?;
+        self.print_type(left, depth)?;
+        self.say(">")
+    }
+
+    // `"X" [<disambiguator>] ..`
+    #[cycle(printing)]
+    #[tactic(auto, unfolding(crate::specs::machine::Printing::path_rule))]
+    fn print_trait_impl(
+        &mut self,
+        left: usize,
+        depth: usize,
+        position: Position,
+        after: usize,
+    ) -> Result<(), AllocError>
+        requires levels { WithinLevels left depth }
+        ensures { OnOk result (self.new ≡ with_state ((path_rule self.old.name (readers self.old.name left) (position_seen position) depth self.old.state (TraitImpl after)).1) self.old) }
+    {
+        self.print_impl_path(left, depth, position, after)?;
+        self.print_qualified(left, depth)
     }
 
     // The path of an impl, which is read and not written.
@@ -414,59 +415,121 @@ impl<'a> Printer<'a> {
         requires levels { WithinLevels left depth }
         ensures { OnOk result (self.new ≡ with_state (((readers self.old.name left).ty depth self.old.state).1) self.old) }
     {
-        let form = type_form(self.name, self.at);
+        let start = self.at;
         let Some(below) = self.enter(left) else {
             return Ok(());
         };
-        self.print_type_form(below, depth, form)
+        self.print_type_by_letter(below, depth, start)
     }
 
-    // A type of a form.
+    // A type by the letter that it begins with.
     #[cycle(printing)]
-    #[tactic(auto, unfolding(crate::specs::machine::Printing::type_rule))]
-    fn print_type_form(
+    #[tactic(auto, unfolding(crate::specs::machine::Printing::type_rule, binfarce_v0_grammar::specs::Forms::type_form))]
+    fn print_type_by_letter(
         &mut self,
         left: usize,
         depth: usize,
-        form: TypeForm<'a>,
+        start: Option<usize>,
     ) -> Result<(), AllocError>
         requires levels { WithinLevels (left + 1) depth }
-        ensures { OnOk result (self.new ≡ with_state ((type_rule self.old.name (readers self.old.name left) depth self.old.state (type_seen form.entry)).1) self.old) }
+        ensures { OnOk result (self.new ≡ with_state ((type_rule self.old.name (readers self.old.name left) depth self.old.state (type_form self.old.name start)).1) self.old) }
     {
-        match form {
-            TypeForm::Nothing => self.fault(),
-            TypeForm::Basic(text, after) => {
-                self.go(Some(after));
+        let Some(at) = start else {
+            return self.fault();
+        };
+        if at >= self.name.len() {
+            return self.fault();
+        }
+        let letter = byte_at(self.name.as_bytes(), at);
+        match basic_type(letter) {
+            Some(text) => {
+                self.go(Some(at + 1));
                 self.say(text)
             }
-            TypeForm::ReferenceTo(mutable, life, after) => {
-                self.print_reference(left, depth, mutable, life, after)
-            }
-            TypeForm::InvalidReference => self.print_invalid_reference(),
-            TypeForm::PointerTo(mutable, after) => {
-                self.go(Some(after));
-                self.say(if mutable { "*mut " } else { "*const " })?;
-                self.print_type(left, depth)
-            }
-            TypeForm::SliceOf(after) => {
+            None => self.print_other_type(left, depth, at, letter),
+        }
+    }
+
+    // A type that is no basic type.
+    #[cycle(printing)]
+    #[tactic(auto, unfolding(crate::specs::machine::Printing::type_rule, binfarce_v0_grammar::specs::Forms::type_form_by))]
+    fn print_other_type(
+        &mut self,
+        left: usize,
+        depth: usize,
+        at: usize,
+        letter: u8,
+    ) -> Result<(), AllocError>
+        requires levels { WithinLevels (left + 1) depth }
+        requires within { at < length self.now.name }
+        ensures { OnOk result (self.new ≡ with_state ((type_rule self.old.name (readers self.old.name left) depth self.old.state (type_form_by self.old.name at letter)).1) self.old) }
+    {
+        let bytes = self.name.as_bytes();
+        let after = at + 1;
+        match letter {
+            b'R' => self.print_reference(left, depth, false, after),
+            b'Q' => self.print_reference(left, depth, true, after),
+            b'P' => self.print_pointer(left, depth, "*const ", after),
+            b'O' => self.print_pointer(left, depth, "*mut ", after),
+            b'S' => {
                 self.go(Some(after));
                 self.say("[")?;
                 self.print_type(left, depth)?;
                 self.say("]")
             }
-            TypeForm::ArrayOf(after) => self.print_array(left, depth, after),
-            TypeForm::TupleOf(after) => self.print_tuple(left, depth, after),
+            b'A' => self.print_array(left, depth, after),
+            b'T' => self.print_tuple(left, depth, after),
+            b'F' => self.print_function_form(left, depth, after),
+            b'D' => match tagged(bytes, b'G', after) {
+                Some((binder, end)) => self.print_dyn(left, depth, binder, end),
+                None => self.print_invalid_dyn(),
+            },
+            b'B' => match back_reference(bytes, at) {
+                Some((target, end)) => self.print_type_target(left, depth, target, end),
+                None => self.fault(),
+            },
+            _ => {
+                self.print_path(left, depth, Position::InType)?;
+                Ok(())
+            }
+        }
+    }
+
+    // `"P" ..` and `"O" ..`, after the letter.
+    #[cycle(printing)]
+    fn print_pointer(
+        &mut self,
+        left: usize,
+        depth: usize,
+        mark: &'static str,
+        after: usize,
+    ) -> Result<(), AllocError>
+        requires levels { WithinLevels left depth }
+        ensures { OnOk result (self.new ≡ with_state ((readers self.old.name left).ty depth (say mark.now (go (Some after) self.old.state))).1 self.old) }
+    {
+        self.go(Some(after));
+        self.say(mark)?;
+        self.print_type(left, depth)
+    }
+
+    // `"F" ..`, after the letter.
+    #[cycle(printing)]
+    #[tactic(auto, unfolding(crate::specs::machine::Printing::type_rule))]
+    fn print_function_form(
+        &mut self,
+        left: usize,
+        depth: usize,
+        at: usize,
+    ) -> Result<(), AllocError>
+        requires levels { WithinLevels (left + 1) depth }
+        ensures { OnOk result (self.new ≡ with_state ((type_rule self.old.name (readers self.old.name left) depth self.old.state (function_form self.old.name (tagged self.old.name 71 at))).1) self.old) }
+    {
+        match function_form(self.name, tagged(self.name.as_bytes(), b'G', at)) {
             TypeForm::FunctionOf(signature, after) => {
                 self.print_function(left, depth, signature, after)
             }
             TypeForm::InvalidAbi(binder) => self.print_invalid_function(depth, binder),
-            TypeForm::DynOf(binder, after) => self.print_dyn(left, depth, binder, after),
-            TypeForm::InvalidDyn => self.print_invalid_dyn(),
-            TypeForm::Back(target, after) => { self.print_type_target(left, depth, target, after) }
-            TypeForm::Path => {
-                self.print_path(left, depth, Position::InType)?;
-                Ok(())
-            }
+            _ => self.fault(),
         }
     }
 
@@ -517,19 +580,23 @@ impl<'a> Printer<'a> {
         self.say(")")
     }
 
-    // A reference.
+    // `"R" ..` and `"Q" ..`, after the letter.
     #[cycle(printing)]
+    #[tactic(auto, unfolding(crate::specs::machine::Printing::type_rule))]
     fn print_reference(
         &mut self,
         left: usize,
         depth: usize,
         mutable: bool,
-        life: Lifetime,
-        after: usize,
+        at: usize,
     ) -> Result<(), AllocError>
         requires levels { WithinLevels left depth }
-        ensures { OnOk result (self.new ≡ with_state ((taking (tree.lifetime_steps (lifetime_seen life)) NoType self.old.state (reference_rule (readers self.old.name left) depth mutable (lifetime_seen life) after)).1) self.old) }
+        ensures { OnOk result (self.new ≡ with_state ((type_rule self.old.name (readers self.old.name left) depth self.old.state (reference_form mutable (lifetime self.old.name (Some at)))).1) self.old) }
     {
+        let (life, end) = lifetime_form(self.name.as_bytes(), Some(at));
+        let Some(after) = end else {
+            return self.print_invalid_reference();
+        };
         if !self.take(lifetime_steps(life)) {
             return Ok(());
         }

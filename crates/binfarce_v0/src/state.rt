@@ -10,9 +10,10 @@ ghost use Rattle.binfarce_v0_grammar.specs.Tree.{
   argument_lifetime,
   reference_lifetime,
   dyn_lifetime,
+  after_mark,
   nested_text,
   signature_text,
-  number_text,
+  value_text,
   disambiguator_text,
 };
 ghost use Rattle.binfarce_v0_grammar.specs.machine.Seen.{
@@ -20,6 +21,7 @@ ghost use Rattle.binfarce_v0_grammar.specs.machine.Seen.{
   identifier_seen,
   lifetime_seen,
   signature_seen,
+  value_seen,
 };
 ghost use Rattle.binfarce_v0.specs.machine.Printing.{
   with_state,
@@ -37,10 +39,10 @@ ghost use Rattle.binfarce_v0.specs.machine.Printing.{
 };
 
 use crate::text::{
-    push_binder, push_disambiguator, push_identifier, push_lifetime, push_nested, push_number,
-    push_signature,
+    push_after_mark, push_binder, push_disambiguator, push_identifier, push_lifetime, push_nested,
+    push_signature, push_value,
 };
-use binfarce_v0_grammar::forms::{Lifetime, Signature};
+use binfarce_v0_grammar::forms::{ConstValue, Lifetime, Signature};
 use binfarce_v0_grammar::identifiers::{Identifier, UndisambiguatedIdentifier};
 use binfarce_v0_grammar::limits::{MAX_LEVELS, MAX_STEPS};
 use std::alloc::{AllocError, Global};
@@ -57,6 +59,8 @@ pub struct Printed<'a> {
     pub levels: usize,
     /// How many steps the tree takes.
     pub steps: usize,
+    /// The position after the path, None after a fault that is in no back reference.
+    pub after: Option<usize>,
 }
 
 /// A printing of a name: it is read and written in one pass.
@@ -129,7 +133,7 @@ impl<'a> Printer<'a> {
     {
         let Printer {
             name: _,
-            at: _,
+            at,
             room,
             least,
             over,
@@ -147,10 +151,12 @@ impl<'a> Printer<'a> {
             root,
             levels: MAX_LEVELS - least,
             steps: MAX_STEPS - room,
+            after: at,
         })
     }
 
     /// Goes on at a position, or nowhere after a fault.
+    #[inline(always)]
     pub fn go(&mut self, at: Option<usize>)
         ensures { self.new ≡ with_state (go at self.old.state) self.old }
     {
@@ -166,6 +172,7 @@ impl<'a> Printer<'a> {
     }
 
     /// Takes steps, where so many are left.
+    #[inline(always)]
     pub fn take(&mut self, count: u64) -> bool
         ensures took { self.new ≡ with_state (if nat_le count self.old.state.room then take count self.old.state else stopped self.old.state) self.old }
         ensures enough { result ≡ nat_le count self.old.state.room }
@@ -181,6 +188,7 @@ impl<'a> Printer<'a> {
     }
 
     /// Takes a level and a step, where there is one of each: how many levels are left below, one less.
+    #[inline(always)]
     pub fn enter(&mut self, left: usize) -> Option<usize>
         ensures entered { self.new ≡ with_state (if nat_le 1 left && nat_le 1 self.old.state.room then entered (left - 1) self.old.state else stopped self.old.state) self.old }
         ensures below { MatchOption result ((nat_le 1 left && nat_le 1 self.old.state.room) ≡ false) (λ below. ((nat_le 1 left && nat_le 1 self.old.state.room) ≡ true) × (below ≡ left - 1)) }
@@ -196,6 +204,7 @@ impl<'a> Printer<'a> {
     }
 
     /// Writes a text.
+    #[inline(always)]
     pub fn say(&mut self, part: &str) -> Result<(), AllocError>
         ensures { OnOk result (self.new ≡ with_state (say part.now self.old.state) self.old) }
     {
@@ -206,6 +215,7 @@ impl<'a> Printer<'a> {
     }
 
     /// Reads on at a back reference's target.
+    #[inline(always)]
     pub fn enter_target(&mut self, target: usize)
         ensures { self.new ≡ with_state (into target self.old.state) self.old }
     {
@@ -214,6 +224,7 @@ impl<'a> Printer<'a> {
     }
 
     /// Reads on after a back reference.
+    #[inline(always)]
     pub fn leave_target(&mut self, after: usize, outside: bool)
         ensures { self.new ≡ with_state (back_to after outside self.old.state) self.old }
     {
@@ -222,6 +233,7 @@ impl<'a> Printer<'a> {
     }
 
     /// Writes nothing, or writes again.
+    #[inline(always)]
     pub fn mute(&mut self, muted: bool)
         ensures { self.new ≡ with_state (unmute muted self.old.state) self.old }
     {
@@ -237,6 +249,7 @@ impl<'a> Printer<'a> {
     }
 
     /// Keeps the first crate root.
+    #[inline(always)]
     pub fn keep_root(&mut self, name: UndisambiguatedIdentifier<'a>)
         ensures { self.new ≡ with_state (rooted (undisambiguated_seen name.entry) self.old.state) self.old }
     {
@@ -246,6 +259,7 @@ impl<'a> Printer<'a> {
     }
 
     /// Writes an identifier.
+    #[inline(always)]
     pub fn say_identifier(&mut self, name: UndisambiguatedIdentifier<'a>) -> Result<(), AllocError>
         ensures { OnOk result (self.new ≡ with_state (say (identifier_text (undisambiguated_seen name.entry)) self.old.state) self.old) }
     {
@@ -256,6 +270,7 @@ impl<'a> Printer<'a> {
     }
 
     /// Writes a crate's disambiguator, where that is asked for.
+    #[inline(always)]
     pub fn say_disambiguator(&mut self, n: u64) -> Result<(), AllocError>
         ensures { OnOk result (self.new ≡ with_state (say (disambiguator_text self.old.state.full n) self.old.state) self.old) }
     {
@@ -275,6 +290,21 @@ impl<'a> Printer<'a> {
     {
         if !self.muted {
             push_nested(&mut self.text, namespace, identifier)?;
+        }
+        Ok(())
+    }
+
+    /// Writes a name after a mark, or nothing for an empty name.
+    #[inline(always)]
+    pub fn say_after_mark(
+        &mut self,
+        mark: &str,
+        name: UndisambiguatedIdentifier<'a>,
+    ) -> Result<(), AllocError>
+        ensures { OnOk result (self.new ≡ with_state (say (after_mark mark.now (undisambiguated_seen name.entry)) self.old.state) self.old) }
+    {
+        if !self.muted {
+            push_after_mark(&mut self.text, mark, name)?;
         }
         Ok(())
     }
@@ -310,12 +340,12 @@ impl<'a> Printer<'a> {
         Ok(())
     }
 
-    /// Writes the number of a const.
-    pub fn say_number(&mut self, hex: &str) -> Result<(), AllocError>
-        ensures { OnOk result (self.new ≡ with_state (say (number_text hex.now) self.old.state) self.old) }
+    /// Writes the value of a const.
+    pub fn say_value(&mut self, value: ConstValue<'a>) -> Result<(), AllocError>
+        ensures { OnOk result (self.new ≡ with_state (say (value_text (value_seen value.entry)) self.old.state) self.old) }
     {
         if !self.muted {
-            push_number(&mut self.text, hex)?;
+            push_value(&mut self.text, value)?;
         }
         Ok(())
     }

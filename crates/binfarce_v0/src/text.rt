@@ -10,18 +10,20 @@ ghost use Rattle.binfarce_v0_grammar.specs.Tree.{
   binder_text,
   abi_text,
   signature_text,
-  hex_digit,
   number_text,
+  stands_for_itself,
+  character_text,
+  value_text,
   disambiguator_text,
   namespace_text,
   after_mark,
   nested_text,
 };
-ghost use Rattle.binfarce_v0_grammar.specs.machine.Seen.{undisambiguated_seen, identifier_seen, signature_seen};
+ghost use Rattle.binfarce_v0_grammar.specs.machine.Seen.{undisambiguated_seen, identifier_seen, signature_seen, value_seen};
 
-use binfarce_text::digits::hex_value;
-use binfarce_v0_grammar::forms::Signature;
+use binfarce_v0_grammar::forms::{ConstValue, Signature};
 use binfarce_v0_grammar::identifiers::{Identifier, UndisambiguatedIdentifier};
+use binfarce_v0_grammar::numbers::hex_number;
 use binfarce_v0_grammar::punycode::decode;
 use std::alloc::AllocError;
 use std::fmt::Write;
@@ -79,8 +81,8 @@ pub fn push_disambiguator(text: &mut String, n: u64) -> Result<(), AllocError>
     write!(text, "[{n:x}]")
 }
 
-// A name after a mark, or nothing for an empty name.
-fn push_after_mark(
+/// A name after a mark, or nothing for an empty name.
+pub fn push_after_mark(
     text: &mut String,
     mark: &str,
     name: UndisambiguatedIdentifier<'_>,
@@ -126,31 +128,58 @@ pub fn push_nested(
     text.push_str("}")
 }
 
-/// A number of a const: hexadecimal digits of at most 64 bits are shown in decimal.
-#[tactic(auto, using(crate::proofs::Texts::hex_fits), unfolding(binfarce_v0_grammar::specs::Tree::number_text))]
-pub fn push_number(text: &mut String, hex: &str) -> Result<(), AllocError>
-    ensures { OnOk result (string_bytes text.new ≡ string_bytes text.old ++ number_text hex.now) }
+/// The value of a const.
+#[tactic(auto, unfolding(binfarce_v0_grammar::specs::Tree::value_text))]
+pub fn push_value(text: &mut String, value: ConstValue<'_>) -> Result<(), AllocError>
+    ensures { OnOk result (string_bytes text.new ≡ string_bytes text.old ++ value_text (value_seen value.entry)) }
 {
-    if hex.len() > 16 {
-        text.push_str("0x")?;
-        return text.push_str(hex);
+    match value {
+        ConstValue::Integer(negative, digits) => {
+            text.push_str(if negative { "-" } else { "" })?;
+            push_number(text, digits)
+        }
+        ConstValue::Boolean(value) => text.push_str(if value { "true" } else { "false" }),
+        ConstValue::Character(c) => {
+            text.push_str("'")?;
+            push_character(text, c)?;
+            text.push_str("'")
+        }
     }
-    let mut value: u64 = 0;
-    for c in hex.as_bytes() {
-        value = value * 16 + hex_digit(*c);
-    }
-    push_decimal(text, value)
 }
 
-// The value of a hexadecimal digit.
-fn hex_digit(c: u8) -> u64
-    ensures value { result ≡ hex_digit c }
-    ensures small { result < 16 }
+// The digits of an integer: at most 16 are shown in decimal.
+#[tactic(auto, unfolding(binfarce_v0_grammar::specs::Tree::number_text))]
+fn push_number(text: &mut String, hex: &str) -> Result<(), AllocError>
+    ensures { OnOk result (string_bytes text.new ≡ string_bytes text.old ++ number_text hex.now) }
 {
-    match hex_value(c) {
-        Some(value) => u64::from(value),
-        None => 0,
+    match hex_number(hex.as_bytes()) {
+        Some(value) => push_decimal(text, value),
+        None => {
+            text.push_str("0x")?;
+            text.push_str(hex)
+        }
     }
+}
+
+// Whether a character stands for itself between quotes.
+fn stands_for_itself(c: char) -> bool
+    ensures { result ≡ stands_for_itself c }
+{
+    matches!(c, ' '..='~') && c != '\'' && c != '\\'
+}
+
+// A character between quotes: printable ASCII as it is, any other by its number in lower-case hexadecimal.
+#[tactic(auto, unfolding(binfarce_v0_grammar::specs::Tree::character_text))]
+fn push_character(text: &mut String, c: char) -> Result<(), AllocError>
+    ensures { OnOk result (string_bytes text.new ≡ string_bytes text.old ++ character_text c) }
+{
+    if stands_for_itself(c) {
+        return text.push(c);
+    }
+    let code = c as u32;
+    text.push_str("\\u{")?;
+    write!(text, "{code:x}")?;
+    text.push_str("}")
 }
 
 // The name of an ABI.
@@ -201,8 +230,19 @@ pub fn push_identifier(
     ensures { OnOk result (string_bytes text.new ≡ string_bytes text.old ++ identifier_text (undisambiguated_seen name.entry)) }
 {
     if name.punycode.is_empty() {
-        return text.push_str(name.ascii);
+        text.push_str(name.ascii)
+    } else {
+        push_punycode(text, name)
     }
+}
+
+// The text of a Punycode identifier.
+#[inline(never)]
+#[tactic(auto, unfolding(binfarce_v0_grammar::specs::Identifiers::identifier_text))]
+fn push_punycode(text: &mut String, name: UndisambiguatedIdentifier<'_>) -> Result<(), AllocError>
+    requires { 0 < length name.punycode.now }
+    ensures { OnOk result (string_bytes text.new ≡ string_bytes text.old ++ identifier_text (undisambiguated_seen name.entry)) }
+{
     match decode(name.ascii.as_bytes(), name.punycode.as_bytes()) {
         Some(decoded) => push_characters(text, decoded.characters()),
         None => push_undecoded(text, name),

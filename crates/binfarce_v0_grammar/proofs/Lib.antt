@@ -1,3 +1,4 @@
+pub mod SkipLemmas
 pub mod TextLemmas
 pub mod NumberLemmas
 pub mod PunycodeLemmas

@@ -10,6 +10,8 @@ use Rattle.std.proofs.lemmas.List.{at_drop_more, length-take-le, get_or-drop}
 use Rattle.std.proofs.lemmas.List.Sums.{prefix_len-le-length}
 use Rattle.std.proofs.lemmas.Bool.{cases_Bool, cases_eq, cond-true, cond-false, eq-eqb, ne_eqb}
 use Rattle.std.proofs.lemmas.Bool.Decides.{nat_tests}
+use Rattle.std.proofs.Math.Nat.{pow-le-pow_right}
+use Rattle.std.proofs.lemmas.Grind.{pow_more}
 use Rattle.binfarce_text.specs.Letters.{is_hex_digit}
 use Rattle.binfarce_text.specs.Steps.{◌>>=◌}
 use Rattle.binfarce_v0_grammar.specs.Base62.{digit_62, limited, number, hex_digits}
@@ -76,7 +78,7 @@ run_some : (p : ℕ → Bool) (s : List ℕ) → p 0 ≡ false → p (get_or s 0
 run_some p [] z h = absurd (cc)
 run_some p (c ∷ s) z h = omega (arith, cond-true (p c) (1 + prefix_len p s) 0 h)
 
-run_length : (p : ℕ → Bool) (s : List ℕ) → length (take (prefix_len p s) s) ≡ prefix_len p s
+pub run_length : (p : ℕ → Bool) (s : List ℕ) → length (take (prefix_len p s) s) ≡ prefix_len p s
 run_length p s = length-take-le (prefix_len p s) s (prefix_len-le-length p s)
 
 -- the first byte from a position on
@@ -259,3 +261,9 @@ hex_digits_step s at =
     split : (b : Bool) (n : ℕ) → cond b (Some (let r : List ℕ × ℕ = (slice_range s at (at + n), at + n + 1) in r)) None ≡ (cond b (Some n) None >>= λ k. Some (let r : List ℕ × ℕ = (slice_range s at (at + k), at + k + 1) in r))
     split true n = refl
     split false n = refl
+
+pub hex_fits : (i value digit : ℕ) → i < 16 → value < 16 ^ i → digit < 16 → (value * 16 + digit < 16 ^ (i + 1)) × (value * 16 + digit < 2 ^ 64)
+hex_fits i value digit h small d =
+    let below : value * 16 + digit < 16 ^ (i + 1) = omega (arith, pow_more 16 i) in
+    let top : 16 ^ (i + 1) ≤ 16 ^ 16 = pow-le-pow_right {n = 16} (omega arith) {i = i + 1} {j = 16} (omega arith) in
+    (below, omega arith)

@@ -5,7 +5,7 @@ use Rattle.std.proofs.lemmas.List.{get_or_past}
 use Rattle.binfarce_text.specs.Steps.{◌>>=◌}
 use Rattle.binfarce_v0_grammar.specs.Identifiers.{identifier}
 use Rattle.binfarce_v0_grammar.specs.Forms.{stands, path_form, type_form, const_form}
-use Rattle.binfarce_v0_grammar.specs.Tree.{PathTree, TypeTree, ConstTree, Item, Items, Bindings, NoConst, Placeholder, Number, InvalidNumber, BackConst, ConstTarget, NoPath, Crate, Nested, InvalidNested, OfType, OfImpl, OfTrait, Generic, BackPath, PathTarget, NoType, Basic, Reference, InvalidReferenceType, Pointer, Slice, Array, Tuple, Function, FunctionTo, InvalidFunction, Dyn, InvalidDynType, Named, BackType, TypeTarget, LifetimeItem, TypeItem, ConstItem, TraitItem, NoItems, ItemThen, NoBindings, Binding, InvalidBinding, path_height, type_height, const_height, item_height, items_height, bindings_height, Listed, Arguments, Types, Traits}
+use Rattle.binfarce_v0_grammar.specs.Tree.{PathTree, TypeTree, ConstTree, Item, Items, Bindings, NoConst, UntypedPlaceholder, Placeholder, Value, InvalidValue, BackConst, ConstTarget, NoPath, Crate, Nested, InvalidNested, OfType, OfImpl, OfTrait, Generic, BackPath, PathTarget, NoType, Basic, Reference, InvalidReferenceType, Pointer, Slice, Array, Tuple, Function, FunctionTo, InvalidFunction, Dyn, InvalidDynType, Named, BackType, TypeTarget, LifetimeItem, TypeItem, ConstItem, TraitItem, NoItems, ItemThen, NoBindings, Binding, InvalidBinding, path_height, type_height, const_height, item_height, items_height, bindings_height, Listed, Arguments, Types, Traits}
 use Rattle.binfarce_v0_grammar.specs.Reading.{ReadsConst, ReadsPath, ReadsType, ReadsItem, ReadsItems, ReadsBindings}
 use Rattle.binfarce_v0_grammar.specs.machine.Ends.{const_end, identifier_end, bound_from, bindings_end, item_end, items_end, type_end, path_end, ends}
 use Rattle.binfarce_v0_grammar.proofs.ReadingForward.{item_forward, bound_forward}
@@ -56,9 +56,10 @@ then_is o f a e = rw e refl
 pub const_ends : (c : ConstTree) (name : List ℕ) (l at after : ℕ) → ReadsConst name c at after → const_height c ≤ l → (ends name l).constant at ≡ Some after
 unfolding ReadsConst const_end
 const_ends NoConst name l at after r h = absurd r
+const_ends UntypedPlaceholder name l at after r h = const_end_at name l at h ∙ ap const_end r
 const_ends (Placeholder type_name) name l at after r h = const_end_at name l at h ∙ ap const_end r
-const_ends (Number type_name digits) name l at after r h = const_end_at name l at h ∙ ap const_end r
-const_ends (InvalidNumber type_name) name l at after r h = absurd r
+const_ends (Value type_name value) name l at after r h = const_end_at name l at h ∙ ap const_end r
+const_ends (InvalidValue negative type_name) name l at after r h = absurd r
 const_ends (BackConst c) name l at after r h = absurd r
 const_ends (ConstTarget target) name l at after r h = const_end_at name l at h ∙ ap const_end r
 

@@ -9,8 +9,8 @@ use Rattle.binfarce_text.specs.Letters.{is_hex_digit}
 use Rattle.binfarce_text.specs.Steps.{◌>>=◌}
 use Rattle.binfarce_v0_grammar.specs.Base62.{limited, value_62, number, tagged, back_reference, hex_digits}
 use Rattle.binfarce_v0_grammar.specs.Identifiers.{UndisambiguatedIdentifier, Identifier, length_at, past, identifier_of, identifier_bytes, undisambiguated_identifier, identifier}
-use Rattle.binfarce_v0_grammar.specs.Forms.{Lifetime, NoLifetime, stands, indexed_lifetime, lifetime, basic_type, unsigned_type, abi_name, abi, path_form_by, path_form, crate_form, impl_form, path_back_form, type_form_by, type_form, reference_form, signature_form, function_form, dyn_form, type_back_form, basic_form, const_form, typed_form, digits_form, const_back_form, PathForm, NoPathForm, CrateRoot, NestedIn, InherentImpl, TraitImpl, TraitDefinition, WithArguments, BackToPath, TypeForm, NoTypeForm, BasicType, ReferenceTo, InvalidReference, PointerTo, SliceOf, ArrayOf, TupleOf, FunctionOf, InvalidAbi, DynOf, InvalidDyn, BackToType, PathType, ConstForm, NoConstForm, PlaceholderConst, DigitsConst, InvalidConst, BackToConst}
-use Rattle.binfarce_v0_grammar.specs.Tree.{PathTree, TypeTree, ConstTree, Item, Items, Bindings, NoConst, Placeholder, Number, InvalidNumber, BackConst, ConstTarget, NoPath, Crate, Nested, InvalidNested, OfType, OfImpl, OfTrait, Generic, BackPath, PathTarget, NoType, Basic, Reference, InvalidReferenceType, Pointer, Slice, Array, Tuple, Function, FunctionTo, InvalidFunction, Dyn, InvalidDynType, Named, BackType, TypeTarget, LifetimeItem, TypeItem, ConstItem, TraitItem, NoItems, ItemThen, NoBindings, Binding, InvalidBinding, Listed, Arguments, Types, Traits}
+use Rattle.binfarce_v0_grammar.specs.Forms.{Lifetime, NoLifetime, stands, indexed_lifetime, lifetime, basic_type, const_type, has_sign, value_of, const_value, abi_name, abi, path_form_by, path_form, crate_form, impl_form, path_back_form, type_form_by, type_form, reference_form, signature_form, function_form, dyn_form, type_back_form, basic_form, const_form_by, const_form, typed_form, value_form, const_back_form, PathForm, NoPathForm, CrateRoot, NestedIn, InherentImpl, TraitImpl, TraitDefinition, WithArguments, BackToPath, TypeForm, NoTypeForm, BasicType, ReferenceTo, InvalidReference, PointerTo, SliceOf, ArrayOf, TupleOf, FunctionOf, InvalidAbi, DynOf, InvalidDyn, BackToType, PathType, ConstValue, ConstForm, NoConstForm, UntypedPlaceholderConst, PlaceholderConst, ValueConst, InvalidConst, BackToConst}
+use Rattle.binfarce_v0_grammar.specs.Tree.{PathTree, TypeTree, ConstTree, Item, Items, Bindings, NoConst, UntypedPlaceholder, Placeholder, Value, InvalidValue, BackConst, ConstTarget, NoPath, Crate, Nested, InvalidNested, OfType, OfImpl, OfTrait, Generic, BackPath, PathTarget, NoType, Basic, Reference, InvalidReferenceType, Pointer, Slice, Array, Tuple, Function, FunctionTo, InvalidFunction, Dyn, InvalidDynType, Named, BackType, TypeTarget, LifetimeItem, TypeItem, ConstItem, TraitItem, NoItems, ItemThen, NoBindings, Binding, InvalidBinding, Listed, Arguments, Types, Traits}
 use Rattle.binfarce_v0_grammar.specs.Reading.{ReadsConst, ReadsPath, ReadsType, ReadsItem, ReadsItems, ReadsBindings}
 
 -- whatever is answered lies at a position or after it
@@ -232,28 +232,42 @@ type_form_after name at =
 
 abbrev ConstAfter : ℕ → ConstForm → Type 0
 ConstAfter at NoConstForm = ⊤
+ConstAfter at (UntypedPlaceholderConst q) = at < q
 ConstAfter at (PlaceholderConst type_name q) = at < q
-ConstAfter at (DigitsConst type_name digits q) = at < q
-ConstAfter at (InvalidConst type_name) = ⊤
+ConstAfter at (ValueConst type_name value q) = at < q
+ConstAfter at (InvalidConst negative type_name) = ⊤
 ConstAfter at (BackToConst target q) = at < q
 
-digits_after : (at : ℕ) (type_name : List ℕ) (d : Option (List ℕ × ℕ)) → After (at + 1) d → ConstAfter at (digits_form type_name d)
-digits_after at type_name None h = tt
-digits_after at type_name (Some d) h = omega arith
+value_after : (at : ℕ) (negative : Bool) (type_name : List ℕ) (v : Option (ConstValue × ℕ)) → After (at + 1) v → ConstAfter at (value_form negative type_name v)
+value_after at negative type_name None h = tt
+value_after at negative type_name (Some v) h = omega arith
+
+const_value_after : (name : List ℕ) (letter : ℕ) (negative : Bool) (at : ℕ) → After at (const_value name letter negative at)
+unfolding const_value
+const_value_after name letter negative at =
+    let start = cond negative (at + 1) at in
+    after_then at (hex_digits name start) _ (λ d e. after_then at (value_of letter negative d.0) _ (λ v g. omega (arith, each (λ s. at ≤ s) negative (at + 1) at (omega arith) (omega arith), after_is (start + 1) _ d (hex_digits_after name start) e)))
 
 const_back_after : (at : ℕ) (b : Option (ℕ × ℕ)) → After (at + 1) b → ConstAfter at (const_back_form b)
 const_back_after at None h = tt
 const_back_after at (Some b) h = omega arith
 
-typed_after : (name : List ℕ) (at : ℕ) (type_name : Option (List ℕ)) → ConstAfter at (typed_form name (at + 1) type_name)
-typed_after name at None = tt
-typed_after name at (Some type_name) =
-    each (ConstAfter at) (eqb (get_or name (at + 1) 0) 112) (PlaceholderConst type_name (at + 1 + 1)) _ (omega arith) (digits_after at type_name (hex_digits name (at + 1)) (after_less (at + 1) (at + 1 + 1) _ (omega arith) (hex_digits_after name (at + 1))))
+typed_after : (name : List ℕ) (letter at : ℕ) (type_name : Option (List ℕ)) → ConstAfter at (typed_form name letter (at + 1) type_name)
+typed_after name letter at None = tt
+typed_after name letter at (Some type_name) =
+    let negative = has_sign name letter (at + 1) in
+    each (ConstAfter at) (eqb (get_or name (at + 1) 0) 112) (PlaceholderConst type_name (at + 1 + 1)) _ (omega arith) (value_after at negative type_name _ (const_value_after name letter negative (at + 1)))
+
+const_form_by_after : (name : List ℕ) (at tag : ℕ) → ConstAfter at (const_form_by name at tag)
+unfolding const_form_by
+const_form_by_after name at tag =
+    let C = ConstAfter at in
+    each C (eqb tag 66) _ _ (const_back_after at (back_reference name at) (back_reference_after name at)) (
+    each C (eqb tag 112) (UntypedPlaceholderConst (at + 1)) _ (omega arith) (typed_after name tag at (const_type tag)))
 
 const_form_after : (name : List ℕ) (at : ℕ) → ConstAfter at (const_form name (Some at))
 unfolding const_form
-const_form_after name at =
-    each (ConstAfter at) (eqb (get_or name at 0) 66) _ _ (const_back_after at (back_reference name at) (back_reference_after name at)) (typed_after name at (unsigned_type (get_or name at 0)))
+const_form_after name at = const_form_by_after name at (get_or name at 0)
 
 path_front : (name : List ℕ) (at : ℕ) (form : PathForm) → path_form name (Some at) ≡ form → PathAfter at form
 path_front name at form e = subst (PathAfter at) e (path_form_after name at)
@@ -269,9 +283,10 @@ const_front name at form e = subst (ConstAfter at) e (const_form_after name at)
 pub const_forward : (c : ConstTree) (name : List ℕ) (at after : ℕ) → ReadsConst name c at after → at < after
 unfolding ReadsConst
 const_forward NoConst name at after r = absurd r
+const_forward UntypedPlaceholder name at after r = const_front name at _ r
 const_forward (Placeholder type_name) name at after r = const_front name at _ r
-const_forward (Number type_name digits) name at after r = const_front name at _ r
-const_forward (InvalidNumber type_name) name at after r = absurd r
+const_forward (Value type_name value) name at after r = const_front name at _ r
+const_forward (InvalidValue negative type_name) name at after r = absurd r
 const_forward (BackConst c) name at after r = absurd r
 const_forward (ConstTarget target) name at after r = const_front name at _ r
 

@@ -2,8 +2,8 @@
 use Rattle.std.proofs.Common.{◌≡◌, ℕ, zero, suc, ◌+◌, ◌≤◌, Bool, true, false, List, Option, Some, None, cond, nat_lt, length, refl, ap, sym, subst, arith}
 use Rattle.binfarce_text.specs.Steps.{◌>>=◌}
 use Rattle.binfarce_v0_grammar.specs.Identifiers.{UndisambiguatedIdentifier, Identifier, identifier, undisambiguated_identifier}
-use Rattle.binfarce_v0_grammar.specs.Forms.{Lifetime, stands, lifetime, path_form, type_form, const_form, PathForm, NoPathForm, CrateRoot, NestedIn, InherentImpl, TraitImpl, TraitDefinition, WithArguments, BackToPath, TypeForm, NoTypeForm, BasicType, ReferenceTo, InvalidReference, PointerTo, SliceOf, ArrayOf, TupleOf, FunctionOf, InvalidAbi, DynOf, InvalidDyn, BackToType, PathType, ConstForm, NoConstForm, PlaceholderConst, DigitsConst, InvalidConst, BackToConst}
-use Rattle.binfarce_v0_grammar.specs.Tree.{PathTree, TypeTree, ConstTree, Item, Items, Bindings, Placeholder, Number, ConstTarget, Crate, Nested, OfType, OfImpl, OfTrait, Generic, PathTarget, Basic, Reference, Pointer, Slice, Array, Tuple, Function, FunctionTo, Dyn, Named, TypeTarget, LifetimeItem, TypeItem, ConstItem, TraitItem, NoItems, ItemThen, NoBindings, Binding, path_height, type_height, const_height, item_height, items_height, bindings_height, Listed, Arguments, Types, Traits}
+use Rattle.binfarce_v0_grammar.specs.Forms.{Lifetime, stands, lifetime, path_form, type_form, const_form, PathForm, NoPathForm, CrateRoot, NestedIn, InherentImpl, TraitImpl, TraitDefinition, WithArguments, BackToPath, TypeForm, NoTypeForm, BasicType, ReferenceTo, InvalidReference, PointerTo, SliceOf, ArrayOf, TupleOf, FunctionOf, InvalidAbi, DynOf, InvalidDyn, BackToType, PathType, ConstForm, NoConstForm, UntypedPlaceholderConst, PlaceholderConst, ValueConst, InvalidConst, BackToConst}
+use Rattle.binfarce_v0_grammar.specs.Tree.{PathTree, TypeTree, ConstTree, Item, Items, Bindings, UntypedPlaceholder, Placeholder, Value, ConstTarget, Crate, Nested, OfType, OfImpl, OfTrait, Generic, PathTarget, Basic, Reference, Pointer, Slice, Array, Tuple, Function, FunctionTo, Dyn, Named, TypeTarget, LifetimeItem, TypeItem, ConstItem, TraitItem, NoItems, ItemThen, NoBindings, Binding, path_height, type_height, const_height, item_height, items_height, bindings_height, Listed, Arguments, Types, Traits}
 use Rattle.binfarce_v0_grammar.specs.Reading.{ReadsConst, ReadsPath, ReadsType, ReadsItem, ReadsItems, ReadsBindings}
 use Rattle.binfarce_v0_grammar.specs.machine.Ends.{Ends, const_end, identifier_end, lifetime_end, bound_from, bindings_end, argument_end, item_end, items_end, list_end, return_end, type_end, path_end, ends}
 
@@ -55,11 +55,13 @@ between (Some mid) f after e = record { mid = mid; first = refl; second = e }
 pub const_read : (name : List ℕ) (left at after : ℕ) (form : ConstForm) → const_form name (Some at) ≡ form → const_end form ≡ Some after → ConstRead name (suc left) at after
 unfolding const_end ReadsConst
 const_read name left at after NoConstForm e p = cc
+const_read name left at after (UntypedPlaceholderConst q) e p =
+    let q_is : q ≡ after = cc in record { tree = UntypedPlaceholder; reads = rw (← q_is) e; height = omega arith }
 const_read name left at after (PlaceholderConst type_name q) e p =
     let q_is : q ≡ after = cc in record { tree = Placeholder type_name; reads = rw (← q_is) e; height = omega arith }
-const_read name left at after (DigitsConst type_name digits q) e p =
-    let q_is : q ≡ after = cc in record { tree = Number type_name digits; reads = rw (← q_is) e; height = omega arith }
-const_read name left at after (InvalidConst type_name) e p = cc
+const_read name left at after (ValueConst type_name value q) e p =
+    let q_is : q ≡ after = cc in record { tree = Value type_name value; reads = rw (← q_is) e; height = omega arith }
+const_read name left at after (InvalidConst negative type_name) e p = cc
 const_read name left at after (BackToConst target q) e p =
     let q_is : q ≡ after = cc in record { tree = ConstTarget target; reads = rw (← q_is) e; height = omega arith }
 

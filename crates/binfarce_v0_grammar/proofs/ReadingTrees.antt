@@ -2,8 +2,8 @@
 use Rattle.std.proofs.Common.{◌≡◌, ℕ, zero, suc, ◌+◌, ◌-◌, ◌≤◌, ◌<◌, List, Option, Some, None, max, if◌then◌else◌, length, refl, ap, sym, ◌∙◌, arith}
 use Rattle.binfarce_text.specs.Steps.{◌>>=◌}
 use Rattle.binfarce_v0_grammar.specs.Identifiers.{identifier, undisambiguated_identifier}
-use Rattle.binfarce_v0_grammar.specs.Forms.{stands, lifetime, path_form, type_form, const_form, PathForm, NoPathForm, CrateRoot, NestedIn, InherentImpl, TraitImpl, TraitDefinition, WithArguments, BackToPath, TypeForm, NoTypeForm, BasicType, ReferenceTo, InvalidReference, PointerTo, SliceOf, ArrayOf, TupleOf, FunctionOf, InvalidAbi, DynOf, InvalidDyn, BackToType, PathType, ConstForm, NoConstForm, PlaceholderConst, DigitsConst, InvalidConst, BackToConst}
-use Rattle.binfarce_v0_grammar.specs.Tree.{PathTree, TypeTree, ConstTree, Item, Items, Bindings, NoConst, Placeholder, Number, InvalidNumber, BackConst, ConstTarget, NoPath, Crate, Nested, InvalidNested, OfType, OfImpl, OfTrait, Generic, BackPath, PathTarget, NoType, Basic, Reference, InvalidReferenceType, Pointer, Slice, Array, Tuple, Function, FunctionTo, InvalidFunction, Dyn, InvalidDynType, Named, BackType, TypeTarget, LifetimeItem, TypeItem, ConstItem, TraitItem, NoItems, ItemThen, NoBindings, Binding, InvalidBinding, path_height, type_height, const_height, item_height, items_height, bindings_height, Listed, Arguments, Types, Traits}
+use Rattle.binfarce_v0_grammar.specs.Forms.{stands, lifetime, path_form, type_form, const_form, PathForm, NoPathForm, CrateRoot, NestedIn, InherentImpl, TraitImpl, TraitDefinition, WithArguments, BackToPath, TypeForm, NoTypeForm, BasicType, ReferenceTo, InvalidReference, PointerTo, SliceOf, ArrayOf, TupleOf, FunctionOf, InvalidAbi, DynOf, InvalidDyn, BackToType, PathType, ConstForm, NoConstForm, UntypedPlaceholderConst, PlaceholderConst, ValueConst, InvalidConst, BackToConst}
+use Rattle.binfarce_v0_grammar.specs.Tree.{PathTree, TypeTree, ConstTree, Item, Items, Bindings, NoConst, UntypedPlaceholder, Placeholder, Value, InvalidValue, BackConst, ConstTarget, NoPath, Crate, Nested, InvalidNested, OfType, OfImpl, OfTrait, Generic, BackPath, PathTarget, NoType, Basic, Reference, InvalidReferenceType, Pointer, Slice, Array, Tuple, Function, FunctionTo, InvalidFunction, Dyn, InvalidDynType, Named, BackType, TypeTarget, LifetimeItem, TypeItem, ConstItem, TraitItem, NoItems, ItemThen, NoBindings, Binding, InvalidBinding, path_height, type_height, const_height, item_height, items_height, bindings_height, Listed, Arguments, Types, Traits}
 use Rattle.binfarce_v0_grammar.specs.Reading.{ReadsConst, ReadsPath, ReadsType, ReadsItem, ReadsItems, ReadsBindings}
 use Rattle.binfarce_v0_grammar.proofs.ReadingComplete.{if_so, if_not, suc-one, within, items_within}
 use Rattle.binfarce_v0_grammar.proofs.ReadingForward.{item_forward, bound_forward}
@@ -16,9 +16,10 @@ record Trees : Type 0 where
 
 const_tree : ConstForm → Option (ConstTree × ℕ)
 const_tree NoConstForm = None
+const_tree (UntypedPlaceholderConst q) = Some (UntypedPlaceholder, q)
 const_tree (PlaceholderConst type_name q) = Some (Placeholder type_name, q)
-const_tree (DigitsConst type_name digits q) = Some (Number type_name digits, q)
-const_tree (InvalidConst type_name) = None
+const_tree (ValueConst type_name value q) = Some (Value type_name value, q)
+const_tree (InvalidConst negative type_name) = None
 const_tree (BackToConst target q) = Some (ConstTarget target, q)
 
 abbrev made : {A B : Type 0} → Option (A × ℕ) → (A → B) → Option (B × ℕ)
@@ -99,9 +100,10 @@ on o f a e = rw e refl
 const_found : (c : ConstTree) (name : List ℕ) (l at after : ℕ) → ReadsConst name c at after → const_height c ≤ l → (trees name l).constant at ≡ Some (c, after)
 unfolding ReadsConst const_tree
 const_found NoConst name l at after r h = absurd r
+const_found UntypedPlaceholder name l at after r h = const_at name l at h ∙ ap const_tree r
 const_found (Placeholder type_name) name l at after r h = const_at name l at h ∙ ap const_tree r
-const_found (Number type_name digits) name l at after r h = const_at name l at h ∙ ap const_tree r
-const_found (InvalidNumber type_name) name l at after r h = absurd r
+const_found (Value type_name value) name l at after r h = const_at name l at h ∙ ap const_tree r
+const_found (InvalidValue negative type_name) name l at after r h = absurd r
 const_found (BackConst c) name l at after r h = absurd r
 const_found (ConstTarget target) name l at after r h = const_at name l at h ∙ ap const_tree r
 

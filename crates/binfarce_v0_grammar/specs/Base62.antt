@@ -1,7 +1,7 @@
 -- Numbers of a v0 name (RFC 2603, "Base-62-Numbers"): from a name and a position to the value and the position after it.
-use Rattle.std.specs.Prelude.{ℕ, ◌+◌, ◌-◌, ◌*◌, ◌^◌, List, Option, Some, None, Bool, if◌then◌else◌, ◌==◌, nat_lt, slice_index, drop, length, fold}
+use Rattle.std.specs.Prelude.{ℕ, ◌+◌, ◌-◌, ◌*◌, ◌^◌, List, Option, Some, None, Bool, if◌then◌else◌, ◌==◌, nat_lt, nat_le, slice_index, drop, length, fold}
 use Rattle.std.specs.List.{take_while}
-use Rattle.std.specs.Char.{is_ascii_alphanumeric, is_ascii_digit, is_ascii_lowercase}
+use Rattle.std.specs.Char.{is_ascii_alphanumeric, is_ascii_digit, is_ascii_lowercase, digit_value}
 use Rattle.binfarce_text.specs.Letters.{'0', 'a', 'A', '_', is_hex_digit}
 use Rattle.binfarce_text.specs.Steps.{◌>>=◌}
 
@@ -36,9 +36,18 @@ unfoldable pub back_reference : List ℕ → ℕ → Option (ℕ × ℕ)
 back_reference name at =
     number name (at + 1) >>= λ r. (if nat_lt r.0 at then Some r else None)
 
--- <const-data> = {<0-9a-f>} "_": the longest run of digits, and a "_" after it
+-- {<0-9a-f>} "_": the longest run of digits, and a "_" after it
 unfoldable pub hex_digits : List ℕ → ℕ → Option (List ℕ × ℕ)
 hex_digits name at =
     let digits = take_while is_hex_digit (drop at name) in
     let end = at + length digits in
     if slice_index name end == '_' then Some (digits, end + 1) else None
+
+-- the value of a hexadecimal digit
+abbrev pub hex_digit : ℕ → ℕ
+hex_digit c = if is_hex_digit c then digit_value c else 0
+
+-- the number that hexadecimal digits write, where they are at most 16: it is below 2^64
+unfoldable pub hex_number : List ℕ → Option ℕ
+hex_number digits =
+    if nat_le (length digits) 16 then Some (fold (λ n c. n * 16 + hex_digit c) 0 digits) else None

@@ -1,10 +1,11 @@
 -- Which form of the grammar stands at a position of a v0 name: the front of each row, up to where it asks for a path, a type or a const
 -- (RFC 2603, "Syntax of mangled names"). A position is None after a fault, where no form stands.
-use Rattle.std.specs.Prelude.{ℕ, ◌+◌, List, [], ◌∷◌, Option, Some, None, Bool, true, false, ◌||◌, if◌then◌else◌, ◌==◌, nat_lt, slice_index, length, codes}
+use Rattle.std.specs.Prelude.{ℕ, ◌+◌, List, [], ◌∷◌, Option, Some, None, Bool, true, false, ◌||◌, ◌&&◌, if◌then◌else◌, ◌==◌, nat_lt, slice_index, length, codes}
 use Rattle.std.specs.Char.{is_ascii_alphabetic}
 use Rattle.binfarce_text.specs.Letters.{'A', 'B', 'C', 'D', 'F', 'G', 'I', 'K', 'L', 'M', 'N', 'O', 'P', 'Q', 'R', 'S', 'T', 'U', 'X', 'Y', 'a', 'b', 'c', 'd', 'e', 'f', 'h', 'i', 'j', 'l', 'm', 'n', 'o', 'p', 's', 't', 'u', 'v', 'x', 'y', 'z'}
+use Rattle.binfarce_text.specs.Characters.{is_scalar}
 use Rattle.binfarce_text.specs.Steps.{◌>>=◌}
-use Rattle.binfarce_v0_grammar.specs.Base62.{number, tagged, back_reference, hex_digits}
+use Rattle.binfarce_v0_grammar.specs.Base62.{number, tagged, back_reference, hex_digits, hex_number}
 use Rattle.binfarce_v0_grammar.specs.Identifiers.{UndisambiguatedIdentifier, undisambiguated_identifier, Identifier, identifier, past}
 
 -- a byte stands at a position
@@ -217,16 +218,26 @@ type_form name None = NoTypeForm
 type_form name (Some at) =
     if nat_lt at (length name) then basic_form (basic_type (slice_index name at)) at (type_form_by name at (slice_index name at)) else NoTypeForm
 
--- <const> of an unsigned integer
+-- the value of a const
+pub data ConstValue : Type 0 where
+  -- an integer: whether a sign stands before its digits, and its hexadecimal digits
+  Integer : (negative : Bool) (digits : List ℕ) → ConstValue
+  Boolean : (value : Bool) → ConstValue
+  -- a char, by its code point
+  Character : (code_point : ℕ) → ConstValue
+
+-- <const>
 pub data ConstForm : Type 0 where
   -- another type, or a back reference that is invalid
   NoConstForm : ConstForm
+  -- "p"
+  UntypedPlaceholderConst : (after : ℕ) → ConstForm
   -- <type> "p"
   PlaceholderConst : (type_name : List ℕ) (after : ℕ) → ConstForm
   -- <type> <const-data>
-  DigitsConst : (type_name digits : List ℕ) (after : ℕ) → ConstForm
-  -- the same with digits that are invalid
-  InvalidConst : (type_name : List ℕ) → ConstForm
+  ValueConst : (type_name : List ℕ) (value : ConstValue) (after : ℕ) → ConstForm
+  -- the same with a value that is invalid
+  InvalidConst : (negative : Bool) (type_name : List ℕ) → ConstForm
   -- <backref>
   BackToConst : (target after : ℕ) → ConstForm
 
@@ -234,21 +245,56 @@ abbrev pub const_back_form : Option (ℕ × ℕ) → ConstForm
 const_back_form None = NoConstForm
 const_back_form (Some b) = BackToConst b.0 b.1
 
-abbrev pub digits_form : List ℕ → Option (List ℕ × ℕ) → ConstForm
-digits_form type_name None = InvalidConst type_name
-digits_form type_name (Some d) = DigitsConst type_name d.0 d.1
+-- the types of unsigned integers, and of signed ones
+abbrev pub is_unsigned : ℕ → Bool
+is_unsigned c = c == 'h' || (c == 't' || (c == 'm' || (c == 'y' || (c == 'o' || c == 'j'))))
 
--- the types of unsigned integers
-unfoldable pub unsigned_type : ℕ → Option (List ℕ)
-unsigned_type c =
-    if c == 'h' || (c == 't' || (c == 'm' || (c == 'y' || (c == 'o' || c == 'j')))) then basic_type c else None
+abbrev pub is_signed : ℕ → Bool
+is_signed c = c == 'a' || (c == 's' || (c == 'l' || (c == 'x' || (c == 'n' || c == 'i'))))
 
-abbrev pub typed_form : List ℕ → ℕ → Option (List ℕ) → ConstForm
-typed_form name at None = NoConstForm
-typed_form name at (Some type_name) =
-    if slice_index name at == 'p' then PlaceholderConst type_name (at + 1) else digits_form type_name (hex_digits name at)
+-- the types of consts: integers, bool and char
+unfoldable pub const_type : ℕ → Option (List ℕ)
+const_type c = if is_unsigned c || (is_signed c || (c == 'b' || c == 'c')) then basic_type c else None
+
+-- "n" is the sign of a signed integer
+unfoldable pub has_sign : List ℕ → ℕ → ℕ → Bool
+has_sign name letter at = is_signed letter && slice_index name at == 'n'
+
+-- 0 is false, and 1 is true
+abbrev pub boolean_of : ℕ → Option ConstValue
+boolean_of n = if n == 0 then Some (Boolean false) else (if n == 1 then Some (Boolean true) else None)
+
+-- a char is a Unicode scalar value
+abbrev pub character_of : ℕ → Option ConstValue
+character_of n = if is_scalar n then Some (Character n) else None
+
+-- what hexadecimal digits write as a value of a type
+unfoldable pub value_of : ℕ → Bool → List ℕ → Option ConstValue
+value_of letter negative digits =
+    if letter == 'b' then (hex_number digits >>= boolean_of) else (
+    if letter == 'c' then (hex_number digits >>= character_of) else Some (Integer negative digits))
+
+-- <const-data> = ["n"] {<0-9a-f>} "_"
+unfoldable pub const_value : List ℕ → ℕ → Bool → ℕ → Option (ConstValue × ℕ)
+const_value name letter negative at =
+    hex_digits name (if negative then at + 1 else at) >>= λ d. (value_of letter negative d.0 >>= λ v. Some (v, d.1))
+
+abbrev pub value_form : Bool → List ℕ → Option (ConstValue × ℕ) → ConstForm
+value_form negative type_name None = InvalidConst negative type_name
+value_form negative type_name (Some v) = ValueConst type_name v.0 v.1
+
+-- a const of a type, after the type's letter
+abbrev pub typed_form : List ℕ → ℕ → ℕ → Option (List ℕ) → ConstForm
+typed_form name letter at None = NoConstForm
+typed_form name letter at (Some type_name) =
+    if slice_index name at == 'p' then PlaceholderConst type_name (at + 1) else value_form (has_sign name letter at) type_name (const_value name letter (has_sign name letter at) at)
+
+-- the form that a const's first byte announces
+unfoldable pub const_form_by : List ℕ → ℕ → ℕ → ConstForm
+const_form_by name at tag =
+    if tag == 'B' then const_back_form (back_reference name at) else (
+    if tag == 'p' then UntypedPlaceholderConst (at + 1) else typed_form name tag (at + 1) (const_type tag))
 
 unfoldable pub const_form : List ℕ → Option ℕ → ConstForm
 const_form name None = NoConstForm
-const_form name (Some at) =
-    if slice_index name at == 'B' then const_back_form (back_reference name at) else typed_form name (at + 1) (unsigned_type (slice_index name at))
+const_form name (Some at) = const_form_by name at (slice_index name at)

@@ -1,17 +1,21 @@
 -- What a v0 name means: trees of paths, types and consts, and what is counted and shown of a tree. No byte of a name is seen here.
-use Rattle.std.specs.Prelude.{ℕ, zero, suc, ◌+◌, ◌-◌, ◌*◌, List, [], ◌∷◌, ◌++◌, Option, Some, None, Bool, true, false, if◌then◌else◌, nat_le, length, codes, max, map, ◌==◌, fold}
-use Rattle.std.specs.Char.{is_ascii_uppercase, digit_value}
+use Rattle.std.specs.Prelude.{ℕ, zero, suc, ◌+◌, ◌-◌, List, [], ◌∷◌, ◌++◌, Option, Some, None, Bool, true, false, not, ◌&&◌, ◌||◌, if◌then◌else◌, nat_le, codes, max, map, ◌==◌}
+use Rattle.std.specs.Char.{is_ascii_uppercase}
 use Rattle.std.specs.Fmt.{decimal, digits}
-use Rattle.binfarce_text.specs.Letters.{'a', 'C', 'S', '_', '-', is_hex_digit}
+use Rattle.std.specs.Int.{is_in_range}
+use Rattle.binfarce_text.specs.Letters.{'a', 'C', 'S', '_', '-'}
+use Rattle.binfarce_v0_grammar.specs.Base62.{hex_number}
 use Rattle.binfarce_v0_grammar.specs.Identifiers.{UndisambiguatedIdentifier, Identifier, identifier_text, is_unnamed}
-use Rattle.binfarce_v0_grammar.specs.Forms.{Lifetime, NoLifetime, InvalidLifetime, IndexedLifetime, Signature}
+use Rattle.binfarce_v0_grammar.specs.Forms.{Lifetime, NoLifetime, InvalidLifetime, IndexedLifetime, Signature, ConstValue, Integer, Boolean, Character}
 
 pub data ConstTree : Type 0 where
   -- what is invalid
   NoConst : ConstTree
+  UntypedPlaceholder : ConstTree
   Placeholder : (type_name : List ℕ) → ConstTree
-  Number : (type_name digits : List ℕ) → ConstTree
-  InvalidNumber : (type_name : List ℕ) → ConstTree
+  Value : (type_name : List ℕ) (value : ConstValue) → ConstTree
+  -- a value that is invalid, and whether it has a sign
+  InvalidValue : (negative : Bool) (type_name : List ℕ) → ConstTree
   -- what a back reference stands for, in an unfolding
   BackConst : ConstTree → ConstTree
   -- the position that a back reference names, in a reading
@@ -327,19 +331,45 @@ abi_text (Some name) = codes "extern \"" ++ (map (λ c. if c == '_' then '-' els
 unfoldable pub signature_text : Signature → List ℕ
 signature_text s = mutable_text s.is_unsafe (codes "unsafe ") [] ++ (abi_text s.abi ++ codes "fn(")
 
--- hexadecimal digits of at most 64 bits are shown in decimal
-abbrev pub hex_digit : ℕ → ℕ
-hex_digit c = if is_hex_digit c then digit_value c else 0
+-- at most 16 hexadecimal digits are shown in decimal
+abbrev pub decimal_or : List ℕ → Option ℕ → List ℕ
+decimal_or hex None = codes "0x" ++ hex
+decimal_or hex (Some n) = decimal n
 
 unfoldable pub number_text : List ℕ → List ℕ
-number_text hex =
-    if nat_le (length hex) 16 then decimal (fold (λ n c. n * 16 + hex_digit c) 0 hex) else codes "0x" ++ hex
+number_text hex = decimal_or hex (hex_number hex)
+
+abbrev pub sign_text : Bool → List ℕ
+sign_text true = codes "-"
+sign_text false = []
+
+-- "'" and "\", which no name of a definition can hold
+abbrev pub quote : ℕ
+quote = 0x27
+
+abbrev pub backslash : ℕ
+backslash = 0x5C
+
+-- printable ASCII stands for itself between quotes, but for a quote and a backslash
+abbrev pub stands_for_itself : ℕ → Bool
+stands_for_itself c = is_in_range 0x20 0x7E c && not (c == quote || c == backslash)
+
+-- any other character is shown by its number in lower-case hexadecimal
+unfoldable pub character_text : ℕ → List ℕ
+character_text c = if stands_for_itself c then c ∷ [] else codes "\\u{" ++ (digits 16 false c ++ codes "}")
+
+unfoldable pub value_text : ConstValue → List ℕ
+value_text (Integer negative digits) = sign_text negative ++ number_text digits
+value_text (Boolean false) = codes "false"
+value_text (Boolean true) = codes "true"
+value_text (Character c) = codes "'" ++ (character_text c ++ codes "'")
 
 abbrev pub const_text : ConstTree → List ℕ
 const_text NoConst = codes "?"
+const_text UntypedPlaceholder = codes "_"
 const_text (Placeholder type_name) = codes "_" ++ (codes ": " ++ type_name)
-const_text (Number type_name hex) = number_text hex ++ (codes ": " ++ type_name)
-const_text (InvalidNumber type_name) = codes "?" ++ (codes ": " ++ type_name)
+const_text (Value type_name value) = value_text value ++ (codes ": " ++ type_name)
+const_text (InvalidValue negative type_name) = (sign_text negative ++ codes "?") ++ (codes ": " ++ type_name)
 const_text (BackConst c) = const_text c
 -- a position stands in readings alone, which are never shown
 const_text (ConstTarget at) = []

@@ -3,8 +3,8 @@
 -- A tree is unfolded from a position, under a depth of binders, up to the position after it.
 use Rattle.std.specs.Prelude.{◌≡◌, ℕ, ◌+◌, ◌≤◌, List, Option, Some, None, Bool, true, false, if◌then◌else◌}
 use Rattle.binfarce_text.specs.Letters.{'E', 'K', 'L', 'p', 'u'}
-use Rattle.binfarce_v0_grammar.specs.Forms.{Lifetime, NoLifetime, InvalidLifetime, IndexedLifetime, stands, after_byte, identifier_at, undisambiguated_at, lifetime, path_form, type_form, const_form, NoPathForm, CrateRoot, NestedIn, InherentImpl, TraitImpl, TraitDefinition, WithArguments, BackToPath, NoTypeForm, BasicType, ReferenceTo, InvalidReference, PointerTo, SliceOf, ArrayOf, TupleOf, FunctionOf, InvalidAbi, DynOf, InvalidDyn, BackToType, PathType, NoConstForm, PlaceholderConst, DigitsConst, InvalidConst, BackToConst}
-use Rattle.binfarce_v0_grammar.specs.Tree.{PathTree, TypeTree, ConstTree, Item, Items, Bindings, NoConst, Placeholder, Number, InvalidNumber, BackConst, ConstTarget, NoPath, Crate, Nested, InvalidNested, OfType, OfImpl, OfTrait, Generic, BackPath, PathTarget, NoType, Basic, Reference, InvalidReferenceType, Pointer, Slice, Array, Tuple, Function, FunctionTo, InvalidFunction, Dyn, InvalidDynType, Named, BackType, TypeTarget, LifetimeItem, TypeItem, ConstItem, TraitItem, NoItems, ItemThen, Listed, Arguments, Types, Traits, NoBindings, Binding, InvalidBinding, path_height, path_steps, is_announced}
+use Rattle.binfarce_v0_grammar.specs.Forms.{Lifetime, NoLifetime, InvalidLifetime, IndexedLifetime, stands, after_byte, identifier_at, undisambiguated_at, lifetime, path_form, type_form, const_form, NoPathForm, CrateRoot, NestedIn, InherentImpl, TraitImpl, TraitDefinition, WithArguments, BackToPath, NoTypeForm, BasicType, ReferenceTo, InvalidReference, PointerTo, SliceOf, ArrayOf, TupleOf, FunctionOf, InvalidAbi, DynOf, InvalidDyn, BackToType, PathType, NoConstForm, UntypedPlaceholderConst, PlaceholderConst, ValueConst, InvalidConst, BackToConst}
+use Rattle.binfarce_v0_grammar.specs.Tree.{PathTree, TypeTree, ConstTree, Item, Items, Bindings, NoConst, UntypedPlaceholder, Placeholder, Value, InvalidValue, BackConst, ConstTarget, NoPath, Crate, Nested, InvalidNested, OfType, OfImpl, OfTrait, Generic, BackPath, PathTarget, NoType, Basic, Reference, InvalidReferenceType, Pointer, Slice, Array, Tuple, Function, FunctionTo, InvalidFunction, Dyn, InvalidDynType, Named, BackType, TypeTarget, LifetimeItem, TypeItem, ConstItem, TraitItem, NoItems, ItemThen, Listed, Arguments, Types, Traits, NoBindings, Binding, InvalidBinding, path_height, path_steps, is_announced}
 use Rattle.binfarce_v0_grammar.specs.declared.limits.TheConstants.{MAX_LEVELS, MAX_STEPS}
 
 -- an index that no binder announces is a fault
@@ -26,11 +26,14 @@ list_goes_on name (Some at) = if stands name 'E' (Some at) then false else true
 
 unfoldable pub IsConst : List ℕ → ConstTree → Option ℕ → Option ℕ → Type 0
 IsConst name NoConst at after = (const_form name at ≡ NoConstForm) × (after ≡ None)
+IsConst name UntypedPlaceholder at after =
+    (q : ℕ) × (const_form name at ≡ UntypedPlaceholderConst q) × (after ≡ Some q)
 IsConst name (Placeholder type_name) at after =
     (q : ℕ) × (const_form name at ≡ PlaceholderConst type_name q) × (after ≡ Some q)
-IsConst name (Number type_name digits) at after =
-    (q : ℕ) × (const_form name at ≡ DigitsConst type_name digits q) × (after ≡ Some q)
-IsConst name (InvalidNumber type_name) at after = (const_form name at ≡ InvalidConst type_name) × (after ≡ None)
+IsConst name (Value type_name value) at after =
+    (q : ℕ) × (const_form name at ≡ ValueConst type_name value q) × (after ≡ Some q)
+IsConst name (InvalidValue negative type_name) at after =
+    (const_form name at ≡ InvalidConst negative type_name) × (after ≡ None)
 IsConst name (BackConst c) at after =
     (target : ℕ) × (q : ℕ) × (end : Option ℕ) × (const_form name at ≡ BackToConst target q) × IsConst name c (Some target) end × (after ≡ Some q)
 IsConst name (ConstTarget target) at after = ⊥

@@ -1,12 +1,12 @@
 //! The form of the grammar that stands at a position of a v0 name: the front of a row, up to where it asks for a path, a
 //! type or a const (RFC 2603, "Syntax of mangled names").
 
+mod consts;
 mod signature;
 
 ghost use Rattle.std.specs.Prelude.{◌≡◌, ◌+◌, ◌<◌, IfSome, Some, length};
 ghost use Rattle.std.specs.Option.{ForSome, option_map};
 ghost use Rattle.std.specs.Str.{IsAscii};
-ghost use Rattle.binfarce_v0_grammar.specs.Base62.{hex_digits};
 ghost use Rattle.binfarce_v0_grammar.specs.Forms.{
   nested_form,
   path_form_by,
@@ -18,19 +18,16 @@ ghost use Rattle.binfarce_v0_grammar.specs.Forms.{
   reference_form,
   type_form_by,
   type_form,
-  unsigned_type,
-  typed_form,
-  const_form,
 };
 ghost use Rattle.binfarce_v0_grammar.specs.machine.Seen.{
   path_seen,
   lifetime_seen,
   type_seen,
-  const_seen,
 };
 
-use crate::identifiers::{Identifier, identifier_at, part, undisambiguated_at};
-use crate::numbers::{back_reference, byte_at, hex_end, number, past, tagged};
+use crate::identifiers::{Identifier, identifier_at, undisambiguated_at};
+use crate::numbers::{back_reference, byte_at, number, past, tagged};
+pub use consts::{ConstForm, ConstValue, const_form};
 pub use signature::Signature;
 
 /// `<path>`, up to where it asks for a path or a type. The last number of a form is the position after it.
@@ -98,21 +95,6 @@ pub enum TypeForm<'a> {
     Path,
 }
 
-/// `<const>` of an unsigned integer. The last number of a form is the position after it.
-#[derive(Clone, Copy)]
-pub enum ConstForm<'a> {
-    /// Another type, or an invalid back reference.
-    Nothing,
-    /// `<type> "p"`, with the name of the type.
-    Placeholder(&'static str, usize),
-    /// `<type> <const-data>`, with the name of the type and the digits.
-    Digits(&'static str, &'a str, usize),
-    /// The same with invalid digits.
-    Invalid(&'static str),
-    /// `<backref>`, with the position that it names.
-    Back(usize, usize),
-}
-
 /// Where a tree is shown: a path as a value, a path as a type, and a trait, whose `<..>` its bindings may go on with.
 #[derive(Clone, Copy)]
 pub enum Position {
@@ -130,16 +112,6 @@ pub enum Listed {
     Types,
     /// `<dyn-trait>`
     Traits,
-}
-
-// `<const-data>`
-#[tactic(auto, using(crate::proofs::NumberLemmas::hex_digits_step))]
-fn hex_digits<'a>(name: &'a str, at: usize) -> Option<(&'a str, usize)>
-    requires ascii { IsAscii name.now }
-    ensures { option_map (λ d. (d.0.now, d.1)) result ≡ hex_digits name.now at }
-{
-    let end = hex_end(name.as_bytes(), at)?;
-    Some((part(name, at, end), end + 1))
 }
 
 // A nested path's namespace.
@@ -194,6 +166,7 @@ pub fn path_form<'a>(name: &'a str, at: Option<usize>) -> PathForm<'a>
 }
 
 /// The lifetime that stands at a position, and the position after it: None for an invalid one.
+#[inline(always)]
 #[tactic(auto, unfolding(crate::specs::Forms::lifetime))]
 pub fn lifetime_form(name: &[u8], at: Option<usize>) -> (Lifetime, Option<usize>)
     ensures { (lifetime_seen result.0, result.1) ≡ lifetime name.now at }
@@ -210,9 +183,10 @@ pub fn lifetime_form(name: &[u8], at: Option<usize>) -> (Lifetime, Option<usize>
     }
 }
 
-// `<basic-type>`, by its letter.
+/// `<basic-type>`, by its letter.
+#[inline(always)]
 #[tactic(auto, unfolding(crate::specs::Forms::basic_type))]
-fn basic_type(letter: u8) -> Option<&'static str>
+pub fn basic_type(letter: u8) -> Option<&'static str>
     ensures { option_map (λ n. n.now) result ≡ basic_type letter }
 {
     match letter {
@@ -262,8 +236,8 @@ fn abi<'a>(name: &'a str, at: usize) -> Option<(Option<&'a str>, usize)>
     Some((Some(name_of_abi.ascii), after))
 }
 
-// `"F"` and the front of a `<fn-sig>`.
-fn function_form<'a>(name: &'a str, binder: Option<(u64, usize)>) -> TypeForm<'a>
+/// `"F"` and the front of a `<fn-sig>`, after its binder.
+pub fn function_form<'a>(name: &'a str, binder: Option<(u64, usize)>) -> TypeForm<'a>
     requires ascii { IsAscii name.now }
     ensures { type_seen result ≡ function_form name.now binder }
 {
@@ -341,54 +315,5 @@ pub fn type_form<'a>(name: &'a str, at: Option<usize>) -> TypeForm<'a>
     match basic_type(tag) {
         Some(text) => TypeForm::Basic(text, at + 1),
         None => type_form_by(name, at, tag),
-    }
-}
-
-// The types of unsigned integers.
-#[tactic(auto, unfolding(crate::specs::Forms::unsigned_type))]
-fn unsigned_type(letter: u8) -> Option<&'static str>
-    ensures value { option_map (λ n. n.now) result ≡ unsigned_type letter }
-    ensures letter { IfSome result (λ _. 0 < letter) }
-{
-    match letter {
-        b'h' | b't' | b'm' | b'y' | b'o' | b'j' => basic_type(letter),
-        _ => None,
-    }
-}
-
-// The value of a const of a type.
-fn typed_form<'a>(name: &'a str, at: usize, type_name: &'static str) -> ConstForm<'a>
-    requires ascii { IsAscii name.now }
-    ensures { const_seen result ≡ typed_form name.now at (Some type_name.now) }
-{
-    if byte_at(name.as_bytes(), at) == b'p' {
-        return ConstForm::Placeholder(type_name, at + 1);
-    }
-    match hex_digits(name, at) {
-        Some((digits, after)) => ConstForm::Digits(type_name, digits, after),
-        None => ConstForm::Invalid(type_name),
-    }
-}
-
-/// The form of a const that stands at a position, where there is one.
-#[tactic(auto, unfolding(crate::specs::Forms::const_form))]
-pub fn const_form<'a>(name: &'a str, at: Option<usize>) -> ConstForm<'a>
-    requires ascii { IsAscii name.now }
-    ensures { const_seen result ≡ const_form name.now at }
-{
-    let Some(at) = at else {
-        return ConstForm::Nothing;
-    };
-    let bytes = name.as_bytes();
-    let letter = byte_at(bytes, at);
-    if letter == b'B' {
-        return match back_reference(bytes, at) {
-            Some((target, after)) => ConstForm::Back(target, after),
-            None => ConstForm::Nothing,
-        };
-    }
-    match unsigned_type(letter) {
-        Some(type_name) => typed_form(name, at + 1, type_name),
-        None => ConstForm::Nothing,
     }
 }

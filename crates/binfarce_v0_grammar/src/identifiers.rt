@@ -10,9 +10,13 @@ ghost use Rattle.binfarce_v0_grammar.specs.Identifiers.{
   undisambiguated_identifier,
   identifier,
 };
-ghost use Rattle.binfarce_v0_grammar.specs.machine.Seen.{undisambiguated_seen, identifier_seen};
+ghost use Rattle.binfarce_v0_grammar.specs.machine.Seen.{
+  undisambiguated_seen,
+  identifier_seen,
+  without_disambiguator,
+};
 
-use crate::numbers::{byte_at, length_at, past, tagged};
+use crate::numbers::{byte_at, length_at, past, skip_tagged, tagged};
 
 /// `<undisambiguated-identifier>`: its ASCII part, and its Punycode part. Both are parts of the name: nothing is copied.
 #[derive(Clone, Copy)]
@@ -43,6 +47,7 @@ fn punycode_start(bytes: &[u8]) -> usize
 }
 
 /// The part of an ASCII text between two positions.
+#[inline(always)]
 #[tactic(auto, using(crate::proofs::TextLemmas::ascii_parts))]
 pub fn part(text: &str, start: usize, end: usize) -> &str
     requires ascii { IsAscii text.now }
@@ -55,6 +60,7 @@ pub fn part(text: &str, start: usize, end: usize) -> &str
 }
 
 // The bytes of an identifier.
+#[inline(always)]
 #[tactic(auto, using(crate::proofs::TextLemmas::identifier_split, crate::proofs::TextLemmas::identifier_unsplit), unfolding(crate::specs::Identifiers::identifier_of))]
 fn identifier_of<'a>(is_punycode: bool, text: &'a str) -> Option<UndisambiguatedIdentifier<'a>>
     requires { IsAscii text.now }
@@ -77,6 +83,7 @@ fn identifier_of<'a>(is_punycode: bool, text: &'a str) -> Option<Undisambiguated
 }
 
 // As many bytes of a name as an identifier's length says.
+#[inline(always)]
 #[tactic(auto, unfolding(crate::specs::Identifiers::identifier_bytes))]
 fn identifier_bytes<'a>(
     name: &'a str,
@@ -100,6 +107,7 @@ fn identifier_bytes<'a>(
 ///
 /// None where no number stands there, where the name ends before as many bytes as it says, and where a Punycode identifier
 /// has no Punycode.
+#[inline(always)]
 #[tactic(auto, unfolding(crate::specs::Identifiers::undisambiguated_identifier))]
 pub fn undisambiguated_at<'a>(
     name: &'a str,
@@ -129,4 +137,19 @@ pub fn identifier_at<'a>(name: &'a str, at: usize) -> Option<(Identifier<'a>, us
         name: undisambiguated,
     };
     Some((identifier, after))
+}
+
+/// The undisambiguated identifier of the `<identifier>` at a position, and the position after it: the disambiguator is
+/// checked and not kept. None where either is invalid.
+#[inline(always)]
+#[tactic(auto, using(crate::proofs::SkipLemmas::identifier_name))]
+pub fn identifier_name_at<'a>(
+    name: &'a str,
+    at: usize,
+) -> Option<(UndisambiguatedIdentifier<'a>, usize)>
+    requires ascii { IsAscii name.now }
+    ensures { option_map (λ i. (undisambiguated_seen i.0, i.1)) result ≡ without_disambiguator (identifier name.now at) }
+{
+    let start = skip_tagged(name.as_bytes(), b's', at)?;
+    undisambiguated_at(name, start)
 }

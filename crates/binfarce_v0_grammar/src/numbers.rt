@@ -1,14 +1,18 @@
 //! Numbers of a v0 name (RFC 2603, "Base-62-Numbers"): from a position to the value and the position after it. A number is
 //! below 2^64, and one that isn't is invalid.
 
-ghost use Rattle.std.specs.Prelude.{◌≡◌, ◌+◌, ◌-◌, ◌*◌, ◌^◌, ◌<◌, ◌≤◌, IfSome, MatchOption, SomeIff, drop, length, slice_index, true};
+ghost use Rattle.std.specs.Prelude.{◌≡◌, ◌+◌, ◌-◌, ◌*◌, ◌^◌, ◌<◌, ◌≤◌, IfSome, IsTrue, MatchOption, SomeIff, drop, length, slice_index, take, true};
 ghost use Rattle.std.specs.Char.{is_ascii_alphanumeric, is_ascii_digit};
+ghost use Rattle.std.specs.List.{prefix_len};
 ghost use Rattle.std.specs.Option.{option_map};
-ghost use Rattle.binfarce_v0_grammar.specs.Base62.{digit_62, number, tagged, back_reference};
+ghost use Rattle.binfarce_v0_grammar.specs.Base62.{digit_62, value_62, number, tagged, back_reference, hex_digit, hex_number};
 ghost use Rattle.binfarce_v0_grammar.specs.Identifiers.{length_at, past};
 ghost use Rattle.binfarce_v0_grammar.specs.machine.Numbers.{number_from, length_from, hex_length};
 
+use binfarce_text::digits::hex_value;
+
 /// The byte at a position, and 0 from the end on.
+#[inline(always)]
 pub fn byte_at(name: &[u8], at: usize) -> u8
     ensures value { result ≡ slice_index name.now at }
     ensures within { 0 < result → at < length name.now }
@@ -17,6 +21,7 @@ pub fn byte_at(name: &[u8], at: usize) -> u8
 }
 
 /// The position after a byte that may stand at a position, and else that position.
+#[inline(always)]
 pub fn past(name: &[u8], byte: u8, at: usize) -> usize
     requires { 0 < byte }
     ensures { result ≡ past name.now byte at }
@@ -29,6 +34,7 @@ pub fn past(name: &[u8], byte: u8, at: usize) -> usize
 }
 
 // The value of a base-62 digit.
+#[inline(always)]
 #[tactic(auto, unfolding(crate::specs::Base62::digit_62))]
 fn digit_62(c: u8) -> Option<u8>
     ensures { SomeIff result (is_ascii_alphanumeric c ≡ true) (digit_62 c) }
@@ -42,6 +48,7 @@ fn digit_62(c: u8) -> Option<u8>
 }
 
 // A number with one more digit after it, where it is below 2^64.
+#[inline(always)]
 fn with_digit(worth: u64, base: u64, digit: u8) -> Option<u64>
     ensures { MatchOption result (2 ^ 64 ≤ worth * base + digit) (λ v. v ≡ worth * base + digit) }
 {
@@ -49,6 +56,7 @@ fn with_digit(worth: u64, base: u64, digit: u8) -> Option<u64>
 }
 
 // Base-62 digits up to a `_`: one more than what they write.
+#[inline(always)]
 #[tactic(auto, using(crate::proofs::NumberLemmas::number_from_step, crate::proofs::NumberLemmas::number_from_large, crate::proofs::NumberLemmas::number_from_over))]
 fn digits_62(name: &[u8], start: usize) -> Option<(u64, usize)>
     ensures { result ≡ number_from (drop start name.now) 0 start }
@@ -66,6 +74,7 @@ fn digits_62(name: &[u8], start: usize) -> Option<(u64, usize)>
 }
 
 /// `<base-62-number>` at a position. None where it is invalid.
+#[inline(always)]
 #[tactic(auto, using(crate::proofs::NumberLemmas::number_step))]
 pub fn number(name: &[u8], at: usize) -> Option<(u64, usize)>
     ensures { result ≡ number name.now at }
@@ -79,6 +88,7 @@ pub fn number(name: &[u8], at: usize) -> Option<(u64, usize)>
 
 /// A number after a tag, as a disambiguator after `s` or a binder after `G`: 0 where the tag doesn't stand there, and else
 /// one more than the number. None where the number is invalid.
+#[inline(always)]
 #[tactic(auto, unfolding(crate::specs::Base62::tagged))]
 pub fn tagged(name: &[u8], tag: u8, at: usize) -> Option<(u64, usize)>
     requires { 0 < tag }
@@ -92,8 +102,67 @@ pub fn tagged(name: &[u8], tag: u8, at: usize) -> Option<(u64, usize)>
     }
 }
 
+// The position after the longest run of base-62 digits from a position on.
+#[inline(always)]
+fn digits_end(name: &[u8], start: usize) -> usize
+    requires { start ≤ length name.now }
+    ensures value { result ≡ start + prefix_len is_ascii_alphanumeric (drop start name.now) }
+    ensures within { (start ≤ result) × (result ≤ length name.now) }
+{
+    let mut end = start;
+    while end < name.len() && name[end].is_ascii_alphanumeric() {
+        end += 1;
+    }
+    end
+}
+
+// Whether two digits are worth less than 1362. Below 2^64 - 2 is then what they write with nine more after them.
+#[inline(always)]
+fn are_small(first: u8, second: u8) -> bool
+    ensures { IsTrue result → digit_62 first * 62 + digit_62 second < 1362 }
+{
+    match (digit_62(first), digit_62(second)) {
+        (Some(first), Some(second)) => u32::from(first) * 62 + u32::from(second) < 1362,
+        _ => false,
+    }
+}
+
+// Whether the digits from `start` to `end` write a number below 2^64 - 2, as far as their count and the first two tell.
+#[inline(always)]
+fn write_small(name: &[u8], start: usize, end: usize) -> bool
+    requires run { end ≡ start + prefix_len is_ascii_alphanumeric (drop start name.now) }
+    requires within { end ≤ length name.now }
+    ensures { IsTrue result → value_62 (take (prefix_len is_ascii_alphanumeric (drop start name.now)) (drop start name.now)) < 2 ^ 64 - 2 }
+{
+    let count = end - start;
+    count <= 10 || (count == 11 && are_small(name[start], name[start + 1]))
+}
+
+/// The position after what `tagged` reads, whose digits are checked and decoded only where they may write too much.
+#[inline(always)]
+#[tactic(auto, using(crate::proofs::SkipLemmas::skips_nothing, crate::proofs::SkipLemmas::skips_small))]
+pub fn skip_tagged(name: &[u8], tag: u8, at: usize) -> Option<usize>
+    requires { 0 < tag }
+    ensures { result ≡ option_map (λ r. r.1) (tagged name.now tag at) }
+{
+    if byte_at(name, at) != tag {
+        return Some(at);
+    }
+    let end = digits_end(name, at + 1);
+    if !write_small(name, at + 1, end) {
+        let (_, after) = tagged(name, tag, at)?;
+        return Some(after);
+    }
+    if byte_at(name, end) == b'_' {
+        Some(end + 1)
+    } else {
+        None
+    }
+}
+
 /// `<backref>`, with its `B` at `at`: the position that it names, and the position after it. None where its number is
 /// invalid or names no position before the `B`.
+#[inline(always)]
 #[tactic(auto, unfolding(crate::specs::Base62::back_reference))]
 pub fn back_reference(name: &[u8], at: usize) -> Option<(usize, usize)>
     requires { at < length name.now }
@@ -109,6 +178,7 @@ pub fn back_reference(name: &[u8], at: usize) -> Option<(usize, usize)>
 }
 
 // The value of a decimal digit.
+#[inline(always)]
 fn decimal_digit(c: u8) -> Option<u8>
     ensures { SomeIff result (is_ascii_digit c ≡ true) (c - 48) }
 {
@@ -119,6 +189,7 @@ fn decimal_digit(c: u8) -> Option<u8>
 }
 
 // The longest run of decimal digits.
+#[inline(always)]
 #[tactic(auto, using(crate::proofs::NumberLemmas::length_from_step, crate::proofs::NumberLemmas::length_from_large))]
 fn digits_10(name: &[u8], start: usize) -> Option<(u64, usize)>
     ensures { result ≡ length_from (drop start name.now) 0 start }
@@ -136,6 +207,7 @@ fn digits_10(name: &[u8], start: usize) -> Option<(u64, usize)>
 }
 
 /// `<decimal-number>` at a position: a `0` alone, or the longest run of digits. None where it is invalid.
+#[inline(always)]
 #[tactic(auto, using(crate::proofs::NumberLemmas::length_step))]
 pub fn length_at(name: &[u8], at: usize) -> Option<(u64, usize)>
     ensures { result ≡ length_at name.now at }
@@ -161,4 +233,30 @@ pub fn hex_end(name: &[u8], start: usize) -> Option<usize>
         }
     }
     None
+}
+
+// The value of a hexadecimal digit.
+fn hex_digit(c: u8) -> u64
+    ensures value { result ≡ hex_digit c }
+    ensures small { result < 16 }
+{
+    match hex_value(c) {
+        Some(value) => u64::from(value),
+        None => 0,
+    }
+}
+
+/// The number that hexadecimal digits write. None for more than 16 digits.
+#[tactic(auto, using(crate::proofs::NumberLemmas::hex_fits), unfolding(crate::specs::Base62::hex_number))]
+pub fn hex_number(digits: &[u8]) -> Option<u64>
+    ensures { result ≡ hex_number digits.now }
+{
+    if digits.len() > 16 {
+        return None;
+    }
+    let mut value: u64 = 0;
+    for c in digits {
+        value = value * 16 + hex_digit(*c);
+    }
+    Some(value)
 }

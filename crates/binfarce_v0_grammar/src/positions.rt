@@ -10,6 +10,7 @@ use crate::forms::Lifetime;
 use crate::numbers::byte_at;
 
 /// The position after a byte. None where the byte doesn't stand there.
+#[inline(always)]
 pub fn eat(name: &[u8], byte: u8, at: Option<usize>) -> Option<usize>
     requires { 0 < byte }
     ensures { MatchOption result (stands name.now byte at ≡ false) (λ after. (stands name.now byte at ≡ true) × (after_byte at ≡ Some after)) }
@@ -23,6 +24,7 @@ pub fn eat(name: &[u8], byte: u8, at: Option<usize>) -> Option<usize>
 }
 
 /// The position after a list, where the list ends there: at an `E`, and after a fault.
+#[inline(always)]
 pub fn list_end(name: &[u8], at: Option<usize>) -> Option<Option<usize>>
     ensures { MatchOption result (list_goes_on name.now at ≡ true) (λ after. (list_goes_on name.now at ≡ false) × (after_byte at ≡ after)) }
 {
@@ -37,6 +39,7 @@ pub fn list_end(name: &[u8], at: Option<usize>) -> Option<Option<usize>>
 }
 
 /// How many steps a lifetime is: 1 for an `L` that stands there.
+#[inline(always)]
 pub fn lifetime_steps(life: Lifetime) -> u64
     ensures { result ≡ lifetime_steps (lifetime_seen life) }
 {
@@ -48,6 +51,7 @@ pub fn lifetime_steps(life: Lifetime) -> u64
 
 /// The position after a lifetime that may stand there: None for one that is invalid, or that the binders around it don't
 /// announce.
+#[inline(always)]
 #[tactic(auto, unfolding(crate::specs::Unfolding::bound_end))]
 pub fn bound_end(depth: usize, life: Lifetime, after: Option<usize>) -> Option<usize>
     ensures { result ≡ bound_end depth (lifetime_seen life) after }
@@ -60,6 +64,7 @@ pub fn bound_end(depth: usize, life: Lifetime, after: Option<usize>) -> Option<u
 }
 
 /// The position after a lifetime that has to stand there: None for one that isn't there either.
+#[inline(always)]
 pub fn required_end(depth: usize, life: Lifetime, after: Option<usize>) -> Option<usize>
     ensures { result ≡ required_end depth (lifetime_seen life) after }
 {

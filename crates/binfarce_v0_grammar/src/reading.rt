@@ -31,10 +31,10 @@ fn read_const(name: &str, left: usize, at: usize) -> Option<usize>
         return None;
     }
     match const_form(name, Some(at)) {
-        ConstForm::Placeholder(_, after) => Some(after),
-        ConstForm::Digits(_, _, after) => Some(after),
+        ConstForm::UntypedPlaceholder(after) | ConstForm::Placeholder(_, after) => Some(after),
+        ConstForm::Value(_, _, after) => Some(after),
         ConstForm::Back(_, after) => Some(after),
-        ConstForm::Nothing | ConstForm::Invalid(_) => None,
+        ConstForm::Nothing | ConstForm::Invalid(_, _) => None,
     }
 }
 

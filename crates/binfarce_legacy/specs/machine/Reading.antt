@@ -40,7 +40,11 @@ joined_left at elements =
     if at == 0 then legacy_chars elements
     else flat_map (λ e. codes "::" ++ name_chars e.name) elements
 
--- after `at` bytes, `left` are the elements to print
-pub record IsLeft (part : List ℕ) (at : ℕ) (printed : List ℕ) (elements : List Element) (rest : List ℕ) (left : List Element) : Type 0 where
+-- a text that grows: what stood there, and then more
+abbrev pub Grows : List ℕ → List ℕ → Type 0
+Grows old new = (more : List ℕ) × (new ≡ old ++ more)
+
+-- after `at` bytes, `left` are the elements to print after what was printed since `before`
+pub record IsLeft (part : List ℕ) (at : ℕ) (before printed : List ℕ) (elements : List Element) (rest : List ℕ) (left : List Element) : Type 0 where
   pub ahead : Reads (drop at part) left rest
-  pub joined : printed ++ encode_utf8_all (joined_left at left) ≡ encode_utf8_all (legacy_chars elements)
+  pub joined : printed ++ encode_utf8_all (joined_left at left) ≡ before ++ encode_utf8_all (legacy_chars elements)

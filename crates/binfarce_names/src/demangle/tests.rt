@@ -1,6 +1,6 @@
 //! Names and their answers, row by row.
 
-use super::{Kind, SymbolName};
+use super::{Kind, SymbolName, crate_of, push_trimmed};
 use std::alloc::Global;
 use std::process::Abort;
 use std::test::Fail;
@@ -56,10 +56,29 @@ fn check_row(rt: &impl Abort, alloc: Global, row: &str) -> Result<(), Fail> {
     assert_eq!(rt; answer.complete.as_str(), complete, "complete text: {what}");
     assert_eq!(rt; answer.trimmed.as_str(), trimmed, "trimmed text: {what}");
     assert!(rt; answer.crate_name.is_none(), "crate: {what}");
+    check_trimmed_alone(rt, alloc, name, trimmed, what)?;
     match kind {
         "Legacy" => assert_eq!(rt; answer.kind, Kind::Legacy, "kind: {what}"),
         _ => assert_eq!(rt; answer.kind, Kind::Unknown, "kind: {what}"),
     }
+    Ok(())
+}
+
+// The trimmed text alone, after another.
+pub(super) fn check_trimmed_alone(
+    rt: &impl Abort,
+    alloc: Global,
+    name: &str,
+    trimmed: &str,
+    what: &str,
+) -> Result<(), Fail> {
+    let mut line = String::from_str(alloc, "a line ")?;
+    push_trimmed(alloc, &mut line, name)?;
+    assert_eq!(rt;
+        line.as_str().strip_prefix("a line "),
+        Some(trimmed),
+        "text alone: {what}"
+    );
     Ok(())
 }
 
@@ -68,6 +87,33 @@ fn reads_names(rt: HostRuntime) -> Result<(), Fail> {
     assert_eq!(rt; ROWS.lines().count(), 37);
     for row in ROWS.lines() {
         check_row(&rt, rt.alloc(), row)?;
+    }
+    Ok(())
+}
+
+// A line is a name and the crate that its path tells (`-` for none), with a bar between them.
+const CRATES: &str = "\
+_ZN3foo3barE|foo
+_ZN3fooE|foo
+_ZN3a:b3barE|a:b
+_ZN2a:3barE|a
+_ZN7a..b$C$E|a
+_ZNE|
+_ZN0E|
+_ZN6_$LT$aE|-
+_ZN3fooE.part.0|foo
+foo|-
+";
+
+#[test]
+fn tells_crates(rt: HostRuntime) -> Result<(), Fail> {
+    assert_eq!(rt; CRATES.lines().count(), 10);
+    for row in CRATES.lines() {
+        let (name, wanted) = row.split_once('|').ok_or("a row without a bar")?;
+        match crate_of(rt.alloc(), name)? {
+            Some(told) => assert_eq!(rt; told.as_str(), wanted, "{name}"),
+            None => assert_eq!(rt; "-", wanted, "no crate: {name}"),
+        }
     }
     Ok(())
 }

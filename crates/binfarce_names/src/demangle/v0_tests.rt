@@ -1,6 +1,7 @@
 //! v0 names and their answers, row by row.
 
-use super::{Kind, SymbolName};
+use super::tests::check_trimmed_alone;
+use super::{Kind, SymbolName, crate_of};
 use std::alloc::{AllocError, Global};
 use std::process::Abort;
 use std::test::Fail;
@@ -76,7 +77,34 @@ V0|_RC1aNvB2_1b|a[0]|a|a|an instantiating crate that would be a cycle
 Unknown|_RIC1aB3_E|_RIC1aB3_E|_RIC1aB3_E|-|a back reference to its own B
 V0|_RIC1aB2_E|a[0]::<i8>|a::<i8>|a|a back reference just before its own B
 Unknown|_RC18446744073709551615a|_RC18446744073709551615a|_RC18446744073709551615a|-|a length past the name
-V0|_RINvC1a3b2_KB6_E|a[0]::b2_::<?>|a::b2_::<?>|a|a const of another type
+V0|_RIC1aKan80_Kan0_E|a[0]::<-128: i8, -0: i8>|a::<-128: i8, -0: i8>|a|signed integers
+V0|_RIC1aKl7fffffff_KipE|a[0]::<2147483647: i32, _: isize>|a::<2147483647: i32, _: isize>|a|a signed integer without a sign, and a placeholder
+V0|_RIC1aKnn10000000000000000_E|a[0]::<-0x10000000000000000: i128>|a::<-0x10000000000000000: i128>|a|a sign and 17 digits
+V0|_RIC1aKxn8000000000000000_E|a[0]::<-9223372036854775808: i64>|a::<-9223372036854775808: i64>|a|a sign and 16 digits
+Unknown|_RIC1aKanpE|_RIC1aKanpE|_RIC1aKanpE|-|a sign before a placeholder
+Unknown|_RIC1aKhn1_E|_RIC1aKhn1_E|_RIC1aKhn1_E|-|a sign of an unsigned integer
+V0|_RIC1aKpE|a[0]::<_>|a::<_>|a|a placeholder without a type
+V0|_RMC0Ahp|<[u8; _]>|<[u8; _]>||an array's size without a type
+V0|_RIC1aKb0_Kb1_E|a[0]::<false: bool, true: bool>|a::<false: bool, true: bool>|a|booleans
+V0|_RIC1aKb_Kc_E|a[0]::<false: bool, '\\u{0}': char>|a::<false: bool, '\\u{0}': char>|a|no digits of a bool and a char
+V0|_RIC1aKbpKcpE|a[0]::<_: bool, _: char>|a::<_: bool, _: char>|a|placeholders of bool and char
+V0|_RIC1aKb0000000000000001_E|a[0]::<true: bool>|a::<true: bool>|a|a bool of 16 digits
+Unknown|_RIC1aKb00000000000000001_E|_RIC1aKb00000000000000001_E|_RIC1aKb00000000000000001_E|-|a bool of 17 digits
+Unknown|_RIC1aKb2_E|_RIC1aKb2_E|_RIC1aKb2_E|-|a bool of 2
+V0|_RIC1aKc41_Kc27_Kc3b1_E|a[0]::<'A': char, '\\u{27}': char, '\\u{3b1}': char>|a::<'A': char, '\\u{27}': char, '\\u{3b1}': char>|a|a letter, a quote and a letter beyond ASCII
+V0|_RIC1aKc1f_Kc20_Kc7e_Kc7f_E|a[0]::<'\\u{1f}': char, ' ': char, '~': char, '\\u{7f}': char>|a::<'\\u{1f}': char, ' ': char, '~': char, '\\u{7f}': char>|a|the ends of printable ASCII
+V0|_RIC1aKc5c_Kc22_Kc10ffff_E|a[0]::<'\\u{5c}': char, '\"': char, '\\u{10ffff}': char>|a::<'\\u{5c}': char, '\"': char, '\\u{10ffff}': char>|a|a backslash, a double quote and the last character
+V0|_RIC1aKcd7ff_Kce000_E|a[0]::<'\\u{d7ff}': char, '\\u{e000}': char>|a::<'\\u{d7ff}': char, '\\u{e000}': char>|a|characters around the surrogates
+Unknown|_RIC1aKcd800_E|_RIC1aKcd800_E|_RIC1aKcd800_E|-|the first surrogate
+Unknown|_RIC1aKcdfff_E|_RIC1aKcdfff_E|_RIC1aKcdfff_E|-|the last surrogate
+Unknown|_RIC1aKc110000_E|_RIC1aKc110000_E|_RIC1aKc110000_E|-|a char above the last character
+Unknown|_RIC1aKc00000000000000041_E|_RIC1aKc00000000000000041_E|_RIC1aKc00000000000000041_E|-|a char of 17 digits
+Unknown|_RIC1aKe616263_E|_RIC1aKe616263_E|_RIC1aKe616263_E|-|a text
+Unknown|_RIC1aKf0_E|_RIC1aKf0_E|_RIC1aKf0_E|-|a float
+Unknown|_RIC1aKRe616263_E|_RIC1aKRe616263_E|_RIC1aKRe616263_E|-|a reference
+V0|_RINvC1a3b2_KB6_E|a[0]::b2_::<?: bool>|a::b2_::<?: bool>|a|a target that is a bool of 2
+V0|_RINvC1a4anz_KB6_E|a[0]::anz_::<-?: i8>|a::anz_::<-?: i8>|a|a target whose digits are invalid after a sign
+V0|_RINvC1a3p3_KB6_E|a[0]::p3_::<_>|a::p3_::<_>|a|a target that is a placeholder without a type
 Unknown|R|R|R|-|a prefix alone
 Unknown|_R3foo|_R3foo|_R3foo|-|no upper-case letter
 V0|RC1a|a[0]|a|a|the prefix of PE
@@ -97,6 +125,8 @@ fn check_row(rt: &impl Abort, alloc: Global, row: &str) -> Result<(), Fail> {
         Some(crate_name) => assert_eq!(rt; crate_name.as_str(), root, "crate: {what}"),
         None => assert_eq!(rt; "-", root, "no crate: {what}"),
     }
+    check_trimmed_alone(rt, alloc, name, trimmed, what)?;
+    check_crate_alone(rt, alloc, name, root, what)?;
     match kind {
         "V0" => assert_eq!(rt; answer.kind, Kind::V0, "kind: {what}"),
         _ => assert_eq!(rt; answer.kind, Kind::Unknown, "kind: {what}"),
@@ -104,9 +134,24 @@ fn check_row(rt: &impl Abort, alloc: Global, row: &str) -> Result<(), Fail> {
     Ok(())
 }
 
+// The crate alone.
+fn check_crate_alone(
+    rt: &impl Abort,
+    alloc: Global,
+    name: &str,
+    root: &str,
+    what: &str,
+) -> Result<(), Fail> {
+    match crate_of(alloc, name)? {
+        Some(told) => assert_eq!(rt; told.as_str(), root, "crate alone: {what}"),
+        None => assert_eq!(rt; "-", root, "no crate alone: {what}"),
+    }
+    Ok(())
+}
+
 #[test]
 fn reads_v0_names(rt: HostRuntime) -> Result<(), Fail> {
-    assert_eq!(rt; ROWS.lines().count(), 74);
+    assert_eq!(rt; ROWS.lines().count(), 101);
     for row in ROWS.lines() {
         check_row(&rt, rt.alloc(), row)?;
     }

@@ -1,5 +1,5 @@
 -- What a whole printing tells of a name.
-use Rattle.std.specs.Prelude.{◌≡◌, ℕ, ◌-◌, List, Option, Bool, true, false}
+use Rattle.std.specs.Prelude.{◌≡◌, ◌⊎◌, ℕ, ◌-◌, List, Option, Some, None, Bool, true, false, ⊤}
 use Rattle.std.specs.Option.{option_map}
 use Rattle.std.specs.String.{string_bytes}
 use Rattle.binfarce_v0_grammar.specs.Identifiers.{UndisambiguatedIdentifier, identifier_text}
@@ -7,25 +7,32 @@ use Rattle.binfarce_v0_grammar.specs.Tree.{PathTree, path_height, path_steps, pa
 use Rattle.binfarce_v0_grammar.specs.Unfolding.{UnfoldsTo}
 use Rattle.binfarce_v0_grammar.specs.machine.Seen.{undisambiguated_seen}
 use Rattle.binfarce_v0_grammar.specs.declared.limits.TheConstants.{MAX_LEVELS, MAX_STEPS}
+use Rattle.binfarce_v0.specs.Mangling.{PathStands, IsV0}
 use Rattle.binfarce_v0.specs.declared.state.Printed.{Printed}
 use Rattle.binfarce_v0.specs.machine.Printing.{State}
 
--- what a finished printing gives: a text, the first crate root, and how many levels and steps it took
+-- what a finished printing gives: a text, the first crate root, how many levels and steps it took, and the position after the path
 pub record Outcome : Type 0 where
   pub text : List ℕ
   pub root : Option UndisambiguatedIdentifier
   pub levels : ℕ
   pub steps : ℕ
+  pub after : Option ℕ
 
 -- what a `Printed` gives, its texts as their bytes
 abbrev pub printed_seen : Printed → Outcome
 printed_seen p =
-    record { text = string_bytes p.text; root = option_map undisambiguated_seen p.root; levels = p.levels; steps = p.steps }
+    record { text = string_bytes p.text; root = option_map undisambiguated_seen p.root; levels = p.levels; steps = p.steps; after = p.after }
 
 -- what a state gives at the end: the levels and the steps that are no longer left were taken
 abbrev pub outcome_of : State → Outcome
 outcome_of s =
-    record { text = s.text; root = s.root; levels = MAX_LEVELS - s.least; steps = MAX_STEPS - s.room }
+    record { text = s.text; root = s.root; levels = MAX_LEVELS - s.least; steps = MAX_STEPS - s.room; after = s.at }
+
+-- where a position is known, the first path of a name reads up to it
+abbrev pub ReadsUpTo : List ℕ → Option ℕ → Type 0
+ReadsUpTo name None = ⊤
+ReadsUpTo name (Some after) = PathStands name 0 after
 
 -- they are the text, the crate root, the levels and the steps of the tree that a name unfolds to within the limits
 pub record IsOutcome (name : List ℕ) (full : Bool) (outcome : Outcome) : Type 0 where
@@ -35,11 +42,28 @@ pub record IsOutcome (name : List ℕ) (full : Bool) (outcome : Outcome) : Type 
   pub root_is : outcome.root ≡ path_root tree
   pub levels_are : outcome.levels ≡ path_height tree
   pub steps_are : outcome.steps ≡ path_steps tree
+  pub reads : ReadsUpTo name outcome.after
 
--- both texts and the crate are those of one tree that a name unfolds to within the limits
-pub record AreTexts (name complete trimmed : List ℕ) (crate_name : Option (List ℕ)) : Type 0 where
+-- text is no v0 mangling that unfolds to a tree within the limits
+abbrev pub HasNoTree : List ℕ → Type 0
+HasNoTree text = (part : List ℕ) (tree : PathTree) → IsV0 text part → UnfoldsTo part tree → ⊥
+
+-- text is a v0 mangling that unfolds to a tree within the limits
+pub record HasTree (text : List ℕ) (tree : PathTree) : Type 0 where
+  pub part : List ℕ
+  pub mangling : IsV0 text part
+  pub unfolds : UnfoldsTo part tree
+
+-- the crate root of the tree that a text unfolds to within the limits, or none where there is no such tree
+abbrev pub IsCrateName : List ℕ → Option (List ℕ) → Type 0
+IsCrateName text crate_name =
+    ((tree : PathTree) × HasTree text tree × (crate_name ≡ option_map identifier_text (path_root tree)))
+    ⊎ (HasNoTree text × (crate_name ≡ None))
+
+-- both texts and the crate are those of one tree that a text unfolds to within the limits
+pub record AreTexts (text complete trimmed : List ℕ) (crate_name : Option (List ℕ)) : Type 0 where
   pub tree : PathTree
-  pub unfolds : UnfoldsTo name tree
+  pub has_tree : HasTree text tree
   pub complete_is : complete ≡ name_text true tree
   pub trimmed_is : trimmed ≡ name_text false tree
   pub crate_is : crate_name ≡ option_map identifier_text (path_root tree)

@@ -2,8 +2,8 @@
 use Rattle.std.specs.Prelude.{ℕ, zero, suc, ◌+◌, ◌-◌, ◌*◌, ◌≤◌, List, [], ◌++◌, Option, Some, None, Bool, true, false, if◌then◌else◌, nat_le, codes, min}
 use Rattle.binfarce_text.specs.Letters.{'K', 'L', 'p', 'u'}
 use Rattle.binfarce_v0_grammar.specs.Identifiers.{UndisambiguatedIdentifier, Identifier, identifier_text}
-use Rattle.binfarce_v0_grammar.specs.Forms.{Lifetime, NoLifetime, Signature, stands, after_byte, identifier_at, undisambiguated_at, lifetime, path_form, type_form, const_form, PathForm, NoPathForm, CrateRoot, NestedIn, InherentImpl, TraitImpl, TraitDefinition, WithArguments, BackToPath, TypeForm, NoTypeForm, BasicType, ReferenceTo, InvalidReference, PointerTo, SliceOf, ArrayOf, TupleOf, FunctionOf, InvalidAbi, DynOf, InvalidDyn, BackToType, PathType, ConstForm, NoConstForm, PlaceholderConst, DigitsConst, InvalidConst, BackToConst}
-use Rattle.binfarce_v0_grammar.specs.Tree.{PathTree, TypeTree, ConstTree, Item, Items, Bindings, NoConst, Placeholder, Number, InvalidNumber, BackConst, NoPath, Crate, Nested, InvalidNested, OfType, OfImpl, OfTrait, Generic, BackPath, NoType, Basic, Reference, InvalidReferenceType, Pointer, Slice, Array, Tuple, Function, FunctionTo, InvalidFunction, Dyn, InvalidDynType, Named, BackType, LifetimeItem, TypeItem, ConstItem, TraitItem, NoItems, ItemThen, NoBindings, Binding, InvalidBinding, lifetime_steps, first_of, Position, InType, OpenTrait, parent_position, binder_text, reference_lifetime, argument_lifetime, dyn_lifetime, disambiguator_text, nested_text, mutable_text, signature_text, number_text, value_mark, closing, is_left_open, separator, single_mark, open_mark, close_mark, Listed, Arguments, Types, Traits}
+use Rattle.binfarce_v0_grammar.specs.Forms.{Lifetime, NoLifetime, Signature, stands, after_byte, identifier_at, undisambiguated_at, lifetime, path_form, type_form, const_form, PathForm, NoPathForm, CrateRoot, NestedIn, InherentImpl, TraitImpl, TraitDefinition, WithArguments, BackToPath, TypeForm, NoTypeForm, BasicType, ReferenceTo, InvalidReference, PointerTo, SliceOf, ArrayOf, TupleOf, FunctionOf, InvalidAbi, DynOf, InvalidDyn, BackToType, PathType, ConstForm, NoConstForm, UntypedPlaceholderConst, PlaceholderConst, ValueConst, InvalidConst, BackToConst}
+use Rattle.binfarce_v0_grammar.specs.Tree.{PathTree, TypeTree, ConstTree, Item, Items, Bindings, NoConst, UntypedPlaceholder, Placeholder, Value, InvalidValue, BackConst, NoPath, Crate, Nested, InvalidNested, OfType, OfImpl, OfTrait, Generic, BackPath, NoType, Basic, Reference, InvalidReferenceType, Pointer, Slice, Array, Tuple, Function, FunctionTo, InvalidFunction, Dyn, InvalidDynType, Named, BackType, LifetimeItem, TypeItem, ConstItem, TraitItem, NoItems, ItemThen, NoBindings, Binding, InvalidBinding, lifetime_steps, first_of, Position, InType, OpenTrait, parent_position, binder_text, reference_lifetime, argument_lifetime, dyn_lifetime, disambiguator_text, nested_text, mutable_text, signature_text, sign_text, value_text, value_mark, closing, is_left_open, separator, single_mark, open_mark, close_mark, Listed, Arguments, Types, Traits}
 use Rattle.binfarce_v0_grammar.specs.Unfolding.{bound_end, required_end, list_goes_on}
 use Rattle.binfarce_v0_grammar.specs.declared.limits.TheConstants.{MAX_LEVELS, MAX_STEPS}
 
@@ -85,13 +85,18 @@ pub record Readers : Type 0 where
 abbrev pub back_const : ℕ → Bool → ConstTree × State → ConstTree × State
 back_const q outside r = (BackConst r.0, back_to q outside r.1)
 
+-- a text and the name of its type
+abbrev pub typed : List ℕ → List ℕ → State → State
+typed text type_name s = say type_name (say (codes ": ") (say text s))
+
 unfoldable pub const_rule : Readers → State → ConstForm → ConstTree × State
 const_rule R s NoConstForm = (NoConst, faulted s)
-const_rule R s (PlaceholderConst type_name q) =
-    (Placeholder type_name, say type_name (say (codes ": ") (say (codes "_") (go (Some q) s))))
-const_rule R s (DigitsConst type_name hex q) =
-    (Number type_name hex, say type_name (say (codes ": ") (say (number_text hex) (go (Some q) s))))
-const_rule R s (InvalidConst type_name) = (InvalidNumber type_name, say type_name (say (codes ": ") (faulted s)))
+const_rule R s (UntypedPlaceholderConst q) = (UntypedPlaceholder, say (codes "_") (go (Some q) s))
+const_rule R s (PlaceholderConst type_name q) = (Placeholder type_name, typed (codes "_") type_name (go (Some q) s))
+const_rule R s (ValueConst type_name value q) =
+    (Value type_name value, typed (value_text value) type_name (go (Some q) s))
+const_rule R s (InvalidConst negative type_name) =
+    (InvalidValue negative type_name, typed (sign_text negative ++ codes "?") type_name (go None s))
 const_rule R s (BackToConst target q) = back_const q s.outside (R.constant (into target s))
 
 -- Lists
@@ -301,6 +306,11 @@ back_path q outside r = (BackPath r.0, back_to q outside r.1)
 abbrev pub crate_rule : Identifier → State → PathTree × State
 crate_rule root s =
     (Crate root, say (disambiguator_text s.full root.disambiguator) (say (identifier_text root.name) (rooted root.name s)))
+
+-- a crate root, or none where its identifier is invalid
+abbrev pub crate_state : Option (Identifier × ℕ) → State → State
+crate_state None s = faulted s
+crate_state (Some l) s = (crate_rule l.0 (go (Some l.1) s)).1
 
 unfoldable pub path_rule : List ℕ → Readers → Position → ℕ → State → PathForm → PathTree × State
 path_rule name R position depth s NoPathForm = (NoPath, faulted s)

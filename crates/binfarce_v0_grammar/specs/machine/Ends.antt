@@ -3,7 +3,7 @@ use Rattle.std.specs.Prelude.{ℕ, zero, suc, ◌+◌, List, Option, Some, None,
 use Rattle.binfarce_text.specs.Letters.{'E', 'K', 'L', 'p', 'u'}
 use Rattle.binfarce_text.specs.Steps.{◌>>=◌}
 use Rattle.binfarce_v0_grammar.specs.Identifiers.{UndisambiguatedIdentifier, Identifier, identifier, undisambiguated_identifier}
-use Rattle.binfarce_v0_grammar.specs.Forms.{stands, lifetime, path_form, type_form, const_form, PathForm, NoPathForm, CrateRoot, NestedIn, InherentImpl, TraitImpl, TraitDefinition, WithArguments, BackToPath, TypeForm, NoTypeForm, BasicType, ReferenceTo, InvalidReference, PointerTo, SliceOf, ArrayOf, TupleOf, FunctionOf, InvalidAbi, DynOf, InvalidDyn, BackToType, PathType, ConstForm, NoConstForm, PlaceholderConst, DigitsConst, InvalidConst, BackToConst}
+use Rattle.binfarce_v0_grammar.specs.Forms.{stands, lifetime, path_form, type_form, const_form, PathForm, NoPathForm, CrateRoot, NestedIn, InherentImpl, TraitImpl, TraitDefinition, WithArguments, BackToPath, TypeForm, NoTypeForm, BasicType, ReferenceTo, InvalidReference, PointerTo, SliceOf, ArrayOf, TupleOf, FunctionOf, InvalidAbi, DynOf, InvalidDyn, BackToType, PathType, ConstForm, NoConstForm, UntypedPlaceholderConst, PlaceholderConst, ValueConst, InvalidConst, BackToConst}
 use Rattle.binfarce_v0_grammar.specs.Tree.{Listed, Arguments, Types, Traits}
 
 -- the readers of one level less
@@ -14,9 +14,10 @@ pub record Ends : Type 0 where
 
 unfoldable pub const_end : ConstForm → Option ℕ
 const_end NoConstForm = None
+const_end (UntypedPlaceholderConst q) = Some q
 const_end (PlaceholderConst type_name q) = Some q
-const_end (DigitsConst type_name digits q) = Some q
-const_end (InvalidConst type_name) = None
+const_end (ValueConst type_name value q) = Some q
+const_end (InvalidConst negative type_name) = None
 const_end (BackToConst target q) = Some q
 
 abbrev pub identifier_end : Option (Identifier × ℕ) → Option ℕ

@@ -1,8 +1,9 @@
 -- What clauses see of the forms that the code reads: texts as their bytes.
+use Rattle.std.specs.Prelude.{ℕ, Option}
 use Rattle.std.specs.Option.{option_map}
 use Rattle.binfarce_v0_grammar.specs.Identifiers
 use Rattle.binfarce_v0_grammar.specs.Identifiers.{Identifier}
-use Rattle.binfarce_v0_grammar.specs.Forms.{Signature, NoLifetime, InvalidLifetime, IndexedLifetime, NoPathForm, NestedIn, InherentImpl, TraitImpl, TraitDefinition, WithArguments, BackToPath, NoTypeForm, BasicType, ReferenceTo, InvalidReference, PointerTo, SliceOf, ArrayOf, TupleOf, FunctionOf, InvalidAbi, DynOf, InvalidDyn, BackToType, PathType, NoConstForm, PlaceholderConst, DigitsConst, InvalidConst, BackToConst}
+use Rattle.binfarce_v0_grammar.specs.Forms.{Signature, NoLifetime, InvalidLifetime, IndexedLifetime, NoPathForm, NestedIn, InherentImpl, TraitImpl, TraitDefinition, WithArguments, BackToPath, NoTypeForm, BasicType, ReferenceTo, InvalidReference, PointerTo, SliceOf, ArrayOf, TupleOf, FunctionOf, InvalidAbi, DynOf, InvalidDyn, BackToType, PathType, NoConstForm, UntypedPlaceholderConst, PlaceholderConst, ValueConst, InvalidConst, BackToConst}
 use Rattle.binfarce_v0_grammar.specs.Forms as forms
 use Rattle.binfarce_v0_grammar.specs.Tree as tree
 use Rattle.binfarce_v0_grammar.specs.declared.forms.Position as position
@@ -18,14 +19,20 @@ use Rattle.binfarce_v0_grammar.specs.declared.forms.PathForm as path
 use Rattle.binfarce_v0_grammar.specs.declared.forms.PathForm.TheVariants as paths
 use Rattle.binfarce_v0_grammar.specs.declared.forms.TypeForm as type
 use Rattle.binfarce_v0_grammar.specs.declared.forms.TypeForm.TheVariants as types
-use Rattle.binfarce_v0_grammar.specs.declared.forms.ConstForm as const
-use Rattle.binfarce_v0_grammar.specs.declared.forms.ConstForm.TheVariants as consts
+use Rattle.binfarce_v0_grammar.specs.declared.forms.consts.ConstValue as const_value
+use Rattle.binfarce_v0_grammar.specs.declared.forms.consts.ConstValue.TheVariants as values
+use Rattle.binfarce_v0_grammar.specs.declared.forms.consts.ConstForm as const
+use Rattle.binfarce_v0_grammar.specs.declared.forms.consts.ConstForm.TheVariants as consts
 
 abbrev pub undisambiguated_seen : undisambiguated_identifier.UndisambiguatedIdentifier → Identifiers.UndisambiguatedIdentifier
 undisambiguated_seen i = record { ascii = i.ascii.now; punycode = i.punycode.now }
 
 abbrev pub identifier_seen : identifier.Identifier → Identifier
 identifier_seen l = record { disambiguator = l.disambiguator; name = undisambiguated_seen l.name }
+
+-- an identifier without its disambiguator, and the position after it
+abbrev pub without_disambiguator : Option (Identifier × ℕ) → Option (Identifiers.UndisambiguatedIdentifier × ℕ)
+without_disambiguator l = option_map (λ l. (l.0.name, l.1)) l
 
 abbrev pub path_seen : path.PathForm → forms.PathForm
 path_seen paths.Nothing = NoPathForm
@@ -61,11 +68,17 @@ type_seen types.InvalidDyn = InvalidDyn
 type_seen (types.Back target q) = BackToType target q
 type_seen types.Path = PathType
 
+abbrev pub value_seen : const_value.ConstValue → forms.ConstValue
+value_seen (values.Integer negative digits) = forms.Integer negative digits.now
+value_seen (values.Boolean b) = forms.Boolean b
+value_seen (values.Character c) = forms.Character c
+
 abbrev pub const_seen : const.ConstForm → forms.ConstForm
 const_seen consts.Nothing = NoConstForm
+const_seen (consts.UntypedPlaceholder q) = UntypedPlaceholderConst q
 const_seen (consts.Placeholder text q) = PlaceholderConst text.now q
-const_seen (consts.Digits text hex q) = DigitsConst text.now hex.now q
-const_seen (consts.Invalid text) = InvalidConst text.now
+const_seen (consts.Value text v q) = ValueConst text.now (value_seen v) q
+const_seen (consts.Invalid negative text) = InvalidConst negative text.now
 const_seen (consts.Back target q) = BackToConst target q
 
 abbrev pub position_seen : position.Position → tree.Position

@@ -7,6 +7,7 @@ use Rattle.std.specs.String.{string_bytes}
 use Rattle.binfarce_legacy.specs.Legacy.{first_piece}
 use Rattle.binfarce_legacy.specs.machine.Reading.{is_plain, chars_left}
 use Rattle.binfarce_legacy.proofs.PieceLemmas.{written_step, written_end, chars_left-nil}
+use Rattle.binfarce_legacy.proofs.Growing.{grown}
 use Rattle.binfarce_legacy.proofs.legacy.push_name.Goals as goal
 
 pub loop-at-preserved : goal.loop-at-preserved
@@ -35,10 +36,12 @@ loop-at-preserved c =
           ∙ ap (λ (x : List ℕ). x ++ encode_utf8_all (first_piece c.range_from.result.now).chars) (c.in_ok-push_str.ensures.bytes ∙ ap (λ (x : List ℕ). string_bytes c.loop-at.text ++ x) slice)
           ∙ ap (λ (x : List ℕ). (string_bytes c.loop-at.text ++ take k u) ++ encode_utf8_all (first_piece x).chars) after)
           ∙ c.loop-at.invariant.written;
+      grows = grown (string_bytes c.args.text.now) (string_bytes c.loop-at.text) (string_bytes c.push_piece.new.text) c.loop-at.invariant.grows
+          (grown (string_bytes c.loop-at.text) (string_bytes c.push_str.new.self) (string_bytes c.push_piece.new.text) (c.range.result.now, c.in_ok-push_str.ensures.bytes) c.push_piece.ensures.grows);
     }
 
-pub returns-then-special-name : goal.returns-then-special-name
-returns-then-special-name c =
+pub returns-then-special-name-clause-bytes : goal.returns-then-special-name-clause-bytes
+returns-then-special-name-clause-bytes c =
     let t : List ℕ = c.args.name.now in
     let at = c.loop-at.at in
     let u : List ℕ = drop at t in
@@ -49,8 +52,8 @@ returns-then-special-name c =
     ∙ ap (λ (x : List ℕ). string_bytes c.loop-at.text ++ x) (slice ∙ written_end u k (IsAscii-drop t at c.requires) refl (omega (arith, here, length-drop at t)))
     ∙ c.loop-at.invariant.written
 
-pub returns : goal.returns
-returns c =
+pub returns-clause-bytes : goal.returns-clause-bytes
+returns-clause-bytes c =
     let t : List ℕ = c.args.name.now in
     let text : List ℕ = string_bytes c.loop-at.text in
     sym (append-nil text) ∙ ap (λ (x : List ℕ). text ++ encode_utf8_all x) (sym (ap chars_left (drop_all c.loop-at.at t (omega arith)) ∙ chars_left-nil))

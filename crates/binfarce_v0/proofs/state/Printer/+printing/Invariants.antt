@@ -6,8 +6,14 @@ use Rattle.binfarce_v0.proofs.state.Printer.+printing.Given as goal
 abbrev pub decreases-print_path : goal.decreases-print_path
 decreases-print_path l = 10 * l.left + 0
 
-abbrev pub decreases-print_path_form : goal.decreases-print_path_form
-decreases-print_path_form l = 10 * l.left + 6
+abbrev pub decreases-print_path_by_letter : goal.decreases-print_path_by_letter
+decreases-print_path_by_letter l = 10 * l.left + 8
+
+abbrev pub decreases-print_inherent_impl : goal.decreases-print_inherent_impl
+decreases-print_inherent_impl l = 10 * l.left + 6
+
+abbrev pub decreases-print_trait_impl : goal.decreases-print_trait_impl
+decreases-print_trait_impl l = 10 * l.left + 6
 
 abbrev pub decreases-print_path_target : goal.decreases-print_path_target
 decreases-print_path_target l = 10 * l.left + 5
@@ -36,8 +42,17 @@ decreases-print_bindings l = 10 * l.left + 2
 abbrev pub decreases-print_type : goal.decreases-print_type
 decreases-print_type l = 10 * l.left + 0
 
-abbrev pub decreases-print_type_form : goal.decreases-print_type_form
-decreases-print_type_form l = 10 * l.left + 6
+abbrev pub decreases-print_type_by_letter : goal.decreases-print_type_by_letter
+decreases-print_type_by_letter l = 10 * l.left + 8
+
+abbrev pub decreases-print_other_type : goal.decreases-print_other_type
+decreases-print_other_type l = 10 * l.left + 7
+
+abbrev pub decreases-print_pointer : goal.decreases-print_pointer
+decreases-print_pointer l = 10 * l.left + 5
+
+abbrev pub decreases-print_function_form : goal.decreases-print_function_form
+decreases-print_function_form l = 10 * l.left + 6
 
 abbrev pub decreases-print_type_target : goal.decreases-print_type_target
 decreases-print_type_target l = 10 * l.left + 5

@@ -1,6 +1,6 @@
 use Rattle.std.proofs.Common.{arith}
-use Rattle.binfarce_v0.proofs.Texts.{hex_fits}
-use Rattle.binfarce_v0.proofs.text.push_number.Goals as goal
+use Rattle.binfarce_v0_grammar.proofs.NumberLemmas.{hex_fits}
+use Rattle.binfarce_v0_grammar.proofs.numbers.hex_number.Goals as goal
 
 pub overflow_mul-value : goal.overflow_mul-value
 overflow_mul-value c =

@@ -7,13 +7,15 @@ use Rattle.std.specs.String.{string_bytes}
 use Rattle.binfarce_legacy.specs.Legacy.{name_chars}
 use Rattle.binfarce_legacy.specs.machine.Reading.{name_start, name_end, HasElement}
 use Rattle.binfarce_legacy.proofs.JoinLemmas.{separator, separator-first, separator-later, left_at_start, left_step, left_at_end}
-use Rattle.binfarce_legacy.proofs.legacy.complete.Goals as goal
-use Rattle.binfarce_legacy.proofs.legacy.complete.Goals.{then-at-gt0+in_ok-push_str, else-at-gt0}
+use Rattle.binfarce_legacy.proofs.Growing.{same, grown}
+use Rattle.binfarce_legacy.proofs.legacy.push_path.Goals as goal
+use Rattle.binfarce_legacy.proofs.legacy.push_path.Goals.{then-at-gt0+in_ok-push_str, else-at-gt0}
 
 pub loop-start-init : goal.loop-start-init
 loop-start-init c = record {
   within = omega arith;
-  printed = λ elements rest r. (elements, left_at_start c.args.part.now _ elements rest c.in_ok-text.ensures.bytes r);
+  printed = λ elements rest r. (elements, left_at_start c.args.part.now (string_bytes c.args.text.now) elements rest r);
+  grows = same (string_bytes c.args.text.now);
 }
 
 pub loop-start-preserved : goal.loop-start-preserved
@@ -41,14 +43,16 @@ loop-start-preserved c =
       within = omega (arith, end, has.1, length-drop at part, c.loop-start.invariant.within);
       printed = λ elements rest r.
           let left = c.loop-start.invariant.printed elements rest r in
-          left_step part at c.in-Some.end (string_bytes c.loop-start.text) (string_bytes c.push_name.new.text) c.range.result.now elements rest left.0
-          left.1 has end slice (c.in_ok-push_name.ensures ∙ ap (λ (x : List ℕ). x ++ encode_utf8_all (name_chars c.range.result.now)) before);
+          left_step part at c.in-Some.end (string_bytes c.args.text.now) (string_bytes c.loop-start.text) (string_bytes c.push_name.new.text) c.range.result.now elements rest left.0
+          left.1 has end slice (c.in_ok-push_name.ensures.bytes ∙ ap (λ (x : List ℕ). x ++ encode_utf8_all (name_chars c.range.result.now)) before);
+      grows = grown (string_bytes c.args.text.now) (string_bytes c.loop-start.text) (string_bytes c.push_name.new.text) c.loop-start.invariant.grows
+          (grown (string_bytes c.loop-start.text) (string_bytes c.if-at-gt0.text) (string_bytes c.push_name.new.text) (separator at, before) c.push_name.ensures.grows);
     }
 
-pub returns : goal.returns
-returns c = λ elements rest r.
+pub returns-clause-bytes : goal.returns-clause-bytes
+returns-clause-bytes c = λ elements rest r.
     let left = c.loop-start.invariant.printed elements rest r in
-    left_at_end c.args.part.now c.loop-start.at _ elements rest left.0 left.1
+    left_at_end c.args.part.now c.loop-start.at (string_bytes c.args.text.now) _ elements rest left.0 left.1
     (λ has. c.in_default.ensures (subst HasElement (sym (ap (drop c.loop-start.at) c.as_bytes.ensures.value)) has))
 
 pub range-requires-clause-start_le_end : goal.range-requires-clause-start_le_end

@@ -1,0 +1,94 @@
+-- What is answered of a name: its answer, a text that grows by its trimmed text, and the crate that it tells.
+use Rattle.std.proofs.Common.{◌≡◌, ℕ, false, List, ◌++◌, Option, Result, Ok, Err, inl, inr, refl, ap, subst, ◌∙◌}
+use Rattle.std.specs.Prelude.{OnOk, encode_utf8_all, if◌then◌else◌}
+use Rattle.std.specs.Result.{is_ok}
+use Rattle.binfarce_names.specs.declared.demangle.Kind.TheVariants.{V0}
+use Rattle.binfarce_text.specs.Suffixes.{without_llvm}
+use Rattle.binfarce_legacy.specs.Legacy.{Element, Reads, IsLegacy, legacy_chars, without_last_part}
+use Rattle.binfarce_v0_grammar.specs.Tree.{PathTree}
+use Rattle.binfarce_v0.specs.Mangling.{IsV0}
+use Rattle.binfarce_v0.specs.machine.Outcome.{Outcome, HasNoTree, HasTree, IsOutcome, IsCrateName, AreTexts}
+use Rattle.binfarce_names.specs.Crates.{crate_of, path_crate}
+use Rattle.binfarce_names.specs.Name.{Name}
+use Rattle.binfarce_names.specs.Named.{IsNotLegacy, IsNamed, legacy, unknown, v0}
+
+-- what stood before, and then the trimmed text of a name's answer
+abbrev pub Grows : List ℕ → List ℕ → List ℕ → Type 0
+Grows text old new = (n : Name) × IsNamed text n × (new ≡ old ++ n.trimmed)
+
+-- what a push that succeeds leaves
+pub pushed : {T E : Type 0} (r : Result T E) (old new part : List ℕ) (Q : Type 0) → (new ≡ old ++ part → Q) → new ≡ (if is_ok r then old ++ part else old) → OnOk r Q
+pushed (Ok x) old new part Q f h = f h
+pushed (Err e) old new part Q f h = tt
+
+-- what holds of a call that succeeds
+pub on_ok : {T E : Type 0} (P Q : Type 0) (r : Result T E) → (P → Q) → OnOk r P → OnOk r Q
+on_ok P Q (Ok x) f h = f h
+on_ok P Q (Err e) f h = tt
+
+-- text is what stands of a name before LLVM's suffix, and no legacy mangling
+pub record IsOther (name text : List ℕ) : Type 0 where
+  pub stripped : text ≡ without_llvm name
+  pub not_legacy : (part : List ℕ) (elements : List Element) (rest : List ℕ) → IsLegacy text part elements rest → ⊥
+
+other_not_legacy : (name text : List ℕ) → IsOther name text → IsNotLegacy name
+other_not_legacy name text o =
+    subst (λ t. (part : List ℕ) (elements : List Element) (rest : List ℕ) → IsLegacy t part elements rest → ⊥) o.stripped o.not_legacy
+
+pub named_legacy : (name text part rest : List ℕ) (elements : List Element) (n : Name) → text ≡ without_llvm name → IsLegacy text part elements rest → n ≡ legacy elements → IsNamed name n
+unfolding IsNamed
+named_legacy name text part rest elements n e is same =
+    inl (record { part = part; elements = elements; rest = rest; mangling = subst (λ t. IsLegacy t part elements rest) e is; name_is = same })
+
+pub named_v0 : (name text : List ℕ) (tree : PathTree) (n : Name) → IsOther name text → HasTree text tree → n ≡ v0 tree → IsNamed name n
+unfolding IsNamed
+named_v0 name text tree n o t same =
+    inr (inl (record { not_legacy = other_not_legacy name text o; part = t.part; mangling = subst (λ s. IsV0 s t.part) o.stripped t.mangling; tree = tree; unfolds = t.unfolds; name_is = same }))
+
+-- the texts of a tree are those of a name
+pub named_texts : (name text complete trimmed : List ℕ) (crate_name : Option (List ℕ)) → IsOther name text → AreTexts text complete trimmed crate_name
+    → IsNamed name (record { complete = complete; trimmed = trimmed; crate_name = crate_name; kind = V0 })
+named_texts name text complete trimmed crate_name o t =
+    named_v0 name text t.tree _ o t.has_tree (rw (t.complete_is, t.trimmed_is, t.crate_is) refl)
+
+pub named_unchanged : (name text : List ℕ) (n : Name) → IsOther name text → HasNoTree text → n ≡ unknown name → IsNamed name n
+unfolding IsNamed
+named_unchanged name text n o none same =
+    inr (inr (record { not_legacy = other_not_legacy name text o; no_tree = subst HasNoTree o.stripped none; name_is = same }))
+
+-- the path of a legacy mangling without its last part was written
+pub legacy_grows : (name text part rest : List ℕ) (elements : List Element) (old new : List ℕ) → text ≡ without_llvm name → IsLegacy text part elements rest
+    → ((elements : List Element) (rest : List ℕ) → Reads part elements rest → new ≡ old ++ encode_utf8_all (without_last_part (legacy_chars elements)))
+    → Grows name old new
+legacy_grows name text part rest elements old new e is grown =
+    (legacy elements, named_legacy name text part rest elements (legacy elements) e is refl, grown elements rest is.reads)
+
+-- the text of a tree without disambiguators was written
+pub tree_grows : (name text part : List ℕ) (outcome : Outcome) (old new : List ℕ) → IsOther name text → IsV0 text part → IsOutcome part false outcome → new ≡ old ++ outcome.text → Grows name old new
+tree_grows name text part outcome old new o v is grown =
+    let has : HasTree text is.tree = record { part = part; mangling = v; unfolds = is.unfolds } in
+    (v0 is.tree, named_v0 name text is.tree (v0 is.tree) o has refl, grown ∙ ap (λ (t : List ℕ). old ++ t) is.text_is)
+
+-- a name that stands unchanged was written
+pub unchanged_grows : (name text old new : List ℕ) → IsOther name text → HasNoTree text → new ≡ old ++ name → Grows name old new
+unchanged_grows name text old new o none grown = (unknown name, named_unchanged name text (unknown name) o none refl, grown)
+
+-- an answer of a name that tells this crate
+abbrev pub Tells : List ℕ → Option (List ℕ) → Type 0
+Tells name c = (n : Name) × IsNamed name n × (c ≡ crate_of n)
+
+-- a legacy mangling tells the crate of its path
+pub legacy_tells : (name text part rest : List ℕ) (elements : List Element) (c : Option (List ℕ)) → text ≡ without_llvm name → IsLegacy text part elements rest
+    → ((elements : List Element) (rest : List ℕ) → Reads part elements rest → c ≡ path_crate (encode_utf8_all (legacy_chars elements)))
+    → Tells name c
+unfolding crate_of
+legacy_tells name text part rest elements c e is path =
+    (legacy elements, named_legacy name text part rest elements (legacy elements) e is refl, path elements rest is.reads)
+
+-- a v0 mangling tells its crate root, if it unfolds to a tree, and any other name tells none
+pub other_tells : (name text : List ℕ) (c : Option (List ℕ)) → IsOther name text → IsCrateName text c → Tells name c
+unfolding crate_of
+other_tells name text c o root = elim root [
+  | inl t ↦ (v0 t.0, named_v0 name text t.0 (v0 t.0) o t.1 refl, t.2)
+  | inr none ↦ (unknown name, named_unchanged name text (unknown name) o none.0 refl, none.1)
+]

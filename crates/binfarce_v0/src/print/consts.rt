@@ -1,0 +1,83 @@
+//! Printing a const.
+
+ghost use Rattle.std.specs.Prelude.{◌≡◌, ◌≤◌, ◌++◌, OnOk, Some, None, codes};
+ghost use Rattle.binfarce_v0_grammar.specs.declared.limits.TheConstants.{MAX_LEVELS};
+ghost use Rattle.binfarce_v0_grammar.specs.Tree.{sign_text, value_text};
+ghost use Rattle.binfarce_v0_grammar.specs.machine.Seen.{value_seen};
+ghost use Rattle.binfarce_v0.specs.machine.Printing.{with_state, readers, go, typed};
+
+use crate::state::Printer;
+use binfarce_v0_grammar::forms::{ConstForm, ConstValue, const_form};
+use std::alloc::AllocError;
+
+impl<'a> Printer<'a> {
+    /// `<const>`
+    #[tactic(auto, using(crate::proofs::Levels::constant_at), unfolding(crate::specs::machine::Printing::const_rule))]
+    pub fn print_const(&mut self, left: usize) -> Result<(), AllocError>
+        requires levels { left ≤ MAX_LEVELS }
+        ensures { OnOk result (self.new ≡ with_state ((readers self.old.name left).constant self.old.state).1 self.old) }
+    {
+        let form = const_form(self.name, self.at);
+        let Some(below) = self.enter(left) else {
+            return Ok(());
+        };
+        match form {
+            ConstForm::Nothing => self.fault(),
+            ConstForm::UntypedPlaceholder(after) => {
+                self.go(Some(after));
+                self.say("_")
+            }
+            ConstForm::Placeholder(type_name, after) => self.print_placeholder(type_name, after),
+            ConstForm::Value(type_name, value, after) => self.print_value(type_name, value, after),
+            ConstForm::Invalid(negative, type_name) => {
+                self.print_invalid_value(negative, type_name)
+            }
+            ConstForm::Back(target, after) => {
+                let outside = self.outside;
+                self.enter_target(target);
+                self.print_const(below)?;
+                self.leave_target(after, outside);
+                Ok(())
+            }
+        }
+    }
+
+    // A const without a value, of a type.
+    fn print_placeholder(&mut self, type_name: &'static str, after: usize) -> Result<(), AllocError>
+        ensures { OnOk result (self.new ≡ with_state (typed (codes "_") type_name.entry.now (go (Some after) self.old.state)) self.old) }
+    {
+        self.go(Some(after));
+        self.say("_")?;
+        self.say(": ")?;
+        self.say(type_name)
+    }
+
+    // A const's value and its type.
+    fn print_value(
+        &mut self,
+        type_name: &'static str,
+        value: ConstValue<'a>,
+        after: usize,
+    ) -> Result<(), AllocError>
+        ensures { OnOk result (self.new ≡ with_state (typed (value_text (value_seen value.entry)) type_name.entry.now (go (Some after) self.old.state)) self.old) }
+    {
+        self.go(Some(after));
+        self.say_value(value)?;
+        self.say(": ")?;
+        self.say(type_name)
+    }
+
+    // A const whose value is invalid.
+    fn print_invalid_value(
+        &mut self,
+        negative: bool,
+        type_name: &'static str,
+    ) -> Result<(), AllocError>
+        ensures { OnOk result (self.new ≡ with_state (typed (sign_text negative ++ codes "?") type_name.entry.now (go None self.old.state)) self.old) }
+    {
+        self.go(None);
+        self.say(if negative { "-?" } else { "?" })?;
+        self.say(": ")?;
+        self.say(type_name)
+    }
+}

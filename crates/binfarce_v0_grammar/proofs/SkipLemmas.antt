@@ -1,0 +1,148 @@
+-- Digits that are checked and not decoded.
+use Rattle.std.proofs.Common.{◌≡◌, ℕ, suc, zero, ◌+◌, ◌*◌, ◌-◌, ◌^◌, ◌<◌, ◌≤◌, inl, inr, List, [], ◌∷◌, length, get_or, drop, take, Option, Some, None, Bool, true, false, cond, eqb, if◌then◌else◌, ◌==◌, refl, ap, sym, ◌∙◌, arith, mul-le-mul}
+use Rattle.std.specs.Prelude.{fold}
+use Rattle.std.specs.Option.{option_map}
+use Rattle.std.specs.List.{prefix_len}
+use Rattle.std.specs.Char.{is_ascii_alphanumeric}
+use Rattle.std.proofs.Math.Nat.{pow-le-pow_right, mul_assoc}
+use Rattle.std.proofs.lemmas.Grind.{pow_more}
+use Rattle.std.proofs.lemmas.List.{get_or-drop}
+use Rattle.std.proofs.lemmas.Bool.{cases_Bool, cases_eq, cond-true, cond-false, eq-eqb, ne_eqb}
+use Rattle.std.proofs.lemmas.Bool.Decides.{nat_tests}
+use Rattle.binfarce_text.specs.Steps.{◌>>=◌}
+use Rattle.binfarce_v0_grammar.specs.Base62.{digit_62, value_62, limited, number, tagged}
+use Rattle.binfarce_v0_grammar.specs.Identifiers.{UndisambiguatedIdentifier, undisambiguated_identifier, Identifier, identifier}
+use Rattle.binfarce_v0_grammar.specs.machine.Seen.{without_disambiguator}
+use Rattle.binfarce_v0_grammar.proofs.NumberLemmas.{run_length}
+
+abbrev next_62 : ℕ → ℕ → ℕ
+next_62 n c = n * 62 + digit_62 c
+
+-- the run of digits that a text begins with, and its length
+abbrev run : List ℕ → ℕ
+run s = prefix_len is_ascii_alphanumeric s
+
+digit_below : (c : ℕ) → is_ascii_alphanumeric c ≡ true → digit_62 c < 62
+unfolding digit_62
+digit_below c h = grind (arith, nat_tests)
+
+-- n digits after a number write less than 62 to their count for each that the number counts up to
+run_below : (s : List ℕ) (worth : ℕ) → fold next_62 worth (take (run s) s) < (worth + 1) * 62 ^ run s
+run_below [] worth = omega arith
+run_below (c ∷ s) worth = elim (cases_Bool (is_ascii_alphanumeric c)) [
+  | inl digit ↦
+      let n : ℕ = run s in
+      let more : run (c ∷ s) ≡ suc n = cond-true (is_ascii_alphanumeric c) (1 + n) 0 digit ∙ omega arith in
+      rw more (grown (fold next_62 (worth * 62 + digit_62 c) (take n s)) (62 ^ n) (62 ^ suc n) (ap (λ k. 62 ^ k) (let next : suc n ≡ n + 1 = omega arith in next) ∙ pow_more 62 n) (digit_below c digit) (run_below s (worth * 62 + digit_62 c)))
+  | inr other ↦
+      let none : run (c ∷ s) ≡ 0 = cond-false (is_ascii_alphanumeric c) _ 0 other in
+      rw none (omega arith)
+]
+  where
+    grown : (value p q : ℕ) → q ≡ p * 62 → digit_62 c < 62 → value < (worth * 62 + digit_62 c + 1) * p → value < (worth + 1) * q
+    grown value p q e small h =
+        let top : (worth * 62 + digit_62 c + 1) * p ≤ (worth + 1) * 62 * p = mul-le-mul (omega (arith, small)) (omega arith) in
+        let same : (worth + 1) * 62 * p ≡ (worth + 1) * q = mul_assoc (worth + 1) 62 p ∙ ap (λ x. (worth + 1) * x) (let by : 62 * p ≡ q = omega (arith, e) in by) in
+        omega (arith, h, top, same)
+
+ten_digits : (s : List ℕ) → run s ≤ 10 → value_62 (take (run s) s) < 2 ^ 64 - 2
+ten_digits s few =
+    let top : 62 ^ run s ≤ 62 ^ 10 = pow-le-pow_right {n = 62} (omega arith) {i = run s} {j = 10} few in
+    omega (arith, run_below s 0, top)
+
+-- the same of what stands from a position on
+pub few_digits : (name : List ℕ) (start : ℕ) → run (drop start name) ≤ 10 → value_62 (take (run (drop start name)) (drop start name)) < 2 ^ 64 - 2
+few_digits name start few = ten_digits (drop start name) few
+
+-- nine digits after two that are worth less than 1362
+two_more : (a b : ℕ) (s : List ℕ) → run (a ∷ b ∷ s) ≡ 11 → digit_62 a * 62 + digit_62 b < 1362 → value_62 (take (run (a ∷ b ∷ s)) (a ∷ b ∷ s)) < 2 ^ 64 - 2
+two_more a b s eleven small = elim (cases_Bool (is_ascii_alphanumeric a)) [
+  | inr other ↦
+      let none : run (a ∷ b ∷ s) ≡ 0 = cond-false (is_ascii_alphanumeric a) _ 0 other in absurd (omega (arith, none, eleven))
+  | inl first ↦
+      let one : run (a ∷ b ∷ s) ≡ suc (run (b ∷ s)) = cond-true (is_ascii_alphanumeric a) (1 + run (b ∷ s)) 0 first ∙ omega arith in
+      elim (cases_Bool (is_ascii_alphanumeric b)) [
+        | inr other ↦
+            let none : run (b ∷ s) ≡ 0 = cond-false (is_ascii_alphanumeric b) _ 0 other in absurd (omega (arith, one, none, eleven))
+        | inl second ↦
+            let two : run (b ∷ s) ≡ suc (run s) = cond-true (is_ascii_alphanumeric b) (1 + run s) 0 second ∙ omega arith in
+            let nine : run s ≡ 9 = omega (arith, one, two, eleven) in
+            rw eleven (below nine)
+      ]
+]
+  where
+    below : run s ≡ 9 → fold next_62 ((0 * 62 + digit_62 a) * 62 + digit_62 b) (take 9 s) < 2 ^ 64 - 2
+    below nine =
+        let lead : ℕ = (0 * 62 + digit_62 a) * 62 + digit_62 b in
+        let all : fold next_62 lead (take (run s) s) < (lead + 1) * 62 ^ run s = run_below s lead in
+        let those : fold next_62 lead (take 9 s) < (lead + 1) * 62 ^ 9 = rw nine at all in
+        omega (arith, those, small)
+
+eleven_first : (s : List ℕ) → run s ≡ 11 → digit_62 (get_or s 0 0) * 62 + digit_62 (get_or s 1 0) < 1362 → value_62 (take (run s) s) < 2 ^ 64 - 2
+eleven_first [] e small = absurd (omega (arith, e))
+eleven_first (a ∷ []) e small = elim (cases_Bool (is_ascii_alphanumeric a)) [
+  | inl digit ↦ absurd (omega (arith, e, cond-true (is_ascii_alphanumeric a) (1 + 0) 0 digit))
+  | inr other ↦ absurd (omega (arith, e, cond-false (is_ascii_alphanumeric a) (1 + 0) 0 other))
+]
+eleven_first (a ∷ b ∷ s) e small = two_more a b s e small
+
+pub eleven_digits : (name : List ℕ) (start : ℕ) → run (drop start name) ≡ 11 → digit_62 (get_or name start 0) * 62 + digit_62 (get_or name (start + 1) 0) < 1362 → value_62 (take (run (drop start name)) (drop start name)) < 2 ^ 64 - 2
+eleven_digits name start e small =
+    let first : get_or (drop start name) 0 0 ≡ get_or name start 0 = get_or-drop start name 0 0 ∙ ap (λ k. get_or name k 0) (let here : start + 0 ≡ start = omega arith in here) in
+    let second : get_or (drop start name) 1 0 ≡ get_or name (start + 1) 0 = get_or-drop start name 1 0 in
+    eleven_first (drop start name) e (rw (first, second) small)
+
+-- Numbers after a tag
+
+abbrev place_of : Option (ℕ × ℕ) → Option ℕ
+place_of o = option_map (λ r. r.1) o
+
+limited_small : (v after : ℕ) → v < 2 ^ 64 → limited v after ≡ Some (v, after)
+limited_small v after h = grind (arith, nat_tests)
+
+pub skips_nothing : (name : List ℕ) (tag at : ℕ) → (get_or name at 0 ≡ tag → ⊥) → place_of (tagged name tag at) ≡ Some at
+unfolding tagged
+skips_nothing name tag at ne = ap place_of (cond-false (eqb (get_or name at 0) tag) _ _ (ne_eqb (get_or name at 0) tag ne))
+
+-- the number that n digits from a position on write, where a "_" stands after them
+abbrev number_of : List ℕ → ℕ → ℕ → ℕ → Option (ℕ × ℕ)
+number_of name at n k =
+    cond (eqb (get_or name (at + k) 0) 95) (limited (cond (eqb k 0) 0 (value_62 (take n (drop at name)) + 1)) (at + k + 1)) None
+
+worth_below : (n value : ℕ) → value < 2 ^ 64 - 2 → cond (eqb n 0) 0 (value + 1) < 2 ^ 64 - 1
+worth_below n value small = by (eqb n 0)
+  where
+    by : (b : Bool) → cond b 0 (value + 1) < 2 ^ 64 - 1
+    by true = omega arith
+    by false = omega (arith, small)
+
+ends_small : (b : Bool) (value after : ℕ) → value < 2 ^ 64 - 1 → place_of (cond b (limited value after) None >>= λ r. limited (r.0 + 1) r.1) ≡ cond b (Some after) None
+ends_small false value after small = refl
+ends_small true value after small =
+    ap (λ o. place_of (o >>= λ r. limited (r.0 + 1) r.1)) (limited_small value after (omega (arith, small)))
+    ∙ ap place_of (limited_small (value + 1) after (omega (arith, small)))
+
+pub skips_small : (name : List ℕ) (tag at : ℕ) → get_or name at 0 ≡ tag
+    → value_62 (take (run (drop (at + 1) name)) (drop (at + 1) name)) < 2 ^ 64 - 2
+    → place_of (tagged name tag at) ≡ (if get_or name (at + 1 + run (drop (at + 1) name)) 0 == 95 then Some (at + 1 + run (drop (at + 1) name) + 1) else None)
+unfolding tagged number
+skips_small name tag at here small =
+    let n : ℕ = run (drop (at + 1) name) in
+    let counted : number name (at + 1) ≡ number_of name (at + 1) n n = ap (number_of name (at + 1) n) (run_length is_ascii_alphanumeric (drop (at + 1) name)) in
+    ap place_of (cond-true (eqb (get_or name at 0) tag) _ _ (eq-eqb (get_or name at 0) tag here))
+    ∙ ap (λ o. place_of (o >>= λ r. limited (r.0 + 1) r.1)) counted
+    ∙ ends_small (eqb (get_or name (at + 1 + n) 0) 95) _ (at + 1 + n + 1) (worth_below n _ small)
+
+-- Identifiers
+
+pub identifier_name : (name : List ℕ) (at : ℕ) → without_disambiguator (identifier name at) ≡ (place_of (tagged name 115 at) >>= λ start. undisambiguated_identifier name start)
+unfolding identifier
+identifier_name name at = by (tagged name 115 at)
+  where
+    named : (d : ℕ) (o : Option (UndisambiguatedIdentifier × ℕ)) → without_disambiguator (o >>= λ i. Some (record { disambiguator = d; name = i.0 }, i.1)) ≡ o
+    named d None = refl
+    named d (Some i) = refl
+
+    by : (o : Option (ℕ × ℕ)) → without_disambiguator (o >>= λ d. (undisambiguated_identifier name d.1 >>= λ i. Some (record { disambiguator = d.0; name = i.0 }, i.1))) ≡ (place_of o >>= λ start. undisambiguated_identifier name start)
+    by None = refl
+    by (Some d) = named d.0 (undisambiguated_identifier name d.1)

@@ -19,3 +19,4 @@ pub use Rattle.binfarce_pe.specs.PeSymbols
 pub use Rattle.binfarce_pe.specs.PeSeen
 pub use Rattle.binfarce_names.specs.Name
 pub use Rattle.binfarce_names.specs.Named
+pub use Rattle.binfarce_names.specs.Crates

@@ -11,17 +11,21 @@ use Rattle.std.proofs.lemmas.List.Quantifiers.{position-Some}
 use Rattle.std.proofs.lemmas.List.Sums.{position_or_len_is}
 use Rattle.std.proofs.lemmas.List.Elements.{All-same}
 use Rattle.binfarce_bytes.specs.Number.{bytes_at}
-use Rattle.binfarce_bytes.specs.Text.{nul_at, text_of, text_at, IsTextAt, FindsText}
+use Rattle.binfarce_bytes.specs.Text.{nul_at, utf8_of, text_of, text_at, IsTextAt, FindsText}
 
-pub text_of_is : (bytes : List ℕ) (n : ℕ) → 0 < n → IsUtf8 (take n bytes) → text_of bytes n ≡ Some (take n bytes)
-text_of_is bytes n some utf8 = rw (lt-ltb 0 n some, is_utf8-from_IsUtf8 (take n bytes) utf8) refl
+pub utf8_is : (bytes : List ℕ) → IsUtf8 bytes → utf8_of bytes ≡ Some bytes
+utf8_is bytes utf8 = rw (is_utf8-from_IsUtf8 bytes utf8) refl
 
 not_utf8 : (bytes : List ℕ) (b : Bool) → is_utf8 bytes ≡ b → ¬ (IsUtf8 bytes) → b ≡ false
 not_utf8 bytes true e h = absurd (h (IsUtf8-from_is_utf8 bytes e))
 not_utf8 bytes false e h = refl
 
-pub text_of_none : (bytes : List ℕ) (n : ℕ) → 0 < n → ¬ (IsUtf8 (take n bytes)) → text_of bytes n ≡ None
-text_of_none bytes n some h = rw (lt-ltb 0 n some, not_utf8 (take n bytes) (is_utf8 (take n bytes)) refl h) refl
+pub utf8_none : (bytes : List ℕ) → ¬ (IsUtf8 bytes) → utf8_of bytes ≡ None
+utf8_none bytes h = rw (not_utf8 bytes (is_utf8 bytes) refl h) refl
+
+-- the first n bytes, of which there is one, are a text where they are UTF-8
+pub text_of_is : (bytes : List ℕ) (n : ℕ) → 0 < n → text_of bytes n ≡ utf8_of (take n bytes)
+text_of_is bytes n some = rw (lt-ltb 0 n some) refl
 
 abbrev is_nul : ℕ → Bool
 is_nul b = eqb b 0
@@ -75,7 +79,7 @@ only_text bytes start text h =
     let at : nul_at xs ≡ Some n = rw (first, lt-ltb n (length xs) long) refl in
     let taken_is : take n xs ≡ text = ap (take n) whole ∙ take_at text (0 ∷ rest) n refl in
     let some : 0 < n = positive text h.some in
-    ap (option_and_then (text_of xs)) at ∙ text_of_is xs n some (subst IsUtf8 (sym taken_is) h.utf8) ∙ ap (λ (t : List ℕ). Some t) taken_is
+    ap (option_and_then (text_of xs)) at ∙ text_of_is xs n some ∙ utf8_is (take n xs) (subst IsUtf8 (sym taken_is) h.utf8) ∙ ap (λ (t : List ℕ). Some t) taken_is
   where
     nothing : (k : ℕ) → k - k ≡ 0
     nothing k = omega arith

@@ -11,6 +11,10 @@ nul_at bytes = position (λ b. nat_eq b 0) bytes
 abbrev pub up_to_nul : List ℕ → List ℕ
 up_to_nul bytes = take (unwrap_or (nul_at bytes) (length bytes)) bytes
 
+-- the bytes, where they are UTF-8
+abbrev pub utf8_of : List ℕ → Option (List ℕ)
+utf8_of bytes = if is_utf8 bytes then Some bytes else None
+
 -- the first n bytes, where they are a text: not empty, and UTF-8
 abbrev pub text_of : List ℕ → ℕ → Option (List ℕ)
 text_of bytes n = if nat_lt 0 n && is_utf8 (take n bytes) then Some (take n bytes) else None

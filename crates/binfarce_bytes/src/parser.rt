@@ -1,9 +1,9 @@
 //! Numbers and texts at an offset.
 
-ghost use Rattle.std.specs.Prelude.{◌≡◌, ℕ, ◌+◌, ◌-◌, ◌<◌, ◌≤◌, ◌^◌, ◌↔◌, List, length, IsTrue, MatchOption, MatchResult, nat_eq};
+ghost use Rattle.std.specs.Prelude.{◌≡◌, ℕ, ◌+◌, ◌-◌, ◌<◌, ◌≤◌, ◌^◌, ◌↔◌, List, length, IsTrue, MatchOption, MatchResult, nat_eq, take, false};
 ghost use Rattle.binfarce_bytes.specs.declared.ByteOrder.{ByteOrder};
 ghost use Rattle.binfarce_bytes.specs.Number.{number, signed, bytes_at};
-ghost use Rattle.binfarce_bytes.specs.Text.{text_at, nul_at, up_to_nul, text_of, FindsText};
+ghost use Rattle.binfarce_bytes.specs.Text.{text_at, nul_at, up_to_nul, utf8_of, text_of, FindsText};
 ghost use Rattle.binfarce_bytes.specs.Refusal.{refusal_of, malformed_input};
 ghost use Rattle.std.specs.List.{list_any};
 ghost use Rattle.std.specs.Option.{option_map};
@@ -357,23 +357,39 @@ fn text_from(bytes: &[u8], start: usize) -> Option<&str>
     }
 }
 
-// How many bytes are looked at together.
+// How many bytes are looked at together: first so many, and then fewer.
 const STRIDE: usize = 32;
+
+const LAST_STRIDE: usize = 8;
 
 fn find_nul(bytes: &[u8]) -> Option<usize>
     ensures { result ≡ nul_at bytes.now }
 {
-    let mut at = 0;
-    while bytes.len() - at >= STRIDE {
-        if has_nul(&bytes[at..at + STRIDE]) {
-            break;
-        }
-        at += STRIDE;
-    }
+    let far = past_strides(bytes, 0, STRIDE);
+    let at = past_strides(bytes, far, LAST_STRIDE);
     match first_nul(&bytes[at..]) {
         None => None,
         Some(i) => Some(at + i),
     }
+}
+
+// The offset after the strides from `start` on that have no NUL, where none stands before `start`.
+#[inline(always)]
+fn past_strides(bytes: &[u8], start: usize, stride: usize) -> usize
+    requires stride { 0 < stride }
+    requires within { start ≤ length bytes.now }
+    requires none { list_any (λ b. nat_eq b 0) (take start bytes.now) ≡ false }
+    ensures within { result ≤ length bytes.now }
+    ensures none { list_any (λ b. nat_eq b 0) (take result bytes.now) ≡ false }
+{
+    let mut at = start;
+    while bytes.len() - at >= stride {
+        if has_nul(&bytes[at..at + stride]) {
+            break;
+        }
+        at += stride;
+    }
+    at
 }
 
 fn first_nul(bytes: &[u8]) -> Option<usize>
@@ -395,7 +411,7 @@ fn has_nul(bytes: &[u8]) -> bool
 }
 
 // The first `len` bytes.
-#[tactic(auto, using(crate::proofs::Texts::text_of_is, crate::proofs::Texts::text_of_none))]
+#[tactic(auto, using(crate::proofs::Texts::text_of_is))]
 fn first_text(bytes: &[u8], len: usize) -> Option<&str>
     requires { len ≤ length bytes.now }
     ensures { option_map (λ t. t.now) result ≡ text_of bytes.now len }
@@ -403,7 +419,15 @@ fn first_text(bytes: &[u8], len: usize) -> Option<&str>
     if len == 0 {
         return None;
     }
-    match std::str::from_utf8(&bytes[..len]) {
+    utf8_text(&bytes[..len])
+}
+
+/// The bytes as a text, which is a part of them; `None` where they aren't UTF-8.
+#[tactic(auto, using(crate::proofs::Texts::utf8_is, crate::proofs::Texts::utf8_none))]
+pub fn utf8_text(bytes: &[u8]) -> Option<&str>
+    ensures { option_map (λ t. t.now) result ≡ utf8_of bytes.now }
+{
+    match std::str::from_utf8(bytes) {
         Ok(text) => Some(text),
         Err(_) => None,
     }

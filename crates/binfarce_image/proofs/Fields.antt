@@ -43,10 +43,10 @@ behind bytes others place at width inside begins =
 
 -- the fields share no byte
 abbrev pub lies_apart : Field → Field → Bool
-lies_apart f g = leb (f.place + f.width) g.place || leb (g.place + g.width) f.place
+lies_apart f g = leb (f.offset + f.width) g.offset || leb (g.offset + g.width) f.offset
 
 abbrev pub is_field : Field → Field → Bool
-is_field f g = eqb f.place g.place && eqb f.width g.width
+is_field f g = eqb f.offset g.offset && eqb f.width g.width
 
 -- no number is put where the field is
 abbrev pub untouched : Field → List (Field × ℕ) → Bool
@@ -59,10 +59,10 @@ put_last f (x ∷ numbers) = cond (is_field f x.0 && untouched f numbers) (Some 
 
 -- the number in a field
 abbrev pub held : ByteOrder → List ℕ → Field → ℕ
-held order bytes f = number order (bytes_at bytes f.place f.width)
+held order bytes f = number order (bytes_at bytes f.offset f.width)
 
-lies_in : (len : ℕ) (f : Field) → fits len f ≡ true → f.place + f.width ≤ len
-lies_in len f inside = leb-true (f.place + f.width) len (and_parts (leb (f.place + f.width) len) (leb f.width 8) inside).0
+lies_in : (len : ℕ) (f : Field) → fits len f ≡ true → f.offset + f.width ≤ len
+lies_in len f inside = leb-true (f.offset + f.width) len (and_parts (leb (f.offset + f.width) len) (leb f.width 8) inside).0
 
 length_put : (order : ByteOrder) (bytes : List ℕ) (x : Field × ℕ) (len : ℕ) → length bytes ≡ len → fits len x.0 ≡ true → length (put order bytes x) ≡ len
 length_put order bytes x len long inside = length-put order bytes x.0 x.1 (ap (λ (n : ℕ). fits n x.0) long ∙ inside) ∙ long
@@ -72,11 +72,11 @@ put_apart : (order : ByteOrder) (bytes : List ℕ) (f : Field) (x : Field × ℕ
 unfolding put
 put_apart order bytes f x len long inside apart =
     let others = number_bytes order x.0.width x.1 in
-    let end : x.0.place + x.0.width ≤ len = lies_in len x.0 inside in
-    let starts : x.0.place ≤ length bytes = omega arith in
-    ap (number order) (elim (or_cases (leb (f.place + f.width) x.0.place) (leb (x.0.place + x.0.width) f.place) apart) [
-      | inl low ↦ before bytes others x.0.place f.place f.width starts (leb-true (f.place + f.width) x.0.place low)
-      | inr high ↦ behind bytes others x.0.place f.place f.width starts (omega (arith, leb-true (x.0.place + x.0.width) f.place high, length-number_bytes order x.0.width x.1))
+    let end : x.0.offset + x.0.width ≤ len = lies_in len x.0 inside in
+    let starts : x.0.offset ≤ length bytes = omega arith in
+    ap (number order) (elim (or_cases (leb (f.offset + f.width) x.0.offset) (leb (x.0.offset + x.0.width) f.offset) apart) [
+      | inl low ↦ before bytes others x.0.offset f.offset f.width starts (leb-true (f.offset + f.width) x.0.offset low)
+      | inr high ↦ behind bytes others x.0.offset f.offset f.width starts (omega (arith, leb-true (x.0.offset + x.0.width) f.offset high, length-number_bytes order x.0.width x.1))
     ])
 
 -- a field that nothing is put into holds what it held
@@ -92,13 +92,13 @@ put_there : (order : ByteOrder) (bytes : List ℕ) (f : Field) (x : Field × ℕ
     → held order (put order bytes x) f ≡ x.1
 unfolding put
 put_there order bytes f x len long inside same small =
-    let end : x.0.place + x.0.width ≤ len = lies_in len x.0 inside in
-    let p = and_parts (eqb f.place x.0.place) (eqb f.width x.0.width) same in
-    let at : f.place ≡ x.0.place = eqb-true f.place x.0.place p.0 in
+    let end : x.0.offset + x.0.width ≤ len = lies_in len x.0 inside in
+    let p = and_parts (eqb f.offset x.0.offset) (eqb f.width x.0.width) same in
+    let at : f.offset ≡ x.0.offset = eqb-true f.offset x.0.offset p.0 in
     let wide : f.width ≡ x.0.width = eqb-true f.width x.0.width p.1 in
     let others = number_bytes order x.0.width x.1 in
     let width_is : f.width ≡ length others = wide ∙ sym (length-number_bytes order x.0.width x.1) in
-    ap (number order) (ap (λ (k : ℕ). bytes_at (written_at bytes x.0.place others) k f.width) at ∙ ap (λ (k : ℕ). bytes_at (written_at bytes x.0.place others) x.0.place k) width_is ∙ there bytes others x.0.place (omega arith))
+    ap (number order) (ap (λ (k : ℕ). bytes_at (written_at bytes x.0.offset others) k f.width) at ∙ ap (λ (k : ℕ). bytes_at (written_at bytes x.0.offset others) x.0.offset k) width_is ∙ there bytes others x.0.offset (omega arith))
     ∙ ap (λ (k : ℕ). number order (number_bytes order k x.1)) (sym wide)
     ∙ number_back order f.width x.1 small
 
@@ -128,11 +128,11 @@ put_back order len f n (x ∷ numbers) bytes long inside small last =
 value_in : (order : ByteOrder) (front bytes behind : List ℕ) (f : Field) (start len : ℕ) → length front ≡ start → length bytes ≡ len → fits len f ≡ true
     → value_at order (front ++ (bytes ++ behind)) start f ≡ held order bytes f
 value_in order front bytes behind f start len at long inside =
-    let end : f.place + f.width ≤ len = lies_in len f inside in
+    let end : f.offset + f.width ≤ len = lies_in len f inside in
     let file = front ++ (bytes ++ behind) in
-    let there : drop (start + f.place) file ≡ drop f.place (bytes ++ behind) = sym (drop-drop f.place start file) ∙ ap (drop f.place) (drop_at front (bytes ++ behind) start at) in
-    let cut : take f.width (drop f.place (bytes ++ behind)) ≡ take f.width (drop f.place bytes) =
-    ap (take f.width) (drop-append-le f.place bytes behind (omega arith)) ∙ take-append-le f.width (drop f.place bytes) behind (omega (arith, length-drop f.place bytes)) in
+    let there : drop (start + f.offset) file ≡ drop f.offset (bytes ++ behind) = sym (drop-drop f.offset start file) ∙ ap (drop f.offset) (drop_at front (bytes ++ behind) start at) in
+    let cut : take f.width (drop f.offset (bytes ++ behind)) ≡ take f.width (drop f.offset bytes) =
+    ap (take f.width) (drop-append-le f.offset bytes behind (omega arith)) ∙ take-append-le f.width (drop f.offset bytes) behind (omega (arith, length-drop f.offset bytes)) in
     ap (number order) (ap (take f.width) there ∙ cut)
 
 -- the field, of a structure of this length, gets the number, and has room for all below the bound

@@ -22,14 +22,14 @@ pub both : (a b : Bool) → a && b ≡ true → (a ≡ true) × (b ≡ true)
 both true b h = (refl, h)
 both false b h = cc
 
-within : (n : ℕ) (f : Field) → fits n f ≡ true → f.place + f.width ≤ n
+within : (n : ℕ) (f : Field) → fits n f ≡ true → f.offset + f.width ≤ n
 within n f h = grind (arith, nat_tests)
 
 -- a number that is put into a field of a structure leaves its length
 pub length-put : (order : ByteOrder) (bs : List ℕ) (f : Field) (n : ℕ) → fits (length bs) f ≡ true → length (put order bs (f, n)) ≡ length bs
 unfolding put
 length-put order bs f n h =
-    let inside : f.place + f.width ≤ length bs = within (length bs) f h in
+    let inside : f.offset + f.width ≤ length bs = within (length bs) f h in
     let written = number_bytes order f.width n in
     let long : length written ≡ f.width = length-number_bytes order f.width n in
     simp (length-append, length-take, length-drop) (omega (arith, inside, long))

@@ -21,7 +21,7 @@ written_at bytes place others = take place bytes ++ (others ++ drop (place + len
 
 -- the bytes after a number was put into its field
 unfoldable pub put : ByteOrder → List ℕ → Field × ℕ → List ℕ
-put order bytes (f, n) = written_at bytes f.place (number_bytes order f.width n)
+put order bytes (f, n) = written_at bytes f.offset (number_bytes order f.width n)
 
 -- the bytes after each number was put into its field
 abbrev pub filled : ByteOrder → List ℕ → List (Field × ℕ) → List ℕ

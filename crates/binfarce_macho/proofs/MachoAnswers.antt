@@ -10,12 +10,11 @@ use Rattle.std.specs.Slice.Iter.{iter_rest, iter_steps}
 use Rattle.std.proofs.lemmas.Iterator.{items_from_drains}
 use Rattle.std.proofs.lemmas.Iterator.Consumers.{YieldsList-from_copied, YieldsList-from_shown}
 use Rattle.std.proofs.lemmas.List.{map-id}
-use Rattle.binfarce_names.specs.declared.demangle.SymbolData.{SymbolData}
 use Rattle.binfarce_bytes.specs.declared.error.ParseError.{ParseError}
 use Rattle.binfarce_bytes.specs.declared.error.ParseError.TheVariants.{OutOfMemory}
 use Rattle.binfarce_bytes.specs.Refusal.{◌>>=◌, Refusal, refusal_of}
 use Rattle.binfarce_symbols.specs.declared.functions.FunctionSymbol.{FunctionSymbol}
-use Rattle.binfarce_symbols.specs.Symbol.{Entry, Listed, AreSymbolsOf, HoldsSymbols, Answers}
+use Rattle.binfarce_symbols.specs.Symbol.{Entry, Listed, Answers}
 use Rattle.binfarce_symbols.specs.SymbolSeen.{function_seen, HoldsFunctions}
 use Rattle.binfarce_symbols.specs.Sizes.{RowAddress, arranged}
 use Rattle.binfarce_macho.specs.MachoSymbols.{Located, located, answer_of, listed_of, macho_answer, entry_of, kept, row_addresses, HasAddress}
@@ -106,12 +105,6 @@ module _ {A : Type 0} where
       by_case : (o : Option (Bor A)) → iter_steps (copied_source s) o (copied_source t) → Some x ≡ option_copied o → (first : A) × (others : List A) × (iter_rest (copied_source s) ≡ first ∷ others)
       by_case None here is = absurd cc
       by_case (Some y) here is = (y.now, iter_rest (copied_source t), here)
-
--- the symbols of the function symbols
-pub symbols_answer : (Needs : Result Listed Refusal → Type 0) (answer : Result Listed Refusal) (functions : Vec FunctionSymbol) (symbols : Vec SymbolData) (size : ℕ)
-    → Answers HoldsFunctions Needs answer (Ok (functions, size)) → AreSymbolsOf (map function_seen functions.items) symbols.items → Answers HoldsSymbols Needs answer (Ok (symbols, size))
-symbols_answer Needs (Ok listed) functions symbols size holds are = (subst (λ (entries : List Entry). AreSymbolsOf entries symbols.items) holds.0 are, holds.1)
-symbols_answer Needs (Err why) functions symbols size holds are = absurd holds
 
 -- where function symbols are held, the table has an address
 pub functions_need_address : (file : List ℕ) (functions : Vec FunctionSymbol) (size : ℕ) (first : FunctionSymbol) (others : List FunctionSymbol)

@@ -1,10 +1,10 @@
 -- 64-bit Mach-O files, which are always little endian (Apple's <mach-o/loader.h>): tables of offsets and widths, and what stands there.
 use Rattle.std.specs.Prelude.{ℕ, zero, suc, ◌+◌, ◌-◌, ◌*◌, ◌/◌, Bool, ◌&&◌, List, [], ◌∷◌, ◌++◌, length, Option, Some, None, nat_eq, nat_lt, nat_le, min, if◌then◌else◌}
 use Rattle.std.specs.List.{range_with_len, filter_map}
-use Rattle.std.specs.Str.{bytes_eq, is_utf8}
+use Rattle.std.specs.Str.{bytes_eq}
 use Rattle.binfarce_bytes.specs.Steps.{◌>>=◌}
 use Rattle.binfarce_bytes.specs.Number.{bytes_at}
-use Rattle.binfarce_bytes.specs.Text.{up_to_nul}
+use Rattle.binfarce_bytes.specs.Text.{up_to_nul, utf8_of}
 use Rattle.binfarce_bytes.specs.Refusal.{Refusal, malformed_input, unexpected_eof}
 use Rattle.binfarce_bytes.specs.Walk.{Walk}
 use Rattle.binfarce_bytes.specs.Field.{Field, field, number_in}
@@ -99,11 +99,11 @@ pub record Section : Type 0 where
 
 -- what the bytes of a name say: those up to the first NUL, or all where there is none. A name isn't empty, and is UTF-8
 unfoldable pub name_of : List ℕ → Option (List ℕ)
-name_of bytes = if nat_lt 0 (length (up_to_nul bytes)) && is_utf8 (up_to_nul bytes) then Some (up_to_nul bytes) else None
+name_of bytes = if nat_lt 0 (length (up_to_nul bytes)) then utf8_of (up_to_nul bytes) else None
 
 -- a name, from its own 16 bytes
 abbrev pub name_in : List ℕ → ℕ → Field → Option (List ℕ)
-name_in file start f = name_of (bytes_at file (start + f.place) f.width)
+name_in file start f = name_of (bytes_at file (start + f.offset) f.width)
 
 -- the section whose structure begins at start, where both its names are valid
 unfoldable pub section_at : List ℕ → ℕ → Option Section

@@ -15,7 +15,7 @@ ghost use Rattle.binfarce_macho.specs.MachoSeen.{header_seen, section_seen};
 ghost use Rattle.binfarce_macho.specs.machine.RawMacho.{command_seen, damage_refusal, commands_left, found_seen, raw_symbol, raw_symbol_table};
 
 use binfarce_bytes::parser::{
-    Stream, UnexpectedEof, number_at, parse_null_string, part, range, up_to_nul,
+    Stream, UnexpectedEof, number_at, parse_null_string, part, range, up_to_nul, utf8_text,
 };
 use binfarce_bytes::{ByteOrder, ParseError};
 use binfarce_names::demangle::SymbolData;
@@ -403,7 +403,7 @@ fn section_at(bytes: &[u8], start: usize) -> Result<Option<Section<'_>>, Unexpec
 }
 
 // The name in a field's bytes: those up to the first NUL, or all where there is none.
-#[tactic(auto, using(crate::proofs::SectionNames::name_is, crate::proofs::SectionNames::name_empty, crate::proofs::SectionNames::name_invalid))]
+#[tactic(auto, using(crate::proofs::SectionNames::name_is, crate::proofs::SectionNames::name_empty))]
 fn name_in(bytes: &[u8]) -> Option<&str>
     ensures { option_map (λ t. t.now) result ≡ name_of bytes.now }
 {
@@ -411,10 +411,7 @@ fn name_in(bytes: &[u8]) -> Option<&str>
     if name.is_empty() {
         return None;
     }
-    match std::str::from_utf8(name) {
-        Ok(text) => Some(text),
-        Err(_) => None,
-    }
+    utf8_text(name)
 }
 
 #[tactic(auto, unfolding(crate::specs::Macho::header_at, crate::specs::Macho::header_fields))]

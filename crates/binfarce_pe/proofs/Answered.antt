@@ -1,5 +1,5 @@
 -- The answer of `symbols`, where `functions` has answered.
-use Rattle.std.proofs.Common.{◌≡◌, ℕ, List, length, map, Result, Ok, Err, sym, ap, subst, ◌∙◌}
+use Rattle.std.proofs.Common.{◌≡◌, ℕ, List, length, Result, Ok, Err, sym, ◌∙◌}
 use Rattle.std.proofs.lemmas.List.{map-id}
 use Rattle.std.specs.Global.{Vec}
 use Rattle.std.specs.declared.vec.IntoIter.{IntoIter}
@@ -9,9 +9,7 @@ use Rattle.std.proofs.lemmas.Iterator.{items_from_drains}
 use Rattle.std.proofs.lemmas.Iterator.Adapters.{YieldsList-from_vec}
 use Rattle.binfarce_names.specs.declared.demangle.SymbolData.{SymbolData}
 use Rattle.binfarce_bytes.specs.Refusal.{◌>>=◌, Refusal}
-use Rattle.binfarce_symbols.specs.declared.functions.FunctionSymbol.{FunctionSymbol}
-use Rattle.binfarce_symbols.specs.Symbol.{Entry, Listed, AreSymbolsOf, Answers, HoldsSymbols, ListsSome}
-use Rattle.binfarce_symbols.specs.SymbolSeen.{function_seen, HoldsFunctions}
+use Rattle.binfarce_symbols.specs.Symbol.{Answers, HoldsSymbols, ListsSome}
 use Rattle.binfarce_pe.specs.PeSymbols.{Located, entries_of, located, pe_answer, EqualAddressesEqualSizes}
 use Rattle.binfarce_pe.proofs.Listing.{equal_sizes}
 
@@ -19,15 +17,7 @@ use Rattle.binfarce_pe.proofs.Listing.{equal_sizes}
 pub given_is : {A Z : Type 0} (s : IntoIter A Z) (xs given : List A) → into_iter_items s ≡ xs → into_iter_len s ≡ length xs → Drains (into_iter_steps {X = A} {Z = Z}) s given → given ≡ xs
 given_is s xs given items len d = sym (map-id given) ∙ items_from_drains given (d.1.0, d.1.1, λ _. (d.0, d.1.2)) (YieldsList-from_vec xs items len)
 
--- the symbols of the functions of an answer are its symbols
-pub symbols_held : (answer : Result Listed Refusal) (functions : Vec FunctionSymbol) (size : ℕ) (given : List FunctionSymbol) (symbols : Vec SymbolData)
-    → Answers HoldsFunctions ListsSome answer (Ok (functions, size)) → given ≡ functions.items → AreSymbolsOf (map function_seen given) symbols.items
-    → Answers HoldsSymbols ListsSome answer (Ok (symbols, size))
-symbols_held (Ok listed) functions size given symbols holds same are =
-    (subst (λ (es : List Entry). AreSymbolsOf es symbols.items) (ap (map function_seen) same ∙ holds.0) are, holds.1)
-symbols_held (Err refusal) functions size given symbols holds same are = absurd holds
-
--- and at equal addresses they have equal sizes
+-- at equal addresses the symbols of an answer have equal sizes
 pub sizes_agree : (file : List ℕ) (symbols : Vec SymbolData) (size : ℕ) → Answers HoldsSymbols ListsSome (pe_answer file) (Ok (symbols, size)) → EqualAddressesEqualSizes symbols.items
 unfolding pe_answer
 sizes_agree file symbols size holds = by_case (located file) holds

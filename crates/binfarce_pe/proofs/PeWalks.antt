@@ -1,27 +1,12 @@
 -- The walk over the section headers of a PE file, as a loop goes over it.
 use Rattle.std.proofs.Common.{◌≡◌, ℕ, ◌+◌, ◌-◌, ◌*◌, ◌/◌, ◌<◌, ◌≤◌, Bool, true, false, List, [], length, All, Option, Some, None, refl, sym, ap, ◌∙◌, arith, min, ltb, ◌&&◌, Result, Ok, Err, IsErr}
-use Rattle.std.specs.Str.{IsUtf8, is_utf8}
-use Rattle.std.proofs.lemmas.Str.{IsUtf8-from_is_utf8, is_utf8-from_IsUtf8}
 use Rattle.std.proofs.lemmas.Bool.{le-ltb, lt-ltb, le-leb, lt-leb}
 use Rattle.std.proofs.lemmas.List.Elements.{All-nil, All-same}
 use Rattle.std.proofs.lemmas.Nat.{le-div, div_below}
 use Rattle.binfarce_bytes.specs.Refusal.{unexpected_eof}
-use Rattle.binfarce_bytes.specs.Text.{up_to_nul}
 use Rattle.binfarce_bytes.specs.Walk.{Walk, Answered, MayBeAsked, IsFirstAccepted, NoneAccepted, FirstAccepted}
-use Rattle.binfarce_pe.specs.Pe.{Section, short_name, header_of, section_at, sections_offset, section_of, readable_headers, walk}
+use Rattle.binfarce_pe.specs.Pe.{Section, header_of, section_at, sections_offset, section_of, readable_headers, walk}
 use Rattle.binfarce_pe.proofs.Numbered.{held_below, after_held, held_may_be_asked}
-
-pub short_name_is : (bytes text : List ℕ) → text ≡ up_to_nul bytes → IsUtf8 text → short_name bytes ≡ Some text
-unfolding short_name
-short_name_is bytes text is utf8 = rw (← is, is_utf8-from_IsUtf8 text utf8) refl
-
-not_utf8 : (bytes : List ℕ) (b : Bool) → is_utf8 bytes ≡ b → ¬ (IsUtf8 bytes) → b ≡ false
-not_utf8 bytes true e h = absurd (h (IsUtf8-from_is_utf8 bytes e))
-not_utf8 bytes false e h = refl
-
-pub short_name_none : (bytes text : List ℕ) → text ≡ up_to_nul bytes → ¬ (IsUtf8 text) → short_name bytes ≡ None
-unfolding short_name
-short_name_none bytes text is h = rw (← is, not_utf8 text (is_utf8 text) refl h) refl
 
 -- a header that can be read is one of those that the file has room for
 pub is_readable : (len table start i : ℕ) → start ≡ table + i * 40 → start + 24 ≤ len → i < (len + 16 - table) / 40

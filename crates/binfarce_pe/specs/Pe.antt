@@ -2,10 +2,9 @@
 use Rattle.std.specs.Prelude.{ℕ, ◌+◌, ◌-◌, ◌*◌, ◌/◌, ◌&&◌, List, length, Option, Some, None, nat_lt, nat_le, min, max, if◌then◌else◌}
 use Rattle.std.specs.Option.{option_map}
 use Rattle.std.specs.List.{range_with_len, filter_map}
-use Rattle.std.specs.Str.{is_utf8}
 use Rattle.binfarce_bytes.specs.declared.ByteOrder.TheVariants.{LittleEndian}
 use Rattle.binfarce_bytes.specs.Number.{number, bytes_at}
-use Rattle.binfarce_bytes.specs.Text.{up_to_nul}
+use Rattle.binfarce_bytes.specs.Text.{up_to_nul, utf8_of}
 use Rattle.binfarce_bytes.specs.Field.{Field, field, number_in}
 use Rattle.binfarce_bytes.specs.Refusal.{unexpected_eof}
 use Rattle.binfarce_bytes.specs.Walk.{Walk}
@@ -84,7 +83,7 @@ pub record Section : Type 0 where
 
 -- a name of 8 bytes, where it is UTF-8; it may be empty
 unfoldable pub short_name : List ℕ → Option (List ℕ)
-short_name bytes = if is_utf8 (up_to_nul bytes) then Some (up_to_nul bytes) else None
+short_name bytes = utf8_of (up_to_nul bytes)
 
 -- the section of this index, whose header begins at start; none where its name isn't UTF-8
 unfoldable pub section_at : List ℕ → ℕ → ℕ → Option Section
@@ -97,7 +96,7 @@ section_at file start index =
       pointer_to_raw_data = number_in file start section_header.pointer_to_raw_data;
       index = index;
     })
-    (short_name (bytes_at file (start + section_header.name.place) section_header.name.width))
+    (short_name (bytes_at file (start + section_header.name.offset) section_header.name.width))
 
 -- section header i of the table; each has 40 bytes
 abbrev pub section_of : List ℕ → ℕ → Option Section

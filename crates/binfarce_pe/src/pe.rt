@@ -13,7 +13,7 @@ ghost use Rattle.binfarce_pe.specs.PeSeen.{header_seen, section_seen};
 ghost use Rattle.binfarce_pe.specs.machine.RawPe.{table_seen, found_seen};
 
 use crate::symbols::{COFF_SYMBOL_SIZE, Found, SymbolTable, functions_of};
-use binfarce_bytes::parser::{Stream, UnexpectedEof, number_at, part, range, up_to_nul};
+use binfarce_bytes::parser::{Stream, UnexpectedEof, number_at, part, range, up_to_nul, utf8_text};
 use binfarce_bytes::{ByteOrder, ParseError};
 use binfarce_names::demangle::SymbolData;
 use binfarce_symbols::functions::{FunctionSymbol, symbols_of};
@@ -307,12 +307,9 @@ fn section_at(data: &[u8], start: usize, index: u16) -> Result<Option<Section<'_
 }
 
 // The bytes up to the first NUL, or all where there is none, as UTF-8.
-#[tactic(auto, using(crate::proofs::PeWalks::short_name_is, crate::proofs::PeWalks::short_name_none))]
+#[tactic(auto, unfolding(crate::specs::Pe::short_name))]
 pub(crate) fn short_name(bytes: &[u8]) -> Option<&str>
     ensures { option_map (λ t. t.now) result ≡ short_name bytes.now }
 {
-    match std::str::from_utf8(up_to_nul(bytes)) {
-        Ok(text) => Some(text),
-        Err(_) => None,
-    }
+    utf8_text(up_to_nul(bytes))
 }

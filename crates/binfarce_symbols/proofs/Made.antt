@@ -1,10 +1,12 @@
 -- Symbols made of function symbols, one after the other.
-use Rattle.std.proofs.Common.{◌≡◌, List, [], ◌∷◌, ◌++◌, map, Option, Some, sym, ap, ◌∙◌}
+use Rattle.std.proofs.Common.{◌≡◌, ℕ, List, [], ◌∷◌, ◌++◌, map, Option, Some, Result, Ok, Err, sym, ap, subst, ◌∙◌}
+use Rattle.std.specs.Global.{Vec}
 use Rattle.std.specs.Iterator.{Yields, YieldsFirstBy, Drains}
 use Rattle.binfarce_names.specs.declared.demangle.SymbolData.{SymbolData}
 use Rattle.binfarce_symbols.specs.declared.functions.FunctionSymbol.{FunctionSymbol}
-use Rattle.binfarce_symbols.specs.Symbol.{IsSymbolOf, AreSymbolsOf}
-use Rattle.binfarce_symbols.specs.SymbolSeen.{function_seen}
+use Rattle.binfarce_bytes.specs.Refusal.{Refusal}
+use Rattle.binfarce_symbols.specs.Symbol.{Entry, Listed, IsSymbolOf, AreSymbolsOf, Answers, HoldsSymbols}
+use Rattle.binfarce_symbols.specs.SymbolSeen.{function_seen, HoldsFunctions}
 
 -- the symbol of one more function symbol
 pub one_more_symbol : (given : List FunctionSymbol) (symbols : List SymbolData) (function : FunctionSymbol) (symbol : SymbolData)
@@ -26,3 +28,11 @@ drained view rest s [] d = sym (ap rest d.1.1 ∙ d.1.2.0)
 drained {B = B} view rest s (x ∷ given) d =
     let yields = d.1.1 in
     ap (λ (ys : List B). view x ∷ ys) (drained view rest yields.0 given (d.0, (d.1.0, yields.2, d.1.2))) ∙ sym yields.1
+
+-- where function symbols are an answer, the symbols of all of them are that answer
+pub symbols_held : (Needs : Result Listed Refusal → Type 0) (answer : Result Listed Refusal) (functions : Vec FunctionSymbol) (size : ℕ) (given : List FunctionSymbol) (symbols : Vec SymbolData)
+    → Answers HoldsFunctions Needs answer (Ok (functions, size)) → given ≡ functions.items → AreSymbolsOf (map function_seen given) symbols.items
+    → Answers HoldsSymbols Needs answer (Ok (symbols, size))
+symbols_held Needs (Ok listed) functions size given symbols holds same are =
+    (subst (λ (es : List Entry). AreSymbolsOf es symbols.items) (ap (map function_seen) same ∙ holds.0) are, holds.1)
+symbols_held Needs (Err refusal) functions size given symbols holds same are = absurd holds

@@ -14,7 +14,7 @@ use Rattle.binfarce_image.specs.Image.{part_name, part_kind, part_link}
 use Rattle.binfarce_image.specs.ImageSymbols.{RowFits}
 
 abbrev pub field_seen : Field → field.Field
-field_seen f = record { place = f.0; width = f.1 }
+field_seen f = record { offset = f.0; width = f.1 }
 
 abbrev pub header_seen : Header → elf.Header field.Field
 header_seen h = record { elf_type = field_seen h.elf_type; machine = field_seen h.machine; version = field_seen h.version; entry = field_seen h.entry; phoff = field_seen h.phoff; shoff = field_seen h.shoff; flags = field_seen h.flags; ehsize = field_seen h.ehsize; phentsize = field_seen h.phentsize; phnum = field_seen h.phnum; shentsize = field_seen h.shentsize; shnum = field_seen h.shnum; shstrndx = field_seen h.shstrndx }
@@ -34,7 +34,7 @@ numbers_seen numbers = map (λ number. (field_seen number.0, number.1)) numbers
 
 -- a field lies in a structure of this length, and is no wider than 8 bytes
 abbrev pub fits : ℕ → field.Field → Bool
-fits length f = nat_le (f.place + f.width) length && nat_le f.width 8
+fits length f = nat_le (f.offset + f.width) length && nat_le f.width 8
 
 -- each field does
 abbrev pub all_fit : ℕ → List (field.Field × ℕ) → Bool

@@ -11,10 +11,10 @@ use borrow.Rule.Slice.PartMut.{put_mid}
 use Rattle.binfarce_image.proofs.image.write.put.Goals as goal
 
 -- a write of a number's bytes into the field
-written : (order : ByteOrder) (bytes : List ℕ) (f : Field) (n : ℕ) (others : List ℕ) → others ≡ number_bytes order f.width n → put_mid f.place (f.place + f.width - f.place) bytes others ≡ put order bytes (f, n)
+written : (order : ByteOrder) (bytes : List ℕ) (f : Field) (n : ℕ) (others : List ℕ) → others ≡ number_bytes order f.width n → put_mid f.offset (f.offset + f.width - f.offset) bytes others ≡ put order bytes (f, n)
 unfolding put
 written order bytes f n others e =
-    let same : f.place + f.width - f.place ≡ length (number_bytes order f.width n) = omega (arith, length-number_bytes order f.width n) in
+    let same : f.offset + f.width - f.offset ≡ length (number_bytes order f.width n) = omega (arith, length-number_bytes order f.width n) in
     rw (e, same, drop-drop) refl
 
 wide : (length_of : ℕ) (f : Field) → fits length_of f ≡ true → f.width ≤ 8

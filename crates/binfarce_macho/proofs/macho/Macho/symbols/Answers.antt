@@ -1,9 +1,8 @@
-use Rattle.std.proofs.Common.{◌≡◌, ◌∙◌, sym, ap, subst, map, List}
-use Rattle.binfarce_symbols.specs.declared.functions.FunctionSymbol.{FunctionSymbol}
-use Rattle.binfarce_symbols.specs.Symbol.{HoldsSymbols, AreSymbolsOf}
-use Rattle.binfarce_symbols.specs.SymbolSeen.{function_seen}
+use Rattle.std.proofs.Common.{◌≡◌, ◌∙◌, sym, ap}
+use Rattle.binfarce_symbols.specs.Symbol.{HoldsSymbols}
+use Rattle.binfarce_symbols.proofs.Made.{symbols_held}
 use Rattle.binfarce_macho.specs.MachoSymbols.{HasAddress, macho_answer}
-use Rattle.binfarce_macho.proofs.MachoAnswers.{out_of_memory_answers, symbols_answer, functions_need_address, copies_are, copy_of}
+use Rattle.binfarce_macho.proofs.MachoAnswers.{out_of_memory_answers, functions_need_address, copies_are, copy_of}
 use Rattle.binfarce_macho.proofs.macho.Macho.symbols.Goals as goal
 
 pub returns-in_err-symbols-clause-answer : goal.returns-in_err-symbols-clause-answer
@@ -23,5 +22,4 @@ returns-clause-answer c =
     let given = c.in_ok-symbols.ensures.symbols in
     let items = ap (λ it. it.rest.now) c.copied.ensures.source in
     let same : given.0 ≡ c.in_ok-functions.functions.items = copies_are c.copied.result given.0 given.1 ∙ items ∙ c.iter.ensures.rest ∙ c.deref.ensures.value in
-    symbols_answer (λ _. HasAddress file) (macho_answer file) c.in_ok-functions.functions c.in_ok-symbols.symbols c.in_ok-functions.text_size c.in_ok-functions.ensures
-    (subst (λ (xs : List FunctionSymbol). AreSymbolsOf (map function_seen xs) c.in_ok-symbols.symbols.items) same given.2)
+    symbols_held (λ _. HasAddress file) (macho_answer file) c.in_ok-functions.functions c.in_ok-functions.text_size given.0 c.in_ok-symbols.symbols c.in_ok-functions.ensures same given.2

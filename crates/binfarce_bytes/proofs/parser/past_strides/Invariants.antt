@@ -1,7 +1,7 @@
 use Rattle.std.proofs.Common.{◌≡◌, ◌≤◌, ◌-◌, length, take, false}
 use Rattle.std.specs.Prelude.{nat_eq}
 use Rattle.std.specs.List.{list_any}
-use Rattle.binfarce_bytes.proofs.parser.find_nul.Given as goal
+use Rattle.binfarce_bytes.proofs.parser.past_strides.Given as goal
 
 -- none so far
 abbrev pub invariant-loop-at : goal.invariant-loop-at

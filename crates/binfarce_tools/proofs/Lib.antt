@@ -2,9 +2,8 @@ pub mod HeaderLengths
 pub mod Pads
 pub mod Told
 pub mod Listings
-pub mod FirstPart
-pub mod Sums
-pub mod Runs
-pub mod Orders
-pub mod Follows
+pub mod Lines
+pub mod CrateSums
+pub mod CrateLines
 pub mod Reports
+pub mod SymbolLaws

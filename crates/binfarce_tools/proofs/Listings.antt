@@ -1,15 +1,14 @@
 -- What `list` reports and what was taken follows from what its reader returned and its sink took.
 use Rattle.std.proofs.Common.{◌≡◌, ℕ, ◌+◌, ◌-◌, true, List, ◌++◌, length, take, drop, Option, Some, None, Result, Ok, Err, refl, sym, ap, subst, ◌∙◌, inl, inr, append_assoc, arith}
 use Rattle.std.specs.Result.{IsErrAnd, result_ok}
-use Rattle.std.specs.Global.{Vec}
 use Rattle.std.specs.Io.KnownBytes.{Appends, Keeps}
 use Rattle.std.proofs.lemmas.List.{take-append-drop, take_all, length-drop}
 use Rattle.std.proofs.Math.Seq.{take-add}
-use Rattle.binfarce.specs.declared.demangle.SymbolData.{SymbolData}
 use Rattle.binfarce.specs.declared.ParseError.{ParseError}
 use Rattle.binfarce.specs.declared.ParseError.TheVariants as errors
 use Rattle.binfarce.specs.Refusal.{Refusal, refusal_of, out_of_memory}
 use Rattle.binfarce.specs.Symbol.{Listed}
+use Rattle.binfarce_tools.specs.declared.functions.Functions.{Functions}
 use Rattle.binfarce_tools.specs.declared.list.ListError.{ListError}
 use Rattle.binfarce_tools.specs.declared.list.ListError.TheVariants.{Parse, OutOfMemory}
 use Rattle.binfarce_tools.specs.Writing.{AppendsBeginning}
@@ -42,14 +41,14 @@ gets_refusal memory (Some (Err refusal)) e told (inl is) = inl (e, is, parse e (
 gets_refusal memory (Some (Err refusal)) e told (inr h) = inr (h.1, as_memory e h.0)
 
 -- what a reader returned, where it came through a refusal of the format
-pub returned : (memory : Result Listed Refusal → Type 0) (answer : Option (Result Listed Refusal)) (from : Option (Result (Vec SymbolData × ℕ) ParseError)) (through : Result (Result (Vec SymbolData × ℕ) ParseError) ListError)
-    (inner value : Result (Vec SymbolData × ℕ) ParseError)
+pub returned : (memory : Result Listed Refusal → Type 0) (answer : Option (Result Listed Refusal)) (from : Option (Result (Functions × ℕ) ParseError)) (through : Result (Result (Functions × ℕ) ParseError) ListError)
+    (inner value : Result (Functions × ℕ) ParseError)
     → Reads memory answer from → from ≡ result_ok through → through ≡ Ok inner → inner ≡ value → Reads memory answer (Some value)
 returned memory answer from through inner value reads a b c =
-    let P : Option (Result (Vec SymbolData × ℕ) ParseError) → Type 0 = λ r. Reads memory answer r in subst P (a ∙ ap result_ok b ∙ ap Some c) reads
+    let P : Option (Result (Functions × ℕ) ParseError) → Type 0 = λ r. Reads memory answer r in subst P (a ∙ ap result_ok b ∙ ap Some c) reads
 
 -- a reader's refusal is what is got
-pub refused : (memory : Result Listed Refusal → Type 0) (answer : Option (Result Listed Refusal)) (e : ParseError) (result : Result (Vec SymbolData × ℕ) ListError)
+pub refused : (memory : Result Listed Refusal → Type 0) (answer : Option (Result Listed Refusal)) (e : ParseError) (result : Result (Functions × ℕ) ListError)
     → ToldAnswer answer → Reads memory answer (Some (Err e)) → IsErrAnd result (λ f. f ≡ list_error_of e) → Gets memory answer result
 refused memory answer e (Ok x) told reads is = absurd is
 refused memory answer e (Err f) told reads is =

@@ -1,9 +1,10 @@
--- The text of a listing: a line for each symbol, and the size of the section that they lie in.
-use Rattle.std.specs.Prelude.{ℕ, ◌-◌, List, [], ◌∷◌, ◌++◌, length, replicate, codes, false}
+-- The text of a listing: a line for each entry, and the size of the section that they lie in.
+use Rattle.std.specs.Prelude.{◌≡◌, ℕ, ◌-◌, List, [], ◌∷◌, ◌++◌, length, replicate, codes, false}
 use Rattle.std.specs.Fmt.{decimal, digits}
-use Rattle.std.specs.List.{flat_map}
-use Rattle.std.specs.String.{string_bytes}
-use Rattle.binfarce.specs.declared.demangle.SymbolData.{SymbolData}
+use Rattle.std.specs.List.{AllZip, concat}
+use Rattle.binfarce.specs.Name.{Name}
+use Rattle.binfarce.specs.Named.{IsNamed}
+use Rattle.binfarce.specs.Symbol.{Entry, Listed}
 
 -- a text, with as many of a character before it as it is short of the width
 abbrev pub pad_left : ℕ → ℕ → List ℕ → List ℕ
@@ -17,14 +18,22 @@ address_text address = pad_left 48 16 (digits 16 false address)
 abbrev pub size_text : ℕ → List ℕ
 size_text size = pad_left 32 10 (decimal size)
 
+-- `{address:016x} {size:>10} `, which stands before a name
+abbrev pub line_head : ℕ → ℕ → List ℕ
+line_head address size = address_text address ++ (codes " " ++ (size_text size ++ codes " "))
+
 -- `{address:016x} {size:>10} {trimmed}`, and a line feed
-abbrev pub symbol_line : SymbolData → List ℕ
-symbol_line symbol = address_text symbol.address ++ (codes " " ++ (size_text symbol.size ++ (codes " " ++ (string_bytes symbol.name.trimmed ++ 10 ∷ []))))
+abbrev pub entry_line : Entry → Name → List ℕ
+entry_line entry name = line_head entry.address entry.size ++ (name.trimmed ++ 10 ∷ [])
+
+-- line is that of the entry, with the answer of its name
+abbrev pub IsLineOf : Entry → List ℕ → Type 0
+IsLineOf entry line = (name : Name) × IsNamed entry.name name × (line ≡ entry_line entry name)
 
 -- `text {size}`, and a line feed
 abbrev pub size_line : ℕ → List ℕ
 size_line size = codes "text " ++ (decimal size ++ 10 ∷ [])
 
--- the lines of the symbols in order, and then that of the section's size
-abbrev pub listing : List SymbolData → ℕ → List ℕ
-listing symbols size = flat_map symbol_line symbols ++ size_line size
+-- text is the listing of what a file holds: a line for each entry, in order, and then that of the section's size
+abbrev pub IsListingOf : Listed → List ℕ → Type 0
+IsListingOf listed text = (lines : List (List ℕ)) × AllZip IsLineOf listed.entries lines × (text ≡ concat lines ++ size_line listed.section_size)

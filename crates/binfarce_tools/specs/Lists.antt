@@ -1,17 +1,12 @@
 -- What `list` answers, and what it writes.
 use Rattle.std.specs.Prelude.{◌≡◌, ◌⊎◌, ℕ, List, Bool, Option, Some, None, Result, Ok, Err}
-use Rattle.binfarce.specs.declared.demangle.SymbolData.{SymbolData}
 use Rattle.binfarce.specs.declared.ParseError.{ParseError}
 use Rattle.binfarce.specs.Refusal.{Refusal, refusal_of}
-use Rattle.binfarce.specs.Symbol.{Listed, AreSymbolsOf}
+use Rattle.binfarce.specs.Symbol.{Listed}
 use Rattle.binfarce_tools.specs.declared.list.ListError.{ListError}
 use Rattle.binfarce_tools.specs.declared.list.ListError.TheVariants.{Unknown, Parse, OutOfMemory, Write}
-use Rattle.binfarce_tools.specs.Listing.{listing}
+use Rattle.binfarce_tools.specs.Listing.{IsListingOf}
 use Rattle.binfarce_tools.specs.Writing as writing
-
--- text is the listing of what a file holds
-abbrev pub IsListingOf : Listed → List ℕ → Type 0
-IsListingOf listed text = (symbols : List SymbolData) × AreSymbolsOf listed.entries symbols × (text ≡ listing symbols listed.section_size)
 
 -- what is reported where the file's answer is this: `Unknown` and `Parse` where the format or its reader refuses, and nowhere else; in place of a refusal, that an allocation was refused only where that refusal needs memory
 abbrev pub Tells : (Result Listed Refusal → Type 0) → Option (Result Listed Refusal) → Result (Unit {0}) ListError → Type 0

@@ -1,43 +1,33 @@
 -- The text of a report: a line for each crate, and two lines for the whole.
-use Rattle.std.specs.Prelude.{◌≡◌, ℕ, List, [], ◌∷◌, ◌++◌, map, filter, All, Contains, nat_eq, unwrap_or, codes, if◌then◌else◌}
+use Rattle.std.specs.Prelude.{◌≡◌, ℕ, List, [], ◌∷◌, ◌++◌, map, filter, All, Contains, unwrap_or, codes}
 use Rattle.std.specs.Cmp.Lexicographic.{slice_cmp}
 use Rattle.std.specs.Fmt.{decimal}
-use Rattle.std.specs.List.{flat_map, starts_with, sum_by}
+use Rattle.std.specs.List.{AllZip, flat_map, sum_by}
 use Rattle.std.specs.List.Sorted.{IsStrictlySortedBy}
 use Rattle.std.specs.Ordering.{nat_cmp}
 use Rattle.std.specs.Str.{bytes_eq}
-use Rattle.binfarce.specs.declared.demangle.Kind.{Kind}
-use Rattle.binfarce.specs.declared.demangle.Kind.TheVariants.{Unknown, Legacy, V0}
-use Rattle.binfarce.specs.declared.demangle.SymbolData.{SymbolData}
-use Rattle.binfarce.specs.Name.{Name, name_seen}
+use Rattle.binfarce.specs.Crates.{crate_of}
+use Rattle.binfarce.specs.Name.{Name}
+use Rattle.binfarce.specs.Named.{IsNamed}
+use Rattle.binfarce.specs.Symbol.{Entry, Listed}
 use Rattle.binfarce_tools.specs.Listing.{size_text, size_line}
 
 -- what stands in place of a crate that no name tells
 abbrev pub unknown_crate : List ℕ
 unknown_crate = codes "[unknown]"
 
--- a path up to its first `::`, or all of it where there is none
-abbrev pub first_part : List ℕ → List ℕ
-first_part [] = []
-first_part (x ∷ xs) = if starts_with nat_eq (x ∷ xs) (codes "::") then [] else x ∷ first_part xs
+-- the crate that a name is counted for: the one that it tells, if it tells one
+abbrev pub crate_text : Name → List ℕ
+crate_text name = unwrap_or (crate_of name) unknown_crate
 
--- the crate that a path of this kind begins with: legacy names begin with their crate, unless it is a type or a trait that they begin with
-abbrev pub crate_of_path : Kind → List ℕ → List ℕ
-crate_of_path Legacy path = if starts_with nat_eq path (codes "<") then unknown_crate else first_part path
-crate_of_path V0 path = unknown_crate
-crate_of_path Unknown path = unknown_crate
-
--- the crate of a name: the one that the mangling tells, or else the one that its path begins with
-unfoldable pub crate_of : Name → List ℕ
-crate_of name = unwrap_or name.crate_name (crate_of_path name.kind name.complete)
-
--- what one symbol adds to a report: its crate's name, and its size
+-- what one entry adds to a report: its crate's name, and its size
 pub record Share : Type 0 where
   pub name : List ℕ
   pub size : ℕ
 
-abbrev pub share_of : SymbolData → Share
-share_of symbol = record { name = crate_of (name_seen symbol.name); size = symbol.size }
+-- the share is what the entry adds, by the answer of its name
+abbrev pub IsShareOf : Entry → Share → Type 0
+IsShareOf entry share = (name : Name) × IsNamed entry.name name × (share ≡ record { name = crate_text name; size = entry.size })
 
 abbrev pub total : List Share → ℕ
 total shares = sum_by (λ s. s.size) shares
@@ -68,6 +58,10 @@ crate_lines shares names = flat_map (λ name. crate_line name (sum_of shares nam
 abbrev pub report : List Share → List (List ℕ) → ℕ → List ℕ
 report shares names size = crate_lines shares names ++ (total_line (total shares) ++ size_line size)
 
--- text is the report of these symbols and of their section's size
-abbrev pub IsReportOf : List SymbolData → ℕ → List ℕ → Type 0
-IsReportOf symbols size text = (names : List (List ℕ)) × AreCratesOf (map share_of symbols) names × (text ≡ report (map share_of symbols) names size)
+-- text is the report of these shares and of their section's size
+abbrev pub IsReportOfShares : List Share → ℕ → List ℕ → Type 0
+IsReportOfShares shares size text = (names : List (List ℕ)) × AreCratesOf shares names × (text ≡ report shares names size)
+
+-- text is the report of what a file holds: each entry adds its share
+abbrev pub IsReportOf : Listed → List ℕ → Type 0
+IsReportOf listed text = (shares : List Share) × AllZip IsShareOf listed.entries shares × IsReportOfShares shares listed.section_size text

@@ -1,18 +1,13 @@
 -- What `report` answers, and what it writes.
 use Rattle.std.specs.Prelude.{◌≡◌, ◌<◌, ◌≤◌, ◌^◌, ◌⊎◌, ℕ, List, Bool, Option, Some, None, Result, Ok, Err}
 use Rattle.std.specs.List.{sum_by}
-use Rattle.binfarce.specs.declared.demangle.SymbolData.{SymbolData}
 use Rattle.binfarce.specs.declared.ParseError.{ParseError}
 use Rattle.binfarce.specs.Refusal.{Refusal, refusal_of}
-use Rattle.binfarce.specs.Symbol.{Listed, AreSymbolsOf}
+use Rattle.binfarce.specs.Symbol.{Listed}
 use Rattle.binfarce_tools.specs.declared.report.ReportError.{ReportError}
 use Rattle.binfarce_tools.specs.declared.report.ReportError.TheVariants.{Unknown, Parse, OutOfMemory, TooLarge, Write}
-use Rattle.binfarce_tools.specs.Report as reports
+use Rattle.binfarce_tools.specs.Report.{IsReportOf}
 use Rattle.binfarce_tools.specs.Writing as writing
-
--- text is the report of what a file holds
-abbrev pub IsReportOf : Listed → List ℕ → Type 0
-IsReportOf listed text = (symbols : List SymbolData) × AreSymbolsOf listed.entries symbols × reports.IsReportOf symbols listed.section_size text
 
 -- the sum of all sizes
 abbrev pub total_size : Listed → ℕ

@@ -1,7 +1,8 @@
 //! What the programs are made of: listings of the function symbols of executables, and reports of their sizes by crate.
 #![tactic(auto)]
 
+mod functions;
+mod laws;
 pub mod list;
 pub mod report;
-mod symbols;
 mod writing;

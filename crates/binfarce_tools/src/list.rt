@@ -1,17 +1,20 @@
 //! Lists the function symbols of an executable, a line each.
 
-ghost use Rattle.std.specs.Prelude.{◌≡◌, ◌++◌, ◌<◌, ◌≤◌, ℕ, List, Bool, true, false, length, take, Option, Some, None, IfSome, IfNone, IfOk};
+ghost use Rattle.std.specs.Prelude.{◌≡◌, ◌++◌, ◌<◌, ◌≤◌, ℕ, List, Bool, true, false, length, take, Option, Some, None, IfSome, IfNone, IfOk, OnOk};
 ghost use Rattle.std.specs.String.{string_bytes};
 ghost use Rattle.std.specs.Io.KnownBytes.{Keeps, Appends};
 ghost use Rattle.binfarce.specs.Format.{format_of};
+ghost use Rattle.binfarce.specs.Symbol.{Listed};
+ghost use Rattle.binfarce.specs.SymbolSeen.{function_seen};
 ghost use Rattle.binfarce_tools.specs.Answer.{symbols_answer, NeedsMemory};
-ghost use Rattle.binfarce_tools.specs.Listing.{symbol_line, listing};
+ghost use Rattle.binfarce_tools.specs.Listing.{IsLineOf, IsListingOf, line_head};
 ghost use Rattle.binfarce_tools.specs.Lists.{Tells, Takes, Fails, Leaves};
+ghost use Rattle.binfarce_tools.specs.machine.Lists.{HoldsLeft};
 
-use crate::symbols::symbols_of_file;
+use crate::functions::{Functions, functions_of_file};
 use crate::writing::write_whole;
-use binfarce::ParseError;
-use binfarce::demangle::SymbolData;
+use binfarce::demangle::push_trimmed;
+use binfarce::{FunctionSymbol, ParseError};
 use std::alloc::{AllocError, Global};
 use std::error::Error;
 use std::fmt;
@@ -166,31 +169,40 @@ pub fn list<S: Sink>(
     ensures fails { Fails (S.has_failed out.old) (S.has_failed out.new) result }
     ensures leaves { Leaves out.old out.new result }
 {
-    let (symbols, size) = symbols_of_file(alloc, data, section)?;
-    let text = listing(alloc, symbols.as_slice(), size)?;
+    let (functions, size) = functions_of_file(alloc, data, section)?;
+    let text = listing(alloc, functions, size)?;
     write_whole(out, text.as_bytes())
 }
 
 // The whole listing.
-fn listing(alloc: Global, symbols: &[SymbolData], size: u64) -> Result<String, AllocError>
-    ensures { IfOk result (λ t. string_bytes t ≡ listing symbols.now size) }
+fn listing(alloc: Global, functions: Functions<'_>, size: u64) -> Result<String, AllocError>
+    ensures { IfOk result (λ t. (listed : Listed) → HoldsLeft listed (functions.entry, size) → IsListingOf listed (string_bytes t)) }
 {
     let mut text = String::new(alloc);
-    for symbol in symbols {
-        push_line(&mut text, symbol)?;
+    for function in functions {
+        push_line(alloc, &mut text, function)?;
     }
     writeln!(text, "text {size}")?;
     Ok(text)
 }
 
-// Writes the line of a symbol after the text.
-#[tactic(auto, using(crate::proofs::Pads::address_padded, crate::proofs::Pads::size_padded))]
-fn push_line(text: &mut String, symbol: &SymbolData) -> Result<(), AllocError>
-    ensures { IfOk result (λ _. string_bytes text.new ≡ string_bytes text.old ++ symbol_line symbol.now) }
+// Writes the line of a function after the text.
+fn push_line(
+    alloc: Global,
+    text: &mut String,
+    function: FunctionSymbol<'_>,
+) -> Result<(), AllocError>
+    ensures { OnOk result ((line : List ℕ) × IsLineOf (function_seen function.entry) line × (string_bytes text.new ≡ string_bytes text.old ++ line)) }
 {
-    writeln!(
-        text,
-        "{:016x} {:>10} {}",
-        symbol.address, symbol.size, symbol.name.trimmed
-    )
+    push_head(text, function.address, function.size)?;
+    push_trimmed(alloc, text, function.name)?;
+    text.push_str("\n")
+}
+
+// Writes what stands before the name of a line.
+#[tactic(auto, using(crate::proofs::Pads::address_padded, crate::proofs::Pads::size_padded))]
+fn push_head(text: &mut String, address: u64, size: u64) -> Result<(), AllocError>
+    ensures { OnOk result (string_bytes text.new ≡ string_bytes text.old ++ line_head address size) }
+{
+    write!(text, "{address:016x} {size:>10} ")
 }

@@ -1,20 +1,26 @@
 //! Reports how much of an executable's code each crate takes.
 
-ghost use Rattle.std.specs.Prelude.{◌≡◌, ◌+◌, ◌^◌, ◌<◌, ◌++◌, Some, SomeIff, not, length, map, IfOk, OnOk};
+ghost use Rattle.std.specs.Prelude.{◌≡◌, ◌⊎◌, ◌+◌, ◌^◌, ◌<◌, ◌≤◌, ◌++◌, ℕ, List, Some, MatchResult, IfOk, OnOk};
+ghost use Rattle.std.specs.List.{AllZip, sum_by};
 ghost use Rattle.std.specs.String.{string_bytes};
 ghost use Rattle.binfarce.specs.Format.{format_of};
-ghost use Rattle.binfarce.specs.Name.{name_seen};
+ghost use Rattle.binfarce.specs.Name.{Name};
+ghost use Rattle.binfarce.specs.Named.{IsNamed};
+ghost use Rattle.binfarce.specs.SymbolSeen.{function_seen};
 ghost use Rattle.binfarce_tools.specs.Answer.{symbols_answer, NeedsMemory};
-ghost use Rattle.binfarce_tools.specs.Report.{crate_of, crate_of_path, first_part, share_of, total, crate_line, IsReportOf};
+ghost use Rattle.binfarce_tools.specs.Report.{Share, IsShareOf, IsReportOfShares, crate_text, crate_line};
 ghost use Rattle.binfarce_tools.specs.Reports.{Tells, Takes, Fails, Leaves};
-ghost use Rattle.binfarce_tools.specs.machine.Shares.{shares_seen, IsByCrate, AreCrateLines, follows};
+ghost use Rattle.binfarce_tools.specs.declared.report.ReportError.TheVariants.{OutOfMemory, TooLarge};
+ghost use Rattle.binfarce_tools.specs.machine.Lists.{functions_left};
+ghost use Rattle.binfarce_tools.specs.machine.Shares.{Adds, AreSumsOf, sum_at};
 
+use crate::functions::{Functions, functions_of_file};
 use crate::list::{ListError, Sink};
-use crate::symbols::symbols_of_file;
 use crate::writing::write_whole;
-use binfarce::ParseError;
-use binfarce::demangle::{Kind, SymbolData, SymbolName};
+use binfarce::demangle::crate_of;
+use binfarce::{FunctionSymbol, ParseError};
 use std::alloc::{AllocError, Global};
+use std::collections::BTreeMap;
 use std::error::Error;
 use std::fmt;
 
@@ -102,112 +108,79 @@ pub fn report<S: Sink>(
     ensures fails { Fails (S.has_failed out.old) (S.has_failed out.new) result }
     ensures leaves { Leaves out.old out.new result }
 {
-    let (symbols, size) = symbols_of_file(alloc, data, section)?;
-    let total = total_size(symbols.as_slice()).ok_or(ReportError::TooLarge)?;
-    let text = report_text(alloc, symbols.as_slice(), total, size)?;
+    let (functions, size) = functions_of_file(alloc, data, section)?;
+    let sums = crate_sums(alloc, functions)?;
+    let text = report_text(alloc, &sums, size)?;
     write_whole(out, text.as_bytes())?;
     Ok(())
 }
 
-// What one symbol adds to a report: its crate, which is a part of its name, and its size.
-#[derive(Clone, Copy, PartialEq, Eq, PartialOrd, Ord)]
-struct CrateSize<'a> {
-    name: &'a str,
-    size: u64,
+// The sum of the sizes of each crate's functions, by its name, and the sum of all.
+#[derive(Drop)]
+struct CrateSums {
+    crates: BTreeMap<String, u64>,
+    total: u64,
 }
 
-// The sum of all sizes, where it fits.
-fn total_size(symbols: &[SymbolData]) -> Option<u64>
-    ensures { SomeIff result (total (map share_of symbols.now) < 2 ^ 64) (total (map share_of symbols.now)) }
+// The sums of the functions. `TooLarge` where the sum of all doesn't fit.
+fn crate_sums(alloc: Global, functions: Functions<'_>) -> Result<CrateSums, ReportError>
+    ensures { MatchResult result
+        (λ s. (shares : List Share) × AllZip IsShareOf (functions_left functions.entry) shares × AreSumsOf shares s)
+        (λ e. (e ≡ OutOfMemory) ⊎ ((e ≡ TooLarge) × (2 ^ 64 ≤ sum_by (λ f. f.size) (functions_left functions.entry)))) }
 {
+    let mut crates = BTreeMap::new(alloc);
     let mut total = 0u64;
-    for symbol in symbols {
-        total = total.checked_add(symbol.size)?;
+    for function in functions {
+        total = total
+            .checked_add(function.size)
+            .ok_or(ReportError::TooLarge)?;
+        add_function(alloc, &mut crates, function)?;
     }
-    Some(total)
+    Ok(CrateSums { crates, total })
+}
+
+// Adds a function's size to the sum of its crate.
+fn add_function(
+    alloc: Global,
+    crates: &mut BTreeMap<String, u64>,
+    function: FunctionSymbol<'_>,
+) -> Result<(), AllocError>
+    requires { (name : List ℕ) → sum_at crates.old name + function.size < 2 ^ 64 }
+    ensures { OnOk result ((share : Share) × IsShareOf (function_seen function.entry) share × Adds crates.old share crates.new) }
+{
+    let name = crate_text(alloc, function.name)?;
+    add_size(crates, name, function.size)
+}
+
+// Adds a size to the sum of a crate.
+fn add_size(crates: &mut BTreeMap<String, u64>, name: String, size: u64) -> Result<(), AllocError>
+    requires { sum_at crates.old (string_bytes name) + size < 2 ^ 64 }
+    ensures { OnOk result (Adds crates.old (record { name = string_bytes name; size = size }) crates.new) }
+{
+    *crates.entry(name)?.or_insert(0) += size;
+    Ok(())
+}
+
+// The crate that a function of this name is counted for.
+fn crate_text(alloc: Global, name: &str) -> Result<String, AllocError>
+    ensures { IfOk result (λ t. (n : Name) × IsNamed name.now n × (string_bytes t ≡ crate_text n)) }
+{
+    match crate_of(alloc, name)? {
+        Some(found) => Ok(found),
+        None => String::from_str(alloc, UNKNOWN_CRATE),
+    }
 }
 
 // The whole report.
-fn report_text(
-    alloc: Global,
-    symbols: &[SymbolData],
-    sum: u64,
-    section_size: u64,
-) -> Result<String, AllocError>
-    requires { sum ≡ total (map share_of symbols.now) }
-    ensures { IfOk result (λ t. IsReportOf symbols.now section_size (string_bytes t)) }
-{
-    let mut sizes = crate_sizes(alloc, symbols)?;
-    sizes.sort_unstable();
-    let mut text = crate_lines(alloc, sizes.as_slice())?;
-    writeln!(text, "sum {sum}")?;
-    writeln!(text, "text {section_size}")?;
-    Ok(text)
-}
-
-// What each symbol adds, in the order of the symbols.
-fn crate_sizes<'a>(
-    alloc: Global,
-    symbols: &'a [SymbolData],
-) -> Result<Vec<CrateSize<'a>>, AllocError>
-    ensures { IfOk result (λ v. shares_seen v.items ≡ map share_of symbols.now) }
-{
-    let mut sizes = Vec::with_capacity(alloc, symbols.len())?;
-    for symbol in symbols {
-        sizes.push(CrateSize {
-            name: crate_of(&symbol.name),
-            size: symbol.size,
-        })?;
-    }
-    Ok(sizes)
-}
-
-// The crate that a symbol's size is reported for.
-#[tactic(auto, unfolding(crate::specs::Report::crate_of))]
-fn crate_of(name: &SymbolName) -> &str
-    ensures { result.now ≡ crate_of (name_seen name.now) }
-{
-    match &name.crate_name {
-        Some(found) => found.as_str(),
-        None => crate_of_path(name.kind, name.complete.as_str()),
-    }
-}
-
-// The crate that a path of this kind begins with.
-fn crate_of_path(kind: Kind, path: &str) -> &str
-    ensures { result.now ≡ crate_of_path kind path.now }
-{
-    if kind != Kind::Legacy || path.starts_with("<") {
-        return UNKNOWN_CRATE;
-    }
-    first_part(path)
-}
-
-// A path up to its first `::`, or all of it.
-fn first_part(path: &str) -> &str
-    ensures { result.now ≡ first_part path.now }
-{
-    match path.split_once("::") {
-        Some((first, _)) => first,
-        None => path,
-    }
-}
-
-// A line for each crate, its sizes summed in one pass over sizes that stand in the order of their crates.
-fn crate_lines(alloc: Global, sizes: &[CrateSize<'_>]) -> Result<String, AllocError>
-    requires order { IsByCrate sizes.now }
-    requires fits { total (shares_seen sizes.now) < 2 ^ 64 }
-    ensures { IfOk result (λ t. AreCrateLines (shares_seen sizes.now) (string_bytes t)) }
+fn report_text(alloc: Global, sums: &CrateSums, section_size: u64) -> Result<String, AllocError>
+    ensures { IfOk result (λ t. (shares : List Share) → AreSumsOf shares sums.now → IsReportOfShares shares section_size (string_bytes t)) }
 {
     let mut text = String::new(alloc);
-    let mut sum = 0;
-    for i in 0..sizes.len() {
-        sum += sizes[i].size;
-        if is_last_of_crate(sizes, i) {
-            push_crate_line(&mut text, sizes[i].name, sum)?;
-            sum = 0;
-        }
+    for (name, sum) in sums.crates.iter() {
+        push_crate_line(&mut text, name.as_str(), *sum)?;
     }
+    writeln!(text, "sum {}", sums.total)?;
+    writeln!(text, "text {section_size}")?;
     Ok(text)
 }
 
@@ -218,12 +191,4 @@ fn push_crate_line(text: &mut String, name: &str, sum: u64) -> Result<(), AllocE
 {
     writeln!(text, "{sum:>10} {name}")?;
     Ok(())
-}
-
-// Whether no size of the same crate follows.
-fn is_last_of_crate(sizes: &[CrateSize<'_>], i: usize) -> bool
-    requires { i < length sizes.now }
-    ensures { result ≡ not (follows sizes.now i) }
-{
-    i + 1 == sizes.len() || sizes[i].name != sizes[i + 1].name
 }

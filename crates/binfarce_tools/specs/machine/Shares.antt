@@ -1,36 +1,28 @@
 -- What private contracts of `report` cite.
-use Rattle.std.specs.Prelude.{◌≡◌, ℕ, Bool, false, List, [], ◌∷◌, map, drop}
-use Rattle.std.specs.Cmp.Lexicographic.{slice_cmp}
-use Rattle.std.specs.List.Sorted.{IsSortedByKey}
-use Rattle.std.specs.Ordering.{nat_cmp}
+use Rattle.std.specs.Prelude.{◌≡◌, ℕ, ◌+◌, ◌<◌, ◌^◌, List, Bool, Some, String}
+use Rattle.std.specs.BTreeMap.{BTreeMap, get_by_text}
+use Rattle.std.specs.List.{list_any}
+use Rattle.std.specs.Map.{update}
+use Rattle.std.specs.Option.{is_some, unwrap_or}
 use Rattle.std.specs.Str.{bytes_eq}
-use Rattle.binfarce_tools.specs.declared.report.CrateSize.{CrateSize}
-use Rattle.binfarce_tools.specs.Report.{Share, AreCratesOf, crate_lines}
+use Rattle.binfarce_tools.specs.declared.report.CrateSums.{CrateSums}
+use Rattle.binfarce_tools.specs.Report.{Share, total, sum_of}
 
--- a `CrateSize`
-abbrev pub share_seen : CrateSize → Share
-share_seen c = record { name = c.name.now; size = c.size }
+-- the sum at a crate's name, 0 where it has none
+abbrev pub sum_at : {Y : Type 0} → BTreeMap (String Y) ℕ → List ℕ → ℕ
+sum_at crates name = unwrap_or (get_by_text crates name) 0
 
-abbrev pub shares_seen : List CrateSize → List Share
-shares_seen sizes = map share_seen sizes
+-- the share was added at its crate's name
+abbrev pub Adds : {Y : Type 0} → BTreeMap (String Y) ℕ → Share → BTreeMap (String Y) ℕ → Type 0
+Adds old share new = (name : List ℕ) → get_by_text new name ≡ update bytes_eq (get_by_text old) share.name (Some (sum_at old share.name + share.size)) name
 
--- in the order of their crates
-abbrev pub IsByCrate : List CrateSize → Type 0
-IsByCrate sizes = IsSortedByKey (λ c. c.name.now) (slice_cmp nat_cmp) sizes
+-- a crate is among these shares
+abbrev pub occurs : List Share → List ℕ → Bool
+occurs shares name = list_any (λ s. bytes_eq s.name name) shares
 
--- the first of the shares is one of this crate
-abbrev pub begins_with : List ℕ → List Share → Bool
-begins_with name [] = false
-begins_with name (s ∷ others) = bytes_eq name s.name
-
--- the size at i is followed by one of its own crate
-abbrev pub follows : List CrateSize → ℕ → Bool
-follows sizes i = followed (drop i sizes)
-  where
-    followed : List CrateSize → Bool
-    followed [] = false
-    followed (c ∷ others) = begins_with c.name.now (shares_seen others)
-
--- text is the lines of the crates of these shares
-abbrev pub AreCrateLines : List Share → List ℕ → Type 0
-AreCrateLines shares text = (names : List (List ℕ)) × AreCratesOf shares names × (text ≡ crate_lines shares names)
+-- they are the sums of the crates of these shares, and of all
+pub record AreSumsOf (shares : List Share) (sums : CrateSums) : Type 0 where
+  pub sums_are : (name : List ℕ) → sum_of shares name ≡ sum_at sums.crates name
+  pub crates_are : (name : List ℕ) → occurs shares name ≡ is_some (get_by_text sums.crates name)
+  pub total_is : total shares ≡ sums.total
+  pub fits : sums.total < 2 ^ 64

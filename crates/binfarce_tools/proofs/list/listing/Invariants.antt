@@ -1,9 +1,8 @@
-use Rattle.std.proofs.Common.{◌≡◌, take}
-use Rattle.std.specs.List.{flat_map}
 use Rattle.std.specs.String.{string_bytes}
-use Rattle.binfarce_tools.specs.Listing.{symbol_line}
+use Rattle.binfarce_tools.specs.machine.Lists.{functions_left}
+use Rattle.binfarce_tools.proofs.Lines.{Completes}
 use Rattle.binfarce_tools.proofs.list.listing.Given as goal
 
--- the lines so far are those of the symbols so far
-abbrev pub invariant-loop-symbol : goal.invariant-loop-symbol
-invariant-loop-symbol l = string_bytes l.text ≡ flat_map symbol_line (take l.symbol-index l.symbols)
+-- with the lines of what is left after it, the text is the lines of all
+abbrev pub invariant-loop-function : goal.invariant-loop-function
+invariant-loop-function l = Completes (functions_left l.fn.functions) (functions_left l.function-iterator) (string_bytes l.text)

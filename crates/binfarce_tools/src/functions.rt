@@ -1,0 +1,130 @@
+//! The function symbols of a file of any format.
+
+ghost use Rattle.std.specs.Iterator.{YieldsFirstBy};
+ghost use Rattle.binfarce.specs.Format.{format_of};
+ghost use Rattle.binfarce.specs.Elf.{elf32, elf64};
+ghost use Rattle.binfarce.specs.MachoSymbols.{HasAddress};
+ghost use Rattle.binfarce.specs.Symbol.{ListsSome, Answers};
+ghost use Rattle.binfarce.specs.SymbolSeen.{function_seen};
+ghost use Rattle.binfarce_tools.specs.Answer.{elf_file_answer, macho_file_answer, pe_file_answer, symbols_answer, NeedsMemory};
+ghost use Rattle.binfarce_tools.specs.machine.Lists.{arranged_left, HoldsLeft, Reads, Gets};
+
+use crate::list::ListError;
+use binfarce::{
+    ByteOrder, Format, FunctionSymbol, ParseError, detect_format, elf32, elf64, macho, pe,
+};
+use std::alloc::Global;
+
+// The function symbols of a file that are left, in the order of its listing.
+#[derive(Drop)]
+pub(crate) enum Functions<'a> {
+    Elf32(elf32::Functions<'a>),
+    Elf64(elf64::Functions<'a>),
+    Arranged(Arranged<'a>),
+}
+
+// Function symbols that stand in a list, from a place on.
+#[derive(Drop)]
+pub(crate) struct Arranged<'a> {
+    functions: Vec<FunctionSymbol<'a>>,
+    next: usize,
+}
+
+impl<'a> Iterator for Functions<'a> {
+    ghost use Rattle.std.specs.Iterator.{YieldsFirstBy, item_count};
+    ghost use Rattle.binfarce.specs.SymbolSeen.{function_seen};
+    ghost use Rattle.binfarce_tools.specs.machine.Lists.{functions_left};
+
+    type Item = FunctionSymbol<'a>;
+
+    ghost next_gives = { YieldsFirstBy function_seen functions_left };
+
+    ghost remaining = { item_count functions_left };
+
+    fn next(&mut self) -> Option<FunctionSymbol<'a>> {
+        match self {
+            Functions::Elf32(functions) => functions.next(),
+            Functions::Elf64(functions) => functions.next(),
+            Functions::Arranged(functions) => functions.next(),
+        }
+    }
+}
+
+impl<'a> Arranged<'a> {
+    // The first of those that are left, which the others follow.
+    fn next(&mut self) -> Option<FunctionSymbol<'a>>
+        ensures { YieldsFirstBy function_seen arranged_left self.old result self.new }
+    {
+        let function = *self.functions.get(self.next)?;
+        self.next += 1;
+        Some(function)
+    }
+}
+
+// The function symbols of a file and the size of their section, or why a listing or a report of them can't be had.
+pub(crate) fn functions_of_file<'a>(
+    alloc: Global,
+    data: &'a [u8],
+    section: &str,
+) -> Result<(Functions<'a>, u64), ListError>
+    ensures { Gets (NeedsMemory (format_of data.entry.now) data.entry.now) (symbols_answer (format_of data.entry.now) data.entry.now section.now) result }
+{
+    let found = read_functions(alloc, data, section).ok_or(ListError::Unknown)??;
+    Ok(found)
+}
+
+// What the reader of the file's format returns; `None` where no reader reads it.
+#[tactic(auto, unfolding(crate::specs::Answer::symbols_answer, crate::specs::Answer::NeedsMemory))]
+fn read_functions<'a>(
+    alloc: Global,
+    data: &'a [u8],
+    section: &str,
+) -> Option<Result<(Functions<'a>, u64), ParseError>>
+    ensures { Reads (NeedsMemory (format_of data.entry.now) data.entry.now) (symbols_answer (format_of data.entry.now) data.entry.now section.now) result }
+{
+    match detect_format(data) {
+        Format::Elf32 { byte_order } => Some(read_elf32(data, byte_order, section)),
+        Format::Elf64 { byte_order } => Some(read_elf64(data, byte_order, section)),
+        Format::Macho => Some(read_macho(alloc, data)),
+        Format::PE => Some(read_pe(alloc, data)),
+        Format::Unknown => None,
+    }
+}
+
+#[tactic(auto, using(crate::proofs::HeaderLengths::of_32_bits))]
+fn read_elf32<'a>(
+    data: &'a [u8],
+    byte_order: ByteOrder,
+    section: &str,
+) -> Result<(Functions<'a>, u64), ParseError>
+    ensures { Answers HoldsLeft ListsSome (elf_file_answer elf32 byte_order data.entry.now section.now) result }
+{
+    let (functions, size) = elf32::parse(data, byte_order)?.functions(section)?;
+    Ok((Functions::Elf32(functions), size))
+}
+
+#[tactic(auto, using(crate::proofs::HeaderLengths::of_64_bits))]
+fn read_elf64<'a>(
+    data: &'a [u8],
+    byte_order: ByteOrder,
+    section: &str,
+) -> Result<(Functions<'a>, u64), ParseError>
+    ensures { Answers HoldsLeft ListsSome (elf_file_answer elf64 byte_order data.entry.now section.now) result }
+{
+    let (functions, size) = elf64::parse(data, byte_order)?.functions(section)?;
+    Ok((Functions::Elf64(functions), size))
+}
+
+fn read_macho(alloc: Global, data: &[u8]) -> Result<(Functions<'_>, u64), ParseError>
+    ensures { Answers HoldsLeft (λ _. HasAddress data.now) (macho_file_answer data.now) result }
+{
+    let (functions, size) = macho::parse(data)?.functions(alloc)?;
+    Ok((Functions::Arranged(Arranged { functions, next: 0 }), size))
+}
+
+fn read_pe(alloc: Global, data: &[u8]) -> Result<(Functions<'_>, u64), ParseError>
+    ensures { Answers HoldsLeft ListsSome (pe_file_answer data.now) result }
+{
+    let (functions, size) = pe::parse(data)?.functions(alloc)?;
+    Ok((Functions::Arranged(Arranged { functions, next: 0 }), size))
+}

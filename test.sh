@@ -1,5 +1,6 @@
 #!/bin/sh
-# Passes all tests: the gate, and beside it the programs that must not compile.
+# Passes all tests: the gate; beside it the programs that must not compile, and each allocation refused in turn; after it
+# the programs where no stored run can have them.
 #
 # crates/NAME/must-not-compile/*.txt: code that calls the crate NAME. Its first line is `// wants: ERROR`, and then it
 # must be refused with that error; or `// compiles`, and then it must not be refused: the same code without its fault,
@@ -59,14 +60,22 @@ must_not_compile() {
     done
 }
 
-must_not_compile >"$scratch/programs" 2>&1 &
+beside_the_gate() {
+    must_not_compile
+    crates/binfarce_memory_tests/refused.sh
+}
+
+beside_the_gate >"$scratch/beside" 2>&1 &
 beside=$!
 # The last line of the gate is kept for the end.
 { rt ci || true; } 2>&1 | tee "$scratch/gate" | sed '$d'
 status=0
 wait "$beside" || status=1
 beside=
-cat "$scratch/programs"
+cat "$scratch/beside"
 [ "$status" -eq 0 ] || exit 1
-tail -n 1 "$scratch/gate"
-tail -n 1 "$scratch/gate" | grep -q ' passed, 0 failed$'
+last=$(tail -n 1 "$scratch/gate")
+case $last in
+    *" passed, 0 failed") tests/programs.sh && echo "$last" ;;
+    *) echo "$last" && exit 1 ;;
+esac

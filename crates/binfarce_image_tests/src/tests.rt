@@ -1,82 +1,8 @@
 use binfarce::demangle::SymbolData;
 use binfarce::{ByteOrder, ParseError, elf32, elf64};
-use binfarce_image::image::{ElfLayout, Image, ImageError, Part, Row, lay_out};
-use binfarce_samples::elf::Layout;
+use binfarce_image::image::{ElfLayout, Image, ImageError, Part, lay_out};
+use binfarce_image_samples::{LAYOUTS, bytes, linked_sample, sample, sample_rows, table};
 use std::alloc::{AllocError, Global};
-
-// The layouts, and in which the sample is the same file.
-const LAYOUTS: [(ElfLayout, Layout); 4] = [
-    (ElfLayout::Elf32Little, Layout::Elf32Little),
-    (ElfLayout::Elf32Big, Layout::Elf32Big),
-    (ElfLayout::Elf64Little, Layout::Elf64Little),
-    (ElfLayout::Elf64Big, Layout::Elf64Big),
-];
-
-const STRINGS: &[u8] = b"\0_ZN3foo3barE\0bad\0";
-
-const NAMES: &[u8] = b"\0.text\0.symtab\0.strtab\0.shstrtab\0";
-
-const ROWS: [Row; 5] = [
-    Row {
-        name: 1,
-        address: 0x1000,
-        size: 16,
-        info: 0x12,
-        other: 0,
-        section: 1,
-    },
-    Row {
-        name: 14,
-        address: 0x1010,
-        size: 16,
-        info: 0x12,
-        other: 0,
-        section: 2,
-    },
-    Row {
-        name: 14,
-        address: 0x1010,
-        size: 0,
-        info: 0x12,
-        other: 0,
-        section: 1,
-    },
-    Row {
-        name: 0,
-        address: 0x1010,
-        size: 16,
-        info: 0x12,
-        other: 0,
-        section: 1,
-    },
-    Row {
-        name: 14,
-        address: 0x1010,
-        size: 16,
-        info: 0x11,
-        other: 0,
-        section: 1,
-    },
-];
-
-fn bytes(alloc: Global, name: u32, kind: u32, body: &[u8]) -> Result<Part, AllocError> {
-    let body = Vec::from_slice(alloc, body)?;
-    Ok(Part::Bytes {
-        name,
-        kind,
-        link: 0,
-        body,
-    })
-}
-
-fn table(alloc: Global, link: u32) -> Result<Part, AllocError> {
-    let rows = Vec::from_slice(alloc, &ROWS)?;
-    Ok(Part::Table {
-        name: 7,
-        link,
-        rows,
-    })
-}
 
 fn no_parts(alloc: Global, names_at: u16) -> Image {
     Image {
@@ -90,23 +16,12 @@ fn push(image: &mut Image, part: Result<Part, AllocError>) -> Result<(), AllocEr
     Ok(())
 }
 
-// The bench image, with this link of the table and this number of the section that has the section names.
-fn image(alloc: Global, link: u32, names_at: u16) -> Result<Image, AllocError> {
-    let mut image = no_parts(alloc, names_at);
-    push(&mut image, bytes(alloc, 0, 0, &[]))?;
-    push(&mut image, bytes(alloc, 1, 1, &[0xC3; 32]))?;
-    push(&mut image, table(alloc, link))?;
-    push(&mut image, bytes(alloc, 15, 3, STRINGS))?;
-    push(&mut image, bytes(alloc, 23, 3, NAMES))?;
-    Ok(image)
-}
-
 #[test]
-fn lays_out_the_bench_image(rt: HostRuntime) -> Result<(), AllocError> {
-    let image = image(rt.alloc(), 3, 4)?;
-    for (layout, sample) in &LAYOUTS {
+fn lays_out_the_sample(rt: HostRuntime) -> Result<(), AllocError> {
+    let image = sample(rt.alloc())?;
+    for (layout, file) in &LAYOUTS {
         match lay_out(rt.alloc(), &image, *layout) {
-            Ok(file) => assert!(&rt; file.as_slice() == sample.bytes(), "{layout:?}"),
+            Ok(bytes) => assert!(&rt; bytes.as_slice() == file.bytes(), "{layout:?}"),
             Err(e) => assert!(&rt; false, "{layout:?}: {e}"),
         }
     }
@@ -182,7 +97,7 @@ const READ: [(u32, &str, Counted); 5] = [
 #[test]
 fn reads_back_in_every_layout(rt: HostRuntime) -> Result<(), AllocError> {
     for (link, name, want) in &READ {
-        let image = image(rt.alloc(), *link, 4)?;
+        let image = linked_sample(rt.alloc(), *link)?;
         let other = other_layout(rt.alloc(), &image, name, want);
         assert!(&rt; other.is_none(), "link {link}, {name}: {other:?}");
     }
@@ -198,15 +113,22 @@ fn the_table_has_the_size_of_its_class(rt: HostRuntime) {
     }
 }
 
+// The sample, whose section names are said to be in this part.
+fn names_in(alloc: Global, names_at: u16) -> Result<Image, AllocError> {
+    let mut image = sample(alloc)?;
+    image.names_at = names_at;
+    Ok(image)
+}
+
 fn two_tables(alloc: Global) -> Result<Image, AllocError> {
     let mut image = no_parts(alloc, 9);
-    push(&mut image, table(alloc, 0))?;
-    push(&mut image, table(alloc, 0))?;
+    push(&mut image, table(alloc, 0, &sample_rows()))?;
+    push(&mut image, table(alloc, 0, &sample_rows()))?;
     Ok(image)
 }
 
 fn bytes_of_the_tables_kind(alloc: Global) -> Result<Image, AllocError> {
-    let mut image = image(alloc, 3, 4)?;
+    let mut image = sample(alloc)?;
     push(&mut image, bytes(alloc, 0, 2, &[]))?;
     Ok(image)
 }
@@ -235,12 +157,12 @@ fn refusals(rt: HostRuntime) -> Result<(), AllocError> {
         ),
         (
             "names in the table",
-            image(rt.alloc(), 3, 2)?,
+            names_in(rt.alloc(), 2)?,
             ImageError::NamesPlace,
         ),
         (
             "names after the parts",
-            image(rt.alloc(), 3, 5)?,
+            names_in(rt.alloc(), 5)?,
             ImageError::NamesPlace,
         ),
         (

@@ -1,20 +1,20 @@
 -- What the program's functions answer.
-use Rattle.std.specs.Prelude.{◌≡◌, ℕ, List, [], ◌∷◌, codes, true, Option, Some, None, Result, Ok, Err}
+use Rattle.std.specs.Prelude.{◌≡◌, ℕ, List, true, Option, Result, Ok, Err}
 use Rattle.binfarce.specs.Refusal.{Refusal}
 use Rattle.binfarce.specs.Symbol.{Listed}
 use Rattle.binfarce_tools.specs.Lists as lists
+use Rattle.binfarce_program.specs.declared.ReadError.{ReadError}
+use Rattle.binfarce_program.specs.declared.ReadError.TheVariants as reading
 use Rattle.binfarce_tools.specs.declared.list.Out.{Out}
 use Rattle.binfarce_tools.specs.declared.list.ListError.TheVariants as errors
 use Rattle.binfarce_tools.specs.Sink.{has_failed}
 use Rattle.binfarce_list.specs.declared.program.Fault.{Fault}
 use Rattle.binfarce_list.specs.declared.program.Fault.TheVariants.{Usage, File, List as Listing}
 
--- the file and the section that arguments give, if there are one or two
-abbrev pub words_of : List (List ℕ) → Option (List ℕ × List ℕ)
-words_of [] = None
-words_of (file ∷ []) = Some (file, codes ".text")
-words_of (file ∷ section ∷ []) = Some (file, section)
-words_of (file ∷ section ∷ more ∷ others) = None
+-- the fault of a file that wasn't read
+abbrev pub fault_of : ReadError → Fault
+fault_of reading.File = File
+fault_of reading.OutOfMemory = Listing errors.OutOfMemory
 
 -- the status that a fault ends the program with
 abbrev pub status_of : Fault → ℕ

@@ -6,8 +6,8 @@ mod program;
 mod tests;
 
 use crate::program::{Fault, run, status, words};
+use binfarce_program::arguments;
 use binfarce_tools::list::{ListError, Out};
-use std::env;
 use std::fs::File;
 use std::io::{self, Write};
 use std::process::ExitCode;
@@ -32,10 +32,4 @@ fn list_file(rt: &HostRuntime) -> Result<(), Fault> {
     let flushed = out.into_inner().flush();
     listed?;
     flushed.map_err(|_| Fault::List(ListError::Write))
-}
-
-// The arguments after the program's own name.
-fn arguments(rt: &HostRuntime) -> io::Result<Vec<String>> {
-    let words = env::args(rt)?.skip(1).collect(rt.alloc())?;
-    Ok(words)
 }

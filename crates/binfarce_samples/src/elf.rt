@@ -3,6 +3,9 @@
 //! A file header, the bodies of the sections in order without padding, and the section headers in order. Of the symbol
 //! table's five rows the first alone is a function of `.text` with a size and a name.
 
+/// What is listed of the file.
+pub const LISTING: &str = "0000000000001000         16 foo\ntext 32\n";
+
 /// The class and the byte order that the file is written in.
 #[derive(Clone, Copy, Debug)]
 pub enum Layout {

@@ -2,6 +2,15 @@
 //!
 //! Readers of the format don't look at the magic number, which is zero here.
 
+use crate::Patch;
+
+/// The magic number.
+pub const MAGIC: Patch<'static> = (0, &[0xCF, 0xFA, 0xED, 0xFE]);
+
+/// What is listed of the file.
+pub const LISTING: &str =
+    "0000000000001000         64 a\n0000000000001000         64 b\n0000000000001040        192 c\ntext 256\n";
+
 /// The file: little endian, 64 bits.
 #[rattlefmt::skip]
 pub static MACHO: [u8; 281] = [

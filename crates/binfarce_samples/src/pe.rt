@@ -2,6 +2,15 @@
 //!
 //! Readers of the format don't look at the magic number, which is zero here.
 
+use crate::Patch;
+
+/// The magic number.
+pub const MAGIC: Patch<'static> = (0, b"MZ");
+
+/// What is listed of the file.
+pub const LISTING: &str =
+    "0000000000000000         64 b\n0000000000000000         64 d\n0000000000000040        192 c\n0000000000000100        128 e\n0000000000000180          0 a\ntext 256\n";
+
 /// The file.
 #[rattlefmt::skip]
 pub static PE: [u8; 218] = [

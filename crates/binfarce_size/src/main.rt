@@ -6,9 +6,9 @@ mod program;
 mod tests;
 
 use crate::program::{Fault, run, status, words};
+use binfarce_program::arguments;
 use binfarce_tools::list::Out;
 use binfarce_tools::report::ReportError;
-use std::env;
 use std::fs::File;
 use std::io::{self, Write};
 use std::process::ExitCode;
@@ -33,10 +33,4 @@ fn report_file(rt: &HostRuntime) -> Result<(), Fault> {
     let flushed = out.into_inner().flush();
     reported?;
     flushed.map_err(|_| Fault::Report(ReportError::Write))
-}
-
-// The arguments after the program's own name.
-fn arguments(rt: &HostRuntime) -> io::Result<Vec<String>> {
-    let words = env::args(rt)?.skip(1).collect(rt.alloc())?;
-    Ok(words)
 }

@@ -1,18 +1,19 @@
 //! What the program does, over any reader and any writer.
 
-ghost use Rattle.std.specs.Prelude.{◌≡◌, map, Some, None, MatchResult, IfSome, IfOk, IfErr};
+ghost use Rattle.std.specs.Prelude.{◌≡◌, map, Some, None, MatchResult, IfSome};
 ghost use Rattle.std.specs.String.{string_bytes};
 ghost use Rattle.binfarce.specs.Format.{format_of};
 ghost use Rattle.binfarce_tools.specs.Answer.{symbols_answer, NeedsMemory};
 ghost use Rattle.binfarce_tools.specs.Sink.{writer_of, has_failed};
-ghost use Rattle.binfarce_size.specs.Program.{words_of, status_of, Tells, Takes, Fails};
-ghost use Rattle.binfarce_size.specs.machine.Reading.{IsOfReading};
+ghost use Rattle.binfarce_program.specs.Given.{words_of};
+ghost use Rattle.binfarce_size.specs.Program.{status_of, Tells, Takes, Fails};
 ghost use Rattle.binfarce_size.specs.declared.program.Fault.TheVariants.{Usage};
 
+use binfarce_program::{ReadError, file_and_section, read_whole};
 use binfarce_tools::list::Out;
 use binfarce_tools::report::{ReportError, report};
 use std::alloc::Global;
-use std::io::{self, ErrorKind, Read, Write};
+use std::io::{Read, Write};
 use thiserror::Error;
 
 /// Why the program did not report on a file. Its text is the line that is printed.
@@ -29,6 +30,19 @@ pub enum Fault {
     Report(ReportError),
 }
 
+impl From<ReadError> for Fault {
+    ghost use Rattle.binfarce_size.specs.Program.{fault_of};
+
+    ghost from_gives = { λ e f. f ≡ fault_of e };
+
+    fn from(e: ReadError) -> Self {
+        match e {
+            ReadError::File => Fault::File,
+            ReadError::OutOfMemory => Fault::Report(ReportError::OutOfMemory),
+        }
+    }
+}
+
 /// The file and the section that the arguments after the program's own name give. The section is by default `.text`.
 ///
 /// `Usage` for none, and for more than two.
@@ -36,11 +50,7 @@ pub fn words(arguments: &[String]) -> Result<(&str, &str), Fault>
     ensures { let given = words_of (map string_bytes arguments.now) in MatchResult result
         (λ w. given ≡ Some (w.0.now, w.1.now)) (λ e. (given ≡ None) × (e ≡ Usage)) }
 {
-    match arguments {
-        [file] => Ok((file.as_str(), ".text")),
-        [file, section] => Ok((file.as_str(), section.as_str())),
-        _ => Err(Fault::Usage),
-    }
+    file_and_section(arguments).ok_or(Fault::Usage)
 }
 
 /// Reads the file to its end, and reports how much of its section each crate takes.
@@ -59,28 +69,6 @@ pub fn run<R: Read, W: Write>(
 {
     let bytes = read_whole(alloc, file)?;
     report(alloc, bytes.as_slice(), section, out).map_err(Fault::Report)
-}
-
-// The bytes up to the reader's end.
-fn read_whole<R: Read>(alloc: Global, file: &mut R) -> Result<Vec<u8>, Fault>
-    ensures bytes { IfOk result (λ v. IfSome (R.remaining file.old) (λ bytes. v.items ≡ bytes)) }
-    ensures fault { IfErr result IsOfReading }
-{
-    let mut bytes = Vec::new(alloc);
-    match file.read_to_end(&mut bytes) {
-        Err(e) => Err(of_reading(e)),
-        Ok(_) => Ok(bytes),
-    }
-}
-
-// A refused allocation is reported as such.
-fn of_reading(e: io::Error) -> Fault
-    ensures { IsOfReading result }
-{
-    match e.kind() {
-        ErrorKind::OutOfMemory => Fault::Report(ReportError::OutOfMemory),
-        _ => Fault::File,
-    }
 }
 
 /// The status that the program ends with: 2 for the usage, and else 1.

@@ -6,7 +6,31 @@ use binfarce_tools::list::Out;
 use std::alloc::{AllocError, Global};
 use std::io::{self, ErrorKind, Read};
 
-const USAGE: &str = "usage: binfarce-size FILE [SECTION]";
+// The words that a fault is told in, and the status that the program ends with.
+fn told(alloc: Global, ended: Result<(), Fault>) -> Result<Option<(String, u8)>, AllocError> {
+    match ended {
+        Ok(()) => Ok(None),
+        Err(fault) => {
+            let words = format!(in alloc; "{fault}")?;
+            Ok(Some((words, status(&fault))))
+        }
+    }
+}
+
+fn is_told(told: &Option<(String, u8)>, want: (&str, u8)) -> bool {
+    match told {
+        None => false,
+        Some((words, status)) => (words.as_str(), *status) == want,
+    }
+}
+
+#[test]
+fn needs_a_file(rt: HostRuntime) -> Result<(), AllocError> {
+    let given = words(&[]).map(|_| ());
+    let told = told(rt.alloc(), given)?;
+    assert!(&rt; is_told(&told, ("usage: binfarce-size FILE [SECTION]", 2)));
+    Ok(())
+}
 
 // Gives its bytes, and then ends or fails.
 #[derive(Drop)]
@@ -30,79 +54,67 @@ impl<'a> Read for Source<'a> {
     }
 }
 
-fn texts(alloc: Global, words: &[&str]) -> Result<Vec<String>, AllocError> {
-    let mut texts = Vec::new(alloc);
-    for word in words {
-        texts.push(String::from_str(alloc, word)?)?;
-    }
-    Ok(texts)
-}
+const ELF: &[u8] = b"\x7FELF\x02\x01\x00\x00";
+
+// What a reader gives, how it ends, and what is told of it.
+const READERS: [(&str, &[u8], Option<ErrorKind>, &str); 5] = [
+    ("empty", &[], None, "binfarce-size: unknown file format"),
+    (
+        "truncated",
+        ELF,
+        None,
+        "binfarce-size: unexpected end of file",
+    ),
+    (
+        "fails at once",
+        &[],
+        Some(ErrorKind::Other),
+        "binfarce-size: cannot read file",
+    ),
+    (
+        "fails half-way",
+        ELF,
+        Some(ErrorKind::Other),
+        "binfarce-size: cannot read file",
+    ),
+    (
+        "no memory",
+        ELF,
+        Some(ErrorKind::OutOfMemory),
+        "binfarce-size: out of memory",
+    ),
+];
 
 #[test]
-fn takes_one_argument_or_two(rt: HostRuntime) -> Result<(), AllocError> {
-    let rows = [
-        ("none", &[][..], None),
-        ("a file", &["a"][..], Some(("a", ".text"))),
-        ("a section too", &["a", ".init"][..], Some(("a", ".init"))),
-        ("empty texts", &["", ""][..], Some(("", ""))),
-        ("one too many", &["a", "b", "c"][..], None),
-    ];
-    for (label, given, want) in rows {
-        let arguments = texts(rt.alloc(), given)?;
-        match words(arguments.as_slice()) {
-            Ok(found) => assert!(&rt; want == Some(found), "{label}"),
-            Err(fault) => {
-                assert!(&rt; want == None, "{label}");
-                assert!(&rt; status(&fault) == 2, "{label}");
-                let words = format!(in rt.alloc(); "{fault}")?;
-                assert!(&rt; words.as_str() == USAGE, "{label}");
-            }
-        }
+fn tells_why_no_report_is_made(rt: HostRuntime) -> Result<(), AllocError> {
+    for (label, bytes, end, want) in &READERS {
+        let mut out = Out::new(Vec::new(rt.alloc()));
+        let mut source = Source { bytes, end: *end };
+        let result = run(rt.alloc(), &mut source, ".text", &mut out);
+        let told = told(rt.alloc(), result)?;
+        assert!(&rt; is_told(&told, (want, 1)), "{label}");
+        assert!(&rt; out.into_inner().is_empty(), "{label}");
     }
     Ok(())
 }
 
+// A Mach-O file without load commands, of 3 MiB.
+fn large(alloc: Global) -> Result<Vec<u8>, AllocError> {
+    let mut bytes = Vec::from_slice(alloc, &[0xCF, 0xFA, 0xED, 0xFE])?;
+    bytes.resize(3 << 20, 0)?;
+    Ok(bytes)
+}
+
 #[test]
-fn tells_why_no_report_is_made(rt: HostRuntime) -> Result<(), AllocError> {
-    let elf = &b"\x7FELF\x02\x01\x00\x00"[..];
-    let rows = [
-        ("empty", &[][..], None, "binfarce-size: unknown file format"),
-        (
-            "truncated",
-            elf,
-            None,
-            "binfarce-size: unexpected end of file",
-        ),
-        (
-            "fails at once",
-            &[][..],
-            Some(ErrorKind::Other),
-            "binfarce-size: cannot read file",
-        ),
-        (
-            "fails half-way",
-            elf,
-            Some(ErrorKind::Other),
-            "binfarce-size: cannot read file",
-        ),
-        (
-            "no memory",
-            elf,
-            Some(ErrorKind::OutOfMemory),
-            "binfarce-size: out of memory",
-        ),
-    ];
-    for (label, bytes, end, want) in rows {
-        let mut out = Out::new(Vec::new(rt.alloc()));
-        match run(rt.alloc(), &mut Source { bytes, end }, ".text", &mut out) {
-            Ok(()) => assert!(&rt; false, "{label}"),
-            Err(fault) => {
-                assert!(&rt; status(&fault) == 1, "{label}");
-                let words = format!(in rt.alloc(); "{fault}")?;
-                assert!(&rt; words.as_str() == want, "{label}");
-            }
-        }
-        assert!(&rt; out.into_inner().is_empty(), "{label}");
-    }
+fn reads_a_large_file(rt: HostRuntime) -> Result<(), AllocError> {
+    let bytes = large(rt.alloc())?;
+    let mut out = Out::new(Vec::new(rt.alloc()));
+    let mut source = Source {
+        bytes: &bytes,
+        end: None,
+    };
+    let result = run(rt.alloc(), &mut source, ".text", &mut out);
+    let told = told(rt.alloc(), result)?;
+    assert!(&rt; is_told(&told, ("binfarce-size: symbols section is missing", 1)));
     Ok(())
 }

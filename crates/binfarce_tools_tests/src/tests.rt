@@ -1,23 +1,16 @@
 mod hostile_names;
 mod images;
+mod large;
 mod reports;
+mod writers;
 
-use binfarce_samples::elf::Layout;
-use binfarce_samples::macho::MACHO;
-use binfarce_samples::pe::PE;
+use binfarce_samples::elf::{LISTING, Layout};
+use binfarce_samples::macho::{LISTING as MACHO_LISTING, MACHO, MAGIC as MACHO_MAGIC};
+use binfarce_samples::pe::{LISTING as PE_LISTING, MAGIC as PE_MAGIC, PE};
 use binfarce_samples::{Patch, first_bytes, patched};
-use binfarce_tools::list::{ListError, Out, Sink, list};
-use std::alloc::{AllocError, Global};
-use std::io::{self, ErrorKind, Write};
+use binfarce_tools::list::{Out, list};
+use std::alloc::Global;
 use std::test::Fail;
-
-const LISTING: &str = "0000000000001000         16 foo\ntext 32\n";
-
-const MACHO_LISTING: &str =
-    "0000000000001000         64 a\n0000000000001000         64 b\n0000000000001040        192 c\ntext 256\n";
-
-const PE_LISTING: &str =
-    "0000000000000000         64 b\n0000000000000000         64 d\n0000000000000040        192 c\n0000000000000100        128 e\n0000000000000180          0 a\ntext 256\n";
 
 const TRUNCATED: &str = "unexpected end of file";
 
@@ -33,11 +26,6 @@ fn answered(alloc: Global, data: &[u8], section: &str) -> Result<String, Fail> {
         Err(error) => Ok(format!(in alloc; "{written}{error}")?),
     }
 }
-
-// The magic numbers, which the readers don't look at.
-const MACHO_MAGIC: &[Patch<'static>] = &[(0, &[0xCF, 0xFA, 0xED, 0xFE])];
-
-const PE_MAGIC: &[Patch<'static>] = &[(0, b"MZ")];
 
 #[derive(Clone, Copy)]
 enum File {
@@ -106,7 +94,7 @@ const ROWS: [Row; 22] = [
         what: "Mach-O",
         file: File::Macho,
         len: WHOLE,
-        patches: MACHO_MAGIC,
+        patches: &[MACHO_MAGIC],
         section: ".data",
         text: MACHO_LISTING,
     },
@@ -114,7 +102,7 @@ const ROWS: [Row; 22] = [
         what: "PE",
         file: File::Pe,
         len: WHOLE,
-        patches: PE_MAGIC,
+        patches: &[PE_MAGIC],
         section: ".data",
         text: PE_LISTING,
     },
@@ -194,7 +182,7 @@ const ROWS: [Row; 22] = [
         what: "Mach-O with 2^32 - 1 rows",
         file: File::Macho,
         len: WHOLE,
-        patches: &[(0, &[0xCF, 0xFA, 0xED, 0xFE]), (196, &[0xFF; 4])],
+        patches: &[MACHO_MAGIC, (196, &[0xFF; 4])],
         section: ".text",
         text: TRUNCATED,
     },
@@ -202,7 +190,7 @@ const ROWS: [Row; 22] = [
         what: "PE with 2^32 - 1 rows",
         file: File::Pe,
         len: WHOLE,
-        patches: &[(0, b"MZ"), (80, &[0xFF; 4])],
+        patches: &[PE_MAGIC, (80, &[0xFF; 4])],
         section: ".text",
         text: TRUNCATED,
     },
@@ -288,8 +276,8 @@ const FILES: [(&str, File, &[Patch<'static>]); 6] = [
     ("ELF32 big endian", File::Elf(Layout::Elf32Big), &[]),
     ("ELF64 little endian", File::Elf(Layout::Elf64Little), &[]),
     ("ELF64 big endian", File::Elf(Layout::Elf64Big), &[]),
-    ("Mach-O", File::Macho, MACHO_MAGIC),
-    ("PE", File::Pe, PE_MAGIC),
+    ("Mach-O", File::Macho, &[MACHO_MAGIC]),
+    ("PE", File::Pe, &[PE_MAGIC]),
 ];
 
 #[test]
@@ -300,84 +288,4 @@ fn refuses_truncated_files(rt: HostRuntime) -> Result<(), Fail> {
         assert!(&rt; other.is_none(), "{what}: {other:?}");
     }
     Ok(())
-}
-
-// Takes up to `left` bytes, at most `most` in a call, and then ends as it is told to.
-#[derive(Drop)]
-struct Short {
-    taken: Vec<u8>,
-    left: usize,
-    most: usize,
-    end: Option<ErrorKind>,
-}
-
-impl Write for Short {
-    fn write(&mut self, bytes: &[u8]) -> io::Result<usize> {
-        let n = bytes.len().min(self.left).min(self.most);
-        if n == 0 {
-            return match self.end {
-                None => Ok(0),
-                Some(kind) => Err(io::Error::from(kind)),
-            };
-        }
-        self.taken.extend_from_slice(&bytes[..n])?;
-        self.left -= n;
-        Ok(n)
-    }
-
-    fn flush(&mut self) -> io::Result<()> {
-        Ok(())
-    }
-}
-
-// How many bytes are taken in a call, and how a call ends that takes none.
-fn writers() -> [(usize, Option<ErrorKind>); 9] {
-    [
-        (1, None),
-        (1, Some(ErrorKind::Other)),
-        (1, Some(ErrorKind::Interrupted)),
-        (7, None),
-        (7, Some(ErrorKind::Other)),
-        (7, Some(ErrorKind::Interrupted)),
-        (100, None),
-        (100, Some(ErrorKind::Other)),
-        (100, Some(ErrorKind::Interrupted)),
-    ]
-}
-
-// Whether a writer that takes so many bytes gets the first ones of the listing, and `list` tells that it got all.
-fn takes_a_beginning(alloc: Global, left: usize, most: usize, end: Option<ErrorKind>) -> bool {
-    let mut out = Out::new(Short {
-        taken: Vec::new(alloc),
-        left,
-        most,
-        end,
-    });
-    let result = list(alloc, Layout::Elf64Little.bytes(), ".text", &mut out);
-    let whole = left == LISTING.len();
-    let is_told = match result {
-        Ok(()) => whole,
-        Err(error) => !whole && error == ListError::Write,
-    };
-    let has_failed = out.failed();
-    let taken = out.into_inner().taken;
-    is_told && has_failed != whole && taken.as_slice() == first_bytes(LISTING.as_bytes(), left)
-}
-
-// The first number of bytes, up to the whole listing, of which that isn't so.
-fn not_a_beginning(alloc: Global, most: usize, end: Option<ErrorKind>) -> Option<usize> {
-    for left in 0..LISTING.len() + 1 {
-        if !takes_a_beginning(alloc, left, most, end) {
-            return Some(left);
-        }
-    }
-    None
-}
-
-#[test]
-fn writes_a_beginning(rt: HostRuntime) {
-    for (most, end) in writers() {
-        let left = not_a_beginning(rt.alloc(), most, end);
-        assert!(&rt; left.is_none(), "{left:?} bytes, {most} a call, {end:?}");
-    }
 }

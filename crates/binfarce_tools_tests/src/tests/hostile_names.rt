@@ -1,8 +1,8 @@
 //! Names that want to halt a reader, or to change the symbols beside them: each stands in a file before `foo::bar`.
 
-use super::images::file_beside;
 use binfarce::demangle::{Kind, SymbolData, SymbolName};
 use binfarce::{ByteOrder, elf64};
+use binfarce_image_samples::file_beside;
 use std::alloc::{AllocError, Global};
 use std::test::Fail;
 

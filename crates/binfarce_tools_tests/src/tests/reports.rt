@@ -1,19 +1,18 @@
 //! Reports by crate.
 
-use super::images::{file_beside, file_of};
-use super::{File, MACHO_MAGIC, PE_MAGIC, Short, TRUNCATED, UNKNOWN, WHOLE, bytes_of, writers};
+use super::{File, MACHO_MAGIC, PE_MAGIC, TRUNCATED, UNKNOWN, WHOLE, bytes_of};
+use binfarce_image_samples::{file_beside, file_of};
 use binfarce_samples::elf::Layout;
 use binfarce_samples::{Patch, first_bytes, patched};
-use binfarce_tools::list::{Out, Sink};
-use binfarce_tools::report::{ReportError, report};
+use binfarce_tools::list::Out;
+use binfarce_tools::report::report;
 use std::alloc::Global;
-use std::io::ErrorKind;
 use std::test::Fail;
 
-const REPORT: &str = "        16 foo\nsum 16\ntext 32\n";
+pub(crate) const REPORT: &str = "        16 foo\nsum 16\ntext 32\n";
 
 // What is written, or the words of the refusal, on which nothing may be written.
-fn reported(alloc: Global, data: &[u8], section: &str) -> Result<String, Fail> {
+pub(crate) fn reported(alloc: Global, data: &[u8], section: &str) -> Result<String, Fail> {
     let mut out = Out::new(Vec::new(alloc));
     let result = report(alloc, data, section, &mut out);
     let written = String::from_utf8(out.into_inner())?;
@@ -54,7 +53,7 @@ const ROWS: [Row; 9] = [
         what: "Mach-O",
         file: File::Macho,
         len: WHOLE,
-        patches: MACHO_MAGIC,
+        patches: &[MACHO_MAGIC],
         section: ".data",
         text: "       320 [unknown]\nsum 320\ntext 256\n",
     },
@@ -62,7 +61,7 @@ const ROWS: [Row; 9] = [
         what: "PE",
         file: File::Pe,
         len: WHOLE,
-        patches: PE_MAGIC,
+        patches: &[PE_MAGIC],
         section: ".data",
         text: "       448 [unknown]\nsum 448\ntext 256\n",
     },
@@ -196,41 +195,4 @@ fn sizes_may_be_too_large(rt: HostRuntime) -> Result<(), Fail> {
         assert!(&rt; text.as_str() == *want, "{size:?}: {text}");
     }
     Ok(())
-}
-
-// Whether a writer that takes so many bytes gets the first ones of the report, and `report` tells whether it got all.
-fn takes_a_beginning(alloc: Global, left: usize, most: usize, end: Option<ErrorKind>) -> bool {
-    let mut out = Out::new(Short {
-        taken: Vec::new(alloc),
-        left,
-        most,
-        end,
-    });
-    let result = report(alloc, Layout::Elf64Little.bytes(), ".text", &mut out);
-    let whole = left == REPORT.len();
-    let is_told = match result {
-        Ok(()) => whole,
-        Err(error) => !whole && error == ReportError::Write,
-    };
-    let has_failed = out.failed();
-    let taken = out.into_inner().taken;
-    is_told && has_failed != whole && taken.as_slice() == first_bytes(REPORT.as_bytes(), left)
-}
-
-// The first number of bytes, up to the whole report, of which that isn't so.
-fn not_a_beginning(alloc: Global, most: usize, end: Option<ErrorKind>) -> Option<usize> {
-    for left in 0..REPORT.len() + 1 {
-        if !takes_a_beginning(alloc, left, most, end) {
-            return Some(left);
-        }
-    }
-    None
-}
-
-#[test]
-fn writes_a_beginning_of_the_report(rt: HostRuntime) {
-    for (most, end) in writers() {
-        let left = not_a_beginning(rt.alloc(), most, end);
-        assert!(&rt; left.is_none(), "{left:?} bytes, {most} a call, {end:?}");
-    }
 }

@@ -1,0 +1,18 @@
+-- What a program is given: its arguments, and a file to read.
+use Rattle.std.specs.Prelude.{ℕ, List, [], ◌∷◌, codes, Option, Some, None}
+use Rattle.std.specs.declared.io.ErrorKind.{ErrorKind}
+use Rattle.std.specs.declared.io.ErrorKind.TheVariants as kinds
+use Rattle.binfarce_program.specs.declared.ReadError.{ReadError}
+use Rattle.binfarce_program.specs.declared.ReadError.TheVariants.{File, OutOfMemory}
+
+-- the file and the section that arguments give, if there are one or two
+abbrev pub words_of : List (List ℕ) → Option (List ℕ × List ℕ)
+words_of [] = None
+words_of (file ∷ []) = Some (file, codes ".text")
+words_of (file ∷ section ∷ []) = Some (file, section)
+words_of (file ∷ section ∷ more ∷ others) = None
+
+-- why a file wasn't read, where an error of this kind came: a refused allocation is reported as such
+abbrev pub read_error_of : ErrorKind → ReadError
+read_error_of kinds.OutOfMemory = OutOfMemory
+read_error_of kind = File

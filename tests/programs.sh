@@ -1,0 +1,48 @@
+#!/bin/sh
+# Runs the programs that the repository has built where no stored run can: with a full device for standard output, on a
+# file of 4 MiB, on a folder, on a file that isn't there, and with a wrong call. Status 1 where one ends otherwise than it
+# must.
+set -eu
+cd "$(dirname "$0")/.."
+scratch=$(mktemp -d)
+trap 'rm -rf "$scratch"' EXIT
+
+sample=crates/binfarce_list/data/e-elf64-little.bin
+{ cat "$sample"; head -c 4194304 /dev/zero; } >"$scratch/large"
+
+# told STATUS ENDED LINE PROGRAM ARGUMENT..: the program must have ended with this status, and have written the line, if
+# any, and nothing else to standard error.
+told() {
+    status=$1 ended=$2 line=$3
+    shift 3
+    if [ "$ended" -ne "$status" ] || [ "$(cat "$scratch/error")" != "$line" ]; then
+        echo "$*: ended with status $ended and '$(cat "$scratch/error")', and must with $status and '$line'"
+        exit 1
+    fi
+    echo "$*: status $status${line:+, $line}"
+}
+
+# ends STATUS OUTPUT LINE PROGRAM ARGUMENT..: the same, and to standard output what the file OUTPUT holds.
+ends() {
+    status=$1 output=$2 line=$3
+    shift 3
+    ended=0
+    ./run "$@" >"$scratch/output" 2>"$scratch/error" || ended=$?
+    told "$status" "$ended" "$line" "$@"
+    cmp "$output" "$scratch/output"
+}
+
+for name in list size; do
+    program=binfarce_$name shown=binfarce-$name
+    ended=0
+    ./run "$program" "$sample" >/dev/full 2>"$scratch/error" || ended=$?
+    told 1 "$ended" "$shown: write failed" "$program" "$sample"
+    ends 0 "crates/$program/stdout" "" "$program" "$sample"
+    ends 0 "crates/$program/stdout" "" "$program" "$scratch/large" .text
+    ends 1 /dev/null "$shown: symbols section is missing" "$program" "$scratch/large" .data
+    ends 1 /dev/null "$shown: cannot read file" "$program" "$scratch"
+    ends 1 /dev/null "$shown: cannot read file" "$program" "$scratch/missing"
+    ends 1 /dev/null "$shown: unknown file format" "$program" /dev/null
+    ends 2 /dev/null "usage: $shown FILE [SECTION]" "$program"
+    ends 2 /dev/null "usage: $shown FILE [SECTION]" "$program" "$sample" .text more
+done

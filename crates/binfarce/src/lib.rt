@@ -77,5 +77,3 @@ fn elf_format(class: u8, order: u8) -> Format
 }
 
 mod laws;
-#[cfg(test)]
-mod tests;

@@ -16,6 +16,3 @@ pub enum ByteOrder {
     /// The first byte has the greatest weight.
     BigEndian,
 }
-
-#[cfg(test)]
-mod tests;

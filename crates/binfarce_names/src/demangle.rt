@@ -200,14 +200,3 @@ pub fn demangle(name: &str) -> Demangled<'_>
         },
     }
 }
-
-#[cfg(test)]
-mod legacy_real_tests;
-#[cfg(test)]
-mod tests;
-#[cfg(test)]
-mod v0_const_tests;
-#[cfg(test)]
-mod v0_real_tests;
-#[cfg(test)]
-mod v0_tests;

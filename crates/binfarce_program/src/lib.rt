@@ -5,9 +5,6 @@ ghost use Rattle.std.specs.Prelude.{◌≡◌, map, Some, None, MatchOption, IfS
 ghost use Rattle.std.specs.String.{string_bytes};
 ghost use Rattle.binfarce_program.specs.Given.{words_of};
 
-#[cfg(test)]
-mod tests;
-
 use std::alloc::Global;
 use std::env;
 use std::io::{self, ErrorKind, Read};

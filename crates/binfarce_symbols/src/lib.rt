@@ -3,5 +3,3 @@
 
 pub mod functions;
 pub mod sizes;
-#[cfg(test)]
-mod tests;

@@ -705,6 +705,3 @@ impl<'a> Printer<'a> {
         Ok(())
     }
 }
-
-#[cfg(test)]
-mod tests;

@@ -1,7 +1,5 @@
 //! Punycode (RFC 3492): a text whose code says which characters to insert into its ASCII part, and where.
 
-#[cfg(test)]
-mod tests;
 mod text;
 
 ghost use Rattle.std.specs.Prelude.{◌≡◌, ◌+◌, ◌-◌, ◌<◌, ◌≤◌, ◌∷◌, length, take, insert, option_map, true, false, Some, IfSome, IfNone, MatchOption};

@@ -1,6 +1,7 @@
 //! Real v0 names and the answers of the Rust crate.
 
-use super::{Kind, SymbolName};
+use super::answers::{Row, check, root_of};
+use binfarce_names::demangle::Kind;
 use std::alloc::Global;
 use std::process::Abort;
 use std::test::Fail;
@@ -345,34 +346,37 @@ _RNvXs11_NtNtCsduwmD7cSIQq_5gimli4read4lineINtB6_9FileEntryINtNtB8_12endian_slic
 _RNvXs1G_NtCsgEmfK2I1SDS_4core3fmtTRmRNtNtCslNYArtu3iFV_5alloc6string6StringENtB6_5Debug3fmtCs5nrm1ok5dX1_4many|<(&u32, &alloc[fdfd2bd8633a6659]::string::String) as core[c1f1a4ba060b9bfa]::fmt::Debug>::fmt|<(&u32, &alloc::string::String) as core::fmt::Debug>::fmt|core
 ";
 
-fn check_name(rt: &impl Abort, alloc: Global, row: &str) -> Result<(), Fail> {
-    let (name, row) = row.split_once('|').ok_or("a row without a bar")?;
-    let (complete, row) = row.split_once('|').ok_or("a row with one bar")?;
-    let (trimmed, root) = row.split_once('|').ok_or("a row with two bars")?;
-    let answer = SymbolName::demangle(alloc, name)?;
-    assert_eq!(rt;
-        answer.complete.as_str(),
+fn of_line(line: &str) -> Option<Row<'_>> {
+    let (name, line) = line.split_once('|')?;
+    let (complete, line) = line.split_once('|')?;
+    let (trimmed, root) = line.split_once('|')?;
+    let kind = Kind::V0;
+    Some(Row {
+        kind,
+        name,
         complete,
-        "complete text of {name}"
-    );
-    assert_eq!(rt; answer.trimmed.as_str(), trimmed, "trimmed text of {name}");
-    match &answer.crate_name {
-        Some(crate_name) => assert_eq!(rt; crate_name.as_str(), root, "crate of {name}"),
-        None => assert_eq!(rt; "-", root, "no crate of {name}"),
+        trimmed,
+        root: root_of(root),
+        what: name,
+    })
+}
+
+/// Each line, of so many, has the answer of its name.
+pub(super) fn check_lines(
+    rt: &impl Abort,
+    alloc: Global,
+    lines: &str,
+    count: usize,
+) -> Result<(), Fail> {
+    assert_eq!(rt; lines.lines().count(), count);
+    for line in lines.lines() {
+        check(rt, alloc, &of_line(line).ok_or("a line without its bars")?)?;
     }
-    assert_eq!(rt; answer.kind, Kind::V0, "kind of {name}");
     Ok(())
 }
 
 #[test]
 fn reads_real_v0_names(rt: HostRuntime) -> Result<(), Fail> {
-    assert_eq!(rt; FIRST_NAMES.lines().count(), 165);
-    assert_eq!(rt; MORE_NAMES.lines().count(), 165);
-    for row in FIRST_NAMES.lines() {
-        check_name(&rt, rt.alloc(), row)?;
-    }
-    for row in MORE_NAMES.lines() {
-        check_name(&rt, rt.alloc(), row)?;
-    }
-    Ok(())
+    check_lines(&rt, rt.alloc(), FIRST_NAMES, 165)?;
+    check_lines(&rt, rt.alloc(), MORE_NAMES, 165)
 }

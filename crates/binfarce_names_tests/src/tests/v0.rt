@@ -1,7 +1,7 @@
 //! v0 names and their answers, row by row.
 
-use super::tests::check_trimmed_alone;
-use super::{Kind, SymbolName, crate_of};
+use super::answers::{Row, check, root_of, tells};
+use binfarce_names::demangle::{Kind, SymbolName};
 use std::alloc::{AllocError, Global};
 use std::process::Abort;
 use std::test::Fail;
@@ -112,50 +112,44 @@ V0|__RC1a|a[0]|a|a|the prefix of Mach-O
 Unknown|_RC2é|_RC2é|_RC2é|-|a byte above 0x7F
 ";
 
-fn check_row(rt: &impl Abort, alloc: Global, row: &str) -> Result<(), Fail> {
-    let (kind, row) = row.split_once('|').ok_or("a row without a bar")?;
-    let (name, row) = row.split_once('|').ok_or("a row with one bar")?;
-    let (complete, row) = row.split_once('|').ok_or("a row with two bars")?;
-    let (trimmed, row) = row.split_once('|').ok_or("a row with three bars")?;
-    let (root, what) = row.split_once('|').ok_or("a row with four bars")?;
-    let answer = SymbolName::demangle(alloc, name)?;
-    assert_eq!(rt; answer.complete.as_str(), complete, "complete text: {what}");
-    assert_eq!(rt; answer.trimmed.as_str(), trimmed, "trimmed text: {what}");
-    match &answer.crate_name {
-        Some(crate_name) => assert_eq!(rt; crate_name.as_str(), root, "crate: {what}"),
-        None => assert_eq!(rt; "-", root, "no crate: {what}"),
-    }
-    check_trimmed_alone(rt, alloc, name, trimmed, what)?;
-    check_crate_alone(rt, alloc, name, root, what)?;
-    match kind {
-        "V0" => assert_eq!(rt; answer.kind, Kind::V0, "kind: {what}"),
-        _ => assert_eq!(rt; answer.kind, Kind::Unknown, "kind: {what}"),
-    }
-    Ok(())
+fn of_line(line: &str) -> Option<Row<'_>> {
+    let (kind, line) = line.split_once('|')?;
+    let (name, line) = line.split_once('|')?;
+    let (complete, line) = line.split_once('|')?;
+    let (trimmed, line) = line.split_once('|')?;
+    let (root, what) = line.split_once('|')?;
+    let kind = if kind == "V0" {
+        Kind::V0
+    } else {
+        Kind::Unknown
+    };
+    Some(Row {
+        kind,
+        name,
+        complete,
+        trimmed,
+        root: root_of(root),
+        what,
+    })
 }
 
-// The crate alone.
-fn check_crate_alone(
-    rt: &impl Abort,
-    alloc: Global,
-    name: &str,
-    root: &str,
-    what: &str,
-) -> Result<(), Fail> {
-    match crate_of(alloc, name)? {
-        Some(told) => assert_eq!(rt; told.as_str(), root, "crate alone: {what}"),
-        None => assert_eq!(rt; "-", root, "no crate alone: {what}"),
+fn check_lines(rt: &impl Abort, alloc: Global, lines: &str, count: usize) -> Result<(), Fail> {
+    assert_eq!(rt; lines.lines().count(), count);
+    for line in lines.lines() {
+        let row = of_line(line).ok_or("a line without its bars")?;
+        check(rt, alloc, &row)?;
+        assert!(rt;
+            tells(alloc, row.name, row.root)?,
+            "the crate alone: {}",
+            row.what
+        );
     }
     Ok(())
 }
 
 #[test]
 fn reads_v0_names(rt: HostRuntime) -> Result<(), Fail> {
-    assert_eq!(rt; ROWS.lines().count(), 101);
-    for row in ROWS.lines() {
-        check_row(&rt, rt.alloc(), row)?;
-    }
-    Ok(())
+    check_lines(&rt, rt.alloc(), ROWS, 101)
 }
 
 // A text so many times, behind another.

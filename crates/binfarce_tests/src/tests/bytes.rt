@@ -1,5 +1,5 @@
-use crate::parser::Stream;
-use crate::{ByteOrder, ParseError};
+use binfarce_bytes::parser::Stream;
+use binfarce_bytes::{ByteOrder, ParseError};
 use std::test::Fail;
 
 #[test]

@@ -1,4 +1,4 @@
-use crate::sizes::{RowAddress, arrange, sweep};
+use binfarce_symbols::sizes::{RowAddress, arrange, sweep};
 use std::alloc::{AllocError, Global};
 use std::test::Fail;
 

@@ -1,4 +1,4 @@
-use crate::{ByteOrder, Format, detect_format};
+use binfarce::{ByteOrder, Format, detect_format};
 
 #[test]
 fn formats(rt: HostRuntime) {

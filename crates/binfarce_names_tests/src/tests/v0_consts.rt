@@ -1,8 +1,6 @@
 //! Real v0 names with constants, and their texts.
 
-use super::{Kind, SymbolName};
-use std::alloc::Global;
-use std::process::Abort;
+use super::v0_real::check_lines;
 use std::test::Fail;
 
 // A line is a name, its complete text, its trimmed text and its crate, with a bar between them. They are the functions of
@@ -99,30 +97,7 @@ _RNvXs_CsgB4BynSvtSL_6constsINtB4_4HeldKs7fff_Kb1_Kc7a_ENtB4_5Shown4showB4_|<con
 _RNvXs_CsgB4BynSvtSL_6constsINtB4_4HeldKsn2_Kb0_Kc27_ENtB4_5Shown4showB4_|<consts[c153ac6ffbc59941]::Held<-2: i16, false: bool, '\\u{27}': char> as consts[c153ac6ffbc59941]::Shown>::show|<consts::Held<-2: i16, false: bool, '\\u{27}': char> as consts::Shown>::show|consts
 ";
 
-fn check_name(rt: &impl Abort, alloc: Global, row: &str) -> Result<(), Fail> {
-    let (name, row) = row.split_once('|').ok_or("a row without a bar")?;
-    let (complete, row) = row.split_once('|').ok_or("a row with one bar")?;
-    let (trimmed, root) = row.split_once('|').ok_or("a row with two bars")?;
-    let answer = SymbolName::demangle(alloc, name)?;
-    assert_eq!(rt;
-        answer.complete.as_str(),
-        complete,
-        "complete text of {name}"
-    );
-    assert_eq!(rt; answer.trimmed.as_str(), trimmed, "trimmed text of {name}");
-    match &answer.crate_name {
-        Some(crate_name) => assert_eq!(rt; crate_name.as_str(), root, "crate of {name}"),
-        None => assert!(rt; false, "no crate of {name}"),
-    }
-    assert_eq!(rt; answer.kind, Kind::V0, "kind of {name}");
-    Ok(())
-}
-
 #[test]
 fn reads_real_names_with_constants(rt: HostRuntime) -> Result<(), Fail> {
-    assert_eq!(rt; NAMES.lines().count(), 88);
-    for row in NAMES.lines() {
-        check_name(&rt, rt.alloc(), row)?;
-    }
-    Ok(())
+    check_lines(&rt, rt.alloc(), NAMES, 88)
 }

@@ -1,6 +1,6 @@
 //! Texts that others encoded.
 
-use super::{Decoded, decode};
+use binfarce_v0_grammar::punycode::{Decoded, decode};
 use std::test::Fail;
 
 /// Whether there is a decoded text and it is this one.

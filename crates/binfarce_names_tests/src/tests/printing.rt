@@ -1,6 +1,6 @@
 //! Levels and steps of names within the limits.
 
-use crate::mangling::print;
+use binfarce_v0::mangling::print;
 use std::alloc::{AllocError, Global};
 use std::process::Abort;
 

@@ -1,4 +1,4 @@
-use crate::{ReadError, file_and_section, read_whole};
+use binfarce_program::{ReadError, file_and_section, read_whole};
 use std::alloc::{AllocError, Global};
 use std::io::{self, ErrorKind, Read};
 

@@ -1,6 +1,7 @@
 //! Names and their answers, row by row.
 
-use super::{Kind, SymbolName, crate_of, push_trimmed};
+use super::answers::{Row, check, root_of, tells};
+use binfarce_names::demangle::Kind;
 use std::alloc::Global;
 use std::process::Abort;
 use std::test::Fail;
@@ -47,48 +48,37 @@ Unknown|_ZN2éE|_ZN2éE|_ZN2éE|a byte above 0x7F
 Unknown|_ZN3foo|_ZN3foo|_ZN3foo|no `E`
 ";
 
-fn check_row(rt: &impl Abort, alloc: Global, row: &str) -> Result<(), Fail> {
-    let (kind, row) = row.split_once('|').ok_or("a row without a bar")?;
-    let (name, row) = row.split_once('|').ok_or("a row with one bar")?;
-    let (complete, row) = row.split_once('|').ok_or("a row with two bars")?;
-    let (trimmed, what) = row.split_once('|').ok_or("a row with three bars")?;
-    let answer = SymbolName::demangle(alloc, name)?;
-    assert_eq!(rt; answer.complete.as_str(), complete, "complete text: {what}");
-    assert_eq!(rt; answer.trimmed.as_str(), trimmed, "trimmed text: {what}");
-    assert!(rt; answer.crate_name.is_none(), "crate: {what}");
-    check_trimmed_alone(rt, alloc, name, trimmed, what)?;
-    match kind {
-        "Legacy" => assert_eq!(rt; answer.kind, Kind::Legacy, "kind: {what}"),
-        _ => assert_eq!(rt; answer.kind, Kind::Unknown, "kind: {what}"),
-    }
-    Ok(())
+fn of_line(line: &str) -> Option<Row<'_>> {
+    let (kind, line) = line.split_once('|')?;
+    let (name, line) = line.split_once('|')?;
+    let (complete, line) = line.split_once('|')?;
+    let (trimmed, what) = line.split_once('|')?;
+    let kind = if kind == "Legacy" {
+        Kind::Legacy
+    } else {
+        Kind::Unknown
+    };
+    Some(Row {
+        kind,
+        name,
+        complete,
+        trimmed,
+        root: None,
+        what,
+    })
 }
 
-// The trimmed text alone, after another.
-pub(super) fn check_trimmed_alone(
-    rt: &impl Abort,
-    alloc: Global,
-    name: &str,
-    trimmed: &str,
-    what: &str,
-) -> Result<(), Fail> {
-    let mut line = String::from_str(alloc, "a line ")?;
-    push_trimmed(alloc, &mut line, name)?;
-    assert_eq!(rt;
-        line.as_str().strip_prefix("a line "),
-        Some(trimmed),
-        "text alone: {what}"
-    );
+fn check_lines(rt: &impl Abort, alloc: Global, lines: &str, count: usize) -> Result<(), Fail> {
+    assert_eq!(rt; lines.lines().count(), count);
+    for line in lines.lines() {
+        check(rt, alloc, &of_line(line).ok_or("a line without its bars")?)?;
+    }
     Ok(())
 }
 
 #[test]
 fn reads_names(rt: HostRuntime) -> Result<(), Fail> {
-    assert_eq!(rt; ROWS.lines().count(), 37);
-    for row in ROWS.lines() {
-        check_row(&rt, rt.alloc(), row)?;
-    }
-    Ok(())
+    check_lines(&rt, rt.alloc(), ROWS, 37)
 }
 
 // A line is a name and the crate that its path tells (`-` for none), with a bar between them.
@@ -105,15 +95,16 @@ _ZN3fooE.part.0|foo
 foo|-
 ";
 
-#[test]
-fn tells_crates(rt: HostRuntime) -> Result<(), Fail> {
-    assert_eq!(rt; CRATES.lines().count(), 10);
-    for row in CRATES.lines() {
-        let (name, wanted) = row.split_once('|').ok_or("a row without a bar")?;
-        match crate_of(rt.alloc(), name)? {
-            Some(told) => assert_eq!(rt; told.as_str(), wanted, "{name}"),
-            None => assert_eq!(rt; "-", wanted, "no crate: {name}"),
-        }
+fn check_crates(rt: &impl Abort, alloc: Global, lines: &str, count: usize) -> Result<(), Fail> {
+    assert_eq!(rt; lines.lines().count(), count);
+    for line in lines.lines() {
+        let (name, told) = line.split_once('|').ok_or("a line without a bar")?;
+        assert!(rt; tells(alloc, name, root_of(told))?, "{name}");
     }
     Ok(())
+}
+
+#[test]
+fn tells_crates(rt: HostRuntime) -> Result<(), Fail> {
+    check_crates(&rt, rt.alloc(), CRATES, 10)
 }

@@ -1,6 +1,9 @@
 //! Real legacy names, with the answers of the Rust crate `binfarce`.
 
-use super::{Kind, SymbolName};
+use super::answers::{Row, check};
+use binfarce_names::demangle::Kind;
+use std::alloc::Global;
+use std::process::Abort;
 use std::test::Fail;
 
 // A line is a name, its complete text and its trimmed text, with a bar between them. The names are
@@ -242,21 +245,29 @@ _ZN9hashbrown3raw21RawIterRange$LT$T$GT$9next_impl17h2a3ab4b9a96091d9E|hashbrown
 _ZN9hashbrown3raw21RawTable$LT$T$C$A$GT$14reserve_rehash28_$u7b$$u7b$closure$u7d$$u7d$17h23fe7c41fd4d08e8E|hashbrown::raw::RawTable<T,A>::reserve_rehash::{{closure}}::h23fe7c41fd4d08e8|hashbrown::raw::RawTable<T,A>::reserve_rehash::{{closure}}
 ";
 
-#[test]
-fn reads_real_names(rt: HostRuntime) -> Result<(), Fail> {
-    assert_eq!(rt; NAMES.lines().count(), 231);
-    for line in NAMES.lines() {
-        let (name, texts) = line.split_once('|').ok_or("a line without a bar")?;
-        let (complete, trimmed) = texts.split_once('|').ok_or("a line with one bar")?;
-        let answer = SymbolName::demangle(rt.alloc(), name)?;
-        assert_eq!(rt;
-            answer.complete.as_str(),
-            complete,
-            "complete text of {name}"
-        );
-        assert_eq!(rt; answer.trimmed.as_str(), trimmed, "trimmed text of {name}");
-        assert_eq!(rt; answer.kind, Kind::Legacy, "kind of {name}");
-        assert!(rt; answer.crate_name.is_none(), "crate of {name}");
+fn of_line(line: &str) -> Option<Row<'_>> {
+    let (name, line) = line.split_once('|')?;
+    let (complete, trimmed) = line.split_once('|')?;
+    let kind = Kind::Legacy;
+    Some(Row {
+        kind,
+        name,
+        complete,
+        trimmed,
+        root: None,
+        what: name,
+    })
+}
+
+fn check_lines(rt: &impl Abort, alloc: Global, lines: &str, count: usize) -> Result<(), Fail> {
+    assert_eq!(rt; lines.lines().count(), count);
+    for line in lines.lines() {
+        check(rt, alloc, &of_line(line).ok_or("a line without its bars")?)?;
     }
     Ok(())
+}
+
+#[test]
+fn reads_real_names(rt: HostRuntime) -> Result<(), Fail> {
+    check_lines(&rt, rt.alloc(), NAMES, 231)
 }

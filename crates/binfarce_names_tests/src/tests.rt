@@ -1,0 +1,8 @@
+mod answers;
+mod legacy_real;
+mod names;
+mod printing;
+mod punycode;
+mod v0;
+mod v0_consts;
+mod v0_real;

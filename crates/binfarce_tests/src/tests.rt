@@ -1,0 +1,4 @@
+mod bytes;
+mod formats;
+mod program;
+mod sizes;

@@ -2,3 +2,4 @@ pub mod Headers
 pub mod Walks
 pub mod Names
 pub mod RowsLeft
+pub mod RowParts

@@ -2,12 +2,12 @@
 
 ghost use Rattle.std.specs.Prelude.{◌≡◌, ◌+◌, ◌*◌, ◌<◌, ◌≤◌, ℕ, List, length, MatchResult};
 ghost use Rattle.binfarce_bytes.specs.Number.{number};
-ghost use Rattle.binfarce_elf.specs.Elf.{entry_count};
+ghost use Rattle.binfarce_elf.specs.Elf.{elf32, elf64, entry_count};
 ghost use Rattle.binfarce_elf.specs.ElfSymbols.{symbol_at};
 ghost use Rattle.binfarce_elf.specs.machine.RawElf.{row_seen, header_of, section_of};
 
 use binfarce_bytes::ByteOrder;
-use binfarce_bytes::parser::{RawNumber, Stream, UnexpectedEof};
+use binfarce_bytes::parser::{RawNumber, Stream, UnexpectedEof, part};
 
 // The standard's data types (gABI, "Data Representation"); a word of the class stands for its addresses and offsets.
 pub type Half = u16;
@@ -90,7 +90,6 @@ pub trait Class: RawNumber + Copy + Drop {
 }
 
 impl Class for u32 {
-    ghost use Rattle.binfarce_elf.specs.Elf.{elf32};
     ghost use Rattle.std.proofs.Common.{refl, lit<};
 
     ghost table = { elf32 };
@@ -116,23 +115,10 @@ impl Class for u32 {
     }
 
     #[inline]
-    #[tactic(auto, unfolding(crate::specs::Elf::elf32, crate::specs::ElfSymbols::symbol_at))]
+    #[tactic(auto, unfolding(crate::specs::Elf::elf32))]
     fn symbol(bytes: &[u8], start: usize, byte_order: ByteOrder) -> Result<Row, UnexpectedEof> {
-        let mut s = Stream::new_at(bytes, start, byte_order)?;
-        let name = s.read()?;
-        let value = s.read::<u32>()?;
-        let size = s.read::<u32>()?;
-        let info = s.read()?;
-        let other = s.read()?;
-        let section = s.read()?;
-        Ok(Row {
-            name,
-            value: u64::from(value),
-            size: u64::from(size),
-            info,
-            other,
-            section,
-        })
+        let row = part(bytes, start, 16)?;
+        row_of_32(row, 0, byte_order)
     }
 
     ghost word = { λ order bytes. refl };
@@ -159,7 +145,6 @@ impl Class for u32 {
 }
 
 impl Class for u64 {
-    ghost use Rattle.binfarce_elf.specs.Elf.{elf64};
     ghost use Rattle.std.proofs.Common.{refl, lit<};
 
     ghost table = { elf64 };
@@ -185,23 +170,10 @@ impl Class for u64 {
     }
 
     #[inline]
-    #[tactic(auto, unfolding(crate::specs::Elf::elf64, crate::specs::ElfSymbols::symbol_at))]
+    #[tactic(auto, unfolding(crate::specs::Elf::elf64))]
     fn symbol(bytes: &[u8], start: usize, byte_order: ByteOrder) -> Result<Row, UnexpectedEof> {
-        let mut s = Stream::new_at(bytes, start, byte_order)?;
-        let name = s.read()?;
-        let info = s.read()?;
-        let other = s.read()?;
-        let section = s.read()?;
-        let value = s.read()?;
-        let size = s.read()?;
-        Ok(Row {
-            name,
-            value,
-            size,
-            info,
-            other,
-            section,
-        })
+        let row = part(bytes, start, 24)?;
+        row_of_64(row, 0, byte_order)
     }
 
     ghost word = { λ order bytes. refl };
@@ -225,4 +197,55 @@ impl Class for u64 {
     ghost some_section = { lit< tt };
 
     ghost some_symbol = { lit< tt };
+}
+
+// The row of the class of 32 bits at `start`; refused where it is truncated. Of the bytes of one row, whose number is known
+// when this is compiled, no field's reading tests the length.
+#[inline(always)]
+#[tactic(auto, unfolding(crate::specs::Elf::elf32, crate::specs::ElfSymbols::symbol_at))]
+fn row_of_32(bytes: &[u8], start: usize, byte_order: ByteOrder) -> Result<Row, UnexpectedEof>
+    ensures { MatchResult result
+        (λ r. (start + 16 ≤ length bytes.now) × (row_seen r ≡ symbol_at elf32 byte_order bytes.now start))
+        (λ _. length bytes.now < start + 16) }
+{
+    let mut s = Stream::new_at(bytes, start, byte_order)?;
+    let name = s.read()?;
+    let value = s.read::<u32>()?;
+    let size = s.read::<u32>()?;
+    let info = s.read()?;
+    let other = s.read()?;
+    let section = s.read()?;
+    Ok(Row {
+        name,
+        value: u64::from(value),
+        size: u64::from(size),
+        info,
+        other,
+        section,
+    })
+}
+
+// The same of the class of 64 bits.
+#[inline(always)]
+#[tactic(auto, unfolding(crate::specs::Elf::elf64, crate::specs::ElfSymbols::symbol_at))]
+fn row_of_64(bytes: &[u8], start: usize, byte_order: ByteOrder) -> Result<Row, UnexpectedEof>
+    ensures { MatchResult result
+        (λ r. (start + 24 ≤ length bytes.now) × (row_seen r ≡ symbol_at elf64 byte_order bytes.now start))
+        (λ _. length bytes.now < start + 24) }
+{
+    let mut s = Stream::new_at(bytes, start, byte_order)?;
+    let name = s.read()?;
+    let info = s.read()?;
+    let other = s.read()?;
+    let section = s.read()?;
+    let value = s.read()?;
+    let size = s.read()?;
+    Ok(Row {
+        name,
+        value,
+        size,
+        info,
+        other,
+        section,
+    })
 }

@@ -58,7 +58,7 @@ joined_left-nil at = elim (cases_eq at 0) [
 -- before the first element, all are left
 pub left_at_start : (part before : List ℕ) (elements : List Element) (rest : List ℕ) → Reads part elements rest → IsLeft part 0 before before elements rest elements
 unfolding joined_left
-left_at_start part before elements rest r = record { ahead = r; joined = refl }
+left_at_start part before elements rest r = record { ahead = r; printed_is = ([], sym (append-nil before)); joined = refl }
 
 -- an element is written
 pub left_step : (part : List ℕ) (at end : ℕ) (before printed more name : List ℕ) (elements : List Element) (rest : List ℕ) (left : List Element)
@@ -83,6 +83,15 @@ left_step part at end before printed more name elements rest (e ∷ others) is h
       others,
       record {
         ahead = (after.0, next ∙ after.1);
+        printed_is = (
+          is.printed_is.0 ++ (separator at ++ name_chars name),
+          wrote ∙ append_assoc printed (separator at) (encode_utf8_all (name_chars name))
+              ∙ ap (λ (x : List ℕ). x ++ (separator at ++ encode_utf8_all (name_chars name))) is.printed_is.1
+              ∙ append_assoc before (encode_utf8_all is.printed_is.0) (separator at ++ encode_utf8_all (name_chars name))
+              ∙ ap (λ (x : List ℕ). before ++ (encode_utf8_all is.printed_is.0 ++ (x ++ encode_utf8_all (name_chars name)))) (sym (separator_ascii at))
+              ∙ ap (λ (x : List ℕ). before ++ (encode_utf8_all is.printed_is.0 ++ x)) (sym (encodes-append (separator at) (name_chars name)))
+              ∙ ap (λ (x : List ℕ). before ++ x) (sym (encodes-append is.printed_is.0 (separator at ++ name_chars name))),
+        );
         joined = ap (λ (x : List ℕ). x ++ encode_utf8_all later) wrote
             ∙ append_assoc (printed ++ separator at) (encode_utf8_all (name_chars name)) (encode_utf8_all later)
             ∙ append_assoc printed (separator at) (encode_utf8_all (name_chars name) ++ encode_utf8_all later)

@@ -1,15 +1,15 @@
 //! The legacy mangling: `_ZN`, elements that are each counted, and `E`.
 
-ghost use Rattle.std.specs.Prelude.{◌≡◌, ℕ, ◌+◌, ◌-◌, ◌^◌, ◌<◌, ◌≤◌, ◌++◌, List, MatchOption, SomeIff, IfOk, OnOk, OnErr, IfSome, true, false, length, take, drop, min, nat_eq, codes, slice_index};
+ghost use Rattle.std.specs.Prelude.{◌≡◌, ℕ, ◌+◌, ◌-◌, ◌*◌, ◌^◌, ◌<◌, ◌≤◌, ◌++◌, List, MatchOption, SomeIff, IfOk, OnOk, OnErr, IfSome, true, false, IsTrue, length, take, drop, min, nat_eq, codes, slice_index};
 ghost use Rattle.std.specs.Option.{option_copied, option_map};
-ghost use Rattle.std.specs.List.{prefix_len, starts_with};
+ghost use Rattle.std.specs.List.{list_any, prefix_len, starts_with};
 ghost use Rattle.std.specs.Char.{is_ascii_digit, digit_value};
 ghost use Rattle.std.specs.Str.{IsAscii, encode_utf8_all};
 ghost use Rattle.std.specs.Str.Parse.{digits_value};
 ghost use Rattle.std.specs.String.{string_bytes};
 ghost use Rattle.binfarce_text.specs.Letters.{is_hex_digit};
 ghost use Rattle.binfarce_legacy.specs.Legacy.{Element, Reads, IsLegacy, part_after_prefix, named_escape, numbered_escape, first_piece, name_chars, legacy_chars, is_printed, without_last_part};
-ghost use Rattle.binfarce_legacy.specs.machine.Reading.{is_plain, piece_of, piece_or_all, chars_left, name_start, name_end, HasElement, Grows};
+ghost use Rattle.binfarce_legacy.specs.machine.Reading.{is_mark, is_plain, path_chars, piece_of, piece_or_all, chars_left, name_start, name_end, HasElement, Grows};
 
 use binfarce_text::digits::hex_value;
 use binfarce_text::suffixes::is_allowed_rest;
@@ -41,11 +41,24 @@ fn count(text: &[u8]) -> (usize, usize)
     let mut digits = 0;
     let mut number: usize = 0;
     while digits < text.len() && text[digits].is_ascii_digit() {
-        let digit = usize::from(text[digits] - b'0');
-        number = number.saturating_mul(10).saturating_add(digit);
+        let digit = text[digits] - b'0';
+        number = with_digit(number, digit);
         digits += 1;
     }
     (digits, number)
+}
+
+// A number with one more digit after it, where it is below `usize::MAX`.
+#[inline(always)]
+fn with_digit(number: usize, digit: u8) -> usize
+    requires { digit < 10 }
+    ensures { result ≡ min (number * 10 + digit) (2 ^ 64 - 1) }
+{
+    if number < 0x1000_0000_0000_0000 {
+        number * 10 + usize::from(digit)
+    } else {
+        number.saturating_mul(10).saturating_add(usize::from(digit))
+    }
 }
 
 // Where the name of the element that stands at `at` begins and ends.
@@ -169,6 +182,14 @@ fn numbered_escape(name: &[u8]) -> Option<(char, usize)>
     }
 }
 
+// Whether a byte stands for itself. Most are letters, digits and `_`, which the first test knows.
+#[inline(always)]
+fn is_plain(b: u8) -> bool
+    ensures { result ≡ is_plain b }
+{
+    b > b'.' || (b != b'.' && b != b'$')
+}
+
 // Where the bytes from `at` on end that stand for themselves.
 fn plain_end(name: &[u8], at: usize) -> usize
     requires { at ≤ length name.now }
@@ -177,7 +198,7 @@ fn plain_end(name: &[u8], at: usize) -> usize
     ensures special { result < length name.now → is_plain (slice_index name.now result) ≡ false }
 {
     let mut end = at;
-    while end < name.len() && name[end] != b'.' && name[end] != b'$' {
+    while end < name.len() && is_plain(name[end]) {
         end += 1;
     }
     end
@@ -257,22 +278,76 @@ fn push_name(text: &mut String, name: &str) -> Result<(), AllocError>
     Ok(())
 }
 
-// Writes the path of a mangling, of which `part` stands after the prefix, after the text.
-fn push_path(text: &mut String, part: &str) -> Result<(), AllocError>
-    requires { IsAscii part.now }
-    ensures bytes { OnOk result ((elements : List Element) (rest : List ℕ)
-        → Reads part.now elements rest → string_bytes text.new ≡ string_bytes text.old ++ encode_utf8_all (legacy_chars elements)) }
-    ensures grows { Grows (string_bytes text.old) (string_bytes text.new) }
+// Whether a byte begins an escape, or is a `:`.
+#[inline(always)]
+fn is_mark(b: u8) -> bool
+    ensures { result ≡ is_mark b }
+{
+    b == b'.' || b == b'$' || b == b':'
+}
+
+// How many bytes of a name are looked at together.
+const STRIDE: usize = 16;
+
+// Whether a byte of a name is such.
+#[inline(always)]
+fn has_mark(name: &[u8]) -> bool
+    ensures { result ≡ list_any is_mark name.now }
 {
     let mut at = 0;
-    while let Some((start, end)) = element(part.as_bytes(), at) {
+    while name.len() - at >= STRIDE {
+        if has_mark_among(&name[at..at + STRIDE]) {
+            return true;
+        }
+        at += STRIDE;
+    }
+    has_mark_among(&name[at..])
+}
+
+// The same without an early end, so that the bytes are compared side by side.
+#[inline(always)]
+fn has_mark_among(bytes: &[u8]) -> bool
+    ensures { result ≡ list_any is_mark bytes.now }
+{
+    let mut found = false;
+    for b in bytes {
+        found |= is_mark(*b);
+    }
+    found
+}
+
+// Whether an element's name is the last part of a path, as it stands: where the name ends at `end`, the elements end, and it
+// has no mark.
+#[inline(always)]
+fn is_last_part(part: &[u8], name: &[u8], end: usize) -> bool
+    ensures { IsTrue result → (slice_index part.now end ≡ 69) × (list_any is_mark name.now ≡ false) }
+{
+    end < part.len() && part[end] == b'E' && !has_mark(name)
+}
+
+// Writes the path of a mangling, of which `part` stands after the prefix, after the text. Where it is to be `trimmed`, its
+// last part is left out if that is the last element's name as it stands, and not the first: whether it was left out.
+fn push_path(text: &mut String, part: &str, trimmed: bool) -> Result<bool, AllocError>
+    requires { IsAscii part.now }
+    ensures bytes { IfOk result (λ left_out. (elements : List Element) (rest : List ℕ)
+        → Reads part.now elements rest → string_bytes text.new ≡ string_bytes text.old ++ encode_utf8_all (path_chars left_out elements)) }
+    ensures asked { IfOk result (λ left_out. IsTrue left_out → IsTrue trimmed) }
+    ensures grows { Grows (string_bytes text.old) (string_bytes text.new) }
+{
+    let bytes = part.as_bytes();
+    let mut at = 0;
+    while let Some((start, end)) = element(bytes, at) {
+        let name = &part[start..end];
         if at > 0 {
+            if trimmed && is_last_part(bytes, name.as_bytes(), end) {
+                return Ok(true);
+            }
             text.push_str("::")?;
         }
-        push_name(text, &part[start..end])?;
+        push_name(text, name)?;
         at = end;
     }
-    Ok(())
+    Ok(false)
 }
 
 /// The readable text of a mangling, of which `part` stands after the prefix. The only refusal is that an allocation was
@@ -283,7 +358,7 @@ pub fn complete(alloc: Global, part: &str) -> Result<String, AllocError>
         → Reads part.now elements rest → string_bytes text ≡ encode_utf8_all (legacy_chars elements)) }
 {
     let mut text = String::with_capacity(alloc, part.len())?;
-    push_path(&mut text, part)?;
+    let _ = push_path(&mut text, part, false)?;
     Ok(text)
 }
 
@@ -296,8 +371,9 @@ pub fn push_trimmed(text: &mut String, part: &str) -> Result<(), AllocError>
     ensures unchanged { OnErr result (string_bytes text.new ≡ string_bytes text.old) }
 {
     let start = text.as_str().len();
-    match push_path(text, part) {
-        Ok(()) => {
+    match push_path(text, part, true) {
+        Ok(true) => Ok(()),
+        Ok(false) => {
             let kept = without_last_part(&text.as_str()[start..]).len();
             text.truncate(start + kept);
             Ok(())

@@ -1,5 +1,6 @@
 pub mod HeaderLengths
 pub mod Pads
+pub mod Heads
 pub mod Told
 pub mod Listings
 pub mod Lines

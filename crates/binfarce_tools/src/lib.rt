@@ -2,6 +2,7 @@
 #![tactic(auto)]
 
 mod functions;
+mod head;
 mod laws;
 pub mod list;
 pub mod report;

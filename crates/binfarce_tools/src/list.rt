@@ -7,11 +7,12 @@ ghost use Rattle.binfarce.specs.Format.{format_of};
 ghost use Rattle.binfarce.specs.Symbol.{Listed};
 ghost use Rattle.binfarce.specs.SymbolSeen.{function_seen};
 ghost use Rattle.binfarce_tools.specs.Answer.{symbols_answer, NeedsMemory};
-ghost use Rattle.binfarce_tools.specs.Listing.{IsLineOf, IsListingOf, line_head};
+ghost use Rattle.binfarce_tools.specs.Listing.{IsLineOf, IsListingOf};
 ghost use Rattle.binfarce_tools.specs.Lists.{Tells, Takes, Fails, Leaves};
 ghost use Rattle.binfarce_tools.specs.machine.Lists.{HoldsLeft};
 
 use crate::functions::{Functions, functions_of_file};
+use crate::head::push_head;
 use crate::writing::write_whole;
 use binfarce::demangle::push_trimmed;
 use binfarce::{FunctionSymbol, ParseError};
@@ -197,12 +198,4 @@ fn push_line(
     push_head(text, function.address, function.size)?;
     push_trimmed(alloc, text, function.name)?;
     text.push_str("\n")
-}
-
-// Writes what stands before the name of a line.
-#[tactic(auto, using(crate::proofs::Pads::address_padded, crate::proofs::Pads::size_padded))]
-fn push_head(text: &mut String, address: u64, size: u64) -> Result<(), AllocError>
-    ensures { OnOk result (string_bytes text.new ≡ string_bytes text.old ++ line_head address size) }
-{
-    write!(text, "{address:016x} {size:>10} ")
 }

@@ -11,3 +11,4 @@ pub mod States
 pub mod Texts
 pub mod Validating
 pub mod RestLemmas
+pub mod HexDigits

@@ -21,6 +21,7 @@ ghost use Rattle.binfarce_v0_grammar.specs.Tree.{
 };
 ghost use Rattle.binfarce_v0_grammar.specs.machine.Seen.{undisambiguated_seen, identifier_seen, signature_seen, value_seen};
 
+use crate::disambiguators::put_disambiguator;
 use binfarce_v0_grammar::forms::{ConstValue, Signature};
 use binfarce_v0_grammar::identifiers::{Identifier, UndisambiguatedIdentifier};
 use binfarce_v0_grammar::numbers::hex_number;
@@ -78,7 +79,9 @@ pub fn push_binder(text: &mut String, depth: usize, count: usize) -> Result<(), 
 pub fn push_disambiguator(text: &mut String, n: u64) -> Result<(), AllocError>
     ensures { OnOk result (string_bytes text.new ≡ string_bytes text.old ++ disambiguator_text true n) }
 {
-    write!(text, "[{n:x}]")
+    let mut shown = [0; 18];
+    let start = put_disambiguator(&mut shown, n);
+    text.push_str(std::str::from_utf8(&shown[start..]).unwrap())
 }
 
 /// A name after a mark, or nothing for an empty name.

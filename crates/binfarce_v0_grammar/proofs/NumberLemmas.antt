@@ -10,6 +10,7 @@ use Rattle.std.proofs.lemmas.List.{at_drop_more, length-take-le, get_or-drop}
 use Rattle.std.proofs.lemmas.List.Sums.{prefix_len-le-length}
 use Rattle.std.proofs.lemmas.Bool.{cases_Bool, cases_eq, cond-true, cond-false, eq-eqb, ne_eqb}
 use Rattle.std.proofs.lemmas.Bool.Decides.{nat_tests}
+use Rattle.std.proofs.Math.ListN.{drop_of_length-le}
 use Rattle.std.proofs.Math.Nat.{pow-le-pow_right}
 use Rattle.std.proofs.lemmas.Grind.{pow_more}
 use Rattle.binfarce_text.specs.Letters.{is_hex_digit}
@@ -44,6 +45,9 @@ both_none false x y h k = k
 
 limited_large : (v after : ℕ) → 2 ^ 64 ≤ v → limited v after ≡ None
 limited_large v after h = grind (arith, nat_tests)
+
+limited_small : (v after : ℕ) → v < 2 ^ 64 → limited v after ≡ Some (v, after)
+limited_small v after h = grind (arith, nat_tests)
 
 pub number_from_large : (s : List ℕ) (worth at : ℕ) → 2 ^ 64 ≤ worth → number_from s worth at ≡ None
 number_from_large [] worth at h = refl
@@ -267,3 +271,27 @@ hex_fits i value digit h small d =
     let below : value * 16 + digit < 16 ^ (i + 1) = omega (arith, pow_more 16 i) in
     let top : 16 ^ (i + 1) ≤ 16 ^ 16 = pow-le-pow_right {n = 16} (omega arith) {i = i + 1} {j = 16} (omega arith) in
     (below, omega arith)
+
+pub number_from_past : (s : List ℕ) (worth at : ℕ) → length s ≤ at → number_from (drop at s) worth at ≡ None
+number_from_past s worth at h = ap (λ (l : List ℕ). number_from l worth at) (drop_of_length-le s {i = at} h)
+
+-- ten base-62 digits write a number below 2^64
+pub digits_fit : (i value digit : ℕ) → i < 10 → value < 62 ^ i → digit < 62 → (value * 62 + digit < 62 ^ (i + 1)) × (value * 62 + digit + 1 < 2 ^ 64)
+digits_fit i value digit h small d =
+    let below : value * 62 + digit < 62 ^ (i + 1) = omega (arith, pow_more 62 i) in
+    let top : 62 ^ (i + 1) ≤ 62 ^ 10 = pow-le-pow_right {n = 62} (omega arith) {i = i + 1} {j = 10} (omega arith) in
+    (below, omega arith)
+
+pub digit_below : (c : ℕ) → is_ascii_alphanumeric c ≡ true → digit_62 c < 62
+unfolding digit_62
+digit_below c h = grind (arith, nat_tests)
+
+pub number_from_ends : (s : List ℕ) (at worth : ℕ) → at < length s → get_or s at 0 ≡ 95 → worth + 1 < 2 ^ 64 → number_from (drop at s) worth at ≡ Some (worth + 1, at + 1)
+number_from_ends s at worth h e small =
+    number_from_step s at worth h ∙ cond-true (eqb (get_or s at 0) 95) _ _ (eq-eqb (get_or s at 0) 95 e) ∙ limited_small (worth + 1) (at + 1) small
+
+pub number_from_digit : (s : List ℕ) (at worth digit : ℕ) → at < length s → (get_or s at 0 ≡ 95 → ⊥) → is_ascii_alphanumeric (get_or s at 0) ≡ true → digit ≡ digit_62 (get_or s at 0)
+    → number_from (drop at s) worth at ≡ number_from (drop (at + 1) s) (worth * 62 + digit) (at + 1)
+number_from_digit s at worth digit h ne is e =
+    number_from_step s at worth h ∙ cond-false (eqb (get_or s at 0) 95) _ _ (ne_eqb (get_or s at 0) 95 ne) ∙ cond-true (is_ascii_alphanumeric (get_or s at 0)) _ None is
+    ∙ ap (λ d. number_from (drop (at + 1) s) (worth * 62 + d) (at + 1)) (sym e)

@@ -1,5 +1,5 @@
 -- Digits that are checked and not decoded.
-use Rattle.std.proofs.Common.{◌≡◌, ℕ, suc, zero, ◌+◌, ◌*◌, ◌-◌, ◌^◌, ◌<◌, ◌≤◌, inl, inr, List, [], ◌∷◌, length, get_or, drop, take, Option, Some, None, Bool, true, false, cond, eqb, if◌then◌else◌, ◌==◌, refl, ap, sym, ◌∙◌, arith, mul-le-mul}
+use Rattle.std.proofs.Common.{◌≡◌, ℕ, suc, ◌+◌, ◌*◌, ◌-◌, ◌^◌, ◌<◌, ◌≤◌, inl, inr, List, [], ◌∷◌, get_or, drop, take, Option, Some, None, Bool, true, false, cond, eqb, if◌then◌else◌, ◌==◌, refl, ap, ◌∙◌, arith, mul-le-mul}
 use Rattle.std.specs.Prelude.{fold}
 use Rattle.std.specs.Option.{option_map}
 use Rattle.std.specs.List.{prefix_len}
@@ -7,13 +7,13 @@ use Rattle.std.specs.Char.{is_ascii_alphanumeric}
 use Rattle.std.proofs.Math.Nat.{pow-le-pow_right, mul_assoc}
 use Rattle.std.proofs.lemmas.Grind.{pow_more}
 use Rattle.std.proofs.lemmas.List.{get_or-drop}
-use Rattle.std.proofs.lemmas.Bool.{cases_Bool, cases_eq, cond-true, cond-false, eq-eqb, ne_eqb}
+use Rattle.std.proofs.lemmas.Bool.{cases_Bool, cond-true, cond-false, eq-eqb, ne_eqb}
 use Rattle.std.proofs.lemmas.Bool.Decides.{nat_tests}
 use Rattle.binfarce_text.specs.Steps.{◌>>=◌}
 use Rattle.binfarce_v0_grammar.specs.Base62.{digit_62, value_62, limited, number, tagged}
-use Rattle.binfarce_v0_grammar.specs.Identifiers.{UndisambiguatedIdentifier, undisambiguated_identifier, Identifier, identifier}
+use Rattle.binfarce_v0_grammar.specs.Identifiers.{UndisambiguatedIdentifier, undisambiguated_identifier, identifier}
 use Rattle.binfarce_v0_grammar.specs.machine.Seen.{without_disambiguator}
-use Rattle.binfarce_v0_grammar.proofs.NumberLemmas.{run_length}
+use Rattle.binfarce_v0_grammar.proofs.NumberLemmas.{digit_below, run_length}
 
 abbrev next_62 : ℕ → ℕ → ℕ
 next_62 n c = n * 62 + digit_62 c
@@ -21,10 +21,6 @@ next_62 n c = n * 62 + digit_62 c
 -- the run of digits that a text begins with, and its length
 abbrev run : List ℕ → ℕ
 run s = prefix_len is_ascii_alphanumeric s
-
-digit_below : (c : ℕ) → is_ascii_alphanumeric c ≡ true → digit_62 c < 62
-unfolding digit_62
-digit_below c h = grind (arith, nat_tests)
 
 -- n digits after a number write less than 62 to their count for each that the number counts up to
 run_below : (s : List ℕ) (worth : ℕ) → fold next_62 worth (take (run s) s) < (worth + 1) * 62 ^ run s

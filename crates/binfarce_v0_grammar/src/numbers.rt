@@ -55,13 +55,35 @@ fn with_digit(worth: u64, base: u64, digit: u8) -> Option<u64>
     worth.checked_mul(base)?.checked_add(u64::from(digit))
 }
 
+// How many base-62 digits always write a number below 2^64.
+const FEW_DIGITS: usize = 10;
+
 // Base-62 digits up to a `_`: one more than what they write.
 #[inline(always)]
-#[tactic(auto, using(crate::proofs::NumberLemmas::number_from_step, crate::proofs::NumberLemmas::number_from_large, crate::proofs::NumberLemmas::number_from_over))]
+#[tactic(auto, using(crate::proofs::NumberLemmas::number_from_step, crate::proofs::NumberLemmas::number_from_past))]
 fn digits_62(name: &[u8], start: usize) -> Option<(u64, usize)>
     ensures { result ≡ number_from (drop start name.now) 0 start }
 {
+    let end = name.len().min(start.saturating_add(FEW_DIGITS));
     let mut worth: u64 = 0;
+    for at in start..end {
+        let c = name[at];
+        if c == b'_' {
+            return Some((worth + 1, at + 1));
+        }
+        let digit = digit_62(c)?;
+        worth = worth * 62 + u64::from(digit);
+    }
+    more_digits_62(name, worth, end)
+}
+
+// The same after digits that are worth `worth`.
+#[inline(always)]
+#[tactic(auto, using(crate::proofs::NumberLemmas::number_from_step, crate::proofs::NumberLemmas::number_from_large, crate::proofs::NumberLemmas::number_from_over))]
+fn more_digits_62(name: &[u8], before: u64, start: usize) -> Option<(u64, usize)>
+    ensures { result ≡ number_from (drop start name.now) before start }
+{
+    let mut worth = before;
     for at in start..name.len() {
         let c = name[at];
         if c == b'_' {

@@ -1,15 +1,19 @@
 -- What the private functions of `legacy` compute; no public contract cites this.
-use Rattle.std.specs.Prelude.{ℕ, zero, ◌+◌, ◌<◌, ◌≤◌, ◌≡◌, Bool, ◌&&◌, not, List, [], ◌∷◌, ◌++◌, ◌==◌, length, take, drop, if◌then◌else◌, codes, Option}
+use Rattle.std.specs.Prelude.{ℕ, zero, ◌+◌, ◌<◌, ◌≤◌, ◌≡◌, Bool, ◌&&◌, ◌||◌, not, List, [], ◌∷◌, ◌++◌, ◌==◌, length, take, drop, if◌then◌else◌, codes, Option}
 use Rattle.std.specs.Option.{unwrap_or}
 use Rattle.std.specs.List.{prefix_len, flat_map}
 use Rattle.std.specs.Char.{is_ascii_digit}
 use Rattle.std.specs.Str.{encode_utf8_all}
 use Rattle.std.specs.Str.Parse.{digits_value}
-use Rattle.binfarce_legacy.specs.Legacy.{Element, Piece, Reads, pieces, name_chars, legacy_chars}
+use Rattle.binfarce_legacy.specs.Legacy.{Element, Piece, Reads, pieces, name_chars, legacy_chars, without_last_part}
 
 -- a byte that stands for itself whatever follows it
 abbrev pub is_plain : ℕ → Bool
 is_plain b = not (b == 46) && not (b == 36)
+
+-- a byte that begins an escape, or a `:`
+abbrev pub is_mark : ℕ → Bool
+is_mark b = b == 46 || (b == 36 || b == 58)
 
 -- a piece of one character
 abbrev pub piece_of : ℕ × ℕ → Piece
@@ -40,6 +44,10 @@ joined_left at elements =
     if at == 0 then legacy_chars elements
     else flat_map (λ e. codes "::" ++ name_chars e.name) elements
 
+-- the characters of a mangling, where its last part is left out and where it isn't
+abbrev pub path_chars : Bool → List Element → List ℕ
+path_chars left_out elements = if left_out then without_last_part (legacy_chars elements) else legacy_chars elements
+
 -- a text that grows: what stood there, and then more
 abbrev pub Grows : List ℕ → List ℕ → Type 0
 Grows old new = (more : List ℕ) × (new ≡ old ++ more)
@@ -47,4 +55,5 @@ Grows old new = (more : List ℕ) × (new ≡ old ++ more)
 -- after `at` bytes, `left` are the elements to print after what was printed since `before`
 pub record IsLeft (part : List ℕ) (at : ℕ) (before printed : List ℕ) (elements : List Element) (rest : List ℕ) (left : List Element) : Type 0 where
   pub ahead : Reads (drop at part) left rest
+  pub printed_is : (chars : List ℕ) × (printed ≡ before ++ encode_utf8_all chars)
   pub joined : printed ++ encode_utf8_all (joined_left at left) ≡ before ++ encode_utf8_all (legacy_chars elements)

@@ -34,14 +34,15 @@ truncate-requires c = λ _.
     let within : length kept ≤ length grows.0 = omega (arith, ap length part, length-take (length kept) grows.0) in
     split_point new (length old + length kept) (boundary old grows.0 kept new grown part within c.as_str-start.utf8 c.without_last_part-kept.utf8 (IsUtf8-string_bytes c.push_path.new.text))
 
-pub returns-in-Ok-clause-bytes : goal.returns-in-Ok-clause-bytes
-returns-in-Ok-clause-bytes c = λ elements rest r.
+pub returns-in-Ok-false-clause-bytes : goal.returns-in-Ok-false-clause-bytes
+returns-in-Ok-false-clause-bytes c = λ elements rest r.
     let old = c.as_str-start.result.now in
     let new = string_bytes c.push_path.new.text in
     let kept = c.without_last_part-kept.result.now in
     let whole = encode_utf8_all (legacy_chars elements) in
     let same : string_bytes c.args.text.now ≡ old = sym c.as_str-start.ensures.value in
-    let grown : new ≡ old ++ whole = c.in-Ok.ensures.bytes elements rest r ∙ ap (λ (t : List ℕ). t ++ whole) same in
+    let bytes = rw c.in-Ok-false.field-0-test at c.in-Ok-false.ensures.bytes in
+    let grown : new ≡ old ++ whole = bytes elements rest r ∙ ap (λ (t : List ℕ). t ++ whole) same in
     let written : c.range_from.result.now ≡ whole = c.range_from.ensures.value ∙ ap (drop (length old)) c.as_str.ensures.value ∙ rest_is old whole new grown in
     let part : kept ≡ take (length kept) whole = c.without_last_part-kept.ensures.front ∙ ap (take (length kept)) written in
     c.truncate.ensures.bytes ∙ front old whole kept new grown part

@@ -1,6 +1,9 @@
-use Rattle.std.proofs.Common.{◌≡◌, drop}
+use Rattle.std.proofs.Common.{◌≡◌, ◌-◌, ◌<◌, ◌^◌, drop}
 use Rattle.binfarce_v0_grammar.specs.machine.Numbers.{number_from}
 use Rattle.binfarce_v0_grammar.proofs.numbers.digits_62.Given as goal
 
 abbrev pub invariant-loop-at : goal.invariant-loop-at
-invariant-loop-at l = number_from (drop l.start l.name) 0 l.start ≡ number_from (drop l.at l.name) l.worth l.at
+invariant-loop-at l = record {
+  same : number_from (drop l.start l.name) 0 l.start ≡ number_from (drop l.at l.name) l.worth l.at;
+  small : l.worth < 62 ^ (l.at - l.start);
+}

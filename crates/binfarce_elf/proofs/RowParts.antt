@@ -1,0 +1,34 @@
+-- A row of the symbol table that is read from its bytes alone.
+use Rattle.std.proofs.Common.{◌≡◌, ℕ, ◌+◌, ◌-◌, ◌≤◌, List, length, length-drop, take, drop, ap, ◌∙◌, arith}
+use Rattle.std.proofs.lemmas.List.{drop-take, drop-drop, length-take-le, take-take}
+use Rattle.binfarce_bytes.specs.declared.ByteOrder.{ByteOrder}
+use Rattle.binfarce_bytes.specs.Number.{number, bytes_at}
+use Rattle.binfarce_elf.specs.Elf.{elf32, elf64}
+use Rattle.binfarce_elf.specs.ElfSymbols.{symbol_at}
+
+-- the bytes of a field are those of the file
+field_in : (order : ByteOrder) (file : List ℕ) (start len offset width : ℕ) → offset + width ≤ len → number order (bytes_at (bytes_at file start len) (0 + offset) width) ≡ number order (bytes_at file (start + offset) width)
+field_in order file start len offset width h =
+    let from : List ℕ = drop start file in
+    let rest : ℕ = len - offset in
+    let first : 0 + offset ≡ offset = omega arith in
+    let all : len ≡ offset + rest = omega arith in
+    ap (number order) (
+    ap (λ n. take width (drop n (take len from))) first
+    ∙ ap (λ n. take width (drop offset (take n from))) all
+    ∙ ap (take width) (drop-take offset rest from)
+    ∙ take-take width rest (drop offset from) (omega arith)
+    ∙ ap (take width) (drop-drop offset start file))
+
+pub row_of_32_in : (order : ByteOrder) (file : List ℕ) (start : ℕ) → symbol_at elf32 order (bytes_at file start 16) 0 ≡ symbol_at elf32 order file start
+unfolding symbol_at elf32
+row_of_32_in order file start =
+    cc (field_in order file start 16 0 4 (omega arith), field_in order file start 16 4 4 (omega arith), field_in order file start 16 8 4 (omega arith), field_in order file start 16 12 1 (omega arith), field_in order file start 16 13 1 (omega arith), field_in order file start 16 14 2 (omega arith))
+
+pub row_of_64_in : (order : ByteOrder) (file : List ℕ) (start : ℕ) → symbol_at elf64 order (bytes_at file start 24) 0 ≡ symbol_at elf64 order file start
+unfolding symbol_at elf64
+row_of_64_in order file start =
+    cc (field_in order file start 24 0 4 (omega arith), field_in order file start 24 4 1 (omega arith), field_in order file start 24 5 1 (omega arith), field_in order file start 24 6 2 (omega arith), field_in order file start 24 8 8 (omega arith), field_in order file start 24 16 8 (omega arith))
+
+pub part_length : (file part : List ℕ) (start len : ℕ) → start + len ≤ length file → part ≡ bytes_at file start len → length part ≡ len
+part_length file part start len h is = ap length is ∙ length-take-le len (drop start file) (omega (arith, length-drop start file))

@@ -13,8 +13,8 @@ trap 'rm -rf "$scratch"' EXIT
 # The rows, and more allocations than they make: their last run must end with none refused.
 rows="listings 75
 reports 125
-names 45
-tuples 40
+names 110
+tuples 110
 files 30
 refusals 20
 truncated 8

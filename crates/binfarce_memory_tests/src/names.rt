@@ -12,7 +12,7 @@ struct Row {
     crate_name: Option<&'static str>,
 }
 
-const ROWS: [Row; 7] = [
+const ROWS: [Row; 9] = [
     Row {
         name: "_ZN3foo3barE",
         kind: Kind::Legacy,
@@ -54,6 +54,22 @@ const ROWS: [Row; 7] = [
         complete: "alloc[f15a878b47eb696b]::alloc::box_free::<dyn alloc[f15a878b47eb696b]::boxed::FnBox<(), Output = ()>>",
         trimmed: "alloc::alloc::box_free::<dyn alloc::boxed::FnBox<(), Output = ()>>",
         crate_name: Some("alloc"),
+    },
+    // Twenty targets.
+    Row {
+        name: "_RMC0TSaSbScSdSeSfShSiSjSlSmSnSoSpSsStSuSxSySzB3_B5_B7_B9_Bb_Bd_Bf_Bh_Bj_Bl_Bn_Bp_Br_Bt_Bv_Bx_Bz_BB_BD_BF_E",
+        kind: Kind::V0,
+        complete: "<([i8], [bool], [char], [f64], [str], [f32], [u8], [isize], [usize], [i32], [u32], [i128], [u128], [_], [i16], [u16], [()], [i64], [u64], [!], [i8], [bool], [char], [f64], [str], [f32], [u8], [isize], [usize], [i32], [u32], [i128], [u128], [_], [i16], [u16], [()], [i64], [u64], [!])>",
+        trimmed: "<([i8], [bool], [char], [f64], [str], [f32], [u8], [isize], [usize], [i32], [u32], [i128], [u128], [_], [i16], [u16], [()], [i64], [u64], [!], [i8], [bool], [char], [f64], [str], [f32], [u8], [isize], [usize], [i32], [u32], [i128], [u128], [_], [i16], [u16], [()], [i64], [u64], [!])>",
+        crate_name: Some(""),
+    },
+    // A target after the first 256 positions.
+    Row {
+        name: "_RMC0TNtC1a260xxxxxxxxxxxxxxxxxxxxxxxxxxxxxxxxxxxxxxxxxxxxxxxxxxxxxxxxxxxxxxxxxxxxxxxxxxxxxxxxxxxxxxxxxxxxxxxxxxxxxxxxxxxxxxxxxxxxxxxxxxxxxxxxxxxxxxxxxxxxxxxxxxxxxxxxxxxxxxxxxxxxxxxxxxxxxxxxxxxxxxxxxxxxxxxxxxxxxxxxxxxxxxxxxxxxxxxxxxxxxxxxxxxxxxxxxxxxxxxxxxxxxxxxxxxxxxxxxxxxShB4n_E",
+        kind: Kind::V0,
+        complete: "<(a[0]::xxxxxxxxxxxxxxxxxxxxxxxxxxxxxxxxxxxxxxxxxxxxxxxxxxxxxxxxxxxxxxxxxxxxxxxxxxxxxxxxxxxxxxxxxxxxxxxxxxxxxxxxxxxxxxxxxxxxxxxxxxxxxxxxxxxxxxxxxxxxxxxxxxxxxxxxxxxxxxxxxxxxxxxxxxxxxxxxxxxxxxxxxxxxxxxxxxxxxxxxxxxxxxxxxxxxxxxxxxxxxxxxxxxxxxxxxxxxxxxxxxxxxxxxxxxxxxxxxxxx, [u8], [u8])>",
+        trimmed: "<(a::xxxxxxxxxxxxxxxxxxxxxxxxxxxxxxxxxxxxxxxxxxxxxxxxxxxxxxxxxxxxxxxxxxxxxxxxxxxxxxxxxxxxxxxxxxxxxxxxxxxxxxxxxxxxxxxxxxxxxxxxxxxxxxxxxxxxxxxxxxxxxxxxxxxxxxxxxxxxxxxxxxxxxxxxxxxxxxxxxxxxxxxxxxxxxxxxxxxxxxxxxxxxxxxxxxxxxxxxxxxxxxxxxxxxxxxxxxxxxxxxxxxxxxxxxxxxxxxxxxxx, [u8], [u8])>",
+        crate_name: Some(""),
     },
     // 98,304 steps.
     Row {

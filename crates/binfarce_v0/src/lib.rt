@@ -1,8 +1,7 @@
 //! The texts of v0 names of Rust symbols (RFC 2603): a name is read by the grammar, and what it means is printed.
 #![tactic(auto)]
 
-mod disambiguators;
+pub mod kept;
 pub mod mangling;
 pub mod print;
 pub mod state;
-pub mod text;

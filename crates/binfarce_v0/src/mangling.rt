@@ -20,13 +20,13 @@ ghost use Rattle.binfarce_v0.specs.machine.Outcome.{
 };
 
 use crate::state::{Printed, Printer};
-use crate::text::push_identifier;
 use binfarce_text::suffixes::is_allowed_rest;
 use binfarce_v0_grammar::forms::Position;
 use binfarce_v0_grammar::identifiers::UndisambiguatedIdentifier;
 use binfarce_v0_grammar::limits::MAX_LEVELS;
 use binfarce_v0_grammar::numbers::byte_at;
 use binfarce_v0_grammar::reading::read_path;
+use binfarce_v0_grammar::text::push_identifier;
 use std::alloc::{AllocError, Global};
 
 // What stands after the prefix of a v0 mangling.

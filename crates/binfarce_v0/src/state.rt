@@ -5,6 +5,7 @@ ghost use Rattle.std.specs.Str.{IsAscii};
 ghost use Rattle.std.specs.String.{string_bytes};
 ghost use Rattle.binfarce_v0_grammar.specs.Identifiers.{identifier_text};
 ghost use Rattle.binfarce_v0_grammar.specs.Tree.{
+  lifetime_steps,
   lifetime_text,
   binder_text,
   argument_lifetime,
@@ -38,13 +39,15 @@ ghost use Rattle.binfarce_v0.specs.machine.Printing.{
   unmute,
 };
 
-use crate::text::{
-    push_after_mark, push_binder, push_disambiguator, push_identifier, push_lifetime, push_nested,
-    push_signature, push_value,
-};
+use crate::kept::{Kept, or_forget};
 use binfarce_v0_grammar::forms::{ConstValue, Lifetime, Signature};
 use binfarce_v0_grammar::identifiers::{Identifier, UndisambiguatedIdentifier};
 use binfarce_v0_grammar::limits::{MAX_LEVELS, MAX_STEPS};
+use binfarce_v0_grammar::positions::lifetime_steps;
+use binfarce_v0_grammar::text::{
+    push_after_mark, push_binder, push_disambiguator, push_identifier, push_lifetime, push_nested,
+    push_signature, push_value,
+};
 use std::alloc::{AllocError, Global};
 use std::marker::Model;
 
@@ -86,13 +89,19 @@ pub struct Printer<'a> {
     pub outside: bool,
     /// The first crate root.
     pub root: Option<UndisambiguatedIdentifier<'a>>,
+    /// What may be written again.
+    pub kept: Kept,
+    /// How many paths, types, consts and lifetimes were really read.
+    pub visits: usize,
 }
 
 impl<'a> Model for Printer<'a> {
     ghost use Rattle.std.specs.Prelude.{◌≤◌};
+    ghost use Rattle.std.specs.List.{All};
     ghost use Rattle.std.specs.Option.{option_map};
     ghost use Rattle.std.specs.Str.{IsAscii};
     ghost use Rattle.std.specs.String.{string_bytes};
+    ghost use Rattle.binfarce_v0.specs.machine.Kept.{IsKept};
     ghost use Rattle.binfarce_v0.specs.machine.Printing.{Printing};
     ghost use Rattle.binfarce_v0_grammar.specs.declared.limits.TheConstants.{MAX_LEVELS, MAX_STEPS};
     ghost use Rattle.binfarce_v0_grammar.specs.machine.Seen.{undisambiguated_seen};
@@ -101,7 +110,7 @@ impl<'a> Model for Printer<'a> {
 
     ghost view = { λ p. record { name = p.name.now; state = record { at = p.at; room = p.room; least = p.least; over = p.over; text = string_bytes p.text; muted = p.muted; full = p.full; outside = p.outside; root = option_map undisambiguated_seen p.root } } };
 
-    ghost invariant = { λ p. IsAscii p.name.now × ((p.room ≤ MAX_STEPS) × (p.least ≤ MAX_LEVELS)) };
+    ghost invariant = { λ p. IsAscii p.name.now × ((p.room ≤ MAX_STEPS) × (p.least ≤ MAX_LEVELS)) × All (IsKept p.name.now p.full (string_bytes p.text)) p.kept.fragments.items };
 }
 
 impl<'a> Printer<'a> {
@@ -113,6 +122,7 @@ impl<'a> Printer<'a> {
         ensures { IfOk result (λ p. p ≡ first_printing name.entry.now full) }
     {
         let text = String::with_capacity(alloc, name.len())?;
+        let kept = Kept::new(alloc, name.as_bytes())?;
         Ok(Printer {
             name,
             at: Some(0),
@@ -124,6 +134,8 @@ impl<'a> Printer<'a> {
             full,
             outside: true,
             root: None,
+            kept,
+            visits: 0,
         })
     }
 
@@ -142,6 +154,8 @@ impl<'a> Printer<'a> {
             full: _,
             outside: _,
             root,
+            kept: _,
+            visits: _,
         } = self;
         if over {
             return None;
@@ -187,6 +201,26 @@ impl<'a> Printer<'a> {
         }
     }
 
+    /// Counts what is read.
+    #[inline(always)]
+    pub fn visit(&mut self)
+        ensures { self.new ≡ self.old }
+    {
+        self.visits = self.visits.wrapping_add(1);
+    }
+
+    /// Takes the steps of a lifetime, where so many are left.
+    #[inline(always)]
+    pub fn take_lifetime(&mut self, life: Lifetime) -> bool
+        ensures took { self.new ≡ with_state (if nat_le (lifetime_steps (lifetime_seen life)) self.old.state.room then take (lifetime_steps (lifetime_seen life)) self.old.state else stopped self.old.state) self.old }
+        ensures enough { result ≡ nat_le (lifetime_steps (lifetime_seen life)) self.old.state.room }
+    {
+        if lifetime_steps(life) == 1 {
+            self.visit();
+        }
+        self.take(lifetime_steps(life))
+    }
+
     /// Takes a level and a step, where there is one of each: how many levels are left below, one less.
     #[inline(always)]
     pub fn enter(&mut self, left: usize) -> Option<usize>
@@ -200,6 +234,7 @@ impl<'a> Printer<'a> {
         let below = left - 1;
         self.room -= 1;
         self.least = self.least.min(below);
+        self.visit();
         Some(below)
     }
 
@@ -259,28 +294,37 @@ impl<'a> Printer<'a> {
     }
 
     /// Writes an identifier.
+    #[tactic(auto, using(crate::proofs::KeptLemmas::grown))]
     #[inline(always)]
     pub fn say_identifier(&mut self, name: UndisambiguatedIdentifier<'a>) -> Result<(), AllocError>
         ensures { OnOk result (self.new ≡ with_state (say (identifier_text (undisambiguated_seen name.entry)) self.old.state) self.old) }
     {
         if !self.muted {
-            push_identifier(&mut self.text, name)?;
+            or_forget(
+                &mut self.kept.fragments,
+                push_identifier(&mut self.text, name),
+            )?;
         }
         Ok(())
     }
 
     /// Writes a crate's disambiguator, where that is asked for.
+    #[tactic(auto, using(crate::proofs::KeptLemmas::grown))]
     #[inline(always)]
     pub fn say_disambiguator(&mut self, n: u64) -> Result<(), AllocError>
         ensures { OnOk result (self.new ≡ with_state (say (disambiguator_text self.old.state.full n) self.old.state) self.old) }
     {
         if self.full && !self.muted {
-            push_disambiguator(&mut self.text, n)?;
+            or_forget(
+                &mut self.kept.fragments,
+                push_disambiguator(&mut self.text, n),
+            )?;
         }
         Ok(())
     }
 
     /// Writes what a nested path adds to its parent.
+    #[tactic(auto, using(crate::proofs::KeptLemmas::grown))]
     pub fn say_nested(
         &mut self,
         namespace: u8,
@@ -289,12 +333,16 @@ impl<'a> Printer<'a> {
         ensures { OnOk result (self.new ≡ with_state (say (nested_text namespace (identifier_seen identifier.entry)) self.old.state) self.old) }
     {
         if !self.muted {
-            push_nested(&mut self.text, namespace, identifier)?;
+            or_forget(
+                &mut self.kept.fragments,
+                push_nested(&mut self.text, namespace, identifier),
+            )?;
         }
         Ok(())
     }
 
     /// Writes a name after a mark, or nothing for an empty name.
+    #[tactic(auto, using(crate::proofs::KeptLemmas::grown))]
     #[inline(always)]
     pub fn say_after_mark(
         &mut self,
@@ -304,48 +352,64 @@ impl<'a> Printer<'a> {
         ensures { OnOk result (self.new ≡ with_state (say (after_mark mark.now (undisambiguated_seen name.entry)) self.old.state) self.old) }
     {
         if !self.muted {
-            push_after_mark(&mut self.text, mark, name)?;
+            or_forget(
+                &mut self.kept.fragments,
+                push_after_mark(&mut self.text, mark, name),
+            )?;
         }
         Ok(())
     }
 
     /// Writes a lifetime by its index.
+    #[tactic(auto, using(crate::proofs::KeptLemmas::grown))]
     pub fn say_lifetime(&mut self, depth: usize, index: u64) -> Result<(), AllocError>
         ensures { OnOk result (self.new ≡ with_state (say (lifetime_text depth index) self.old.state) self.old) }
     {
         if !self.muted {
-            push_lifetime(&mut self.text, depth, index)?;
+            or_forget(
+                &mut self.kept.fragments,
+                push_lifetime(&mut self.text, depth, index),
+            )?;
         }
         Ok(())
     }
 
     /// Writes the lifetimes that a binder announces.
+    #[tactic(auto, using(crate::proofs::KeptLemmas::grown))]
     pub fn say_binder(&mut self, depth: usize, count: u64) -> Result<(), AllocError>
         requires { depth + count < 2 ^ 64 }
         ensures { OnOk result (self.new ≡ with_state (say (binder_text depth count) self.old.state) self.old) }
     {
         if !self.muted {
-            push_binder(&mut self.text, depth, count as usize)?;
+            or_forget(
+                &mut self.kept.fragments,
+                push_binder(&mut self.text, depth, count as usize),
+            )?;
         }
         Ok(())
     }
 
     /// Writes the front of a function type.
+    #[tactic(auto, using(crate::proofs::KeptLemmas::grown))]
     pub fn say_signature(&mut self, signature: Signature<'a>) -> Result<(), AllocError>
         ensures { OnOk result (self.new ≡ with_state (say (signature_text (signature_seen signature.entry)) self.old.state) self.old) }
     {
         if !self.muted {
-            push_signature(&mut self.text, signature)?;
+            or_forget(
+                &mut self.kept.fragments,
+                push_signature(&mut self.text, signature),
+            )?;
         }
         Ok(())
     }
 
     /// Writes the value of a const.
+    #[tactic(auto, using(crate::proofs::KeptLemmas::grown))]
     pub fn say_value(&mut self, value: ConstValue<'a>) -> Result<(), AllocError>
         ensures { OnOk result (self.new ≡ with_state (say (value_text (value_seen value.entry)) self.old.state) self.old) }
     {
         if !self.muted {
-            push_value(&mut self.text, value)?;
+            or_forget(&mut self.kept.fragments, push_value(&mut self.text, value))?;
         }
         Ok(())
     }

@@ -1,3 +1,4 @@
+pub mod HexDigits
 pub mod SkipLemmas
 pub mod TextLemmas
 pub mod NumberLemmas
@@ -7,3 +8,4 @@ pub mod ReadingForward
 pub mod ReadingLists
 pub mod ReadingSound
 pub mod ReadingTrees
+pub mod Texts

@@ -96,7 +96,7 @@ pub enum TypeForm<'a> {
 }
 
 /// Where a tree is shown: a path as a value, a path as a type, and a trait, whose `<..>` its bindings may go on with.
-#[derive(Clone, Copy)]
+#[derive(Clone, Copy, PartialEq, Eq, PartialOrd, Ord)]
 pub enum Position {
     InValue,
     InType,

@@ -1,7 +1,8 @@
 //! The grammar of Rust's v0 mangling (RFC 2603): its numbers, its identifiers with their Punycode (RFC 3492), its forms,
-//! and the reading of a name by the grammar alone.
+//! the reading of a name by the grammar alone, and the texts of its leaves.
 #![tactic(auto)]
 
+mod disambiguators;
 pub mod forms;
 pub mod identifiers;
 pub mod limits;
@@ -9,3 +10,5 @@ pub mod numbers;
 pub mod positions;
 pub mod punycode;
 pub mod reading;
+pub mod targets;
+pub mod text;

@@ -59,6 +59,14 @@ V0|_RMC0FG_TRL0_hFG_B6_EuEEu|<for<'a> fn((&'a u8, for<'b> fn(&'b u8)))>|<for<'a>
 V0|_RINvINvC1a1fhE1gB2_E|a[0]::f::<u8>::g::<a[0]::f<u8>>|a::f::<u8>::g::<a::f<u8>>|a|one target at two positions
 V0|_RMINvC1a1fhEB0_|<a[0]::f<u8>>|<a::f<u8>>|a|a target in a dropped impl path
 V0|_RMINvC1a1fThEEB8_|<(u8,)>|<(u8,)>|a|a type in a dropped impl path
+V0|_RMC0TSaSbScSdSeSfShSiSjSlSmSnSoSpSsStSuSxSySzB3_B5_B7_B9_Bb_Bd_Bf_Bh_Bj_Bl_Bn_Bp_Br_Bt_Bv_Bx_Bz_BB_BD_BF_E|<([i8], [bool], [char], [f64], [str], [f32], [u8], [isize], [usize], [i32], [u32], [i128], [u128], [_], [i16], [u16], [()], [i64], [u64], [!], [i8], [bool], [char], [f64], [str], [f32], [u8], [isize], [usize], [i32], [u32], [i128], [u128], [_], [i16], [u16], [()], [i64], [u64], [!])>|<([i8], [bool], [char], [f64], [str], [f32], [u8], [isize], [usize], [i32], [u32], [i128], [u128], [_], [i16], [u16], [()], [i64], [u64], [!], [i8], [bool], [char], [f64], [str], [f32], [u8], [isize], [usize], [i32], [u32], [i128], [u128], [_], [i16], [u16], [()], [i64], [u64], [!])>||twenty targets
+V0|_RINvINvC1a1bpE1cB2_B2_E|a[0]::b::<_>::c::<a[0]::b<_>, a[0]::b<_>>|a::b::<_>::c::<a::b<_>, a::b<_>>|a|a target as a value, and twice as a type
+V0|_RMC0TFG_RL0_hEuFG_FG_B6_EuEuFG_FG_B6_EuEuE|<(for<'a> fn(&'a u8), for<'a> fn(for<'b> fn(&'b u8)), for<'a> fn(for<'b> fn(&'b u8)))>|<(for<'a> fn(&'a u8), for<'a> fn(for<'b> fn(&'b u8)), for<'a> fn(for<'b> fn(&'b u8)))>||a target at one depth, and twice at another
+V0|_RMC0TDINvC1a1TpEp4ItemmEL_DB4_p4ItemmEL_DB4_EL_E|<(dyn a[0]::T<_, Item = u32>, dyn a[0]::T<_, Item = u32>, dyn a[0]::T<_>)>|<(dyn a::T<_, Item = u32>, dyn a::T<_, Item = u32>, dyn a::T<_>)>||a trait left open, and twice behind a back reference
+V0|_RMC0TINtC1a1TpEDB3_p4ItemmEL_E|<(a[0]::T<_>, dyn a[0]::T<_, Item = u32>)>|<(a::T<_>, dyn a::T<_, Item = u32>)>||a target as a type, and as a trait left open
+V0|_RMC0TINtC1a1AKj7b_EINtC1a1AKBc_EINtC1a1AKBc_EE|<(a[0]::A<123: usize>, a[0]::A<123: usize>, a[0]::A<123: usize>)>|<(a::A<123: usize>, a::A<123: usize>, a::A<123: usize>)>||a const twice behind a back reference
+V0|_RMINvC1a1fhETB0_B0_E|<(a[0]::f<u8>, a[0]::f<u8>)>|<(a::f<u8>, a::f<u8>)>|a|a target in a dropped impl path, twice
+V0|_RINvC1a1bB3_B3_hE|a[0]::b::<?, ?, u8>|a::b::<?, ?, u8>|a|a target that faults, twice
 V0|_RMC0TDINtC1a1thEp1xmEL_DB4_p1ybEL_E|<(dyn a[0]::t<u8, x = u32>, dyn a[0]::t<u8, y = bool>)>|<(dyn a::t<u8, x = u32>, dyn a::t<u8, y = bool>)>||an open trait behind a back reference
 V0|_RINvC1a4TBz_B6_E|a[0]::TBz_::<(?,)>|a::TBz_::<(?,)>|a|a back reference that doesn't read, in a target
 V0|_RYhB0_|<u8 as ?>|<u8 as ?>|-|a type's place asked for as a path
@@ -149,7 +157,7 @@ fn check_lines(rt: &impl Abort, alloc: Global, lines: &str, count: usize) -> Res
 
 #[test]
 fn reads_v0_names(rt: HostRuntime) -> Result<(), Fail> {
-    check_lines(&rt, rt.alloc(), ROWS, 101)
+    check_lines(&rt, rt.alloc(), ROWS, 109)
 }
 
 // A text so many times, behind another.

@@ -6,14 +6,42 @@ ghost use Rattle.binfarce_v0_grammar.specs.Tree.{sign_text, value_text};
 ghost use Rattle.binfarce_v0_grammar.specs.machine.Seen.{value_seen};
 ghost use Rattle.binfarce_v0.specs.machine.Printing.{with_state, readers, go, typed};
 
+use crate::kept::{Asked, Sort};
 use crate::state::Printer;
 use binfarce_v0_grammar::forms::{ConstForm, ConstValue, const_form};
 use std::alloc::AllocError;
 
 impl<'a> Printer<'a> {
-    /// `<const>`
-    #[tactic(auto, using(crate::proofs::Levels::constant_at), unfolding(crate::specs::machine::Printing::const_rule))]
+    /// `<const>`: it is kept where a back reference may mean it.
+    #[cycle(print_const)]
     pub fn print_const(&mut self, left: usize) -> Result<(), AllocError>
+        requires levels { left ≤ MAX_LEVELS }
+        ensures { OnOk result (self.new ≡ with_state ((readers self.old.name left).constant self.old.state).1 self.old) }
+    {
+        match self.keeps_at() {
+            Some(at) => self.print_and_keep_const(left, at),
+            None => self.print_const_anew(left),
+        }
+    }
+
+    // A const that is kept.
+    #[cycle(print_const)]
+    #[inline(never)]
+    #[tactic(auto, using(crate::proofs::KeptLemmas::constant_anew))]
+    fn print_and_keep_const(&mut self, left: usize, at: usize) -> Result<(), AllocError>
+        requires at { self.old.state.at ≡ Some at }
+        requires levels { left ≤ MAX_LEVELS }
+        ensures { OnOk result (self.new ≡ with_state ((readers self.old.name left).constant self.old.state).1 self.old) }
+    {
+        let mark = self.mark(left, at);
+        self.print_const_anew(left)?;
+        self.keep(mark, left, 0, Sort::Const, false)
+    }
+
+    // A const from its position.
+    #[cycle(print_const)]
+    #[tactic(auto, using(crate::proofs::Levels::constant_at), unfolding(crate::specs::machine::Printing::const_rule))]
+    fn print_const_anew(&mut self, left: usize) -> Result<(), AllocError>
         requires levels { left ≤ MAX_LEVELS }
         ensures { OnOk result (self.new ≡ with_state ((readers self.old.name left).constant self.old.state).1 self.old) }
     {
@@ -33,6 +61,14 @@ impl<'a> Printer<'a> {
                 self.print_invalid_value(negative, type_name)
             }
             ConstForm::Back(target, after) => {
+                let asked = Asked {
+                    sort: Sort::Const,
+                    at: target,
+                    depth: 0,
+                };
+                if let Some(_opened) = self.print_kept(below, asked, after)? {
+                    return Ok(());
+                }
                 let outside = self.outside;
                 self.enter_target(target);
                 self.print_const(below)?;

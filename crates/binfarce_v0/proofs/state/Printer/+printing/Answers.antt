@@ -1,10 +1,12 @@
-use Rattle.std.proofs.Common.{◌≡◌, ◌+◌, ◌-◌, ◌<◌, ◌==◌, true, false, ap, ◌∙◌, arith}
+use Rattle.std.proofs.Common.{◌≡◌, ◌+◌, ◌-◌, ◌<◌, ◌==◌, true, false, refl, ap, ◌∙◌, arith}
 use Rattle.std.proofs.lemmas.Bool.Decides.{nat_tests}
 use Rattle.binfarce_v0_grammar.specs.Tree.{separator}
 use Rattle.binfarce_v0_grammar.specs.Unfolding.{list_goes_on}
-use Rattle.binfarce_v0_grammar.specs.machine.Seen.{listed_seen}
+use Rattle.binfarce_v0_grammar.specs.machine.Seen.{listed_seen, position_seen}
 use Rattle.binfarce_v0.specs.machine.Printing.{Printing, with_state, say}
+use Rattle.binfarce_v0.specs.machine.Kept.{PathSort, TypeSort}
 use Rattle.binfarce_v0.proofs.Lists.{items_next}
+use Rattle.binfarce_v0.proofs.KeptLemmas.{may_be_kept}
 use Rattle.binfarce_v0.proofs.state.Printer.+printing.Goals as goal
 use Rattle.binfarce_v0.proofs.state.Printer.+printing.Goals.{print_items-then-count-eq0, print_items-else-count-eq0}
 
@@ -22,3 +24,11 @@ print_items-loop-count-preserved t c =
     let later : (count + 1 == 0) ≡ false = grind (arith, nat_tests) in
     let more = items_next c.args.left c.args.depth (listed_seen c.args.listed) c.args.between.now (most - count) (most - (count + 1)) (count == 0) (count + 1 == 0) p c.say.new.self c.print_item.new.self (omega arith) (omega arith) later goes first c.in_ok-print_item.ensures in
     (more.0 ∙ c.loop-count.invariant.0, omega (arith, more.1, c.loop-count.invariant.1))
+
+pub print_and_keep_path-keep-requires : goal.print_and_keep_path-keep-requires
+print_and_keep_path-keep-requires t c =
+    may_be_kept (PathSort (position_seen c.args.position)) c.args.left c.args.depth c.args.self.now c.mark-mark.new.self c.print_path_anew.new.self c.mark-mark.result c.in_ok-opened.opened c.mark-mark.ensures.mark c.mark-mark.ensures.state c.in_ok-opened.ensures.printed c.in_ok-opened.ensures.opened
+
+pub print_and_keep_type-keep-requires : goal.print_and_keep_type-keep-requires
+print_and_keep_type-keep-requires t c =
+    may_be_kept TypeSort c.args.left c.args.depth c.args.self.now c.mark-mark.new.self c.print_type_anew.new.self c.mark-mark.result false c.mark-mark.ensures.mark c.mark-mark.ensures.state c.in_ok-print_type_anew.ensures refl

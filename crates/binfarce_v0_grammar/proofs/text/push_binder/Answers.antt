@@ -1,7 +1,7 @@
 use Rattle.std.proofs.Common.{◌<◌, arith}
 use Rattle.std.proofs.lemmas.Grind.{common_steps}
-use Rattle.binfarce_v0.proofs.Texts.{more_announced_step}
-use Rattle.binfarce_v0.proofs.text.push_binder.Goals as goal
+use Rattle.binfarce_v0_grammar.proofs.Texts.{more_announced_step}
+use Rattle.binfarce_v0_grammar.proofs.text.push_binder.Goals as goal
 
 pub loop-i-preserved : goal.loop-i-preserved
 loop-i-preserved c =

@@ -1,6 +1,6 @@
 use Rattle.std.proofs.Common.{◌≡◌, ◌+◌, ◌<◌, ◌≤◌, ◌^◌, drop, length, [], ◌∷◌}
-use Rattle.binfarce_v0.proofs.HexDigits.{hex_onto}
-use Rattle.binfarce_v0.proofs.disambiguators.put_disambiguator.Given as goal
+use Rattle.binfarce_v0_grammar.proofs.HexDigits.{hex_onto}
+use Rattle.binfarce_v0_grammar.proofs.disambiguators.put_disambiguator.Given as goal
 
 abbrev pub invariant-loop-rest : goal.invariant-loop-rest
 invariant-loop-rest l = record {

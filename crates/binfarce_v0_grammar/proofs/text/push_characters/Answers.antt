@@ -1,7 +1,7 @@
 use Rattle.std.proofs.Common.{arith}
 use Rattle.std.proofs.lemmas.Grind.{common_steps}
-use Rattle.binfarce_v0.proofs.Texts.{encodes_more}
-use Rattle.binfarce_v0.proofs.text.push_characters.Goals as goal
+use Rattle.binfarce_v0_grammar.proofs.Texts.{encodes_more}
+use Rattle.binfarce_v0_grammar.proofs.text.push_characters.Goals as goal
 
 pub loop-c-preserved : goal.loop-c-preserved
 loop-c-preserved c =

@@ -22,10 +22,10 @@ ghost use Rattle.binfarce_v0_grammar.specs.Tree.{
 ghost use Rattle.binfarce_v0_grammar.specs.machine.Seen.{undisambiguated_seen, identifier_seen, signature_seen, value_seen};
 
 use crate::disambiguators::put_disambiguator;
-use binfarce_v0_grammar::forms::{ConstValue, Signature};
-use binfarce_v0_grammar::identifiers::{Identifier, UndisambiguatedIdentifier};
-use binfarce_v0_grammar::numbers::hex_number;
-use binfarce_v0_grammar::punycode::decode;
+use crate::forms::{ConstValue, Signature};
+use crate::identifiers::{Identifier, UndisambiguatedIdentifier};
+use crate::numbers::hex_number;
+use crate::punycode::decode;
 use std::alloc::AllocError;
 use std::fmt::Write;
 
@@ -37,7 +37,7 @@ pub fn push_decimal(text: &mut String, n: u64) -> Result<(), AllocError>
 }
 
 /// A lifetime by its index under a depth of binders.
-#[tactic(auto, unfolding(binfarce_v0_grammar::specs::Tree::lifetime_text))]
+#[tactic(auto, unfolding(crate::specs::Tree::lifetime_text))]
 pub fn push_lifetime(text: &mut String, depth: usize, index: u64) -> Result<(), AllocError>
     ensures { OnOk result (string_bytes text.new ≡ string_bytes text.old ++ lifetime_text depth index) }
 {
@@ -58,7 +58,7 @@ pub fn push_lifetime(text: &mut String, depth: usize, index: u64) -> Result<(), 
 }
 
 /// The lifetimes that a binder announces.
-#[tactic(auto, using(crate::proofs::Texts::more_announced_step), unfolding(binfarce_v0_grammar::specs::Tree::binder_text))]
+#[tactic(auto, using(crate::proofs::Texts::more_announced_step), unfolding(crate::specs::Tree::binder_text))]
 pub fn push_binder(text: &mut String, depth: usize, count: usize) -> Result<(), AllocError>
     requires { depth + count < 2 ^ 64 }
     ensures { OnOk result (string_bytes text.new ≡ string_bytes text.old ++ binder_text depth count) }
@@ -112,7 +112,7 @@ fn push_namespace(text: &mut String, namespace: u8) -> Result<(), AllocError>
 }
 
 /// What a nested path adds to its parent.
-#[tactic(auto, unfolding(binfarce_v0_grammar::specs::Tree::nested_text))]
+#[tactic(auto, unfolding(crate::specs::Tree::nested_text))]
 pub fn push_nested(
     text: &mut String,
     namespace: u8,
@@ -132,7 +132,7 @@ pub fn push_nested(
 }
 
 /// The value of a const.
-#[tactic(auto, unfolding(binfarce_v0_grammar::specs::Tree::value_text))]
+#[tactic(auto, unfolding(crate::specs::Tree::value_text))]
 pub fn push_value(text: &mut String, value: ConstValue<'_>) -> Result<(), AllocError>
     ensures { OnOk result (string_bytes text.new ≡ string_bytes text.old ++ value_text (value_seen value.entry)) }
 {
@@ -151,7 +151,7 @@ pub fn push_value(text: &mut String, value: ConstValue<'_>) -> Result<(), AllocE
 }
 
 // The digits of an integer: at most 16 are shown in decimal.
-#[tactic(auto, unfolding(binfarce_v0_grammar::specs::Tree::number_text))]
+#[tactic(auto, unfolding(crate::specs::Tree::number_text))]
 fn push_number(text: &mut String, hex: &str) -> Result<(), AllocError>
     ensures { OnOk result (string_bytes text.new ≡ string_bytes text.old ++ number_text hex.now) }
 {
@@ -172,7 +172,7 @@ fn stands_for_itself(c: char) -> bool
 }
 
 // A character between quotes: printable ASCII as it is, any other by its number in lower-case hexadecimal.
-#[tactic(auto, unfolding(binfarce_v0_grammar::specs::Tree::character_text))]
+#[tactic(auto, unfolding(crate::specs::Tree::character_text))]
 fn push_character(text: &mut String, c: char) -> Result<(), AllocError>
     ensures { OnOk result (string_bytes text.new ≡ string_bytes text.old ++ character_text c) }
 {
@@ -198,7 +198,7 @@ fn push_abi(text: &mut String, name: &str) -> Result<(), AllocError>
 }
 
 /// `"unsafe "`, the ABI and `"fn("`.
-#[tactic(auto, unfolding(binfarce_v0_grammar::specs::Tree::signature_text))]
+#[tactic(auto, unfolding(crate::specs::Tree::signature_text))]
 pub fn push_signature(text: &mut String, signature: Signature<'_>) -> Result<(), AllocError>
     ensures { OnOk result (string_bytes text.new ≡ string_bytes text.old ++ signature_text (signature_seen signature.entry)) }
 {
@@ -225,7 +225,7 @@ fn push_undecoded(text: &mut String, name: UndisambiguatedIdentifier<'_>) -> Res
 }
 
 /// The text of an identifier.
-#[tactic(auto, unfolding(binfarce_v0_grammar::specs::Identifiers::identifier_text))]
+#[tactic(auto, unfolding(crate::specs::Identifiers::identifier_text))]
 pub fn push_identifier(
     text: &mut String,
     name: UndisambiguatedIdentifier<'_>,
@@ -241,7 +241,7 @@ pub fn push_identifier(
 
 // The text of a Punycode identifier.
 #[inline(never)]
-#[tactic(auto, unfolding(binfarce_v0_grammar::specs::Identifiers::identifier_text))]
+#[tactic(auto, unfolding(crate::specs::Identifiers::identifier_text))]
 fn push_punycode(text: &mut String, name: UndisambiguatedIdentifier<'_>) -> Result<(), AllocError>
     requires { 0 < length name.punycode.now }
     ensures { OnOk result (string_bytes text.new ≡ string_bytes text.old ++ identifier_text (undisambiguated_seen name.entry)) }

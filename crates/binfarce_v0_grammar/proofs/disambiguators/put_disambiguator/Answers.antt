@@ -1,8 +1,8 @@
 use Rattle.std.proofs.Common.{◌≡◌, ◌+◌, ◌-◌, ◌^◌, ◌<◌, List, ℕ, suc, [], ◌∷◌, length, set, drop, ap, subst, ◌∙◌, arith}
 use Rattle.std.proofs.lemmas.List.{drop-set}
 use Rattle.std.proofs.Math.ListN.{length-set, drop_of_length-le}
-use Rattle.binfarce_v0.proofs.HexDigits.{hex_onto, hex_onto_step, left_digits, shown_is}
-use Rattle.binfarce_v0.proofs.disambiguators.put_disambiguator.Goals as goal
+use Rattle.binfarce_v0_grammar.proofs.HexDigits.{hex_onto, hex_onto_step, left_digits, shown_is}
+use Rattle.binfarce_v0_grammar.proofs.disambiguators.put_disambiguator.Goals as goal
 
 bracket : (shown : List ℕ) → length shown ≡ 18 → drop 17 (set shown 17 93) ≡ 93 ∷ []
 bracket shown len = drop-set shown 17 93 (omega arith) ∙ ap (λ l. 93 ∷ l) (drop_of_length-le shown {i = 17 + 1} (omega arith))

@@ -1,7 +1,7 @@
 use Rattle.std.proofs.Common.{◌-◌, ◌≡◌, take, drop, rules, ◌∙◌, arith, length-drop}
 use Rattle.std.proofs.lemmas.List.{take_all}
-use Rattle.binfarce_v0.proofs.HexDigits.{shown_is_utf8}
-use Rattle.binfarce_v0.proofs.text.push_disambiguator.Goals as goal
+use Rattle.binfarce_v0_grammar.proofs.HexDigits.{shown_is_utf8}
+use Rattle.binfarce_v0_grammar.proofs.text.push_disambiguator.Goals as goal
 
 pub unwrap-requires : goal.unwrap-requires
 unwrap-requires c =

@@ -1,7 +1,7 @@
 use Rattle.std.proofs.Common.{◌≡◌, ◌++◌, take}
 use Rattle.std.specs.Prelude.{encode_utf8_all}
 use Rattle.std.specs.String.{string_bytes}
-use Rattle.binfarce_v0.proofs.text.push_characters.Given as goal
+use Rattle.binfarce_v0_grammar.proofs.text.push_characters.Given as goal
 
 abbrev pub invariant-loop-c : goal.invariant-loop-c
 invariant-loop-c l =

@@ -1,6 +1,6 @@
 use Rattle.std.proofs.Common.{◌≡◌, ◌++◌, ◌==◌, if◌then◌else◌, take, map}
 use Rattle.std.specs.String.{string_bytes}
-use Rattle.binfarce_v0.proofs.text.push_abi.Given as goal
+use Rattle.binfarce_v0_grammar.proofs.text.push_abi.Given as goal
 
 abbrev pub invariant-loop-c : goal.invariant-loop-c
 invariant-loop-c l =

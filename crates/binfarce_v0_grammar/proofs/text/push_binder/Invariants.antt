@@ -1,7 +1,7 @@
 use Rattle.std.proofs.Common.{◌≡◌, ◌+◌, ◌-◌, ◌++◌}
 use Rattle.std.specs.String.{string_bytes}
 use Rattle.binfarce_v0_grammar.specs.Tree.{more_announced}
-use Rattle.binfarce_v0.proofs.text.push_binder.Given as goal
+use Rattle.binfarce_v0_grammar.proofs.text.push_binder.Given as goal
 
 abbrev pub invariant-loop-i : goal.invariant-loop-i
 invariant-loop-i l =

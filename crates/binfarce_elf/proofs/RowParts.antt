@@ -1,10 +1,14 @@
 -- A row of the symbol table that is read from its bytes alone.
-use Rattle.std.proofs.Common.{◌≡◌, ℕ, ◌+◌, ◌-◌, ◌≤◌, List, length, length-drop, take, drop, ap, ◌∙◌, arith}
+use Rattle.std.specs.Prelude.{Result, MatchResult}
+use Rattle.std.proofs.Common.{◌≡◌, ℕ, ◌+◌, ◌-◌, ◌<◌, ◌≤◌, List, length, length-drop, take, drop, ap, ◌∙◌, arith}
 use Rattle.std.proofs.lemmas.List.{drop-take, drop-drop, length-take-le, take-take}
+use Rattle.std.proofs.lemmas.Result.{MatchResult-weaker}
 use Rattle.binfarce_bytes.specs.declared.ByteOrder.{ByteOrder}
 use Rattle.binfarce_bytes.specs.Number.{number, bytes_at}
-use Rattle.binfarce_elf.specs.Elf.{elf32, elf64}
+use Rattle.binfarce_elf.specs.declared.class.Row.{Row}
+use Rattle.binfarce_elf.specs.Elf.{ElfClass, elf32, elf64}
 use Rattle.binfarce_elf.specs.ElfSymbols.{symbol_at}
+use Rattle.binfarce_elf.specs.machine.RawElf.{row_seen}
 
 -- the bytes of a field are those of the file
 field_in : (order : ByteOrder) (file : List ℕ) (start len offset width : ℕ) → offset + width ≤ len → number order (bytes_at (bytes_at file start len) (0 + offset) width) ≡ number order (bytes_at file (start + offset) width)
@@ -30,5 +34,17 @@ unfolding symbol_at elf64
 row_of_64_in order file start =
     cc (field_in order file start 24 0 4 (omega arith), field_in order file start 24 4 1 (omega arith), field_in order file start 24 5 1 (omega arith), field_in order file start 24 6 2 (omega arith), field_in order file start 24 8 8 (omega arith), field_in order file start 24 16 8 (omega arith))
 
-pub part_length : (file part : List ℕ) (start len : ℕ) → start + len ≤ length file → part ≡ bytes_at file start len → length part ≡ len
+part_length : (file part : List ℕ) (start len : ℕ) → start + len ≤ length file → part ≡ bytes_at file start len → length part ≡ len
 part_length file part start len h is = ap length is ∙ length-take-le len (drop start file) (omega (arith, length-drop start file))
+
+-- a row that is read from its bytes alone is the file's, and these bytes aren't too short
+pub row_in_file : {E : Type 0} (class : ElfClass) (order : ByteOrder) (file part : List ℕ) (start len : ℕ) (r : Result Row E)
+    → (start + len ≤ length file) × (part ≡ bytes_at file start len)
+    → symbol_at class order (bytes_at file start len) 0 ≡ symbol_at class order file start
+    → MatchResult r (λ row. (0 + len ≤ length part) × (row_seen row ≡ symbol_at class order part 0)) (λ _. length part < 0 + len)
+    → MatchResult r (λ row. (start + len ≤ length file) × (row_seen row ≡ symbol_at class order file start)) (λ _. length file < start + len)
+row_in_file class order file part start len r given same row =
+    let whole : length part ≡ len = part_length file part start len given.0 given.1 in
+    MatchResult-weaker r row
+    (λ _ is. (given.0, is.1 ∙ ap (λ l. symbol_at class order l 0) given.1 ∙ same))
+    (λ _ short. absurd (omega arith))

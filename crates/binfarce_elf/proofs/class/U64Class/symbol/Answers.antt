@@ -1,8 +1,5 @@
-use Rattle.std.proofs.Common.{◌≡◌, length, ap, ◌∙◌, arith}
-use Rattle.std.proofs.lemmas.Result.{MatchResult-weaker}
 use Rattle.binfarce_elf.specs.Elf.{elf64}
-use Rattle.binfarce_elf.specs.ElfSymbols.{symbol_at}
-use Rattle.binfarce_elf.proofs.RowParts.{row_of_64_in, part_length}
+use Rattle.binfarce_elf.proofs.RowParts.{row_of_64_in, row_in_file}
 use Rattle.binfarce_elf.proofs.class.U64Class.symbol.Goals as goal
 
 pub returns : goal.returns
@@ -10,8 +7,5 @@ unfolding elf64
 returns c =
     let bytes = c.args.bytes.now in
     let start = c.args.start in
-    let part = c.in_ok-row.ensures in
-    let len : length c.in_ok-row.row.now ≡ 24 = part_length bytes c.in_ok-row.row.now start 24 part.0 part.1 in
-    MatchResult-weaker c.row_of_64.result c.row_of_64.ensures
-    (λ r is. (part.0, is.1 ∙ ap (λ l. symbol_at elf64 c.args.byte_order l 0) part.1 ∙ row_of_64_in c.args.byte_order bytes start))
-    (λ _ short. absurd (omega arith))
+    let order = c.args.byte_order in
+    row_in_file elf64 order bytes c.in_ok-row.row.now start 24 c.row_of_64.result c.in_ok-row.ensures (row_of_64_in order bytes start) c.row_of_64.ensures

@@ -1,30 +1,59 @@
-//! The answer that a row wants of a name. A test hands on what it is told as one truth: each assertion with a message of
+//! The answers that rows want of names. A test hands on what it is told as one truth: each assertion with a message of
 //! its own takes seconds to prove.
 
 use binfarce_names::demangle::{Kind, SymbolName, crate_of, push_trimmed};
 use std::alloc::{AllocError, Global};
 use std::process::Abort;
+use std::test::Fail;
 
-/// A name and its answer.
+// A name and its answer.
 #[derive(Drop)]
-pub(super) struct Row<'a> {
-    /// How the name is mangled.
-    pub kind: Kind,
-    /// The name.
-    pub name: &'a str,
-    /// Its complete text.
-    pub complete: &'a str,
-    /// Its trimmed text.
-    pub trimmed: &'a str,
-    /// The crate that its answer tells, if any.
-    pub root: Option<&'a str>,
-    /// What the row shows.
-    pub what: &'a str,
+struct Row<'a> {
+    // How the name is mangled.
+    kind: Kind,
+    // The name.
+    name: &'a str,
+    // Its complete text.
+    complete: &'a str,
+    // Its trimmed text.
+    trimmed: &'a str,
+    // The crate that its answer tells, if any.
+    root: Option<&'a str>,
+    // What the row shows.
+    what: &'a str,
 }
 
 /// The crate that a row tells: `-` for none.
 pub(super) fn root_of(told: &str) -> Option<&str> {
     if told == "-" { None } else { Some(told) }
+}
+
+// The row of a line, which begins with its kind where none is given. Where the line doesn't say what it shows, that is its
+// name.
+fn of_line(kind: Option<Kind>, line: &str) -> Option<Row<'_>> {
+    let (kind, line) = match kind {
+        Some(kind) => (kind, line),
+        None => match line.split_once('|')? {
+            ("Legacy", line) => (Kind::Legacy, line),
+            ("V0", line) => (Kind::V0, line),
+            (_, line) => (Kind::Unknown, line),
+        },
+    };
+    let (name, line) = line.split_once('|')?;
+    let (complete, line) = line.split_once('|')?;
+    let (trimmed, line) = line.split_once('|')?;
+    let (root, what) = match line.split_once('|') {
+        Some(parts) => parts,
+        None => (line, name),
+    };
+    Some(Row {
+        kind,
+        name,
+        complete,
+        trimmed,
+        root: root_of(root),
+        what,
+    })
 }
 
 fn is_answered(alloc: Global, row: &Row<'_>) -> Result<bool, AllocError> {
@@ -50,13 +79,55 @@ pub(super) fn tells(alloc: Global, name: &str, root: Option<&str>) -> Result<boo
     Ok(told.as_ref().map(String::as_str) == root)
 }
 
-/// The row's name has its answer.
-pub(super) fn check(rt: &impl Abort, alloc: Global, row: &Row<'_>) -> Result<(), AllocError> {
+// The row's name has its answer. Of a legacy name the crate alone is told, and the answer has none.
+fn check(rt: &impl Abort, alloc: Global, row: &Row<'_>) -> Result<(), AllocError> {
     assert!(rt; is_answered(alloc, row)?, "the answer: {}", row.what);
     assert!(rt;
         is_trimmed_alone(alloc, row)?,
         "the trimmed text alone: {}",
         row.what
     );
+    assert!(rt;
+        row.kind == Kind::Legacy || tells(alloc, row.name, row.root)?,
+        "the crate alone: {}",
+        row.what
+    );
     Ok(())
+}
+
+fn check_rows(
+    rt: &impl Abort,
+    alloc: Global,
+    kind: Option<Kind>,
+    lines: &str,
+    count: usize,
+) -> Result<(), Fail> {
+    assert_eq!(rt; lines.lines().count(), count);
+    for line in lines.lines() {
+        let row = of_line(kind, line).ok_or("a line without its bars")?;
+        check(rt, alloc, &row)?;
+    }
+    Ok(())
+}
+
+/// Each line, of so many, has its answer: a kind, a name, its complete text, its trimmed text, its crate (`-` for none) and
+/// what the line shows, with a bar between them.
+pub(super) fn check_lines(
+    rt: &impl Abort,
+    alloc: Global,
+    lines: &str,
+    count: usize,
+) -> Result<(), Fail> {
+    check_rows(rt, alloc, None, lines, count)
+}
+
+/// The same of names of one kind: a line is a name, its complete text, its trimmed text and its crate.
+pub(super) fn check_names(
+    rt: &impl Abort,
+    alloc: Global,
+    kind: Kind,
+    lines: &str,
+    count: usize,
+) -> Result<(), Fail> {
+    check_rows(rt, alloc, Some(kind), lines, count)
 }

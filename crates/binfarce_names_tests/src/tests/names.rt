@@ -1,80 +1,50 @@
 //! Names and their answers, row by row.
 
-use super::answers::{Row, check, root_of, tells};
-use binfarce_names::demangle::Kind;
+use super::answers::{check_lines, root_of, tells};
 use std::alloc::Global;
 use std::process::Abort;
 use std::test::Fail;
 
-// A line is a kind, a name, its complete text, its trimmed text and what the row shows, with a bar
-// between them.
+// Lines of `check_lines`.
 const ROWS: &str = "\
-Legacy|_ZN3foo3barE|foo::bar|foo|a path
-Legacy|_ZN28_$u7b$$u7b$closure$u7d$$u7d$E|{{closure}}|{{closure}}|numbered escapes
-Legacy|_ZN4testE|test|test|the prefix of ELF
-Legacy|__ZN4testE|test|test|the prefix of Mach-O
-Legacy|ZN4testE|test|test|the prefix of PE
-Legacy|_ZN02teE.llvm.|te|te|an empty number behind `.llvm.`, a length with a zero
-Legacy|_ZN4testE.llvm.AB09@|test|test|an LLVM number
-Unknown|foo|foo|foo|no mangling
-Unknown||||an empty name
-Legacy|_ZN1:E|:||a `:` that is first
-Legacy|_ZNE|||no element
-Legacy|_ZN0E|||an empty element
-Legacy|_ZN7$u3b1$:E|α:||a wide character before `:`
-Legacy|_ZN9$u1f600$:E|😀:||a character of four bytes before `:`
-Legacy|_ZN7a..b$C$E|a::b,|a|dots and an escape
-Legacy|_ZN3a.bE|a.b|a.b|one dot
-Legacy|_ZN4$XX$E|$XX$|$XX$|no escape
-Legacy|_ZN5$u9f$E|$u9f$|$u9f$|a control character
-Legacy|_ZN3$u$E|$u$|$u$|an escape without digits
-Legacy|_ZN1$E|$|$|a lone `$`
-Legacy|_ZN7$ud800$E|$ud800$|$ud800$|half of a pair
-Legacy|_ZN3foo17h0123456789abcdefE|foo::h0123456789abcdef|foo|a hash
-Legacy|_ZN4testE.llvm.1f|test|test|an allowed rest
-Legacy|_ZN3fooE.llvm.A.llvm.B|foo|foo|two suffixes: the first is no number
-Legacy|_ZN6_$LT$aE|<a|<a|a dropped mark
-Legacy|_ZN13$u0000000041$E|A|A|zeros before a number
-Legacy|_ZN31$SP$$BP$$RF$$LT$$GT$$LP$$RP$$C$E|@*&<>(),|@*&<>(),|each named escape
-Legacy|_ZN3fooE.part.0|foo|foo|a rest
-Unknown|foo.llvm.AB|foo.llvm.AB|foo.llvm.AB|an ending alone
-Unknown|_ZN4testEX|_ZN4testEX|_ZN4testEX|a rest without a dot
-Unknown|_ZN4testE.a b|_ZN4testE.a b|_ZN4testE.a b|a space in the rest
-Unknown|_ZN5testE|_ZN5testE|_ZN5testE|too long a length
-Unknown|_ZN18446744073709551616aE|_ZN18446744073709551616aE|_ZN18446744073709551616aE|a length past 64 bits
-Unknown|_ZN18446744073709551617aE|_ZN18446744073709551617aE|_ZN18446744073709551617aE|a length past 64 bits by one
-Legacy|_ZN000000000000000000000000000003fooE|foo|foo|many zeros before a length
-Unknown|_ZN2éE|_ZN2éE|_ZN2éE|a byte above 0x7F
-Unknown|_ZN3foo|_ZN3foo|_ZN3foo|no `E`
+Legacy|_ZN3foo3barE|foo::bar|foo|-|a path
+Legacy|_ZN28_$u7b$$u7b$closure$u7d$$u7d$E|{{closure}}|{{closure}}|-|numbered escapes
+Legacy|_ZN4testE|test|test|-|the prefix of ELF
+Legacy|__ZN4testE|test|test|-|the prefix of Mach-O
+Legacy|ZN4testE|test|test|-|the prefix of PE
+Legacy|_ZN02teE.llvm.|te|te|-|an empty number behind `.llvm.`, a length with a zero
+Legacy|_ZN4testE.llvm.AB09@|test|test|-|an LLVM number
+Unknown|foo|foo|foo|-|no mangling
+Unknown||||-|an empty name
+Legacy|_ZN1:E|:||-|a `:` that is first
+Legacy|_ZNE|||-|no element
+Legacy|_ZN0E|||-|an empty element
+Legacy|_ZN7$u3b1$:E|α:||-|a wide character before `:`
+Legacy|_ZN9$u1f600$:E|😀:||-|a character of four bytes before `:`
+Legacy|_ZN7a..b$C$E|a::b,|a|-|dots and an escape
+Legacy|_ZN3a.bE|a.b|a.b|-|one dot
+Legacy|_ZN4$XX$E|$XX$|$XX$|-|no escape
+Legacy|_ZN5$u9f$E|$u9f$|$u9f$|-|a control character
+Legacy|_ZN3$u$E|$u$|$u$|-|an escape without digits
+Legacy|_ZN1$E|$|$|-|a lone `$`
+Legacy|_ZN7$ud800$E|$ud800$|$ud800$|-|half of a pair
+Legacy|_ZN3foo17h0123456789abcdefE|foo::h0123456789abcdef|foo|-|a hash
+Legacy|_ZN4testE.llvm.1f|test|test|-|an allowed rest
+Legacy|_ZN3fooE.llvm.A.llvm.B|foo|foo|-|two suffixes: the first is no number
+Legacy|_ZN6_$LT$aE|<a|<a|-|a dropped mark
+Legacy|_ZN13$u0000000041$E|A|A|-|zeros before a number
+Legacy|_ZN31$SP$$BP$$RF$$LT$$GT$$LP$$RP$$C$E|@*&<>(),|@*&<>(),|-|each named escape
+Legacy|_ZN3fooE.part.0|foo|foo|-|a rest
+Unknown|foo.llvm.AB|foo.llvm.AB|foo.llvm.AB|-|an ending alone
+Unknown|_ZN4testEX|_ZN4testEX|_ZN4testEX|-|a rest without a dot
+Unknown|_ZN4testE.a b|_ZN4testE.a b|_ZN4testE.a b|-|a space in the rest
+Unknown|_ZN5testE|_ZN5testE|_ZN5testE|-|too long a length
+Unknown|_ZN18446744073709551616aE|_ZN18446744073709551616aE|_ZN18446744073709551616aE|-|a length past 64 bits
+Unknown|_ZN18446744073709551617aE|_ZN18446744073709551617aE|_ZN18446744073709551617aE|-|a length past 64 bits by one
+Legacy|_ZN000000000000000000000000000003fooE|foo|foo|-|many zeros before a length
+Unknown|_ZN2éE|_ZN2éE|_ZN2éE|-|a byte above 0x7F
+Unknown|_ZN3foo|_ZN3foo|_ZN3foo|-|no `E`
 ";
-
-fn of_line(line: &str) -> Option<Row<'_>> {
-    let (kind, line) = line.split_once('|')?;
-    let (name, line) = line.split_once('|')?;
-    let (complete, line) = line.split_once('|')?;
-    let (trimmed, what) = line.split_once('|')?;
-    let kind = if kind == "Legacy" {
-        Kind::Legacy
-    } else {
-        Kind::Unknown
-    };
-    Some(Row {
-        kind,
-        name,
-        complete,
-        trimmed,
-        root: None,
-        what,
-    })
-}
-
-fn check_lines(rt: &impl Abort, alloc: Global, lines: &str, count: usize) -> Result<(), Fail> {
-    assert_eq!(rt; lines.lines().count(), count);
-    for line in lines.lines() {
-        check(rt, alloc, &of_line(line).ok_or("a line without its bars")?)?;
-    }
-    Ok(())
-}
 
 #[test]
 fn reads_names(rt: HostRuntime) -> Result<(), Fail> {

@@ -1,13 +1,12 @@
 //! v0 names and their answers, row by row.
 
-use super::answers::{Row, check, root_of, tells};
+use super::answers::check_lines;
 use binfarce_names::demangle::{Kind, SymbolName};
 use std::alloc::{AllocError, Global};
 use std::process::Abort;
 use std::test::Fail;
 
-// A line is a kind, a name, its complete text, its trimmed text, its crate (`-` for none) and what the row shows, with
-// a bar between them. The texts are those of the Rust crate, but for names that it doesn't answer.
+// Lines of `check_lines`. The texts are those of the Rust crate, but for names that it doesn't answer.
 const ROWS: &str = "\
 V0|_RNvC6_123foo3bar|123foo[0]::bar|123foo::bar|123foo|a digit behind the length's _
 V0|_RNvCs_1a1b|a[1]::b|a::b|a|a disambiguator
@@ -119,41 +118,6 @@ V0|RC1a|a[0]|a|a|the prefix of PE
 V0|__RC1a|a[0]|a|a|the prefix of Mach-O
 Unknown|_RC2é|_RC2é|_RC2é|-|a byte above 0x7F
 ";
-
-fn of_line(line: &str) -> Option<Row<'_>> {
-    let (kind, line) = line.split_once('|')?;
-    let (name, line) = line.split_once('|')?;
-    let (complete, line) = line.split_once('|')?;
-    let (trimmed, line) = line.split_once('|')?;
-    let (root, what) = line.split_once('|')?;
-    let kind = if kind == "V0" {
-        Kind::V0
-    } else {
-        Kind::Unknown
-    };
-    Some(Row {
-        kind,
-        name,
-        complete,
-        trimmed,
-        root: root_of(root),
-        what,
-    })
-}
-
-fn check_lines(rt: &impl Abort, alloc: Global, lines: &str, count: usize) -> Result<(), Fail> {
-    assert_eq!(rt; lines.lines().count(), count);
-    for line in lines.lines() {
-        let row = of_line(line).ok_or("a line without its bars")?;
-        check(rt, alloc, &row)?;
-        assert!(rt;
-            tells(alloc, row.name, row.root)?,
-            "the crate alone: {}",
-            row.what
-        );
-    }
-    Ok(())
-}
 
 #[test]
 fn reads_v0_names(rt: HostRuntime) -> Result<(), Fail> {

@@ -1,6 +1,7 @@
 //! Real v0 names with constants, and their texts.
 
-use super::v0_real::check_lines;
+use super::answers::check_names;
+use binfarce_names::demangle::Kind;
 use std::test::Fail;
 
 // A line is a name, its complete text, its trimmed text and its crate, with a bar between them. They are the functions of
@@ -99,5 +100,5 @@ _RNvXs_CsgB4BynSvtSL_6constsINtB4_4HeldKsn2_Kb0_Kc27_ENtB4_5Shown4showB4_|<const
 
 #[test]
 fn reads_real_names_with_constants(rt: HostRuntime) -> Result<(), Fail> {
-    check_lines(&rt, rt.alloc(), NAMES, 88)
+    check_names(&rt, rt.alloc(), Kind::V0, NAMES, 88)
 }

@@ -1,9 +1,7 @@
 //! Real v0 names and the answers of the Rust crate.
 
-use super::answers::{Row, check, root_of};
+use super::answers::check_names;
 use binfarce_names::demangle::Kind;
-use std::alloc::Global;
-use std::process::Abort;
 use std::test::Fail;
 
 // A line is a name, its complete text, its trimmed text and its crate (`-` for none), with a bar between them. They are
@@ -346,37 +344,8 @@ _RNvXs11_NtNtCsduwmD7cSIQq_5gimli4read4lineINtB6_9FileEntryINtNtB8_12endian_slic
 _RNvXs1G_NtCsgEmfK2I1SDS_4core3fmtTRmRNtNtCslNYArtu3iFV_5alloc6string6StringENtB6_5Debug3fmtCs5nrm1ok5dX1_4many|<(&u32, &alloc[fdfd2bd8633a6659]::string::String) as core[c1f1a4ba060b9bfa]::fmt::Debug>::fmt|<(&u32, &alloc::string::String) as core::fmt::Debug>::fmt|core
 ";
 
-fn of_line(line: &str) -> Option<Row<'_>> {
-    let (name, line) = line.split_once('|')?;
-    let (complete, line) = line.split_once('|')?;
-    let (trimmed, root) = line.split_once('|')?;
-    let kind = Kind::V0;
-    Some(Row {
-        kind,
-        name,
-        complete,
-        trimmed,
-        root: root_of(root),
-        what: name,
-    })
-}
-
-/// Each line, of so many, has the answer of its name.
-pub(super) fn check_lines(
-    rt: &impl Abort,
-    alloc: Global,
-    lines: &str,
-    count: usize,
-) -> Result<(), Fail> {
-    assert_eq!(rt; lines.lines().count(), count);
-    for line in lines.lines() {
-        check(rt, alloc, &of_line(line).ok_or("a line without its bars")?)?;
-    }
-    Ok(())
-}
-
 #[test]
 fn reads_real_v0_names(rt: HostRuntime) -> Result<(), Fail> {
-    check_lines(&rt, rt.alloc(), FIRST_NAMES, 165)?;
-    check_lines(&rt, rt.alloc(), MORE_NAMES, 165)
+    check_names(&rt, rt.alloc(), Kind::V0, FIRST_NAMES, 165)?;
+    check_names(&rt, rt.alloc(), Kind::V0, MORE_NAMES, 165)
 }

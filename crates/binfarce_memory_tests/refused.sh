@@ -11,14 +11,14 @@ scratch=$(mktemp -d)
 trap 'rm -rf "$scratch"' EXIT
 
 # The rows, and more allocations than they make: their last run must end with none refused.
-rows="listings 75
-reports 125
-names 110
-tuples 110
+rows="listings 35
+reports 100
+names 95
+tuples 85
 files 30
 refusals 20
 truncated 8
-without_memory 10"
+without_memory 8"
 
 # The files of some rows.
 runs() {

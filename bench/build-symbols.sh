@@ -2,7 +2,7 @@
 # Builds a program that makes the symbols of a file's `.text` without listing them: FOLDER/symbols. It measures what
 # `symbols` alone costs; no test runs it.
 #
-# The program, symbols.txt, is a crate of a copy of the repository, which keeps what is built.
+# The program, symbols.txt, is a crate of a copy of the repository, over the libraries that `./list` made there.
 #
 # Usage: ./build-symbols.sh FOLDER
 set -eu
@@ -16,5 +16,5 @@ crate="$scratch/crates/bench_symbols"
 mkdir -p "$crate/src"
 cp "$top/bench/symbols.txt" "$crate/src/main.rt"
 echo "bench_symbols: binfarce" >>"$scratch/crates.txt"
-(cd "$crate" && rt run -- "$top/crates/binfarce_list/data/e-elf64-little.bin")
+"$scratch/run" bench_symbols "$top/crates/binfarce_list/data/e-elf64-little.bin"
 cp "$crate/out/bench_symbols" "$folder/symbols"

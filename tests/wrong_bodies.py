@@ -1,0 +1,208 @@
+#!/usr/bin/env python3
+"""Checks the wrong bodies against their table (docs/WRONG_BODIES.md) and against where the prover refuses them (docs/refusals.txt).
+
+    tests/wrong_bodies.py [GATE]          checks; with GATE, what the gate printed, also that each edit is refused where the list says
+    tests/wrong_bodies.py --write GATE    writes the list from what the gate printed
+
+What is checked, for each crates/CRATE/must-fail/MODULE.FUNCTION.EDIT.edit:
+- its first text stands in that function (or constant, or struct) of that module; two functions of one name are told apart by
+  their type, as in `SymbolName.demangle`;
+- EDIT stands in exactly one row of the table, in a section whose heading names the crate, and each name there is an edit;
+- the list has it once. Where the goal that refuses it is no clause and no invariant (an overflow, what a callee requires), or
+  stands in another function than the text, the row names that goal or that function, as code, under "refused by".
+"""
+
+import os
+import re
+import sys
+from collections import Counter
+
+TOP = os.path.dirname(os.path.dirname(os.path.abspath(__file__)))
+TABLE = "docs/WRONG_BODIES.md"
+LIST = "docs/refusals.txt"
+HEAD = f"""\
+# Where the prover refuses each wrong body: the crate and the edit, the function, and the goal that doesn't hold there.
+# Written by `tests/wrong_bodies.py --write` from what the gate prints; the gate's next run is compared with it.
+"""
+
+# Goals that say what a function's clauses or a loop's invariant say.
+CLAUSE = re.compile(r"returns|loop-.*-(preserved|init)|invariant|decreases|from_gives|next_gives|output")
+ITEM = re.compile(r"(?:pub(?:\([a-z]+\))? )?(?:const )?(fn|const|static|struct|enum|trait|impl)\b(?:<.*?>)? ?([A-Za-z_0-9]*)")
+
+
+def read(path):
+    with open(f"{TOP}/{path}", encoding="utf-8") as file:
+        return file.read()
+
+
+def indent(line):
+    return len(line) - len(line.lstrip(" "))
+
+
+def type_of(impl):
+    """The type of an impl's first line: `impl<'a> Model for Printer<'a> {` is of Printer."""
+    head = re.sub(r"<[^<>]*>", "", re.sub(r"<[^<>]*>", "", impl)).rstrip(" {")
+    return re.split(r" for |impl ", head)[-1].strip().split("::")[-1]
+
+
+def held_by(lines, at):
+    """The item in which a line stands, in a file as `rt fmt` lays it out: the function, or else the constant or type; and its impl's type."""
+    while re.match(r"\s*(#\[|///|//)", lines[at]):
+        at += 1
+    name, kind, holder = "", "", ""
+    depth = indent(lines[at]) + 1
+    for line in reversed(lines[: at + 1]):
+        found = ITEM.match(line.strip())
+        if line.strip() and indent(line) < depth and found:
+            if found[1] == "fn" and kind != "fn" or found[1] != "fn" and not kind and found[1] != "impl":
+                kind, name = found[1], found[2]
+            if found[1] in ("impl", "trait"):
+                holder = type_of(line.strip()) if found[1] == "impl" else found[2]
+            depth = indent(line)
+        if depth == 0 and kind:
+            break
+    return name, holder
+
+
+def module_of(path):
+    """The module of a source file: `src/print/types.rt` is `print.types`."""
+    return path.removeprefix("src/").removesuffix(".rt").replace("/", ".")
+
+
+def texts_of(edit):
+    """The files and the texts that an edit replaces, in order."""
+    file, found = "", []
+    for line in read(edit).split("\n"):
+        if line.startswith("file: "):
+            file = line.removeprefix("file: ").strip()
+        elif line.startswith("old: "):
+            found.append((file, line.removeprefix("old: ")))
+    return found
+
+
+def edits():
+    """Each edit's crate and name."""
+    for crate in sorted(os.listdir(f"{TOP}/crates")):
+        folder = f"{TOP}/crates/{crate}/must-fail"
+        if os.path.isdir(folder):
+            for name in sorted(os.listdir(folder)):
+                yield crate, name.removesuffix(".edit")
+
+
+def place_of(crate, edit):
+    """The module and the function in which an edit's first text stands, with its type where the module has another of that name."""
+    file, text = texts_of(f"crates/{crate}/must-fail/{edit}.edit")[0]
+    source = read(f"crates/{crate}/{file}")
+    start = source.index(text) + len(text) - len(text.lstrip())
+    name, holder = held_by(source.split("\n"), source.count("\n", 0, start))
+    alone = len(re.findall(rf"\b(?:fn|const|static) {name}\b", source)) < 2
+    return ".".join([module_of(file), *([holder] if holder and not alone else []), name])
+
+
+def rows():
+    """The rows of the table that have edits: the crates of the section, what refuses, the edits."""
+    crates = []
+    for line in read(TABLE).split("\n"):
+        if line.startswith("## "):
+            crates = re.findall(r"`([a-z0-9_]+)`", line)
+        cells = [it.strip() for it in re.split(r"(?<!\\)\|", line)[1:-1]]
+        if crates and len(cells) == 3 and "`" in cells[2]:
+            yield crates, cells[1], re.findall(r"`([A-Za-z0-9_]+)`", cells[2])
+
+
+def refusals(text):
+    """Where a gate's output says that each edit was refused: function and goal by crate and edit."""
+    found = {}
+    for line in text.split("\n"):
+        at = re.match(r"(?:rt: )?must-fail (\w+)/(\S+)\.edit: refused, as it must be(.*)", line)
+        if not at:
+            continue
+        crate, edit, said = at.groups()
+        source = re.match(r": (?:note: )?(?:\./)?(src/\S+?\.rt):(\d+):\d+: (.*)", said)
+        answer = re.match(r": (?:note: )?(?:\./)?proofs/(\S+?)/[A-Z]\w*\.antt:\d+:\d+: error: `([^`]+)`", said)
+        if answer:
+            found[crate, edit] = (answer[1].replace("/", ".").replace("+", ""), answer[2])
+        elif source:
+            name, _ = held_by(read(f"crates/{crate}/{source[1]}").split("\n"), int(source[2]) - 1)
+            goal = re.search(r"\(`([^`]+)`?", source[3])
+            found[crate, edit] = (f"{module_of(source[1])}.{name}", goal[1] if goal else "refused")
+        else:
+            found[crate, edit] = ("proofs", "refused")
+    return found
+
+
+def listed():
+    found = {}
+    for line in read(LIST).split("\n"):
+        if line and not line.startswith("#"):
+            crate, edit, function, goal = line.split()
+            found[crate, edit] = (function, goal)
+    return found
+
+
+def wrong_table(known):
+    """What is wrong with the table, and by crate and edit what its row says of its refusal."""
+    wrong, said, count = [], {}, Counter()
+    for crates, refused_by, names in rows():
+        for name in names:
+            matching = [it for it in known if it[0] in crates and it[1].split(".")[-1] == name]
+            if not matching:
+                wrong.append(f"{TABLE}: there is no edit {name} in {', '.join(crates)}")
+            for it in matching:
+                count[it] += 1
+                said[it] = refused_by
+    wrong += [f"{crate}/{edit}: in {count[crate, edit]} rows of {TABLE}, and not in one" for crate, edit in known if count[crate, edit] != 1]
+    return wrong, said
+
+
+def wrong_places(known):
+    for crate, edit in known:
+        place = place_of(crate, edit)
+        if edit.rsplit(".", 1)[0] != place:
+            yield f"{crate}/{edit}: its text stands in {place}"
+
+
+def wrong_refusals(known, said, found):
+    for it in known:
+        if it not in found:
+            yield f"{'/'.join(it)}: not in {LIST}"
+            continue
+        function, goal = found[it]
+        row = re.findall(r"`([^`]+)`", said.get(it, ""))
+        own = function.split(".")[-1] == it[1].split(".")[-2]
+        if not own and function.split(".")[-1] not in [re.split(r"::|\.", name)[-1] for name in row]:
+            yield f"{'/'.join(it)}: refused in {function}, which its row doesn't name"
+        if not CLAUSE.match(goal) and goal not in row:
+            yield f"{'/'.join(it)}: refused by the goal {goal}, which is no clause and which its row doesn't name"
+    for it in found:
+        if it not in known:
+            yield f"{LIST}: there is no edit {'/'.join(it)}"
+
+
+def differing(found, gate):
+    for it in sorted({*found, *gate}):
+        if it not in gate:
+            yield f"{'/'.join(it)}: the gate doesn't refuse it"
+        elif found.get(it) != gate[it]:
+            yield f"{'/'.join(it)}: refused at {' '.join(gate[it])}, and {LIST} has {' '.join(found.get(it, ['nothing']))}"
+
+
+def main(words):
+    if words[:1] == ["--write"] and len(words) == 2:
+        with open(words[1], encoding="utf-8", errors="replace") as file:
+            gate = refusals(file.read())
+        with open(f"{TOP}/{LIST}", "w", encoding="utf-8") as file:
+            file.write(HEAD + "".join(f"{' '.join([*it, *gate[it]])}\n" for it in sorted(gate)))
+        return 0
+    known, found = list(edits()), listed()
+    wrong, said = wrong_table(known)
+    wrong += [*wrong_places(known), *wrong_refusals(known, said, found)]
+    if words:
+        with open(words[0], encoding="utf-8", errors="replace") as file:
+            wrong += differing(found, refusals(file.read()))
+    print("\n".join(wrong or [f"wrong bodies: {len(known)} edits, each in one row, in the function that it names, and refused where the list says"]))
+    return 1 if wrong else 0
+
+
+if __name__ == "__main__":
+    sys.exit(main(sys.argv[1:]))

@@ -1,17 +1,31 @@
 #!/bin/sh
-# Passes all tests: the gate; beside it the programs that must not compile, and each allocation refused in turn; after it
-# the programs where no stored run can have them.
+# Runs all tests: the sizes of crates; the gate; beside it `run`, the programs that must not compile, and each allocation
+# refused in turn; after it whether the wrong bodies are refused where their list says, and the programs where no stored run
+# can have them.
 #
-# crates/NAME/must-not-compile/*.txt: code that calls the crate NAME. Its first line is `// wants: ERROR`, and then it
-# must be refused with that error; or `// compiles`, and then it must not be refused: the same code without its fault,
-# which shows that the error comes from the fault. All of a kind are modules of one crate in a copy of the repository.
+# crates/NAME/must-not-compile/*.txt: code that calls the crate NAME. WHAT_outlives_WHAT.txt begins with `// wants: ERROR`,
+# and must be refused with that error and no other. WHAT_within_WHAT.txt begins with `// compiles`, and must not be refused:
+# the same code without what is wrong in it, which shows that the error comes from that. Each has the other. All of a kind
+# are modules of one crate in a copy of the repository.
 set -eu
 cd "$(dirname "$0")"
 
 scratch=$(mktemp -d)
 copy="$scratch/copy"
 beside=
-trap '[ -z "$beside" ] || kill "$beside" 2>/dev/null || true; rm -rf "$scratch"' EXIT
+# Ends a process and all that it has started.
+end() {
+    set -- "$1" $(pgrep -P "$1")
+    kill "$1" 2>/dev/null || true
+    shift
+    for it in "$@"; do
+        end "$it"
+    done
+}
+
+# Without a trap of its own a signal ends the shell, and some shells then skip what is to be done on EXIT.
+trap '[ -z "$beside" ] || end "$beside"; rm -rf "$scratch"' EXIT
+trap 'exit 130' HUP INT TERM
 
 # The programs whose first line begins so, each with the crate that it calls and its module: crate, module, program.
 programs() {
@@ -20,6 +34,22 @@ programs() {
         case $(sed -n 1p "$program") in
             "$1"*) echo "$crate ${crate}_$(basename "$program" .txt) $program" ;;
         esac
+    done
+}
+
+# Whether each program says what its name tells, and has its twin.
+are_twins() {
+    for program in crates/*/must-not-compile/*.txt; do
+        case $program in
+            *_outlives_*) first="// wants: error" twin=${program%_outlives_*}_within_${program##*_outlives_} ;;
+            *_within_*) first="// compiles" twin=${program%_within_*}_outlives_${program##*_within_} ;;
+            *) first=neither twin= ;;
+        esac
+        case $(sed -n 1p "$program") in
+            "$first"*) ;;
+            *) echo "$program: must be named after what it shows, _outlives_ or _within_, and say so in its first line" && return 1 ;;
+        esac
+        [ -e "$twin" ] || { echo "$program: there is no $twin" && return 1; }
     done
 }
 
@@ -35,13 +65,15 @@ try() {
     (cd "$copy/crates/$1" && rt try --test) >"$scratch/$1" 2>&1
 }
 
+# The programs' errors, each after its module; any other line that tells of an error stands as it is.
+errors() {
+    grep error "$scratch/refused" | sed 's/^src.\([a-z0-9_]*\)[.]rt:[0-9]*:[0-9]*: \(error\[[^]]*\]\).*/\1 \2/' | sort -u
+}
+
 must_not_compile() {
+    are_twins
     mkdir "$copy"
     tar -c --exclude=.git --exclude=out . | tar -x -C "$copy"
-    if [ "$(programs "" | wc -l)" != "$({ programs "// wants: "; programs "// compiles"; } | wc -l)" ]; then
-        echo "a program says neither that it compiles nor which error it wants"
-        return 1
-    fi
     if ! try accepted "// compiles"; then
         tail -n 20 "$scratch/accepted"
         echo "a program must compile, and does not"
@@ -50,21 +82,38 @@ must_not_compile() {
     status=0
     try refused "// wants: " || status=$?
     programs "// wants: " | while read -r _ module program; do
-        error=$(sed -n '1s|^// wants: ||p' "$program")
-        if [ "$status" -ne 1 ] || ! grep -F "src/$module.rt:" "$scratch/refused" | grep -qF "$error"; then
-            tail -n 20 "$scratch/refused"
-            echo "$program: must be refused with $error, and is not"
-            return 1
-        fi
-        echo "$program: refused, as it must be"
-    done
+        echo "$module $(sed -n '1s|^// wants: ||p' "$program")"
+    done | sort >"$scratch/wanted"
+    if ! errors | diff "$scratch/wanted" - || [ "$status" -ne 1 ]; then
+        echo "the programs must be refused with the errors marked by <, and by no others"
+        return 1
+    fi
+    sed 's/ /: refused, as it must be, with /' "$scratch/wanted"
 }
 
 beside_the_gate() {
+    tests/run.sh
     must_not_compile
     crates/binfarce_memory_tests/refused.sh
 }
 
+# The programs that the gate builds are those that `run` would build: it is given them, with what they were made of.
+made_of() {
+    for name in binfarce_list binfarce_size; do
+        ./run --sources "$name" >"$scratch/$name"
+    done
+}
+hand_over() {
+    for name in binfarce_list binfarce_size; do
+        made="crates/$name/out/run"
+        mkdir -p "$made"
+        cp "crates/$name/out/$name" "$made/$name"
+        mv "$scratch/$name" "$made/sources"
+    done
+}
+
+bench/count.py >"$scratch/sizes" || { cat "$scratch/sizes" && exit 1; }
+made_of
 beside_the_gate >"$scratch/beside" 2>&1 &
 beside=$!
 # The last line of the gate is kept for the end.
@@ -74,8 +123,13 @@ wait "$beside" || status=1
 beside=
 cat "$scratch/beside"
 [ "$status" -eq 0 ] || exit 1
+tests/wrong_bodies.py "$scratch/gate"
 last=$(tail -n 1 "$scratch/gate")
 case $last in
-    *" passed, 0 failed") tests/programs.sh && echo "$last" ;;
+    *" passed, 0 failed")
+        hand_over
+        tests/programs.sh
+        echo "$last"
+        ;;
     *) echo "$last" && exit 1 ;;
 esac

@@ -11,10 +11,11 @@ mkdir -p "$1"
 folder=$(cd "$1" && pwd)
 scratch=$(mktemp -d)
 trap 'rm -rf "$scratch"' EXIT
+trap 'exit 130' HUP INT TERM
 tar -c -C "$top" --exclude=.git . | tar -x -C "$scratch"
 crate="$scratch/crates/bench_symbols"
 mkdir -p "$crate/src"
 cp "$top/bench/symbols.txt" "$crate/src/main.rt"
 echo "bench_symbols: binfarce" >>"$scratch/crates.txt"
 "$scratch/run" bench_symbols "$top/crates/binfarce_list/data/e-elf64-little.bin"
-cp "$crate/out/bench_symbols" "$folder/symbols"
+cp "$crate/out/run/bench_symbols" "$folder/symbols"

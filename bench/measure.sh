@@ -12,11 +12,12 @@
 # The runs of a round follow one another, so that a busy machine is as busy for all of them; the least wall time of
 # each command counts. The peak is the greatest resident set of one run.
 set -eu
-LIST=${LIST:-$(dirname "$0")/../crates/binfarce_list/out/binfarce_list}
-SIZE=${SIZE:-$(dirname "$0")/../crates/binfarce_size/out/binfarce_size}
+LIST=${LIST:-$(dirname "$0")/../crates/binfarce_list/out/run/binfarce_list}
+SIZE=${SIZE:-$(dirname "$0")/../crates/binfarce_size/out/run/binfarce_size}
 runs=${RUNS:-15}
 scratch=$(mktemp -d)
 trap 'rm -rf "$scratch"' EXIT
+trap 'exit 130' HUP INT TERM
 
 # The commands that are there, one a line: its title, a tab, the command.
 commands() {

@@ -13,6 +13,7 @@ shown=$(echo "$program" | tr _ -)
 cd "$(dirname "$0")/../crates/$program"
 scratch=$(mktemp -d)
 trap 'rm -rf "$scratch"' EXIT
+trap 'exit 130' HUP INT TERM
 
 ends() {
     rt try "$@" --data "listed=$file" -- listed 2>&1 |

@@ -6,6 +6,7 @@ set -eu
 cd "$(dirname "$0")/.."
 scratch=$(mktemp -d)
 trap 'rm -rf "$scratch"' EXIT
+trap 'exit 130' HUP INT TERM
 
 sample=crates/binfarce_list/data/e-elf64-little.bin
 { cat "$sample"; head -c 4194304 /dev/zero; } >"$scratch/large"

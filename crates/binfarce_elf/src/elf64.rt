@@ -6,17 +6,22 @@ ghost use Rattle.binfarce_bytes.specs.Refusal.{refusal_of, unexpected_eof};
 use crate::{elf, symbols};
 use binfarce_bytes::{ByteOrder, ParseError};
 
+// The standard's data types of this class (gABI, "Data Representation"): the word by which it is known.
+type Address = u64;
+
+type Offset = u64;
+
 /// A 64-bit ELF file. It borrows the file's bytes.
-pub type Elf64<'a> = elf::Elf<'a, u64>;
+pub type Elf64<'a> = elf::Elf<'a, Address>;
 
 /// The file header of a 64-bit file.
-pub type Elf64Header = elf::Header<u64>;
+pub type Elf64Header = elf::Header<Address>;
 
 /// A section header's values in a 64-bit file, and the section's index.
-pub type Section = elf::Section<u64>;
+pub type Section = elf::Section<Offset>;
 
 /// The function symbols of a section that are left: what [`Elf64::functions`](elf::Elf::functions) gives.
-pub type Functions<'a> = symbols::Functions<'a, u64>;
+pub type Functions<'a> = symbols::Functions<'a, Address>;
 
 /// Reads the file header in the given order, without a look at the magic number. Nothing is copied.
 ///

@@ -110,6 +110,14 @@ def rows():
             yield crates, cells[1], re.findall(r"`([A-Za-z0-9_]+)`", cells[2])
 
 
+def in_answer(folder, goal):
+    """The function and the goal of an answer. The functions of a cycle have one folder, whose name begins with `+`; their goals begin with theirs."""
+    if ".+" in folder:
+        function, goal = goal.split("-", 1)
+        folder = f"{folder.rsplit('.+', 1)[0]}.{function}"
+    return folder, goal
+
+
 def refusals(text):
     """Where a gate's output says that each edit was refused: function and goal by crate and edit."""
     found = {}
@@ -121,7 +129,7 @@ def refusals(text):
         source = re.match(r": (?:note: )?(?:\./)?(src/\S+?\.rt):(\d+):\d+: (.*)", said)
         answer = re.match(r": (?:note: )?(?:\./)?proofs/(\S+?)/[A-Z]\w*\.antt:\d+:\d+: error: `([^`]+)`", said)
         if answer:
-            found[crate, edit] = (answer[1].replace("/", ".").replace("+", ""), answer[2])
+            found[crate, edit] = in_answer(answer[1].replace("/", "."), answer[2])
         elif source:
             name, _ = held_by(read(f"crates/{crate}/{source[1]}").split("\n"), int(source[2]) - 1)
             goal = re.search(r"\(`([^`]+)`?", source[3])

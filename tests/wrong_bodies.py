@@ -133,7 +133,7 @@ def refusals(text):
         elif source:
             name, _ = held_by(read(f"crates/{crate}/{source[1]}").split("\n"), int(source[2]) - 1)
             goal = re.search(r"\(`([^`]+)`?", source[3])
-            found[crate, edit] = (f"{module_of(source[1])}.{name}", goal[1] if goal else "refused")
+            found[crate, edit] = (f"{module_of(source[1])}.{name}", goal[1].removeprefix(f"{name}-") if goal else "refused")
         else:
             found[crate, edit] = ("proofs", "refused")
     return found

@@ -5,7 +5,6 @@
 use crate::tally::{Row, Tally};
 use binfarce_image::image::{ElfLayout, Image, ImageError, Part, lay_out};
 use binfarce_image_samples::{LAYOUTS, bytes, sample, sample_rows, table};
-use binfarce_samples::elf::Layout;
 use std::alloc::{AllocError, Global};
 
 fn is_laid_out(alloc: Global, layout: ElfLayout, file: &[u8]) -> Row {
@@ -17,18 +16,17 @@ fn is_laid_out(alloc: Global, layout: ElfLayout, file: &[u8]) -> Row {
     }
 }
 
-fn name_of(layout: Layout) -> &'static str {
-    match layout {
-        Layout::Elf32Little => "the sample laid out in ELF32, little endian",
-        Layout::Elf32Big => "the sample laid out in ELF32, big endian",
-        Layout::Elf64Little => "the sample laid out in ELF64, little endian",
-        Layout::Elf64Big => "the sample laid out in ELF64, big endian",
-    }
-}
+// The layouts of the sample, in order.
+const LAID_OUT: [&str; 4] = [
+    "laid out in ELF32, little endian",
+    "laid out in ELF32, big endian",
+    "laid out in ELF64, little endian",
+    "laid out in ELF64, big endian",
+];
 
 pub(crate) fn add_files(alloc: Global, tally: &mut Tally) {
-    for (layout, file) in &LAYOUTS {
-        tally.add(name_of(*file), is_laid_out(alloc, *layout, file.bytes()));
+    for ((layout, file), name) in LAYOUTS.iter().zip(LAID_OUT) {
+        tally.add(name, is_laid_out(alloc, *layout, file.bytes()));
     }
 }
 

@@ -24,11 +24,12 @@ fn is_listed(alloc: Global, file: File, text: &str) -> Row {
     }
 }
 
-fn listing_of(file: File) -> &'static str {
+// What is listed of a sample, and what is reported.
+fn texts_of(file: File) -> (&'static str, &'static str) {
     match file {
-        File::Elf(_) => elf::LISTING,
-        File::Macho => macho::LISTING,
-        File::Pe => pe::LISTING,
+        File::Elf(_) => (elf::LISTING, "        16 foo\nsum 16\ntext 32\n"),
+        File::Macho => (macho::LISTING, "       320 [unknown]\nsum 320\ntext 256\n"),
+        File::Pe => (pe::LISTING, "       448 [unknown]\nsum 448\ntext 256\n"),
     }
 }
 
@@ -47,7 +48,8 @@ fn is_past_the_text(alloc: Global) -> Row {
 
 pub(crate) fn add_listings(alloc: Global, tally: &mut Tally) {
     for (name, file) in &FILES {
-        tally.add(name, is_listed(alloc, *file, listing_of(*file)));
+        let (listing, _) = texts_of(*file);
+        tally.add(name, is_listed(alloc, *file, listing));
     }
     tally.add("a symbol past the text", is_past_the_text(alloc));
 }
@@ -75,17 +77,10 @@ fn is_reported(alloc: Global, file: &[u8], expected: Reported) -> Row {
     }
 }
 
-fn report_of(file: File) -> &'static str {
-    match file {
-        File::Elf(_) => "        16 foo\nsum 16\ntext 32\n",
-        File::Macho => "       320 [unknown]\nsum 320\ntext 256\n",
-        File::Pe => "       448 [unknown]\nsum 448\ntext 256\n",
-    }
-}
-
 fn is_reported_of(alloc: Global, file: File) -> Row {
     let bytes = patched(alloc, bytes_of(file), &[magic_of(file)])?;
-    is_reported(alloc, &bytes, Reported::Text(report_of(file)))
+    let (_, text) = texts_of(file);
+    is_reported(alloc, &bytes, Reported::Text(text))
 }
 
 // The name of a function that stands before `foo::bar`, and the report of both; `TooLarge` where the first function's

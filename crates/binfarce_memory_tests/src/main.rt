@@ -2,9 +2,9 @@
 //! `refused.sh` runs the program with each allocation of the rows failing in turn.
 //!
 //! Standard input has the name of a group of rows, a space, and the number of their allocation that is to fail. The
-//! toolchain lets the one of the same number fail in every run, `FAILED`; so many others are made before the rows that it
-//! is theirs. As many are made after the rows: if one of those fails, none of the rows' did, and then every row has to
-//! give its whole answer. The number 0 stands for a run in which no allocation fails at all; there `all` is every group.
+//! toolchain lets the one of the same number fail in every run, `FAILED`; so many others are made before the rows that
+//! it is theirs. As many are made after the rows: if one of those fails, none of the rows' did, and then every row has
+//! to give its whole answer. The number 0 stands for a run in which no allocation fails; there `all` is every group.
 #![tactic(auto)]
 
 mod counts;

@@ -58,13 +58,6 @@ const TEXTS: [(usize, Option<&str>); 6] = [
     (8, None),
 ];
 
-fn add_texts(tally: &mut Tally) {
-    for (start, text) in &TEXTS {
-        let is_right = parse_null_string(b"\0ab\0\xFF\0c", *start) == *text;
-        tally.add("a text that ends with NUL", Ok(is_right));
-    }
-}
-
 pub(crate) fn add_streams(tally: &mut Tally) {
     let little = is_right(is_read(ByteOrder::LittleEndian, 0x0180));
     tally.add("a stream, little endian", Ok(little));
@@ -74,5 +67,8 @@ pub(crate) fn add_streams(tally: &mut Tally) {
     tally.add("a stream that ends too early", Ok(is_refused));
     let is_at_the_end = is_right(is_at_the_end());
     tally.add("a stream past its end", Ok(is_at_the_end));
-    add_texts(tally);
+    for (start, text) in &TEXTS {
+        let is_right = parse_null_string(b"\0ab\0\xFF\0c", *start) == *text;
+        tally.add("a text that ends with NUL", Ok(is_right));
+    }
 }

@@ -7,6 +7,7 @@ use binfarce_image::image::ImageError;
 use binfarce_tools::list::ListError;
 use binfarce_tools::report::ReportError;
 use std::alloc::AllocError;
+use std::fmt;
 
 const UNEXPECTED_TYPE: ParseError = ParseError::UnexpectedSectionType {
     expected: 3,
@@ -63,37 +64,10 @@ const IMAGE: [(ImageError, &str); 5] = [
     (ImageError::OutOfMemory, "out of memory"),
 ];
 
-fn add_words_of_parsing(tally: &mut Tally) {
-    for (error, words) in &PARSE {
+fn add_words<T: fmt::Display>(tally: &mut Tally, errors: &[(T, &'static str)]) {
+    for (error, words) in errors {
         tally.add(words, Ok(is_printed(error, words)));
     }
-    const WORDS: &str = "Unexpected end of file";
-    tally.add(WORDS, Ok(is_printed(&UnexpectedEof {}, WORDS)));
-}
-
-fn add_words_of_listing(tally: &mut Tally) {
-    for (error, words) in &LIST {
-        tally.add(words, Ok(is_printed(error, words)));
-    }
-}
-
-fn add_words_of_reporting(tally: &mut Tally) {
-    for (error, words) in &REPORT {
-        tally.add(words, Ok(is_printed(error, words)));
-    }
-}
-
-fn add_words_of_images(tally: &mut Tally) {
-    for (error, words) in &IMAGE {
-        tally.add(words, Ok(is_printed(error, words)));
-    }
-}
-
-pub(crate) fn add_words(tally: &mut Tally) {
-    add_words_of_parsing(tally);
-    add_words_of_listing(tally);
-    add_words_of_reporting(tally);
-    add_words_of_images(tally);
 }
 
 fn is_malformed() -> bool {
@@ -103,7 +77,12 @@ fn is_malformed() -> bool {
     }
 }
 
-pub(crate) fn add_conversions(tally: &mut Tally) {
+pub(crate) fn add_errors(tally: &mut Tally) {
+    add_words(tally, &PARSE);
+    add_words(tally, &[(UnexpectedEof {}, "Unexpected end of file")]);
+    add_words(tally, &LIST);
+    add_words(tally, &REPORT);
+    add_words(tally, &IMAGE);
     tally.add("a number that doesn't fit", Ok(is_malformed()));
     let error = ParseError::from(UnexpectedEof {});
     let is_truncated = error == ParseError::UnexpectedEof;

@@ -1,69 +1,79 @@
-//! Calls of which one allocation is refused: each gives its row's answer, or the refusal that may stand in its place, and
-//! never another. `refused.sh` runs the program with each allocation that the rows make refused in turn.
+//! Calls in which one allocation fails: each row gives its whole answer, and at most one row is out of memory.
+//! `refused.sh` runs the program with each allocation of the rows failing in turn.
 //!
-//! Standard input has the name of some rows, a space, and the number of their allocation that is to be refused. The
-//! toolchain refuses the one of the same number in every run, `REFUSED`; so many others are made before the rows that it
-//! is theirs. Where a row's own allocation is refused, as for the bytes of its file, the row shows nothing in that run.
+//! Standard input has the name of a group of rows, a space, and the number of their allocation that is to fail. The
+//! toolchain lets the one of the same number fail in every run, `FAILED`; so many others are made before the rows that
+//! it is theirs. As many are made after the rows: if one of those fails, none of the rows' did, and then every row has
+//! to give its whole answer. The number 0 stands for a run in which no allocation fails; there `all` is every group.
 #![tactic(auto)]
 
-mod against;
+mod counts;
+mod expected;
 mod files;
 mod listings;
 mod names;
+mod readers;
 mod refusals;
-mod without_memory;
+mod streams;
+mod symbols;
+mod tally;
+mod without_allocation;
+mod words;
 
+use self::tally::Tally;
 use std::alloc::{AllocError, Global};
 use std::io::Read;
 use std::process::ExitCode;
 
-// The number of the allocation that is refused.
-const REFUSED: usize = 2000;
+// The number of the allocation that fails.
+const FAILED: usize = 2000;
 
 // The status where the rows make fewer allocations than the number.
-const NONE_REFUSED: u8 = 3;
+const NONE_FAILED: u8 = 3;
 
 // The status where standard input names no rows, or has no number.
 const NO_ROWS: u8 = 2;
+
+const GROUPS: [&str; 13] = [
+    "listings",
+    "reports",
+    "symbols",
+    "names",
+    "trimmed",
+    "crates",
+    "tuples",
+    "files",
+    "unfit_images",
+    "refusals",
+    "truncated",
+    "counts",
+    "without_allocation",
+];
 
 fn main(rt: HostRuntime) -> ExitCode {
     let mut line = [0; 80];
     match asked(&rt, &mut line) {
         None => ExitCode::from(NO_ROWS),
-        Some((rows, number)) => {
-            if allocate(rt.alloc(), REFUSED.saturating_sub(number)).is_err() {
+        Some((group, 0)) => ended_without_failure(&rt, group),
+        Some((group, number)) => {
+            if allocate(rt.alloc(), FAILED.saturating_sub(number)).is_err() {
                 return ExitCode::from(NO_ROWS);
             }
-            ended(&rt, rows)
+            ended(&rt, group)
         }
     }
 }
 
-// The rows that standard input names, and the number that it has, from 1 to `REFUSED`.
+// The group that standard input names, and the number that it has, up to `FAILED`.
 fn asked<'a>(rt: &HostRuntime, line: &'a mut [u8; 80]) -> Option<(&'a str, usize)> {
     let len = rt.stdin().read(line).ok()?;
     let text = std::str::from_utf8(line.get(..len)?).ok()?;
-    let (rows, number) = text.trim_end().split_once(' ')?;
+    let (group, number) = text.trim_end().split_once(' ')?;
     let number = number.parse().ok()?;
-    if number == 0 || number > REFUSED {
+    if number > FAILED {
         None
     } else {
-        Some((rows, number))
-    }
-}
-
-// How the program ends after these rows.
-fn ended(rt: &HostRuntime, rows: &str) -> ExitCode {
-    match wrong_row(rt.alloc(), rows) {
-        None => ExitCode::from(NO_ROWS),
-        Some(Some(row)) => {
-            let _ = println!(rt; "{row}: neither its answer nor its refusal");
-            ExitCode::FAILURE
-        }
-        Some(None) => match allocate(rt.alloc(), REFUSED) {
-            Ok(()) => ExitCode::SUCCESS,
-            Err(_) => ExitCode::from(NONE_REFUSED),
-        },
+        Some((group, number))
     }
 }
 
@@ -76,17 +86,83 @@ fn allocate(alloc: Global, count: usize) -> Result<(), AllocError> {
     Ok(())
 }
 
-// Of the rows of this name the first that is wrong; `None` where there is no such name.
-fn wrong_row(alloc: Global, rows: &str) -> Option<Option<&'static str>> {
-    match rows {
-        "listings" => Some(listings::wrong_listing(alloc)),
-        "reports" => Some(listings::wrong_report(alloc)),
-        "names" => Some(names::wrong_name(alloc)),
-        "tuples" => Some(names::wrong_tuple(alloc)),
-        "files" => Some(files::wrong_file(alloc)),
-        "refusals" => Some(refusals::wrong_answer(alloc)),
-        "truncated" => Some(refusals::wrong_truncated(alloc)),
-        "without_memory" => Some(without_memory::wrong_row(alloc)),
-        _ => None,
+// How the program ends after the rows of this group, one of whose allocations may have failed.
+fn ended(rt: &HostRuntime, group: &str) -> ExitCode {
+    match tally_of(rt.alloc(), group) {
+        None => ExitCode::from(NO_ROWS),
+        Some(tally) => {
+            let has_failed = allocate(rt.alloc(), FAILED).is_ok();
+            if !is_right(rt, &tally, has_failed) {
+                ExitCode::FAILURE
+            } else if has_failed {
+                ExitCode::SUCCESS
+            } else {
+                ExitCode::from(NONE_FAILED)
+            }
+        }
     }
+}
+
+// How the program ends after the rows of this group, or of all, where no allocation fails.
+fn ended_without_failure(rt: &HostRuntime, group: &str) -> ExitCode {
+    let mut has_rows = false;
+    for name in &GROUPS {
+        if group == *name || group == "all" {
+            has_rows = true;
+            if !has_whole_answers(rt, name) {
+                return ExitCode::FAILURE;
+            }
+        }
+    }
+    if has_rows {
+        ExitCode::SUCCESS
+    } else {
+        ExitCode::from(NO_ROWS)
+    }
+}
+
+fn has_whole_answers(rt: &HostRuntime, group: &str) -> bool {
+    match tally_of(rt.alloc(), group) {
+        None => false,
+        Some(tally) => {
+            let is_right = is_right(rt, &tally, false);
+            if is_right {
+                let _ = println!(rt; "{group}: {} whole answers", tally.rows);
+            }
+            is_right
+        }
+    }
+}
+
+// Whether no row is wrong; the first one that is wrong is named.
+fn is_right(rt: &HostRuntime, tally: &Tally, has_failed: bool) -> bool {
+    match tally.first_wrong(has_failed) {
+        None => true,
+        Some((row, how)) => {
+            let _ = println!(rt; "{row}: {how}");
+            false
+        }
+    }
+}
+
+// What the rows of this group gave; `None` where there is no such group.
+fn tally_of(alloc: Global, group: &str) -> Option<Tally> {
+    let mut tally = Tally::new();
+    match group {
+        "listings" => listings::add_listings(alloc, &mut tally),
+        "reports" => listings::add_reports(alloc, &mut tally),
+        "symbols" => symbols::add_symbols(alloc, &mut tally),
+        "names" => names::add_names(alloc, &mut tally),
+        "trimmed" => names::add_trimmed(alloc, &mut tally),
+        "crates" => names::add_crates(alloc, &mut tally),
+        "tuples" => names::add_tuples(alloc, &mut tally),
+        "files" => files::add_files(alloc, &mut tally),
+        "unfit_images" => files::add_unfit_images(alloc, &mut tally),
+        "refusals" => refusals::add_refusals(alloc, &mut tally),
+        "truncated" => refusals::add_truncated(alloc, &mut tally),
+        "counts" => counts::add_counts(alloc, &mut tally),
+        "without_allocation" => without_allocation::add_calls(&mut tally),
+        _ => return None,
+    }
+    Some(tally)
 }

@@ -1,6 +1,6 @@
 #!/usr/bin/env python3
-"""Counts the functions and the lines of code of each crate, and ends with status 1 where one has as many
-as a bound, or more.
+"""Counts the functions and the lines of code of each crate, and ends with status 1 where one isn't below
+both bounds.
 
 Counted is what is compiled: the files that `mod` items reach from src/lib.rt or src/main.rt, without what stands under
 `#[cfg(test)]`. A function is an `fn` with a name and a body. A line of code is a line on which something is left once
@@ -93,7 +93,7 @@ def main():
         functions, lines = counted(root, source)
         over = functions >= FUNCTIONS or lines >= LINES
         passed += [name] * over
-        print("%-24s %9d %6d%s" % (name, functions, lines, "  over the bound" if over else ""))
+        print("%-24s %9d %6d%s" % (name, functions, lines, "  not below the bound" if over else ""))
     sys.exit(1 if passed else 0)
 
 

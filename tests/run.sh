@@ -78,6 +78,9 @@ runs 0 "below above  " "" "" "$top/run" upper
 what="by a link"
 ln -s "$top/run" "$scratch/link"
 runs 0 "below above  " "" "" "$scratch/link" upper
+what="the program alone gone"
+rm "$top/crates/upper/out/run/upper"
+runs 0 "below above  " "$building" "upper " "$top/run" upper
 what="an edit of the program"
 echo '// says other' >"$top/crates/upper/src/main.rt"
 runs 0 "below other  " "$building" "upper " "$top/run" upper

@@ -1,8 +1,10 @@
 //! What the ELF readers find in a file, worked out by hand from the format's description.
 
 mod functions;
+mod headers;
 mod sections;
 mod symbols;
+mod truncated;
 
 use binfarce::ByteOrder;
 use binfarce_samples::elf::Layout;
@@ -15,6 +17,8 @@ const LAYOUTS: [Layout; 4] = [
 ];
 
 const TRUNCATED: &str = "unexpected end of file";
+
+const NO_SECTION: &str = "symbols section is missing";
 
 // Which of the readers reads a file.
 #[derive(Clone, Copy)]

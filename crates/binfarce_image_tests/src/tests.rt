@@ -63,43 +63,67 @@ fn counted(alloc: Global, file: &[u8], layout: ElfLayout, name: &str) -> Counted
     }
 }
 
-// The first layout in which something else is read of the image.
-fn other_layout(alloc: Global, image: &Image, name: &str, want: &Counted) -> Option<ElfLayout> {
+// In how many layouts this is read of the image.
+fn layouts_with(
+    alloc: Global,
+    image: &Image,
+    name: &str,
+    want: &Counted,
+) -> Result<usize, ImageError> {
+    let mut count = 0;
     for (layout, _) in &LAYOUTS {
-        match lay_out(alloc, image, *layout) {
-            Err(_) => return Some(*layout),
-            Ok(file) => {
-                if counted(alloc, &file, *layout, name) != *want {
-                    return Some(*layout);
-                }
-            }
+        let file = lay_out(alloc, image, *layout)?;
+        if counted(alloc, &file, *layout, name) == *want {
+            count += 1;
         }
     }
-    None
+    Ok(count)
 }
 
-// The link of the table, the section that is asked for, and what every layout answers.
-const READ: [(u32, &str, Counted); 5] = [
-    (3, ".text", Ok((1, 32))),
-    (3, ".shstrtab", Ok((0, 33))),
-    (3, "text", Err(ParseError::SymbolsSectionIsMissing)),
+// The section that is asked for, and what is read of the sample in all layouts.
+const INTACT: [(&str, Counted); 3] = [
+    (".text", Ok((1, 32))),
+    (".shstrtab", Ok((0, 33))),
+    ("text", Err(ParseError::SymbolsSectionIsMissing)),
+];
+
+#[test]
+fn reads_back_in_every_layout(rt: HostRuntime) -> Result<(), ImageError> {
+    let image = sample(rt.alloc())?;
+    for (name, want) in &INTACT {
+        assert!(&rt;
+            layouts_with(rt.alloc(), &image, name, want)? == 4,
+            "{name}"
+        );
+    }
+    Ok(())
+}
+
+// The link of the table, and what is read of `.text` in all layouts, and with the sample's link in none.
+const LINKS: [(u32, Counted); 2] = [
     (
         1,
-        ".text",
         Err(ParseError::UnexpectedSectionType {
             expected: 3,
             actual: 1,
         }),
     ),
-    (5, ".text", Err(ParseError::SectionIsMissing(".strtab"))),
+    (5, Err(ParseError::SectionIsMissing(".strtab"))),
 ];
 
 #[test]
-fn reads_back_in_every_layout(rt: HostRuntime) -> Result<(), AllocError> {
-    for (link, name, want) in &READ {
+fn reads_back_the_link(rt: HostRuntime) -> Result<(), ImageError> {
+    let intact = sample(rt.alloc())?;
+    for (link, want) in &LINKS {
         let image = linked_sample(rt.alloc(), *link)?;
-        let other = other_layout(rt.alloc(), &image, name, want);
-        assert!(&rt; other.is_none(), "link {link}, {name}: {other:?}");
+        assert!(&rt;
+            layouts_with(rt.alloc(), &image, ".text", want)? == 4,
+            "link {link}"
+        );
+        assert!(&rt;
+            layouts_with(rt.alloc(), &intact, ".text", want)? == 0,
+            "link {link}, and not the sample's"
+        );
     }
     Ok(())
 }
@@ -120,62 +144,102 @@ fn names_in(alloc: Global, names_at: u16) -> Result<Image, AllocError> {
     Ok(image)
 }
 
-fn two_tables(alloc: Global) -> Result<Image, AllocError> {
+// As many tables, and no section names.
+fn tables(alloc: Global, count: usize) -> Result<Image, AllocError> {
     let mut image = no_parts(alloc, 9);
-    push(&mut image, table(alloc, 0, &sample_rows()))?;
-    push(&mut image, table(alloc, 0, &sample_rows()))?;
+    for _ in 0..count {
+        push(&mut image, table(alloc, 0, &sample_rows()))?;
+    }
     Ok(image)
 }
 
-fn bytes_of_the_tables_kind(alloc: Global) -> Result<Image, AllocError> {
+fn bytes_beside_the_table(alloc: Global, kind: u32) -> Result<Image, AllocError> {
     let mut image = sample(alloc)?;
-    push(&mut image, bytes(alloc, 0, 2, &[]))?;
+    push(&mut image, bytes(alloc, 0, kind, &[]))?;
     Ok(image)
 }
 
-fn many_parts(alloc: Global) -> Result<Image, AllocError> {
-    let mut image = no_parts(alloc, 0);
-    for _ in 0..65_536 {
+// The sample, and empty parts up to this count.
+fn many_parts(alloc: Global, count: usize) -> Result<Image, AllocError> {
+    let mut image = sample(alloc)?;
+    for _ in image.parts.len()..count {
         push(&mut image, bytes(alloc, 0, 0, &[]))?;
     }
     Ok(image)
 }
 
-#[test]
-fn refusals(rt: HostRuntime) -> Result<(), AllocError> {
-    let rows = [
-        ("no parts", no_parts(rt.alloc(), 0), ImageError::TableCount),
+// The refusal of the image, if it is refused.
+fn refusal(alloc: Global, image: &Image) -> Option<ImageError> {
+    lay_out(alloc, image, ElfLayout::Elf64Little).err()
+}
+
+// An image that is refused, and the refusal; and the image without that about it, with the next refusal, if there is one.
+type Pair = (&'static str, Image, ImageError, Image, Option<ImageError>);
+
+fn is_refused(alloc: Global, pair: &Pair) -> bool {
+    let (_, image, want, other, next) = pair;
+    refusal(alloc, image).as_ref() == Some(want) && refusal(alloc, other) == *next
+}
+
+fn pairs_of_tables(alloc: Global) -> Result<[Pair; 3], AllocError> {
+    Ok([
+        (
+            "no parts",
+            no_parts(alloc, 9),
+            ImageError::TableCount,
+            tables(alloc, 1)?,
+            Some(ImageError::NamesPlace),
+        ),
         (
             "two tables",
-            two_tables(rt.alloc())?,
+            tables(alloc, 2)?,
             ImageError::TableCount,
+            tables(alloc, 1)?,
+            Some(ImageError::NamesPlace),
         ),
         (
             "bytes of the table's kind",
-            bytes_of_the_tables_kind(rt.alloc())?,
+            bytes_beside_the_table(alloc, 2)?,
             ImageError::TableCount,
+            bytes_beside_the_table(alloc, 1)?,
+            None,
         ),
+    ])
+}
+
+fn pairs_of_places(alloc: Global) -> Result<[Pair; 3], AllocError> {
+    Ok([
         (
             "names in the table",
-            names_in(rt.alloc(), 2)?,
+            names_in(alloc, 2)?,
             ImageError::NamesPlace,
+            names_in(alloc, 3)?,
+            None,
         ),
         (
             "names after the parts",
-            names_in(rt.alloc(), 5)?,
+            names_in(alloc, 5)?,
             ImageError::NamesPlace,
+            names_in(alloc, 4)?,
+            None,
         ),
         (
             "65,536 parts",
-            many_parts(rt.alloc())?,
+            many_parts(alloc, 65_536)?,
             ImageError::TooManySections,
+            many_parts(alloc, 65_535)?,
+            None,
         ),
-    ];
-    for (what, image, refusal) in &rows {
-        match lay_out(rt.alloc(), image, ElfLayout::Elf64Little) {
-            Ok(_) => assert!(&rt; false, "{what}"),
-            Err(e) => assert!(&rt; e == *refusal, "{what}: {e}"),
-        }
+    ])
+}
+
+#[test]
+fn refusals(rt: HostRuntime) -> Result<(), AllocError> {
+    for pair in &pairs_of_tables(rt.alloc())? {
+        assert!(&rt; is_refused(rt.alloc(), pair), "{}", pair.0);
+    }
+    for pair in &pairs_of_places(rt.alloc())? {
+        assert!(&rt; is_refused(rt.alloc(), pair), "{}", pair.0);
     }
     Ok(())
 }

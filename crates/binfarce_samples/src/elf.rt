@@ -3,6 +3,8 @@
 //! A file header, the bodies of the sections in order without padding, and the section headers in order. Of the symbol
 //! table's five rows the first alone is a function of `.text` with a size and a name.
 
+use crate::Patch;
+
 /// What is listed of the file.
 pub const LISTING: &str = "0000000000001000         16 foo\ntext 32\n";
 
@@ -26,6 +28,121 @@ impl Layout {
         }
     }
 }
+
+/// A file whose `.text` has no symbols to list: what is wrong, the layout, the bytes that are changed, and the words of
+/// the refusal.
+pub type Refused = (
+    &'static str,
+    Layout,
+    &'static [Patch<'static>],
+    &'static str,
+);
+
+/// Files that are refused, the refusals in their order, and then the greatest sizes that a header can hold.
+pub const REFUSED: [Refused; 17] = [
+    (
+        "section names in section 5 of 5",
+        Layout::Elf64Little,
+        &[(62, &[5])],
+        "symbols section is missing",
+    ),
+    (
+        "section names in section 5 of 5",
+        Layout::Elf64Big,
+        &[(63, &[5])],
+        "symbols section is missing",
+    ),
+    (
+        "no symbol table",
+        Layout::Elf64Little,
+        &[(399, &[1])],
+        "section .symtab is missing",
+    ),
+    (
+        "no linked section",
+        Layout::Elf64Little,
+        &[(435, &[9])],
+        "section .strtab is missing",
+    ),
+    (
+        "a linked section of another type",
+        Layout::Elf64Little,
+        &[(435, &[1])],
+        "expected section type 3 but found 1",
+    ),
+    (
+        "strings past all addresses",
+        Layout::Elf64Little,
+        &[(483, &[0xFF; 8])],
+        "malformed input file",
+    ),
+    (
+        "strings past the end",
+        Layout::Elf64Little,
+        &[(491, &[0, 0, 1])],
+        "unexpected end of file",
+    ),
+    (
+        "rows past all addresses",
+        Layout::Elf64Little,
+        &[(419, &[0xFF; 8])],
+        "malformed input file",
+    ),
+    (
+        "rows past the end",
+        Layout::Elf64Little,
+        &[(427, &[0, 0, 1])],
+        "unexpected end of file",
+    ),
+    (
+        "a truncated second row",
+        Layout::Elf64Little,
+        &[(427, &[47])],
+        "unexpected end of file",
+    ),
+    (
+        "a truncated second row",
+        Layout::Elf64Big,
+        &[(434, &[47])],
+        "unexpected end of file",
+    ),
+    (
+        "a truncated first row",
+        Layout::Elf32Little,
+        &[(315, &[15])],
+        "unexpected end of file",
+    ),
+    (
+        "a truncated first row",
+        Layout::Elf32Big,
+        &[(318, &[15])],
+        "unexpected end of file",
+    ),
+    (
+        "the greatest size of the table",
+        Layout::Elf32Little,
+        &[(315, &[0xFF; 4])],
+        "unexpected end of file",
+    ),
+    (
+        "the greatest size of the table",
+        Layout::Elf32Big,
+        &[(315, &[0xFF; 4])],
+        "unexpected end of file",
+    ),
+    (
+        "the greatest size of the table",
+        Layout::Elf64Little,
+        &[(427, &[0xFF; 8])],
+        "malformed input file",
+    ),
+    (
+        "the greatest size of the table",
+        Layout::Elf64Big,
+        &[(427, &[0xFF; 8])],
+        "malformed input file",
+    ),
+];
 
 /// The file in 32-bit form, little endian.
 #[rattlefmt::skip]

@@ -7,6 +7,7 @@ ghost use Rattle.binfarce_samples.specs.Patched.{patched, patched_at};
 pub mod elf;
 pub mod macho;
 pub mod pe;
+pub mod question;
 
 use std::alloc::{AllocError, Global};
 

@@ -11,6 +11,61 @@ pub const MAGIC: Patch<'static> = (0, &[0xCF, 0xFA, 0xED, 0xFE]);
 pub const LISTING: &str =
     "0000000000001000         64 a\n0000000000001000         64 b\n0000000000001040        192 c\ntext 256\n";
 
+/// A file without symbols to list: what is wrong, the bytes that are changed, and the words of the refusal.
+pub type Refused = (&'static str, &'static [Patch<'static>], &'static str);
+
+/// Files that are refused; the last two have the greatest counts. With a symbol table of no rows whose offset is one
+/// byte less, the file isn't refused.
+pub const REFUSED: [Refused; 11] = [
+    (
+        "another section name",
+        &[(104, b"__tex\0")],
+        "symbols section is missing",
+    ),
+    (
+        "a section name of 16 full bytes",
+        &[(104, b"__objc_classlist")],
+        "symbols section is missing",
+    ),
+    ("text size 0", &[(144, &[0, 0])], "malformed input file"),
+    (
+        "second command's size 7",
+        &[(188, &[7])],
+        "malformed input file",
+    ),
+    (
+        "strings of 10 bytes",
+        &[(204, &[10])],
+        "unexpected end of file",
+    ),
+    (
+        "no rows past the end",
+        &[(192, &[0x1A, 1, 0, 0, 0, 0, 0, 0])],
+        "unexpected end of file",
+    ),
+    ("five rows", &[(196, &[5])], "unexpected end of file"),
+    (
+        "text past all addresses",
+        &[(136, &[0, 0xFF, 0xFF, 0xFF, 0xFF, 0xFF, 0xFF, 0xFF])],
+        "malformed input file",
+    ),
+    (
+        "a symbol past the text",
+        &[(264, &[0x00, 0x12])],
+        "malformed input file",
+    ),
+    (
+        "2^32 - 1 rows",
+        &[(196, &[0xFF; 4])],
+        "unexpected end of file",
+    ),
+    (
+        "2^32 - 1 bytes of strings",
+        &[(204, &[0xFF; 4])],
+        "unexpected end of file",
+    ),
+];
+
 /// The file: little endian, 64 bits.
 #[rattlefmt::skip]
 pub static MACHO: [u8; 281] = [

@@ -11,6 +11,35 @@ pub const MAGIC: Patch<'static> = (0, b"MZ");
 pub const LISTING: &str =
     "0000000000000000         64 b\n0000000000000000         64 d\n0000000000000040        192 c\n0000000000000100        128 e\n0000000000000180          0 a\ntext 256\n";
 
+/// A file without symbols to list: what is wrong, the bytes that are changed, and the words of the refusal.
+pub type Refused = (&'static str, &'static [Patch<'static>], &'static str);
+
+/// Files that are refused; the last has the greatest count. With a symbol table of no rows whose offset is one byte
+/// less, the file isn't refused.
+pub const REFUSED: [Refused; 5] = [
+    (
+        "no section .text",
+        &[(89, b"T")],
+        "symbols section is missing",
+    ),
+    (
+        "the section table past the end",
+        &[(84, &[130])],
+        "unexpected end of file",
+    ),
+    (
+        "no rows at the end",
+        &[(76, &[218, 0, 0, 0, 0, 0, 0, 0])],
+        "unexpected end of file",
+    ),
+    ("6 rows", &[(80, &[6])], "unexpected end of file"),
+    (
+        "2^32 - 1 rows",
+        &[(80, &[0xFF; 4])],
+        "unexpected end of file",
+    ),
+];
+
 /// The file.
 #[rattlefmt::skip]
 pub static PE: [u8; 218] = [

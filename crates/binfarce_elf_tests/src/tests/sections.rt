@@ -1,51 +1,36 @@
-//! Headers and sections.
+//! Sections.
 
 use super::{Class, TRUNCATED, class_of, order_of};
 use binfarce::{ByteOrder, ParseError, elf32, elf64};
+use binfarce_samples::Patch;
 use binfarce_samples::elf::Layout;
-use binfarce_samples::{Patch, first_bytes, patched};
+use binfarce_samples::question::{Question, wrong_despite, wrong_with};
 use std::alloc::{AllocError, Global};
 use std::ops::Range;
 use std::test::Fail;
 
-#[test]
-fn headers(rt: HostRuntime) -> Result<(), Fail> {
-    let h = elf64::parse(Layout::Elf64Big.bytes(), ByteOrder::BigEndian)?.header();
-    let numbers = [
-        h.entry,
-        h.phoff,
-        h.shoff,
-        u64::from(h.version),
-        u64::from(h.flags),
-    ];
-    assert_eq!(rt; numbers, [0, 0, 267, 1, 0]);
-    let halves = [h.elf_type, h.machine, h.ehsize, h.phentsize, h.phnum];
-    assert_eq!(rt; halves, [1, 0, 64, 0, 0]);
-    assert_eq!(rt; [h.shentsize, h.shnum, h.shstrndx], [64, 5, 4]);
-    let h = elf32::parse(Layout::Elf32Little.bytes(), ByteOrder::LittleEndian)?.header();
-    assert_eq!(rt;
-        [h.entry, h.phoff, h.shoff, h.version, h.flags],
-        [0, 0, 215, 1, 0]
-    );
-    let halves = [h.elf_type, h.machine, h.ehsize, h.phentsize, h.phnum];
-    assert_eq!(rt; halves, [1, 0, 52, 0, 0]);
-    assert_eq!(rt; [h.shentsize, h.shnum, h.shstrndx], [40, 5, 4]);
-    Ok(())
-}
-
-// Which section is asked for: of this name, the first, or past the last.
+// Which section is asked for: of this name, the first, the first that begins at this offset, or past the last.
 #[derive(Clone, Copy, Debug)]
-enum Ask {
+pub(crate) enum Ask {
     Named(&'static str),
     First,
+    At(usize),
     PastTheLast,
 }
 
 // What a section of either class tells.
+#[derive(Drop)]
 struct Found<'a> {
     name: Option<&'a str>,
     range: Result<Range<usize>, ParseError>,
     entries: u64,
+}
+
+fn begins_at(range: Result<Range<usize>, ParseError>, offset: usize) -> bool {
+    match range {
+        Ok(range) => range.start == offset,
+        Err(_) => false,
+    }
 }
 
 fn found_32(file: &[u8], order: ByteOrder, ask: Ask) -> Result<Option<Found<'_>>, ParseError> {
@@ -53,6 +38,7 @@ fn found_32(file: &[u8], order: ByteOrder, ask: Ask) -> Result<Option<Found<'_>>
     let section = match ask {
         Ask::Named(name) => elf.section_with_name(name)?,
         Ask::First => elf.find_section(|_| true)?,
+        Ask::At(offset) => elf.find_section(|section| begins_at(section.range(), offset))?,
         Ask::PastTheLast => elf.find_section(|_| false)?,
     };
     match section {
@@ -70,6 +56,7 @@ fn found_64(file: &[u8], order: ByteOrder, ask: Ask) -> Result<Option<Found<'_>>
     let section = match ask {
         Ask::Named(name) => elf.section_with_name(name)?,
         Ask::First => elf.find_section(|_| true)?,
+        Ask::At(offset) => elf.find_section(|section| begins_at(section.range(), offset))?,
         Ask::PastTheLast => elf.find_section(|_| false)?,
     };
     match section {
@@ -83,263 +70,436 @@ fn found_64(file: &[u8], order: ByteOrder, ask: Ask) -> Result<Option<Found<'_>>
 }
 
 // The section's name, range and number of entries, or the words of the refusal.
-fn described(alloc: Global, layout: Layout, file: &[u8], ask: Ask) -> Result<String, AllocError> {
-    let found = match class_of(layout) {
-        Class::Elf32 => found_32(file, order_of(layout), ask),
-        Class::Elf64 => found_64(file, order_of(layout), ask),
-    };
-    match found {
-        Err(error) => format!(in alloc; "{error}"),
-        Ok(None) => format!(in alloc; "none"),
-        Ok(
-            Some(
-                Found {
-                    name,
-                    range,
-                    entries,
-                },
+#[derive(Clone, Copy)]
+pub(crate) struct Sections {
+    pub(crate) layout: Layout,
+    pub(crate) ask: Ask,
+}
+
+impl Question for Sections {
+    fn answer(&self, alloc: Global, file: &[u8]) -> Result<String, AllocError> {
+        let found = match class_of(self.layout) {
+            Class::Elf32 => found_32(file, order_of(self.layout), self.ask),
+            Class::Elf64 => found_64(file, order_of(self.layout), self.ask),
+        };
+        match found {
+            Err(error) => format!(in alloc; "{error}"),
+            Ok(None) => format!(in alloc; "none"),
+            Ok(Some(section)) => format!(in alloc;
+                "{:?} {:?} {}",
+                section.name, section.range, section.entries
             ),
-        ) => { format!(in alloc; "{name:?} {range:?} {entries}") }
+        }
     }
 }
 
-struct Row {
-    what: &'static str,
-    layout: Layout,
-    // The length that is kept of the file, and the bytes that are changed.
-    len: usize,
-    patches: &'static [Patch<'static>],
-    ask: Ask,
-    text: &'static str,
-}
-
-// All of a file.
-const WHOLE: usize = 1000;
-
-// A file, which of its sections is asked for, and what is found: the name, the range, and the number of entries.
-const ROWS: [Row; 24] = [
-    Row {
-        what: "by its name",
-        layout: Layout::Elf32Little,
-        len: WHOLE,
-        patches: &[],
-        ask: Ask::Named(".text"),
-        text: "Some(\".text\") Ok(52..84) 0",
-    },
-    Row {
-        what: "by its name",
-        layout: Layout::Elf32Big,
-        len: WHOLE,
-        patches: &[],
-        ask: Ask::Named(".text"),
-        text: "Some(\".text\") Ok(52..84) 0",
-    },
-    Row {
-        what: "by its name",
-        layout: Layout::Elf64Little,
-        len: WHOLE,
-        patches: &[],
-        ask: Ask::Named(".text"),
-        text: "Some(\".text\") Ok(64..96) 0",
-    },
-    Row {
-        what: "by its name",
-        layout: Layout::Elf64Big,
-        len: WHOLE,
-        patches: &[],
-        ask: Ask::Named(".text"),
-        text: "Some(\".text\") Ok(64..96) 0",
-    },
-    Row {
-        what: "by an empty name",
-        layout: Layout::Elf32Little,
-        len: WHOLE,
-        patches: &[],
-        ask: Ask::Named(""),
-        text: "none",
-    },
-    Row {
-        what: "by an empty name",
-        layout: Layout::Elf32Big,
-        len: WHOLE,
-        patches: &[],
-        ask: Ask::Named(""),
-        text: "none",
-    },
-    Row {
-        what: "by an empty name",
-        layout: Layout::Elf64Little,
-        len: WHOLE,
-        patches: &[],
-        ask: Ask::Named(""),
-        text: "none",
-    },
-    Row {
-        what: "by an empty name",
-        layout: Layout::Elf64Big,
-        len: WHOLE,
-        patches: &[],
-        ask: Ask::Named(""),
-        text: "none",
-    },
-    Row {
-        what: "past the last of 65,535 sections",
-        layout: Layout::Elf32Little,
-        len: WHOLE,
-        patches: &[(48, &[0xFF; 2])],
-        ask: Ask::Named("nope"),
-        text: TRUNCATED,
-    },
-    Row {
-        what: "past the last of 65,535 sections",
-        layout: Layout::Elf32Big,
-        len: WHOLE,
-        patches: &[(48, &[0xFF; 2])],
-        ask: Ask::Named("nope"),
-        text: TRUNCATED,
-    },
-    Row {
-        what: "past the last of 65,535 sections",
-        layout: Layout::Elf64Little,
-        len: WHOLE,
-        patches: &[(60, &[0xFF; 2])],
-        ask: Ask::Named("nope"),
-        text: TRUNCATED,
-    },
-    Row {
-        what: "past the last of 65,535 sections",
-        layout: Layout::Elf64Big,
-        len: WHOLE,
-        patches: &[(60, &[0xFF; 2])],
-        ask: Ask::Named("nope"),
-        text: TRUNCATED,
-    },
-    Row {
-        what: "one whole section header",
-        layout: Layout::Elf64Little,
-        len: 331,
-        patches: &[],
-        ask: Ask::First,
-        text: "None Ok(64..64) 0",
-    },
-    Row {
-        what: "one whole section header",
-        layout: Layout::Elf64Big,
-        len: 331,
-        patches: &[],
-        ask: Ask::First,
-        text: "None Ok(64..64) 0",
-    },
-    Row {
-        what: "past one whole section header",
-        layout: Layout::Elf64Little,
-        len: 331,
-        patches: &[],
-        ask: Ask::PastTheLast,
-        text: TRUNCATED,
-    },
-    Row {
-        what: "past one whole section header",
-        layout: Layout::Elf64Big,
-        len: 331,
-        patches: &[],
-        ask: Ask::PastTheLast,
-        text: TRUNCATED,
-    },
-    Row {
-        what: "section names in section 5 of 5",
-        layout: Layout::Elf64Little,
-        len: WHOLE,
-        patches: &[(62, &[5])],
-        ask: Ask::First,
-        text: "None Ok(64..64) 0",
-    },
-    Row {
-        what: "section names in section 5 of 5",
-        layout: Layout::Elf64Big,
-        len: WHOLE,
-        patches: &[(63, &[5])],
-        ask: Ask::First,
-        text: "None Ok(64..64) 0",
-    },
-    Row {
-        what: "a section past the last address",
-        layout: Layout::Elf64Little,
-        len: WHOLE,
-        patches: &[(291, &[0xFF; 8]), (299, &[1])],
-        ask: Ask::First,
-        text: "None Err(MalformedInput) 0",
-    },
-    Row {
-        what: "a section past the last address",
-        layout: Layout::Elf64Big,
-        len: WHOLE,
-        patches: &[(291, &[0xFF; 8]), (306, &[1])],
-        ask: Ask::First,
-        text: "None Err(MalformedInput) 0",
-    },
-    Row {
-        what: "a section up to the last address",
-        layout: Layout::Elf32Little,
-        len: WHOLE,
-        patches: &[(231, &[0xFF; 4]), (235, &[1])],
-        ask: Ask::First,
-        text: "None Ok(4294967295..4294967296) 0",
-    },
-    Row {
-        what: "a truncated second row",
-        layout: Layout::Elf64Little,
-        len: WHOLE,
-        patches: &[(427, &[47])],
-        ask: Ask::Named(".symtab"),
-        text: "Some(\".symtab\") Ok(96..143) 1",
-    },
-    Row {
-        what: "a truncated second row",
-        layout: Layout::Elf64Big,
-        len: WHOLE,
-        patches: &[(434, &[47])],
-        ask: Ask::Named(".symtab"),
-        text: "Some(\".symtab\") Ok(96..143) 1",
-    },
-    Row {
-        what: "a truncated first row",
-        layout: Layout::Elf32Little,
-        len: WHOLE,
-        patches: &[(315, &[15])],
-        ask: Ask::Named(".symtab"),
-        text: "Some(\".symtab\") Ok(84..99) 0",
-    },
+// Which section is asked for, and what is found: the name, the range, and the number of entries.
+const INTACT: [(Layout, Ask, &str); 24] = [
+    (
+        Layout::Elf32Little,
+        Ask::Named(".text"),
+        "Some(\".text\") Ok(52..84) 0",
+    ),
+    (
+        Layout::Elf32Little,
+        Ask::Named(".symtab"),
+        "Some(\".symtab\") Ok(84..164) 5",
+    ),
+    (Layout::Elf32Little, Ask::Named(""), "none"),
+    (Layout::Elf32Little, Ask::First, "None Ok(52..52) 0"),
+    (
+        Layout::Elf32Little,
+        Ask::At(182),
+        "Some(\".shstrtab\") Ok(182..215) 0",
+    ),
+    (Layout::Elf32Little, Ask::PastTheLast, "none"),
+    (
+        Layout::Elf32Big,
+        Ask::Named(".text"),
+        "Some(\".text\") Ok(52..84) 0",
+    ),
+    (
+        Layout::Elf32Big,
+        Ask::Named(".symtab"),
+        "Some(\".symtab\") Ok(84..164) 5",
+    ),
+    (Layout::Elf32Big, Ask::Named(""), "none"),
+    (Layout::Elf32Big, Ask::First, "None Ok(52..52) 0"),
+    (
+        Layout::Elf32Big,
+        Ask::At(182),
+        "Some(\".shstrtab\") Ok(182..215) 0",
+    ),
+    (Layout::Elf32Big, Ask::PastTheLast, "none"),
+    (
+        Layout::Elf64Little,
+        Ask::Named(".text"),
+        "Some(\".text\") Ok(64..96) 0",
+    ),
+    (
+        Layout::Elf64Little,
+        Ask::Named(".symtab"),
+        "Some(\".symtab\") Ok(96..216) 5",
+    ),
+    (Layout::Elf64Little, Ask::Named(""), "none"),
+    (Layout::Elf64Little, Ask::First, "None Ok(64..64) 0"),
+    (
+        Layout::Elf64Little,
+        Ask::At(234),
+        "Some(\".shstrtab\") Ok(234..267) 0",
+    ),
+    (Layout::Elf64Little, Ask::PastTheLast, "none"),
+    (
+        Layout::Elf64Big,
+        Ask::Named(".text"),
+        "Some(\".text\") Ok(64..96) 0",
+    ),
+    (
+        Layout::Elf64Big,
+        Ask::Named(".symtab"),
+        "Some(\".symtab\") Ok(96..216) 5",
+    ),
+    (Layout::Elf64Big, Ask::Named(""), "none"),
+    (Layout::Elf64Big, Ask::First, "None Ok(64..64) 0"),
+    (
+        Layout::Elf64Big,
+        Ask::At(234),
+        "Some(\".shstrtab\") Ok(234..267) 0",
+    ),
+    (Layout::Elf64Big, Ask::PastTheLast, "none"),
 ];
 
 #[test]
-fn sections(rt: HostRuntime) -> Result<(), Fail> {
-    for row in &ROWS {
-        let file = patched(rt.alloc(), row.layout.bytes(), row.patches)?;
-        let file = first_bytes(&file, row.len);
-        let text = described(rt.alloc(), row.layout, file, row.ask)?;
-        assert_eq!(rt; text.as_str(), row.text, "{}, {:?}", row.what, row.layout);
+fn intact_files(rt: HostRuntime) -> Result<(), Fail> {
+    for (layout, ask, text) in &INTACT {
+        let question = Sections {
+            layout: *layout,
+            ask: *ask,
+        };
+        let answer = question.answer(rt.alloc(), layout.bytes())?;
+        assert!(rt; answer.as_str() == *text, "{ask:?}, {layout:?}: {answer}");
     }
     Ok(())
 }
 
-// A number of zero bytes with others in between, and what the search for the first section answers.
-const ZEROS: [(Layout, usize, &[Patch<'static>], &str); 6] = [
-    (Layout::Elf64Little, 63, &[], TRUNCATED),
-    (Layout::Elf64Little, 64, &[], "none"),
-    (Layout::Elf64Little, 64, &[(40, &[64])], TRUNCATED),
-    (Layout::Elf32Little, 51, &[], TRUNCATED),
-    (Layout::Elf32Little, 52, &[], "none"),
-    (Layout::Elf32Little, 52, &[(32, &[52])], TRUNCATED),
+type Row = (
+    &'static str,
+    Layout,
+    &'static [Patch<'static>],
+    Ask,
+    &'static str,
+);
+
+// What is changed, which section is asked for, and what is found.
+const CHANGED: [Row; 32] = [
+    (
+        "65,535 sections",
+        Layout::Elf32Little,
+        &[(48, &[0xFF; 2])],
+        Ask::Named("nope"),
+        TRUNCATED,
+    ),
+    (
+        "65,535 sections",
+        Layout::Elf32Big,
+        &[(48, &[0xFF; 2])],
+        Ask::Named("nope"),
+        TRUNCATED,
+    ),
+    (
+        "65,535 sections",
+        Layout::Elf64Little,
+        &[(60, &[0xFF; 2])],
+        Ask::Named("nope"),
+        TRUNCATED,
+    ),
+    (
+        "65,535 sections",
+        Layout::Elf64Big,
+        &[(60, &[0xFF; 2])],
+        Ask::Named("nope"),
+        TRUNCATED,
+    ),
+    (
+        "section names in section 5 of 5",
+        Layout::Elf32Little,
+        &[(50, &[5])],
+        Ask::Named(".text"),
+        "none",
+    ),
+    (
+        "section names in section 5 of 5",
+        Layout::Elf32Little,
+        &[(50, &[5])],
+        Ask::Named(".shstrtab"),
+        "none",
+    ),
+    (
+        "section names in section 5 of 5",
+        Layout::Elf32Little,
+        &[(50, &[5])],
+        Ask::At(84),
+        "None Ok(84..164) 5",
+    ),
+    (
+        "section names in section 5 of 5",
+        Layout::Elf32Little,
+        &[(50, &[5])],
+        Ask::At(182),
+        "None Ok(182..215) 0",
+    ),
+    (
+        "section names in section 5 of 5",
+        Layout::Elf32Big,
+        &[(51, &[5])],
+        Ask::Named(".text"),
+        "none",
+    ),
+    (
+        "section names in section 5 of 5",
+        Layout::Elf32Big,
+        &[(51, &[5])],
+        Ask::Named(".shstrtab"),
+        "none",
+    ),
+    (
+        "section names in section 5 of 5",
+        Layout::Elf32Big,
+        &[(51, &[5])],
+        Ask::At(84),
+        "None Ok(84..164) 5",
+    ),
+    (
+        "section names in section 5 of 5",
+        Layout::Elf32Big,
+        &[(51, &[5])],
+        Ask::At(182),
+        "None Ok(182..215) 0",
+    ),
+    (
+        "section names in section 5 of 5",
+        Layout::Elf64Little,
+        &[(62, &[5])],
+        Ask::Named(".text"),
+        "none",
+    ),
+    (
+        "section names in section 5 of 5",
+        Layout::Elf64Little,
+        &[(62, &[5])],
+        Ask::Named(".shstrtab"),
+        "none",
+    ),
+    (
+        "section names in section 5 of 5",
+        Layout::Elf64Little,
+        &[(62, &[5])],
+        Ask::At(96),
+        "None Ok(96..216) 5",
+    ),
+    (
+        "section names in section 5 of 5",
+        Layout::Elf64Little,
+        &[(62, &[5])],
+        Ask::At(234),
+        "None Ok(234..267) 0",
+    ),
+    (
+        "section names in section 5 of 5",
+        Layout::Elf64Big,
+        &[(63, &[5])],
+        Ask::Named(".text"),
+        "none",
+    ),
+    (
+        "section names in section 5 of 5",
+        Layout::Elf64Big,
+        &[(63, &[5])],
+        Ask::Named(".shstrtab"),
+        "none",
+    ),
+    (
+        "section names in section 5 of 5",
+        Layout::Elf64Big,
+        &[(63, &[5])],
+        Ask::At(96),
+        "None Ok(96..216) 5",
+    ),
+    (
+        "section names in section 5 of 5",
+        Layout::Elf64Big,
+        &[(63, &[5])],
+        Ask::At(234),
+        "None Ok(234..267) 0",
+    ),
+    (
+        "a section past the last address",
+        Layout::Elf64Little,
+        &[(291, &[0xFF; 8]), (299, &[1])],
+        Ask::First,
+        "None Err(MalformedInput) 0",
+    ),
+    (
+        "a section past the last address",
+        Layout::Elf64Big,
+        &[(291, &[0xFF; 8]), (306, &[1])],
+        Ask::First,
+        "None Err(MalformedInput) 0",
+    ),
+    (
+        "a section up to the last address",
+        Layout::Elf32Little,
+        &[(231, &[0xFF; 4]), (235, &[1])],
+        Ask::First,
+        "None Ok(4294967295..4294967296) 0",
+    ),
+    (
+        "a section up to the last address",
+        Layout::Elf32Big,
+        &[(231, &[0xFF; 4]), (238, &[1])],
+        Ask::First,
+        "None Ok(4294967295..4294967296) 0",
+    ),
+    (
+        "a truncated first row",
+        Layout::Elf32Little,
+        &[(315, &[15])],
+        Ask::Named(".symtab"),
+        "Some(\".symtab\") Ok(84..99) 0",
+    ),
+    (
+        "a truncated first row",
+        Layout::Elf32Big,
+        &[(318, &[15])],
+        Ask::Named(".symtab"),
+        "Some(\".symtab\") Ok(84..99) 0",
+    ),
+    (
+        "a truncated second row",
+        Layout::Elf64Little,
+        &[(427, &[47])],
+        Ask::Named(".symtab"),
+        "Some(\".symtab\") Ok(96..143) 1",
+    ),
+    (
+        "a truncated second row",
+        Layout::Elf64Big,
+        &[(434, &[47])],
+        Ask::Named(".symtab"),
+        "Some(\".symtab\") Ok(96..143) 1",
+    ),
+    (
+        "entries of no size",
+        Layout::Elf32Little,
+        &[(331, &[0; 4])],
+        Ask::Named(".symtab"),
+        "Some(\".symtab\") Ok(84..164) 0",
+    ),
+    (
+        "entries of no size",
+        Layout::Elf32Big,
+        &[(331, &[0; 4])],
+        Ask::Named(".symtab"),
+        "Some(\".symtab\") Ok(84..164) 0",
+    ),
+    (
+        "entries of no size",
+        Layout::Elf64Little,
+        &[(451, &[0; 8])],
+        Ask::Named(".symtab"),
+        "Some(\".symtab\") Ok(96..216) 0",
+    ),
+    (
+        "entries of no size",
+        Layout::Elf64Big,
+        &[(451, &[0; 8])],
+        Ask::Named(".symtab"),
+        "Some(\".symtab\") Ok(96..216) 0",
+    ),
 ];
 
 #[test]
-fn zero_bytes(rt: HostRuntime) -> Result<(), Fail> {
-    let zeros = [0; 64];
-    for (layout, len, patches, text) in &ZEROS {
-        let file = patched(rt.alloc(), first_bytes(&zeros, *len), patches)?;
-        let found = described(rt.alloc(), *layout, &file, Ask::First)?;
-        assert_eq!(rt; found.as_str(), *text, "{len} bytes, {patches:?}");
+fn changed_files(rt: HostRuntime) -> Result<(), Fail> {
+    for (what, layout, patches, ask, text) in &CHANGED {
+        let question = Sections {
+            layout: *layout,
+            ask: *ask,
+        };
+        let wrong = wrong_with(rt.alloc(), &question, layout.bytes(), patches, text)?;
+        assert!(rt; wrong.is_none(), "{what}, {ask:?}, {layout:?}: {wrong:?}");
+    }
+    Ok(())
+}
+
+// What is changed and must not matter; the same patches are asked of in `CHANGED`.
+const UNCHANGED: [Row; 8] = [
+    (
+        "65,535 sections",
+        Layout::Elf32Little,
+        &[(48, &[0xFF; 2])],
+        Ask::Named(".text"),
+        "Some(\".text\") Ok(52..84) 0",
+    ),
+    (
+        "65,535 sections",
+        Layout::Elf32Big,
+        &[(48, &[0xFF; 2])],
+        Ask::Named(".text"),
+        "Some(\".text\") Ok(52..84) 0",
+    ),
+    (
+        "65,535 sections",
+        Layout::Elf64Little,
+        &[(60, &[0xFF; 2])],
+        Ask::Named(".text"),
+        "Some(\".text\") Ok(64..96) 0",
+    ),
+    (
+        "65,535 sections",
+        Layout::Elf64Big,
+        &[(60, &[0xFF; 2])],
+        Ask::Named(".text"),
+        "Some(\".text\") Ok(64..96) 0",
+    ),
+    (
+        "section names in section 5 of 5",
+        Layout::Elf32Little,
+        &[(50, &[5])],
+        Ask::First,
+        "None Ok(52..52) 0",
+    ),
+    (
+        "section names in section 5 of 5",
+        Layout::Elf32Big,
+        &[(51, &[5])],
+        Ask::First,
+        "None Ok(52..52) 0",
+    ),
+    (
+        "section names in section 5 of 5",
+        Layout::Elf64Little,
+        &[(62, &[5])],
+        Ask::First,
+        "None Ok(64..64) 0",
+    ),
+    (
+        "section names in section 5 of 5",
+        Layout::Elf64Big,
+        &[(63, &[5])],
+        Ask::First,
+        "None Ok(64..64) 0",
+    ),
+];
+
+#[test]
+fn unchanged_answers(rt: HostRuntime) -> Result<(), Fail> {
+    for (what, layout, patches, ask, text) in &UNCHANGED {
+        let question = Sections {
+            layout: *layout,
+            ask: *ask,
+        };
+        let wrong = wrong_despite(rt.alloc(), &question, layout.bytes(), patches, text)?;
+        assert!(rt; wrong.is_none(), "{what}, {ask:?}, {layout:?}: {wrong:?}");
     }
     Ok(())
 }

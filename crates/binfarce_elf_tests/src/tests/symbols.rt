@@ -1,14 +1,15 @@
 //! The symbols of a section, as lines or as the words of a refusal.
 
-use super::{Class, LAYOUTS, TRUNCATED, class_of, order_of};
+use super::{Class, LAYOUTS, NO_SECTION, TRUNCATED, class_of, order_of};
 use binfarce::demangle::SymbolData;
 use binfarce::{ByteOrder, ParseError, elf32, elf64};
-use binfarce_samples::elf::Layout;
-use binfarce_samples::{Patch, patched};
+use binfarce_samples::Patch;
+use binfarce_samples::elf::{Layout, REFUSED};
+use binfarce_samples::question::{Question, wrong_despite, wrong_with};
 use std::alloc::{AllocError, Global};
 use std::test::Fail;
 
-const LISTING: &str = "1000 16 foo::bar foo Legacy None, section of 32";
+pub(crate) const LISTING: &str = "1000 16 foo::bar foo Legacy None, section of 32";
 
 type Answer = Result<(Vec<SymbolData>, u64), ParseError>;
 
@@ -34,36 +35,49 @@ fn symbols(alloc: Global, layout: Layout, file: &[u8], section: &str) -> Answer 
 }
 
 // Address, size, names, kind and crate of each symbol and then the section's size, or the words of the refusal.
-fn listed(alloc: Global, layout: Layout, file: &[u8], section: &str) -> Result<String, AllocError> {
-    let (symbols, size) = match symbols(alloc, layout, file, section) {
-        Err(error) => return format!(in alloc; "{error}"),
-        Ok(answer) => answer,
-    };
-    let mut lines = String::new(alloc);
-    for symbol in &symbols {
-        let name = &symbol.name;
-        let line = format!(in alloc;
-            "{:x} {} {} {} {:?} {:?}, ",
-            symbol.address, symbol.size, name.complete, name.trimmed, name.kind, name.crate_name
-        )?;
+#[derive(Clone, Copy)]
+pub(crate) struct Listed {
+    pub(crate) layout: Layout,
+    pub(crate) section: &'static str,
+}
+
+impl Question for Listed {
+    fn answer(&self, alloc: Global, file: &[u8]) -> Result<String, AllocError> {
+        let (symbols, size) = match symbols(alloc, self.layout, file, self.section) {
+            Err(error) => return format!(in alloc; "{error}"),
+            Ok(answer) => answer,
+        };
+        let mut lines = String::new(alloc);
+        for symbol in &symbols {
+            let name = &symbol.name;
+            let line = format!(in alloc;
+                "{:x} {} {} {} {:?} {:?}, ",
+                symbol.address, symbol.size, name.complete, name.trimmed, name.kind, name.crate_name
+            )?;
+            lines.push_str(line.as_str())?;
+        }
+        let line = format!(in alloc; "section of {size}")?;
         lines.push_str(line.as_str())?;
+        Ok(lines)
     }
-    let line = format!(in alloc; "section of {size}")?;
-    lines.push_str(line.as_str())?;
-    Ok(lines)
 }
 
 // The section that is asked for, and the answer in each layout.
 const SECTIONS: [(&str, &str); 3] = [
     (".text", LISTING),
     (".shstrtab", "section of 33"),
-    ("text", "symbols section is missing"),
+    ("text", NO_SECTION),
 ];
 
 // The first layout in which something else is answered.
-fn other_layout(alloc: Global, section: &str, text: &str) -> Result<Option<Layout>, AllocError> {
+fn other_layout(
+    alloc: Global,
+    section: &'static str,
+    text: &str,
+) -> Result<Option<Layout>, AllocError> {
     for layout in LAYOUTS {
-        if listed(alloc, layout, layout.bytes(), section)?.as_str() != text {
+        let question = Listed { layout, section };
+        if question.answer(alloc, layout.bytes())?.as_str() != text {
             return Ok(Some(layout));
         }
     }
@@ -79,210 +93,283 @@ fn symbols_of_a_section(rt: HostRuntime) -> Result<(), Fail> {
     Ok(())
 }
 
-struct Row {
-    what: &'static str,
-    layout: Layout,
-    patches: &'static [Patch<'static>],
-    text: &'static str,
-}
-
-// A damaged file, and the symbols of `.text`: the refusals in their order, the greatest counts and sizes that a header
-// can hold, and a table of strings that lies over another.
-const ROWS: [Row; 25] = [
-    Row {
-        what: "no symbol table",
-        layout: Layout::Elf64Little,
-        patches: &[(399, &[1])],
-        text: "section .symtab is missing",
-    },
-    Row {
-        what: "no linked section",
-        layout: Layout::Elf64Little,
-        patches: &[(435, &[9])],
-        text: "section .strtab is missing",
-    },
-    Row {
-        what: "a linked section of another type",
-        layout: Layout::Elf64Little,
-        patches: &[(435, &[1])],
-        text: "expected section type 3 but found 1",
-    },
-    Row {
-        what: "strings past all addresses",
-        layout: Layout::Elf64Little,
-        patches: &[(483, &[0xFF; 8])],
-        text: "malformed input file",
-    },
-    Row {
-        what: "strings past the end",
-        layout: Layout::Elf64Little,
-        patches: &[(491, &[0, 0, 1])],
-        text: TRUNCATED,
-    },
-    Row {
-        what: "rows past all addresses",
-        layout: Layout::Elf64Little,
-        patches: &[(419, &[0xFF; 8])],
-        text: "malformed input file",
-    },
-    Row {
-        what: "rows past the end",
-        layout: Layout::Elf64Little,
-        patches: &[(427, &[0, 0, 1])],
-        text: TRUNCATED,
-    },
-    Row {
-        what: "a truncated second row",
-        layout: Layout::Elf64Little,
-        patches: &[(427, &[47])],
-        text: TRUNCATED,
-    },
-    Row {
-        what: "a truncated second row",
-        layout: Layout::Elf64Big,
-        patches: &[(434, &[47])],
-        text: TRUNCATED,
-    },
-    Row {
-        what: "a truncated first row",
-        layout: Layout::Elf32Little,
-        patches: &[(315, &[15])],
-        text: TRUNCATED,
-    },
-    Row {
-        what: "section names in section 5 of 5",
-        layout: Layout::Elf64Little,
-        patches: &[(62, &[5])],
-        text: "symbols section is missing",
-    },
-    Row {
-        what: "section names in section 5 of 5",
-        layout: Layout::Elf64Big,
-        patches: &[(63, &[5])],
-        text: "symbols section is missing",
-    },
-    Row {
-        what: "strings that are the section names",
-        layout: Layout::Elf64Little,
-        patches: &[(483, &[234]), (491, &[33])],
-        text: "1000 16 .text .text Unknown None, section of 32",
-    },
-    Row {
-        what: "65,535 sections",
-        layout: Layout::Elf32Little,
-        patches: &[(48, &[0xFF; 2])],
-        text: LISTING,
-    },
-    Row {
-        what: "65,535 sections",
-        layout: Layout::Elf32Big,
-        patches: &[(48, &[0xFF; 2])],
-        text: LISTING,
-    },
-    Row {
-        what: "65,535 sections",
-        layout: Layout::Elf64Little,
-        patches: &[(60, &[0xFF; 2])],
-        text: LISTING,
-    },
-    Row {
-        what: "65,535 sections",
-        layout: Layout::Elf64Big,
-        patches: &[(60, &[0xFF; 2])],
-        text: LISTING,
-    },
-    Row {
-        what: "the greatest size of the table",
-        layout: Layout::Elf32Little,
-        patches: &[(315, &[0xFF; 4])],
-        text: TRUNCATED,
-    },
-    Row {
-        what: "the greatest size of the table",
-        layout: Layout::Elf32Big,
-        patches: &[(315, &[0xFF; 4])],
-        text: TRUNCATED,
-    },
-    Row {
-        what: "the greatest size of the table",
-        layout: Layout::Elf64Little,
-        patches: &[(427, &[0xFF; 8])],
-        text: "malformed input file",
-    },
-    Row {
-        what: "the greatest size of the table",
-        layout: Layout::Elf64Big,
-        patches: &[(427, &[0xFF; 8])],
-        text: "malformed input file",
-    },
-    Row {
-        what: "entries of no size",
-        layout: Layout::Elf32Little,
-        patches: &[(331, &[0; 4])],
-        text: LISTING,
-    },
-    Row {
-        what: "entries of no size",
-        layout: Layout::Elf32Big,
-        patches: &[(331, &[0; 4])],
-        text: LISTING,
-    },
-    Row {
-        what: "entries of no size",
-        layout: Layout::Elf64Little,
-        patches: &[(451, &[0; 8])],
-        text: LISTING,
-    },
-    Row {
-        what: "entries of no size",
-        layout: Layout::Elf64Big,
-        patches: &[(451, &[0; 8])],
-        text: LISTING,
-    },
-];
-
 #[test]
-fn damaged_files(rt: HostRuntime) -> Result<(), Fail> {
-    for row in &ROWS {
-        let file = patched(rt.alloc(), row.layout.bytes(), row.patches)?;
-        let text = listed(rt.alloc(), row.layout, &file, ".text")?;
-        assert_eq!(rt; text.as_str(), row.text, "{}, {:?}", row.what, row.layout);
+fn refused_files(rt: HostRuntime) -> Result<(), Fail> {
+    for (what, layout, patches, words) in &REFUSED {
+        let question = Listed {
+            layout: *layout,
+            section: ".text",
+        };
+        let wrong = wrong_with(rt.alloc(), &question, layout.bytes(), patches, words)?;
+        assert!(rt; wrong.is_none(), "{what}, {layout:?}: {wrong:?}");
     }
     Ok(())
 }
 
-fn parses(layout: Layout, file: &[u8]) -> bool {
-    match class_of(layout) {
-        Class::Elf32 => elf32::parse(file, order_of(layout)).is_ok(),
-        Class::Elf64 => elf64::parse(file, order_of(layout)).is_ok(),
-    }
-}
+type Row = (
+    &'static str,
+    Layout,
+    &'static [Patch<'static>],
+    &'static str,
+    &'static str,
+);
 
-fn header_length(layout: Layout) -> usize {
-    match class_of(layout) {
-        Class::Elf32 => 52,
-        Class::Elf64 => 64,
-    }
-}
-
-// The first number of bytes that isn't refused as truncated, by `parse` as long as they don't hold the header.
-fn other_answer(alloc: Global, layout: Layout) -> Result<Option<usize>, AllocError> {
-    let whole = layout.bytes();
-    for bytes in 0..whole.len() {
-        let file = &whole[..bytes];
-        let text = listed(alloc, layout, file, ".text")?;
-        if text.as_str() != TRUNCATED || parses(layout, file) != (header_length(layout) <= bytes) {
-            return Ok(Some(bytes));
-        }
-    }
-    Ok(None)
-}
+// What is changed, the section that is asked for, and the answer: a walk to the end of the greatest count of sections, a
+// table of strings that lies over another, and each row that isn't listed, made one that is.
+const CHANGED: [Row; 24] = [
+    (
+        "65,535 sections",
+        Layout::Elf32Little,
+        &[(48, &[0xFF; 2])],
+        "nope",
+        TRUNCATED,
+    ),
+    (
+        "65,535 sections",
+        Layout::Elf32Big,
+        &[(48, &[0xFF; 2])],
+        "nope",
+        TRUNCATED,
+    ),
+    (
+        "65,535 sections",
+        Layout::Elf64Little,
+        &[(60, &[0xFF; 2])],
+        "nope",
+        TRUNCATED,
+    ),
+    (
+        "65,535 sections",
+        Layout::Elf64Big,
+        &[(60, &[0xFF; 2])],
+        "nope",
+        TRUNCATED,
+    ),
+    (
+        "strings that are the section names",
+        Layout::Elf32Little,
+        &[(351, &[182]), (355, &[33]), (84, &[23])],
+        ".text",
+        "1000 16 .shstrtab .shstrtab Unknown None, section of 32",
+    ),
+    (
+        "strings that are the section names",
+        Layout::Elf32Big,
+        &[(354, &[182]), (358, &[33]), (87, &[23])],
+        ".text",
+        "1000 16 .shstrtab .shstrtab Unknown None, section of 32",
+    ),
+    (
+        "strings that are the section names",
+        Layout::Elf64Little,
+        &[(483, &[234]), (491, &[33]), (96, &[23])],
+        ".text",
+        "1000 16 .shstrtab .shstrtab Unknown None, section of 32",
+    ),
+    (
+        "strings that are the section names",
+        Layout::Elf64Big,
+        &[(490, &[234]), (498, &[33]), (99, &[23])],
+        ".text",
+        "1000 16 .shstrtab .shstrtab Unknown None, section of 32",
+    ),
+    (
+        "a function of another section is one of .text",
+        Layout::Elf32Little,
+        &[(114, &[1])],
+        ".text",
+        "1000 16 foo::bar foo Legacy None, 1010 16 bad bad Unknown None, section of 32",
+    ),
+    (
+        "a function of no size has one",
+        Layout::Elf32Little,
+        &[(124, &[9])],
+        ".text",
+        "1000 16 foo::bar foo Legacy None, 1010 9 bad bad Unknown None, section of 32",
+    ),
+    (
+        "a function without a name has one",
+        Layout::Elf32Little,
+        &[(132, &[14])],
+        ".text",
+        "1000 16 foo::bar foo Legacy None, 1010 16 bad bad Unknown None, section of 32",
+    ),
+    (
+        "an object is a function",
+        Layout::Elf32Little,
+        &[(160, &[0xF2])],
+        ".text",
+        "1000 16 foo::bar foo Legacy None, 1010 16 bad bad Unknown None, section of 32",
+    ),
+    (
+        "a function of another section is one of .text",
+        Layout::Elf32Big,
+        &[(115, &[1])],
+        ".text",
+        "1000 16 foo::bar foo Legacy None, 1010 16 bad bad Unknown None, section of 32",
+    ),
+    (
+        "a function of no size has one",
+        Layout::Elf32Big,
+        &[(127, &[9])],
+        ".text",
+        "1000 16 foo::bar foo Legacy None, 1010 9 bad bad Unknown None, section of 32",
+    ),
+    (
+        "a function without a name has one",
+        Layout::Elf32Big,
+        &[(135, &[14])],
+        ".text",
+        "1000 16 foo::bar foo Legacy None, 1010 16 bad bad Unknown None, section of 32",
+    ),
+    (
+        "an object is a function",
+        Layout::Elf32Big,
+        &[(160, &[0xF2])],
+        ".text",
+        "1000 16 foo::bar foo Legacy None, 1010 16 bad bad Unknown None, section of 32",
+    ),
+    (
+        "a function of another section is one of .text",
+        Layout::Elf64Little,
+        &[(126, &[1])],
+        ".text",
+        "1000 16 foo::bar foo Legacy None, 1010 16 bad bad Unknown None, section of 32",
+    ),
+    (
+        "a function of no size has one",
+        Layout::Elf64Little,
+        &[(160, &[9])],
+        ".text",
+        "1000 16 foo::bar foo Legacy None, 1010 9 bad bad Unknown None, section of 32",
+    ),
+    (
+        "a function without a name has one",
+        Layout::Elf64Little,
+        &[(168, &[14])],
+        ".text",
+        "1000 16 foo::bar foo Legacy None, 1010 16 bad bad Unknown None, section of 32",
+    ),
+    (
+        "an object is a function",
+        Layout::Elf64Little,
+        &[(196, &[0xF2])],
+        ".text",
+        "1000 16 foo::bar foo Legacy None, 1010 16 bad bad Unknown None, section of 32",
+    ),
+    (
+        "a function of another section is one of .text",
+        Layout::Elf64Big,
+        &[(127, &[1])],
+        ".text",
+        "1000 16 foo::bar foo Legacy None, 1010 16 bad bad Unknown None, section of 32",
+    ),
+    (
+        "a function of no size has one",
+        Layout::Elf64Big,
+        &[(167, &[9])],
+        ".text",
+        "1000 16 foo::bar foo Legacy None, 1010 9 bad bad Unknown None, section of 32",
+    ),
+    (
+        "a function without a name has one",
+        Layout::Elf64Big,
+        &[(171, &[14])],
+        ".text",
+        "1000 16 foo::bar foo Legacy None, 1010 16 bad bad Unknown None, section of 32",
+    ),
+    (
+        "an object is a function",
+        Layout::Elf64Big,
+        &[(196, &[0xF2])],
+        ".text",
+        "1000 16 foo::bar foo Legacy None, 1010 16 bad bad Unknown None, section of 32",
+    ),
+];
 
 #[test]
-fn truncated_files(rt: HostRuntime) -> Result<(), Fail> {
-    for layout in LAYOUTS {
-        let other = other_answer(rt.alloc(), layout)?;
-        assert!(rt; other.is_none(), "{layout:?}: {other:?}");
+fn changed_files(rt: HostRuntime) -> Result<(), Fail> {
+    for (what, layout, patches, section, text) in &CHANGED {
+        let question = Listed {
+            layout: *layout,
+            section,
+        };
+        let wrong = wrong_with(rt.alloc(), &question, layout.bytes(), patches, text)?;
+        assert!(rt; wrong.is_none(), "{what}, {layout:?}: {wrong:?}");
+    }
+    Ok(())
+}
+
+// What is changed and must not matter: the walk ends at the section that it looks for, and rows have the size of the
+// class. That these bytes are the ones which count is seen where a walk goes on, and where entries are counted.
+const UNCHANGED: [Row; 8] = [
+    (
+        "65,535 sections",
+        Layout::Elf32Little,
+        &[(48, &[0xFF; 2])],
+        ".text",
+        LISTING,
+    ),
+    (
+        "65,535 sections",
+        Layout::Elf32Big,
+        &[(48, &[0xFF; 2])],
+        ".text",
+        LISTING,
+    ),
+    (
+        "65,535 sections",
+        Layout::Elf64Little,
+        &[(60, &[0xFF; 2])],
+        ".text",
+        LISTING,
+    ),
+    (
+        "65,535 sections",
+        Layout::Elf64Big,
+        &[(60, &[0xFF; 2])],
+        ".text",
+        LISTING,
+    ),
+    (
+        "entries of no size",
+        Layout::Elf32Little,
+        &[(331, &[0; 4])],
+        ".text",
+        LISTING,
+    ),
+    (
+        "entries of no size",
+        Layout::Elf32Big,
+        &[(331, &[0; 4])],
+        ".text",
+        LISTING,
+    ),
+    (
+        "entries of no size",
+        Layout::Elf64Little,
+        &[(451, &[0; 8])],
+        ".text",
+        LISTING,
+    ),
+    (
+        "entries of no size",
+        Layout::Elf64Big,
+        &[(451, &[0; 8])],
+        ".text",
+        LISTING,
+    ),
+];
+
+#[test]
+fn unchanged_answers(rt: HostRuntime) -> Result<(), Fail> {
+    for (what, layout, patches, section, text) in &UNCHANGED {
+        let question = Listed {
+            layout: *layout,
+            section,
+        };
+        let wrong = wrong_despite(rt.alloc(), &question, layout.bytes(), patches, text)?;
+        assert!(rt; wrong.is_none(), "{what}, {layout:?}: {wrong:?}");
     }
     Ok(())
 }

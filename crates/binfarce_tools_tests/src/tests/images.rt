@@ -1,42 +1,56 @@
 //! Listings of files that an image was laid out in.
 
-use super::{LISTING, answered};
-use binfarce_image::image::{ElfLayout, Image, lay_out};
+use super::{NO_SECTION, listed};
+use binfarce_image::image::{Image, lay_out};
 use binfarce_image_samples::{LAYOUTS, linked_sample};
+use binfarce_samples::elf::LISTING;
 use std::alloc::Global;
 use std::test::Fail;
 
-// The first layout in which something else is answered.
-fn other_layout(
-    alloc: Global,
-    image: &Image,
-    section: &str,
-    want: &str,
-) -> Result<Option<ElfLayout>, Fail> {
+// In how many layouts this is answered.
+fn layouts_with(alloc: Global, image: &Image, section: &str, text: &str) -> Result<usize, Fail> {
+    let mut count = 0;
     for (layout, _) in &LAYOUTS {
         let file = lay_out(alloc, image, *layout)?;
-        let text = answered(alloc, &file, section)?;
-        if text.as_str() != want {
-            return Ok(Some(*layout));
+        if listed(alloc, &file, section)?.as_str() == text {
+            count += 1;
         }
     }
-    Ok(None)
+    Ok(count)
 }
 
-// The link of the symbol table, the section that is asked for, and what every layout answers.
-const ANSWERS: [(u32, &str, &str); 4] = [
-    (3, ".text", LISTING),
-    (1, ".text", "expected section type 3 but found 1"),
-    (5, ".text", "section .strtab is missing"),
-    (3, "text", "symbols section is missing"),
+// The section that is asked for, and what is answered in all layouts.
+const INTACT: [(&str, &str); 2] = [(".text", LISTING), ("text", NO_SECTION)];
+
+#[test]
+fn lists_the_sample(rt: HostRuntime) -> Result<(), Fail> {
+    let image = linked_sample(rt.alloc(), 3)?;
+    for (section, text) in &INTACT {
+        assert_eq!(rt;
+            layouts_with(rt.alloc(), &image, section, text)?,
+            4,
+            "{section}"
+        );
+    }
+    Ok(())
+}
+
+// The link of the symbol table, and what is answered for `.text` in all layouts, and with the sample's link in none.
+const LINKS: [(u32, &str); 2] = [
+    (1, "expected section type 3 but found 1"),
+    (5, "section .strtab is missing"),
 ];
 
 #[test]
-fn lists_the_bench_image(rt: HostRuntime) -> Result<(), Fail> {
-    for (link, section, want) in &ANSWERS {
+fn lists_by_the_link(rt: HostRuntime) -> Result<(), Fail> {
+    let intact = linked_sample(rt.alloc(), 3)?;
+    for (link, text) in &LINKS {
         let image = linked_sample(rt.alloc(), *link)?;
-        let other = other_layout(rt.alloc(), &image, section, want)?;
-        assert!(&rt; other.is_none(), "link {link}, {section}: {other:?}");
+        let layouts = [
+            layouts_with(rt.alloc(), &image, ".text", text)?,
+            layouts_with(rt.alloc(), &intact, ".text", text)?,
+        ];
+        assert_eq!(rt; layouts, [4, 0], "link {link}");
     }
     Ok(())
 }

@@ -1,7 +1,6 @@
 //! Files of over 1 MiB, whose listings have over 64 KiB and over 1,000 lines: neither is a reason to give up.
 
-use super::reports::reported;
-use super::{MACHO_MAGIC, PE_MAGIC, answered};
+use super::{MACHO_MAGIC, PE_MAGIC, listed, reported};
 use binfarce_image::image::{ElfLayout, Image, lay_out};
 use binfarce_image_samples::{LAYOUTS, function, image};
 use binfarce_samples::macho::MACHO;
@@ -90,7 +89,7 @@ fn lists_all(
     last: &str,
 ) -> Result<(), Fail> {
     assert!(rt; file.len() > 1 << 20);
-    let text = answered(alloc, file, ".text")?;
+    let text = listed(alloc, file, ".text")?;
     assert!(rt; text.len() > 1 << 16);
     assert_eq!(rt; other_line(alloc, text.as_str(), start, last)?, None);
     Ok(())

@@ -1,121 +1,9 @@
 //! Reports by crate.
 
-use super::{File, MACHO_MAGIC, PE_MAGIC, TRUNCATED, UNKNOWN, WHOLE, bytes_of};
+use super::{Ask, Call, NO_SECTION, reported};
 use binfarce_image_samples::{file_beside, file_of};
-use binfarce_samples::elf::Layout;
-use binfarce_samples::{Patch, first_bytes, patched};
-use binfarce_tools::list::Out;
-use binfarce_tools::report::report;
-use std::alloc::Global;
+use binfarce_samples::question::{wrong_despite, wrong_with};
 use std::test::Fail;
-
-pub(crate) const REPORT: &str = "        16 foo\nsum 16\ntext 32\n";
-
-// What is written, or the words of the refusal, on which nothing may be written.
-pub(crate) fn reported(alloc: Global, data: &[u8], section: &str) -> Result<String, Fail> {
-    let mut out = Out::new(Vec::new(alloc));
-    let result = report(alloc, data, section, &mut out);
-    let written = String::from_utf8(out.into_inner())?;
-    match result {
-        Ok(()) => Ok(written),
-        Err(error) => Ok(format!(in alloc; "{written}{error}")?),
-    }
-}
-
-struct Row {
-    what: &'static str,
-    file: File,
-    // The length that is kept of the file, and the bytes that are changed.
-    len: usize,
-    patches: &'static [Patch<'static>],
-    section: &'static str,
-    text: &'static str,
-}
-
-const ROWS: [Row; 9] = [
-    Row {
-        what: "ELF32 big endian",
-        file: File::Elf(Layout::Elf32Big),
-        len: WHOLE,
-        patches: &[],
-        section: ".text",
-        text: REPORT,
-    },
-    Row {
-        what: "ELF64 little endian",
-        file: File::Elf(Layout::Elf64Little),
-        len: WHOLE,
-        patches: &[],
-        section: ".text",
-        text: REPORT,
-    },
-    Row {
-        what: "Mach-O",
-        file: File::Macho,
-        len: WHOLE,
-        patches: &[MACHO_MAGIC],
-        section: ".data",
-        text: "       320 [unknown]\nsum 320\ntext 256\n",
-    },
-    Row {
-        what: "PE",
-        file: File::Pe,
-        len: WHOLE,
-        patches: &[PE_MAGIC],
-        section: ".data",
-        text: "       448 [unknown]\nsum 448\ntext 256\n",
-    },
-    Row {
-        what: "no symbol",
-        file: File::Elf(Layout::Elf64Little),
-        len: WHOLE,
-        patches: &[],
-        section: ".shstrtab",
-        text: "sum 0\ntext 33\n",
-    },
-    Row {
-        what: "no such section",
-        file: File::Elf(Layout::Elf64Little),
-        len: WHOLE,
-        patches: &[],
-        section: "text",
-        text: "symbols section is missing",
-    },
-    Row {
-        what: "a truncated file",
-        file: File::Elf(Layout::Elf64Little),
-        len: 331,
-        patches: &[],
-        section: ".text",
-        text: TRUNCATED,
-    },
-    Row {
-        what: "nothing",
-        file: File::Elf(Layout::Elf64Little),
-        len: 0,
-        patches: &[],
-        section: ".text",
-        text: UNKNOWN,
-    },
-    Row {
-        what: "no class",
-        file: File::Elf(Layout::Elf64Little),
-        len: WHOLE,
-        patches: &[(4, &[3])],
-        section: ".text",
-        text: UNKNOWN,
-    },
-];
-
-#[test]
-fn reports_on_files(rt: HostRuntime) -> Result<(), Fail> {
-    for row in &ROWS {
-        let file = patched(rt.alloc(), bytes_of(row.file), row.patches)?;
-        let text = reported(rt.alloc(), first_bytes(&file, row.len), row.section)?;
-        assert!(&rt; text.as_str() == row.text, "{}: {text}", row.what);
-    }
-    Ok(())
-}
 
 // A name, and the lines of the crates of a file with a function of this name beside `foo::bar`, both of 16 bytes.
 const CRATES: [(&str, &str); 12] = [
@@ -175,24 +63,38 @@ fn sums_by_crate(rt: HostRuntime) -> Result<(), Fail> {
     Ok(())
 }
 
-// The size of a file's first function, which stands at 112; the section that is asked for; and the answer.
-const GREAT_SIZES: [(&[u8; 8], &str, &str); 3] = [
-    (&[0xFF; 8], ".text", "sizes are too large"),
+// The size of a file's first function, which stands at 112, and the answer.
+const GREAT_SIZES: [(&[u8; 8], &str); 2] = [
+    (&[0xFF; 8], "sizes are too large"),
     (
         &[0xEF, 0xFF, 0xFF, 0xFF, 0xFF, 0xFF, 0xFF, 0xFF],
-        ".text",
         "18446744073709551599 [unknown]\n        16 foo\nsum 18446744073709551615\ntext 32\n",
     ),
-    (&[0xFF; 8], "text", "symbols section is missing"),
 ];
 
 #[test]
 fn sizes_may_be_too_large(rt: HostRuntime) -> Result<(), Fail> {
-    for (size, section, want) in &GREAT_SIZES {
-        let file = file_beside(rt.alloc(), "a")?;
-        let file = patched(rt.alloc(), &file, &[(112, &size[..])])?;
-        let text = reported(rt.alloc(), &file, section)?;
-        assert!(&rt; text.as_str() == *want, "{size:?}: {text}");
+    let file = file_beside(rt.alloc(), "a")?;
+    let ask = Ask {
+        call: Call::Report,
+        section: ".text",
+    };
+    for (size, text) in &GREAT_SIZES {
+        let wrong = wrong_with(rt.alloc(), &ask, &file, &[(112, &size[..])], text)?;
+        assert!(rt; wrong.is_none(), "{size:?}: {wrong:?}");
     }
+    Ok(())
+}
+
+// Sizes that are too large change nothing of a refusal by the reader.
+#[test]
+fn a_refusal_comes_first(rt: HostRuntime) -> Result<(), Fail> {
+    let file = file_beside(rt.alloc(), "a")?;
+    let ask = Ask {
+        call: Call::Report,
+        section: "text",
+    };
+    let wrong = wrong_despite(rt.alloc(), &ask, &file, &[(112, &[0xFF; 8])], NO_SECTION)?;
+    assert!(rt; wrong.is_none(), "{wrong:?}");
     Ok(())
 }

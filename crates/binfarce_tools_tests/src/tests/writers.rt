@@ -1,10 +1,9 @@
 //! Writers that fail: what they took is a beginning of the text, and the call tells that it is.
 
-use super::reports::REPORT;
-use super::{File, LISTING, PE_MAGIC, bytes_of};
+use super::{Call, File, REPORT, file_of};
 use binfarce_image_samples::file_beside;
-use binfarce_samples::elf::Layout;
-use binfarce_samples::{first_bytes, patched};
+use binfarce_samples::elf::{LISTING, Layout};
+use binfarce_samples::first_bytes;
 use binfarce_tools::list::{ListError, Out, Sink, list};
 use binfarce_tools::report::{ReportError, report};
 use std::alloc::Global;
@@ -53,13 +52,6 @@ const LIMITS: [Limits; 9] = [
     (100, Some(ErrorKind::Other)),
     (100, Some(ErrorKind::Interrupted)),
 ];
-
-// What writes a text of a file.
-#[derive(Clone, Copy, Debug)]
-enum Call {
-    List,
-    Report,
-}
 
 // Whether the call tells that all was written, or that a write failed; `None` where it refuses otherwise.
 fn all_written(alloc: Global, call: Call, file: &[u8], out: &mut Out<Short>) -> Option<bool> {
@@ -141,8 +133,7 @@ enum Source {
 
 fn bytes_of_source(alloc: Global, source: Source) -> Result<Vec<u8>, Fail> {
     match source {
-        Source::File(File::Pe) => Ok(patched(alloc, bytes_of(File::Pe), &[PE_MAGIC])?),
-        Source::File(file) => Ok(patched(alloc, bytes_of(file), &[])?),
+        Source::File(file) => Ok(file_of(alloc, file)?),
         Source::Beside(name) => Ok(file_beside(alloc, name)?),
     }
 }

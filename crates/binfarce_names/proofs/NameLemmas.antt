@@ -7,7 +7,7 @@ use Rattle.binfarce_legacy.specs.Legacy.{Element, IsLegacy}
 use Rattle.binfarce_legacy.proofs.ElementLemmas.{reads_one_way}
 use Rattle.binfarce_names.specs.Name.{Name, Mangled}
 use Rattle.binfarce_names.specs.Named.{IsLegacyMangled, IsV0Mangled, IsMangled, IsNamed, legacy, v0, unknown}
-use Rattle.binfarce_names.specs.machine.Laws.{HasAnAnswer, HasOneAnswer}
+use Rattle.binfarce_names.specs.Laws.{HasAnAnswer, HasOneAnswer}
 use Rattle.binfarce_v0.specs.Mangling.{IsV0}
 use Rattle.binfarce_v0_grammar.specs.Tree.{PathTree}
 use Rattle.binfarce_v0_grammar.specs.Unfolding.{UnfoldsTo}

@@ -19,7 +19,7 @@ use Rattle.binfarce_names.specs.Named.{IsNotLegacy, IsNamed, unknown}
 use Rattle.binfarce_v0_grammar.specs.Tree.{path_height, path_steps, lifetime_text, binder_text, nested_text, signature_text, number_text, character_text, value_text, InValue}
 use Rattle.binfarce_v0_grammar.specs.Unfolding.{UnfoldsTo, bound_end}
 use Rattle.binfarce_v0_grammar.specs.Punycode.{digit_of, weight, integer, scaled_bias, adapted_bias, decoder_after, text_of, punycode_decoded}
-use Rattle.binfarce_names.specs.machine.Laws.{Counts}
+use Rattle.binfarce_names.specs.Laws.{Counts}
 use Rattle.binfarce_v0_grammar.specs.machine.Ends.{const_end, bindings_end, item_end, items_end, type_end, path_end, ends}
 use Rattle.binfarce_v0_grammar.specs.declared.limits.TheConstants.{MAX_LEVELS, MAX_STEPS}
 use Rattle.binfarce_v0.specs.machine.Mangling.{paths_end}

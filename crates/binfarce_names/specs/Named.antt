@@ -11,7 +11,7 @@ use Rattle.binfarce_v0_grammar.specs.Tree.{PathTree, name_text, path_root}
 use Rattle.binfarce_v0_grammar.specs.Unfolding.{UnfoldsTo}
 
 -- the name of a legacy mangling: complete, and without the last part of its path
-abbrev pub legacy : List Element → Name
+abbrev pub legacy : (elements : List Element) → Name
 legacy elements = record {
   complete = encode_utf8_all (legacy_chars elements);
   trimmed = encode_utf8_all (without_last_part (legacy_chars elements));
@@ -20,17 +20,17 @@ legacy elements = record {
 }
 
 -- a name that is no mangling stands unchanged
-abbrev pub unknown : List ℕ → Name
+abbrev pub unknown : (text : List ℕ) → Name
 unknown text = record { complete = text; trimmed = text; crate_name = None; kind = Unknown }
 
 -- text is no legacy mangling
-abbrev pub IsNotLegacy : List ℕ → Type 0
+abbrev pub IsNotLegacy : (text : List ℕ) → Type 0
 IsNotLegacy text =
     (part : List ℕ) (elements : List Element) (rest : List ℕ)
     → ¬ (IsLegacy (without_llvm text) part elements rest)
 
 -- the name of a v0 mangling: both texts are of one tree
-abbrev pub v0 : PathTree → Name
+abbrev pub v0 : (tree : PathTree) → Name
 v0 tree = record {
   complete = name_text true tree;
   trimmed = name_text false tree;
@@ -39,11 +39,11 @@ v0 tree = record {
 }
 
 -- text is no v0 mangling
-abbrev pub IsNotV0 : List ℕ → Type 0
+abbrev pub IsNotV0 : (text : List ℕ) → Type 0
 IsNotV0 text = (part : List ℕ) → ¬ (IsV0 (without_llvm text) part)
 
 -- text is no v0 mangling that unfolds to a tree within the limits
-abbrev pub HasNoTree : List ℕ → Type 0
+abbrev pub HasNoTree : (text : List ℕ) → Type 0
 HasNoTree text = (part : List ℕ) (tree : PathTree) → IsV0 (without_llvm text) part → ¬ (UnfoldsTo part tree)
 
 -- text is a legacy mangling, and name is the one of its elements
@@ -70,7 +70,7 @@ pub record StandsUnchanged (text : List ℕ) (name : Name) : Type 0 where
   pub name_is : name ≡ unknown text
 
 -- name is the answer of text
-unfoldable pub IsNamed : List ℕ → Name → Type 0
+unfoldable pub IsNamed : (text : List ℕ) (name : Name) → Type 0
 IsNamed text name = IsLegacyName text name ⊎ (IsV0Name text name ⊎ StandsUnchanged text name)
 
 -- m keeps of text the part after the prefix of a legacy mangling
@@ -93,5 +93,5 @@ pub record IsNotMangled (text : List ℕ) (m : Mangled) : Type 0 where
   pub all : m ≡ record { part = text; kind = Unknown }
 
 -- m is the kind of text, and the part that is kept
-unfoldable pub IsMangled : List ℕ → Mangled → Type 0
+unfoldable pub IsMangled : (text : List ℕ) (m : Mangled) → Type 0
 IsMangled text m = IsLegacyMangled text m ⊎ (IsV0Mangled text m ⊎ IsNotMangled text m)

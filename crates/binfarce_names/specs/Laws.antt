@@ -1,5 +1,5 @@
 -- Laws of names: what follows from their definitions, proved in `laws`.
-use Rattle.std.specs.Prelude.{◌≡◌, ℕ, ◌≤◌, ◌<◌, List, Option, Some, Bool}
+use Rattle.std.specs.Prelude.{◌≡◌, ℕ, ◌<◌, List, Option, Some, Bool}
 use Rattle.binfarce_names.specs.declared.demangle.Kind.TheVariants.{V0}
 use Rattle.binfarce_v0_grammar.specs.Base62.{back_reference}
 use Rattle.binfarce_v0_grammar.specs.Tree.{PathTree, path_height, path_steps, name_text, path_root}

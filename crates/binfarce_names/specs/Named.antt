@@ -5,7 +5,7 @@ use Rattle.binfarce_names.specs.declared.demangle.Kind.TheVariants.{Unknown, Leg
 use Rattle.binfarce_text.specs.Suffixes.{without_llvm}
 use Rattle.binfarce_legacy.specs.Legacy.{Element, IsLegacy, legacy_chars, without_last_part}
 use Rattle.binfarce_v0_grammar.specs.Identifiers.{identifier_text}
-use Rattle.binfarce_v0.specs.Mangling.{IsV0}
+use Rattle.binfarce_v0.specs.Mangling.{IsV0, HasNoTree}
 use Rattle.binfarce_names.specs.Name.{Name, Mangled}
 use Rattle.binfarce_v0_grammar.specs.Tree.{PathTree, name_text, path_root}
 use Rattle.binfarce_v0_grammar.specs.Unfolding.{UnfoldsTo}
@@ -42,10 +42,6 @@ v0 tree = record {
 abbrev pub IsNotV0 : (text : List ℕ) → Type 0
 IsNotV0 text = (part : List ℕ) → ¬ (IsV0 (without_llvm text) part)
 
--- text is no v0 mangling that unfolds to a tree within the limits
-abbrev pub HasNoTree : (text : List ℕ) → Type 0
-HasNoTree text = (part : List ℕ) (tree : PathTree) → IsV0 (without_llvm text) part → ¬ (UnfoldsTo part tree)
-
 -- text is a legacy mangling, and name is the one of its elements
 pub record IsLegacyName (text : List ℕ) (name : Name) : Type 0 where
   pub part : List ℕ
@@ -54,9 +50,9 @@ pub record IsLegacyName (text : List ℕ) (name : Name) : Type 0 where
   pub mangling : IsLegacy (without_llvm text) part elements rest
   pub name_is : name ≡ legacy elements
 
--- text is a v0 mangling, and name is the one of the tree that it unfolds to within the limits
+-- text is a v0 mangling, and name is the one of the tree that it unfolds to within the limits. No v0 mangling is a legacy one too, since no
+-- prefix is one of both
 pub record IsV0Name (text : List ℕ) (name : Name) : Type 0 where
-  pub not_legacy : IsNotLegacy text
   pub part : List ℕ
   pub mangling : IsV0 (without_llvm text) part
   pub tree : PathTree
@@ -66,7 +62,7 @@ pub record IsV0Name (text : List ℕ) (name : Name) : Type 0 where
 -- text is no mangling, or a v0 mangling that unfolds to no tree within the limits, and name is text
 pub record StandsUnchanged (text : List ℕ) (name : Name) : Type 0 where
   pub not_legacy : IsNotLegacy text
-  pub no_tree : HasNoTree text
+  pub no_tree : HasNoTree (without_llvm text)
   pub name_is : name ≡ unknown text
 
 -- name is the answer of text
@@ -82,7 +78,6 @@ pub record IsLegacyMangled (text : List ℕ) (m : Mangled) : Type 0 where
 
 -- m keeps of text the part after the prefix of a v0 mangling
 pub record IsV0Mangled (text : List ℕ) (m : Mangled) : Type 0 where
-  pub not_legacy : IsNotLegacy text
   pub mangling : IsV0 (without_llvm text) m.part
   pub kind_is : m.kind ≡ V0
 

@@ -7,6 +7,7 @@ use Rattle.binfarce_text.specs.Suffixes.{is_allowed_rest}
 use Rattle.binfarce_text.specs.Prefixes.{after_prefix}
 use Rattle.binfarce_v0_grammar.specs.Tree.{PathTree, path_height}
 use Rattle.binfarce_v0_grammar.specs.Reading.{ReadsPath}
+use Rattle.binfarce_v0_grammar.specs.Unfolding.{UnfoldsTo}
 use Rattle.binfarce_v0_grammar.specs.declared.limits.TheConstants.{MAX_LEVELS}
 
 -- what stands after the prefix, "_R", or "R" or "__R" where a platform drops or adds a "_": positions are counted from there
@@ -46,6 +47,10 @@ pub record IsV0 (text part : List ℕ) : Type 0 where
   pub after : ℕ
   pub mangling : IsMangling text part after
   pub rest : is_allowed_rest (drop after part) ≡ true
+
+-- text is no v0 mangling that unfolds to a tree within the limits
+abbrev pub HasNoTree : (text : List ℕ) → Type 0
+HasNoTree text = (part : List ℕ) (tree : PathTree) → IsV0 text part → ¬ (UnfoldsTo part tree)
 
 -- positions are counted from the letter of the first path
 worked_prefix : part_after_prefix (codes "__RNvC1a1b") ≡ Some (codes "NvC1a1b")

@@ -1,6 +1,6 @@
 -- Numbers of a v0 mangling (RFC 2603, "Base-62-Numbers"). `part` is all that follows the prefix, and positions count from its start.
 -- What is read at a position is a value, and the position after it.
-use Rattle.std.specs.Prelude.{◌≡◌, ℕ, ◌+◌, ◌-◌, ◌*◌, ◌^◌, List, Option, Some, None, Bool, if◌then◌else◌, ◌==◌, nat_lt, nat_le, slice_index, drop, length, fold, codes}
+use Rattle.std.specs.Prelude.{◌≡◌, ℕ, ◌+◌, ◌-◌, ◌*◌, ◌^◌, List, Option, Some, None, if◌then◌else◌, ◌==◌, nat_lt, nat_le, slice_index, drop, length, fold, codes}
 use Rattle.std.proofs.Common.{refl}
 use Rattle.std.specs.List.{take_while}
 use Rattle.std.specs.Char.{is_ascii_alphanumeric, is_ascii_digit, is_ascii_lowercase, digit_value}

@@ -1,6 +1,7 @@
 -- Identifiers of a v0 mangling (RFC 2603, "Identifiers" and "Punycode identifiers").
-use Rattle.std.specs.Prelude.{◌≡◌, ℕ, ◌+◌, List, [], ◌∷◌, ◌++◌, Option, Some, None, Bool, true, false, ◌&&◌, if◌then◌else◌, ◌==◌, nat_le, slice_index, slice_range, drop, length, codes, encode_utf8_all}
+use Rattle.std.specs.Prelude.{◌≡◌, ℕ, ◌+◌, List, [], ◌++◌, Option, Some, None, Bool, true, false, ◌&&◌, if◌then◌else◌, ◌==◌, nat_le, slice_index, slice_range, drop, length, codes, encode_utf8_all}
 use Rattle.std.proofs.Common.{refl}
+use Rattle.std.specs.Option.{option_map_or}
 use Rattle.std.specs.List.{before_last, after_last, take_while}
 use Rattle.std.specs.Char.{is_ascii_digit}
 use Rattle.std.specs.Str.Parse.{digits_value}
@@ -67,14 +68,10 @@ abbrev pub undecoded : (ascii punycode : List ℕ) → List ℕ
 undecoded ascii punycode =
     codes "punycode{" ++ ((if is_empty ascii then [] else ascii ++ codes "-") ++ (punycode ++ codes "}"))
 
-abbrev pub decoded_or : (ascii punycode : List ℕ) (decoded : Option (List ℕ)) → List ℕ
-decoded_or ascii punycode None = undecoded ascii punycode
-decoded_or ascii punycode (Some chars) = encode_utf8_all chars
-
 -- the text of an identifier: its ASCII part, or the decoded text of both parts
 unfoldable pub identifier_text : (i : UndisambiguatedIdentifier) → List ℕ
 identifier_text i =
-    if is_empty i.punycode then i.ascii else decoded_or i.ascii i.punycode (punycode_decoded i.ascii i.punycode)
+    if is_empty i.punycode then i.ascii else option_map_or encode_utf8_all (punycode_decoded i.ascii i.punycode) (undecoded i.ascii i.punycode)
 
 -- `s_u9bcher_kva` has the disambiguator 1, and is `bücher`
 worked_identifier : identifier (codes "s_u9bcher_kva") 0

@@ -1,6 +1,6 @@
 -- Punycode (RFC 3492) as v0 names use it: the digits are `a` to `z` and `0` to `9` alone, and a text has at most 128
 -- characters. The comments begin with the RFC's sections. Numbers have no upper bound here, so nothing overflows (6.4).
-use Rattle.std.specs.Prelude.{◌≡◌, ℕ, zero, suc, ◌+◌, ◌-◌, ◌*◌, ◌/◌, ◌%◌, min, max, Bool, ◌||◌, ◌==◌, nat_lt, nat_le, List, [], ◌∷◌, length, insert, Option, Some, None, option_map, option_and_then, if◌then◌else◌, codes}
+use Rattle.std.specs.Prelude.{◌≡◌, ℕ, zero, suc, ◌+◌, ◌-◌, ◌*◌, ◌/◌, ◌%◌, min, max, Bool, ◌==◌, nat_lt, nat_le, List, [], ◌∷◌, length, insert, Option, Some, None, option_map, option_and_then, if◌then◌else◌, codes}
 use Rattle.std.proofs.Common.{refl}
 use Rattle.std.specs.Char.{is_ascii_digit, is_ascii_lowercase}
 use Rattle.binfarce_text.specs.Letters.{'0', 'a'}

@@ -1,13 +1,14 @@
 -- What a v0 mangling means: trees of paths, types and consts, and what is counted and shown of a tree. No byte of a mangling is seen here.
 use Rattle.std.specs.Prelude.{◌≡◌, ℕ, zero, suc, ◌+◌, ◌-◌, List, [], ◌∷◌, ◌++◌, Option, Some, None, Bool, true, false, not, ◌&&◌, ◌||◌, if◌then◌else◌, nat_le, codes, max, map, ◌==◌}
 use Rattle.std.proofs.Common.{refl}
+use Rattle.std.specs.Option.{option_map_or, option_or}
 use Rattle.std.specs.Char.{is_ascii_uppercase}
 use Rattle.std.specs.Fmt.{decimal, digits}
 use Rattle.std.specs.Int.{is_in_range}
 use Rattle.binfarce_text.specs.Letters.{'a', 'C', 'S', '_', '-'}
 use Rattle.binfarce_v0_grammar.specs.Base62.{hex_number}
 use Rattle.binfarce_v0_grammar.specs.Identifiers.{UndisambiguatedIdentifier, Identifier, identifier_text, is_unnamed}
-use Rattle.binfarce_v0_grammar.specs.Forms.{Lifetime, NoLifetime, InvalidLifetime, IndexedLifetime, Signature, ConstValue, Integer, Boolean, Character}
+use Rattle.binfarce_v0_grammar.specs.Forms.{Lifetime, NoLifetime, IndexedLifetime, Signature, ConstValue, Integer, Boolean, Character}
 
 pub data ConstTree : Type 0 where
   -- what is invalid
@@ -71,10 +72,12 @@ mutual
     ConstItem : ConstTree → Item
     TraitItem : (path : PathTree) (bindings : Bindings) → Item
 
+  -- the items of a list, in order
   pub data Items : Type 0 where
     NoItems : Items
     ItemThen : Item → Items → Items
 
+  -- the bindings of a trait, in order: an invalid one ends them
   pub data Bindings : Type 0 where
     NoBindings : Bindings
     Binding : (name : UndisambiguatedIdentifier) (bound : TypeTree) → Bindings → Bindings
@@ -96,8 +99,6 @@ const_height _ = 1
 -- levels: 1 and the greatest height of what a tree asks for
 unfoldable mutual
   pub path_height : PathTree → ℕ
-  path_height NoPath = 1
-  path_height (Crate root) = 1
   path_height (Nested namespace p name) = suc (path_height p)
   path_height (InvalidNested p) = suc (path_height p)
   path_height (OfType p t) = suc (max (path_height p) (type_height t))
@@ -105,25 +106,20 @@ unfoldable mutual
   path_height (OfTrait t u) = suc (max (type_height t) (path_height u))
   path_height (Generic p items) = suc (max (path_height p) (items_height items))
   path_height (BackPath p) = suc (path_height p)
-  path_height (PathTarget at) = 1
+  path_height _ = 1
 
   pub type_height : TypeTree → ℕ
-  type_height NoType = 1
-  type_height (Basic name) = 1
   type_height (Reference mutable life t) = suc (type_height t)
-  type_height InvalidReferenceType = 1
   type_height (Pointer mutable t) = suc (type_height t)
   type_height (Slice t) = suc (type_height t)
   type_height (Array t c) = suc (max (type_height t) (const_height c))
   type_height (Tuple items) = suc (items_height items)
   type_height (Function signature items) = suc (items_height items)
   type_height (FunctionTo signature items t) = suc (max (items_height items) (type_height t))
-  type_height (InvalidFunction binder) = 1
   type_height (Dyn binder items life) = suc (items_height items)
-  type_height InvalidDynType = 1
   type_height (Named p) = suc (path_height p)
   type_height (BackType t) = suc (type_height t)
-  type_height (TypeTarget at) = 1
+  type_height _ = 1
 
   pub item_height : Item → ℕ
   item_height (LifetimeItem life) = 0
@@ -136,15 +132,13 @@ unfoldable mutual
   items_height (ItemThen i items) = max (item_height i) (items_height items)
 
   pub bindings_height : Bindings → ℕ
-  bindings_height NoBindings = 0
   bindings_height (Binding name t bindings) = max (type_height t) (bindings_height bindings)
-  bindings_height InvalidBinding = 0
+  bindings_height _ = 0
 
--- an "L" that was read
+-- 1 for an "L" that was read, also for one whose number is invalid
 abbrev pub lifetime_steps : (life : Lifetime) → ℕ
 lifetime_steps NoLifetime = 0
-lifetime_steps InvalidLifetime = 1
-lifetime_steps (IndexedLifetime index) = 1
+lifetime_steps _ = 1
 
 abbrev pub const_steps : (c : ConstTree) → ℕ
 const_steps (BackConst c) = suc (const_steps c)
@@ -153,8 +147,6 @@ const_steps _ = 1
 -- steps: 1 for each path, type and const, also for one that is invalid, 1 for each "L" read, and 1 for each lifetime announced
 unfoldable mutual
   pub path_steps : PathTree → ℕ
-  path_steps NoPath = 1
-  path_steps (Crate root) = 1
   path_steps (Nested namespace p name) = suc (path_steps p)
   path_steps (InvalidNested p) = suc (path_steps p)
   path_steps (OfType p t) = suc (path_steps p + type_steps t)
@@ -162,11 +154,9 @@ unfoldable mutual
   path_steps (OfTrait t u) = suc (type_steps t + path_steps u)
   path_steps (Generic p items) = suc (path_steps p + items_steps items)
   path_steps (BackPath p) = suc (path_steps p)
-  path_steps (PathTarget at) = 1
+  path_steps _ = 1
 
   pub type_steps : TypeTree → ℕ
-  type_steps NoType = 1
-  type_steps (Basic name) = 1
   type_steps (Reference mutable life t) = suc (lifetime_steps life + type_steps t)
   type_steps InvalidReferenceType = 2
   type_steps (Pointer mutable t) = suc (type_steps t)
@@ -177,10 +167,9 @@ unfoldable mutual
   type_steps (FunctionTo signature items t) = suc (signature.binder + items_steps items + type_steps t)
   type_steps (InvalidFunction binder) = suc binder
   type_steps (Dyn binder items life) = suc (binder + items_steps items + lifetime_steps life)
-  type_steps InvalidDynType = 1
   type_steps (Named p) = suc (path_steps p)
   type_steps (BackType t) = suc (type_steps t)
-  type_steps (TypeTarget at) = 1
+  type_steps _ = 1
 
   pub item_steps : Item → ℕ
   item_steps (LifetimeItem life) = lifetime_steps life
@@ -193,63 +182,47 @@ unfoldable mutual
   items_steps (ItemThen i items) = item_steps i + items_steps items
 
   pub bindings_steps : Bindings → ℕ
-  bindings_steps NoBindings = 0
   bindings_steps (Binding name t bindings) = type_steps t + bindings_steps bindings
-  bindings_steps InvalidBinding = 0
+  bindings_steps _ = 0
 
 -- The crate's name
-
--- the first of two roots, where the one that comes first may be none
-abbrev pub first_of : (root other : Option UndisambiguatedIdentifier) → Option UndisambiguatedIdentifier
-first_of None other = other
-first_of (Some root) other = Some root
 
 -- the first crate root in reading order that is in no back reference
 unfoldable mutual
   pub path_root : PathTree → Option UndisambiguatedIdentifier
-  path_root NoPath = None
   path_root (Crate root) = Some root.name
   path_root (Nested namespace p name) = path_root p
   path_root (InvalidNested p) = path_root p
-  path_root (OfType p t) = first_of (path_root p) (type_root t)
-  path_root (OfImpl p t u) = first_of (first_of (path_root p) (type_root t)) (path_root u)
-  path_root (OfTrait t u) = first_of (type_root t) (path_root u)
-  path_root (Generic p items) = first_of (path_root p) (items_root items)
-  path_root (BackPath p) = None
-  path_root (PathTarget at) = None
+  path_root (OfType p t) = option_or (path_root p) (type_root t)
+  path_root (OfImpl p t u) = option_or (option_or (path_root p) (type_root t)) (path_root u)
+  path_root (OfTrait t u) = option_or (type_root t) (path_root u)
+  path_root (Generic p items) = option_or (path_root p) (items_root items)
+  path_root _ = None
 
   pub type_root : TypeTree → Option UndisambiguatedIdentifier
-  type_root NoType = None
-  type_root (Basic name) = None
   type_root (Reference mutable life t) = type_root t
-  type_root InvalidReferenceType = None
   type_root (Pointer mutable t) = type_root t
   type_root (Slice t) = type_root t
   type_root (Array t c) = type_root t
   type_root (Tuple items) = items_root items
   type_root (Function signature items) = items_root items
-  type_root (FunctionTo signature items t) = first_of (items_root items) (type_root t)
-  type_root (InvalidFunction binder) = None
+  type_root (FunctionTo signature items t) = option_or (items_root items) (type_root t)
   type_root (Dyn binder items life) = items_root items
-  type_root InvalidDynType = None
   type_root (Named p) = path_root p
-  type_root (BackType t) = None
-  type_root (TypeTarget at) = None
+  type_root _ = None
 
   pub item_root : Item → Option UndisambiguatedIdentifier
-  item_root (LifetimeItem life) = None
   item_root (TypeItem t) = type_root t
-  item_root (ConstItem c) = None
-  item_root (TraitItem p bindings) = first_of (path_root p) (bindings_root bindings)
+  item_root (TraitItem p bindings) = option_or (path_root p) (bindings_root bindings)
+  item_root _ = None
 
   pub items_root : Items → Option UndisambiguatedIdentifier
   items_root NoItems = None
-  items_root (ItemThen i items) = first_of (item_root i) (items_root items)
+  items_root (ItemThen i items) = option_or (item_root i) (items_root items)
 
   pub bindings_root : Bindings → Option UndisambiguatedIdentifier
-  bindings_root NoBindings = None
-  bindings_root (Binding name t bindings) = first_of (type_root t) (bindings_root bindings)
-  bindings_root InvalidBinding = None
+  bindings_root (Binding name t bindings) = option_or (type_root t) (bindings_root bindings)
+  bindings_root _ = None
 
 -- Text
 
@@ -262,9 +235,8 @@ pub data Position : Type 0 where
 -- where the path within a path is shown: as a type where the whole is an open trait, since only the arguments that end a trait's path stay
 -- open. A back reference hands its own position on
 abbrev pub parent_position : (position : Position) → Position
-parent_position InValue = InValue
-parent_position InType = InType
 parent_position OpenTrait = InType
+parent_position position = position
 
 -- an index counts the lifetimes that the binders around it announce, from the innermost out; 0 is none of them
 abbrev pub is_announced : (depth index : ℕ) → Bool
@@ -292,21 +264,18 @@ binder_text depth (suc n) =
 
 -- the lifetime of a reference. An invalid one is never asked for: such a reference is an `InvalidReferenceType`
 abbrev pub reference_lifetime : (depth : ℕ) (life : Lifetime) → List ℕ
-reference_lifetime depth NoLifetime = []
-reference_lifetime depth InvalidLifetime = []
 reference_lifetime depth (IndexedLifetime k) = if k == 0 then [] else lifetime_text depth k ++ codes " "
+reference_lifetime depth _ = []
 
--- the lifetime of an argument, where one was read
+-- the lifetime of an argument. One that isn't there is never asked for: an "L" is what makes an argument a lifetime
 abbrev pub argument_lifetime : (depth : ℕ) (life : Lifetime) → List ℕ
-argument_lifetime depth NoLifetime = codes "?"
-argument_lifetime depth InvalidLifetime = codes "?"
 argument_lifetime depth (IndexedLifetime k) = lifetime_text depth k
+argument_lifetime depth _ = codes "?"
 
 -- the lifetime of a dyn type, which has to stand there
 abbrev pub dyn_lifetime : (depth : ℕ) (life : Lifetime) → List ℕ
-dyn_lifetime depth NoLifetime = codes "?"
-dyn_lifetime depth InvalidLifetime = codes "?"
 dyn_lifetime depth (IndexedLifetime k) = if k == 0 then [] else codes " + " ++ lifetime_text depth k
+dyn_lifetime depth _ = codes "?"
 
 -- a crate's disambiguator in lower-case hexadecimal, where it is asked for
 abbrev pub disambiguator_text : (full : Bool) (disambiguator : ℕ) → List ℕ
@@ -344,12 +313,8 @@ unfoldable pub signature_text : (s : Signature) → List ℕ
 signature_text s = mutable_text s.is_unsafe (codes "unsafe ") [] ++ (abi_text s.abi ++ codes "fn(")
 
 -- at most 16 hexadecimal digits are shown in decimal, and more as they stand
-abbrev pub decimal_or : (hex : List ℕ) (value : Option ℕ) → List ℕ
-decimal_or hex None = codes "0x" ++ hex
-decimal_or hex (Some n) = decimal n
-
 unfoldable pub number_text : (hex : List ℕ) → List ℕ
-number_text hex = decimal_or hex (hex_number hex)
+number_text hex = option_map_or decimal (hex_number hex) (codes "0x" ++ hex)
 
 abbrev pub sign_text : (negative : Bool) → List ℕ
 sign_text true = codes "-"
@@ -389,19 +354,16 @@ const_text (ConstTarget at) = []
 -- "::" before the arguments of a value
 abbrev pub value_mark : (position : Position) → List ℕ
 value_mark InValue = codes "::"
-value_mark InType = []
-value_mark OpenTrait = []
+value_mark _ = []
 
 -- the arguments of an open trait are not closed
 abbrev pub closing : (position : Position) → List ℕ
-closing InValue = codes ">"
-closing InType = codes ">"
 closing OpenTrait = []
+closing _ = codes ">"
 
 abbrev pub is_open_trait : (position : Position) → Bool
-is_open_trait InValue = false
-is_open_trait InType = false
 is_open_trait OpenTrait = true
+is_open_trait _ = false
 
 -- a path with arguments that a position leaves open
 abbrev pub is_left_open : (path : PathTree) (position : Position) → Bool

@@ -7,11 +7,12 @@ use Rattle.std.proofs.Common.{refl, arith}
 use Rattle.binfarce_text.specs.Letters.{'E', 'K', 'L', 'p', 'u'}
 use Rattle.binfarce_v0_grammar.specs.Base62.{digit_62, number, tagged, back_reference}
 use Rattle.binfarce_v0_grammar.specs.Identifiers.{length_at, identifier_of, identifier_bytes, undisambiguated_identifier, identifier}
-use Rattle.binfarce_v0_grammar.specs.Forms.{basic_type, path_form_by, type_form_by, Lifetime, NoLifetime, InvalidLifetime, IndexedLifetime, stands, after_byte, identifier_at, undisambiguated_at, lifetime, path_form, type_form, const_form, NoPathForm, CrateRoot, NestedIn, InherentImpl, TraitImpl, TraitDefinition, WithArguments, BackToPath, NoTypeForm, BasicType, ReferenceTo, InvalidReference, PointerTo, SliceOf, ArrayOf, TupleOf, FunctionOf, InvalidAbi, DynOf, InvalidDyn, BackToType, PathType, NoConstForm, UntypedPlaceholderConst, PlaceholderConst, ValueConst, InvalidConst, BackToConst}
+use Rattle.binfarce_v0_grammar.specs.Forms.{basic_type, type_form_by, Lifetime, NoLifetime, InvalidLifetime, IndexedLifetime, stands, after_byte, identifier_at, undisambiguated_at, lifetime, path_form, type_form, const_form, NoPathForm, CrateRoot, NestedIn, InherentImpl, TraitImpl, TraitDefinition, WithArguments, BackToPath, NoTypeForm, BasicType, ReferenceTo, InvalidReference, PointerTo, SliceOf, ArrayOf, TupleOf, FunctionOf, InvalidAbi, DynOf, InvalidDyn, BackToType, PathType, NoConstForm, UntypedPlaceholderConst, PlaceholderConst, ValueConst, InvalidConst, BackToConst}
 use Rattle.binfarce_v0_grammar.specs.Tree.{PathTree, TypeTree, ConstTree, Item, Items, Bindings, NoConst, UntypedPlaceholder, Placeholder, Value, InvalidValue, BackConst, ConstTarget, NoPath, Crate, Nested, InvalidNested, OfType, OfImpl, OfTrait, Generic, BackPath, PathTarget, NoType, Basic, Reference, InvalidReferenceType, Pointer, Slice, Array, Tuple, Function, FunctionTo, InvalidFunction, Dyn, InvalidDynType, Named, BackType, TypeTarget, LifetimeItem, TypeItem, ConstItem, TraitItem, NoItems, ItemThen, Listed, Arguments, Types, Traits, NoBindings, Binding, InvalidBinding, path_height, path_steps, is_announced, worked_tree}
 use Rattle.binfarce_v0_grammar.specs.declared.limits.TheConstants.{MAX_LEVELS, MAX_STEPS}
 
--- the position after a lifetime: none where its number is invalid, or where no binder announces its index
+-- the position after a lifetime that may stand there: none where no binder announces its index. An invalid one is never asked for, since it
+-- makes an `InvalidReference`
 unfoldable pub bound_end : (depth : ℕ) (life : Lifetime) (after : Option ℕ) → Option ℕ
 bound_end depth NoLifetime after = after
 bound_end depth InvalidLifetime after = None
@@ -19,9 +20,8 @@ bound_end depth (IndexedLifetime k) after = if is_announced depth k then after e
 
 -- the same of a lifetime that has to stand there
 abbrev pub required_end : (depth : ℕ) (life : Lifetime) (after : Option ℕ) → Option ℕ
-required_end depth NoLifetime after = None
-required_end depth InvalidLifetime after = None
 required_end depth (IndexedLifetime k) after = bound_end depth (IndexedLifetime k) after
+required_end depth _ after = None
 
 -- a list ends at an "E", and after invalid syntax
 abbrev pub list_goes_on : (part : List ℕ) (at : Option ℕ) → Bool
@@ -135,7 +135,7 @@ UnfoldsTo part tree = UnfoldsWithin MAX_LEVELS MAX_STEPS part tree
 
 -- `a::<&u8, &u8>`: the back reference unfolds to what stands at position 4
 worked_unfolding : UnfoldsTo (codes "IC1aRhB3_E") worked_tree
-unfolding IsPath bound_end path_height path_steps path_form path_form_by type_form type_form_by basic_type lifetime back_reference number digit_62 tagged length_at identifier_of identifier_bytes undisambiguated_identifier identifier
+unfolding IsPath bound_end path_height path_steps path_form type_form type_form_by basic_type lifetime back_reference number digit_62 tagged length_at identifier_of identifier_bytes undisambiguated_identifier identifier
 worked_unfolding = record {
   after = Some 10;
   is_path = (1, Some 4, refl, (4, refl, refl), (Some 6, refl, (refl, refl, (5, refl, (6, refl, refl))), (Some 9, refl, (refl, refl, (4, 9, Some 6, refl, (5, refl, (6, refl, refl)), refl)), (refl, refl))));

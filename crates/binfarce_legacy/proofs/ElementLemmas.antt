@@ -6,7 +6,7 @@ use Rattle.std.proofs.lemmas.List.Sums.{prefix_len-le-length, prefix_len_passes}
 use Rattle.std.specs.Char.{is_ascii_digit}
 use Rattle.std.specs.List.{prefix_len, take_while}
 use Rattle.std.specs.Str.Parse.{digits_value}
-use Rattle.binfarce_legacy.specs.Legacy.{Element, IsCounted, Reads, print}
+use Rattle.binfarce_legacy.specs.Legacy.{Element, IsCounted, Reads, mangled}
 use Rattle.binfarce_legacy.specs.machine.Reading.{name_start, name_end, HasElement}
 
 -- the element that a text begins with
@@ -35,7 +35,7 @@ first_is text e after counted is =
     let all : length text ≡ length e.digits + (length e.name + length after) =
     ap length is ∙ length-append e.digits (e.name ++ after) ∙ ap (λ k. length e.digits + k) (length-append e.name after) in
     record {
-      fits = (omega (arith, counted.some, len), omega (arith, all, len, v));
+      fits = (omega (arith, counted.not_empty, len), omega (arith, all, len, v));
       digits = ds;
       name = sym (ap (take (digits_value 10 (take n text))) rest ∙ take_at e.name after (digits_value 10 (take n text)) v);
       after_is = sym (sym (drop-drop (digits_value 10 (take n text)) n text) ∙ ap (drop (digits_value 10 (take n text))) rest ∙ drop_at e.name after (digits_value 10 (take n text)) v);
@@ -45,16 +45,16 @@ first_is text e after counted is =
 pub reads_after : (text : List ℕ) (e : Element) (elements : List Element) (rest : List ℕ)
     → Reads text (e ∷ elements) rest → Reads (drop (name_end text) text) elements rest
 reads_after text e elements rest r =
-    (r.0.1, sym (first_is text e (print elements rest) r.0.0 r.1).after_is)
+    (r.0.1, sym (first_is text e (mangled elements rest) r.0.0 r.1).after_is)
 
 pub reads_fits : (text : List ℕ) (e : Element) (elements : List Element) (rest : List ℕ)
     → Reads text (e ∷ elements) rest → HasElement text
-reads_fits text e elements rest r = (first_is text e (print elements rest) r.0.0 r.1).fits
+reads_fits text e elements rest r = (first_is text e (mangled elements rest) r.0.0 r.1).fits
 
 pub reads_name : (text : List ℕ) (e : Element) (elements : List Element) (rest : List ℕ)
     → Reads text (e ∷ elements) rest
     → e.name ≡ take (digits_value 10 (take (name_start text) text)) (drop (name_start text) text)
-reads_name text e elements rest r = (first_is text e (print elements rest) r.0.0 r.1).name
+reads_name text e elements rest r = (first_is text e (mangled elements rest) r.0.0 r.1).name
 
 -- with a first element before them, elements read as one more
 pub reads_more : (text : List ℕ) (elements : List Element) (rest : List ℕ) → HasElement text
@@ -63,13 +63,13 @@ unfolding name_start name_end first
 reads_more text elements rest fits r =
     let n : ℕ = prefix_len is_ascii_digit text in
     let v : ℕ = digits_value 10 (take n text) in
-    let after : drop v (drop n text) ≡ print elements rest = drop-drop v n text ∙ r.1 in
-    let is : text ≡ take n text ++ (take v (drop n text) ++ print elements rest) =
+    let after : drop v (drop n text) ≡ mangled elements rest = drop-drop v n text ∙ r.1 in
+    let is : text ≡ take n text ++ (take v (drop n text) ++ mangled elements rest) =
     sym (take-append-drop n text) ∙ ap (λ (x : List ℕ). take n text ++ x) (sym (take-append-drop v (drop n text)) ∙ ap (λ (x : List ℕ). take v (drop n text) ++ x) after) in (
       (
         record {
           longest = ap (take_while is_ascii_digit) is;
-          some = omega (arith, fits.0, length-take-le n text (prefix_len-le-length is_ascii_digit text));
+          not_empty = omega (arith, fits.0, length-take-le n text (prefix_len-le-length is_ascii_digit text));
           counts = length-take-le v (drop n text) (omega (arith, fits.1, length-drop n text));
         },
         r.0,
@@ -117,8 +117,8 @@ reads_one_way text (x ∷ xs) [] r s a b =
     let e = reads_end text (x ∷ xs) r (ap (λ (x : List ℕ). get_or x 0 0) b.1) a in cc
 reads_one_way text (x ∷ xs) (y ∷ ys) r s a b =
     let others = reads_one_way (drop (name_end text) text) xs ys r s (reads_after text x xs r a) (reads_after text y ys s b) in
-    let fx = first_is text x (print xs r) a.0.0 a.1 in
-    let fy = first_is text y (print ys s) b.0.0 b.1 in
+    let fx = first_is text x (mangled xs r) a.0.0 a.1 in
+    let fy = first_is text y (mangled ys s) b.0.0 b.1 in
     let same : x ≡ y = same_element x y (fx.digits ∙ sym fy.digits) (fx.name ∙ sym fy.name) in
     (cc, others.1)
 

@@ -1,17 +1,18 @@
 -- The pieces of a name from left to right, and which piece begins it.
-use Rattle.std.proofs.Common.{◌≡◌, ℕ, zero, suc, ◌+◌, ◌-◌, ◌<◌, ◌≤◌, inl, inr, Bool, true, false, eqb, ltb, ◌&&◌, not, List, [], ◌∷◌, ◌++◌, length, get_or, drop, take, min, nat_eq, codes, Some, None, refl, ap, sym, ◌∙◌, arith, length-take, append_assoc}
+use Rattle.std.proofs.Common.{◌≡◌, ℕ, zero, suc, ◌+◌, ◌-◌, ◌<◌, ◌≤◌, inl, inr, Bool, true, false, eqb, ltb, ◌&&◌, not, List, [], ◌∷◌, ◌++◌, length, get_or, drop, take, min, nat_eq, codes, Option, Some, None, refl, ap, sym, ◌∙◌, arith, length-take, append_assoc}
 use Rattle.std.proofs.lemmas.Bool.{both_ways, false≢true, cases_Bool, cases_eq, cases_lt, cond-true, cond-false, and_from, and_parts, eqb-true, eqb-false, eq-eqb, ne_eqb, lt-ltb, ltb-true, not-true, false_from_ne_true}
 use Rattle.std.proofs.lemmas.Bool.Decides.{nat_tests}
 use Rattle.std.proofs.lemmas.Str.{encodes-append, encodes-IsAscii, IsAscii-take}
 use Rattle.std.specs.Str.{IsAscii, encode_utf8_all}
 use Rattle.std.proofs.lemmas.List.{drop_all, append-nil}
 use Rattle.std.proofs.lemmas.List.Sums.{prefix_len-le-length}
+use Rattle.std.specs.Option.{option_or}
 use Rattle.std.specs.List.{prefix_len, flat_map, take_while, starts_with}
 use Rattle.std.specs.Str.Parse.{digits_value}
 use Rattle.binfarce_text.specs.Letters.{is_hex_digit}
 use Rattle.binfarce_legacy.specs.Legacy.{Piece, is_printed, numbered_escape, named_escape, first_piece, pieces, name_chars}
 use Rattle.binfarce_legacy.specs.machine.Reading.{is_plain, piece_or_all, chars_left}
-use Rattle.binfarce_text.proofs.TextLemmas.{begins-not, begins-from}
+use Rattle.binfarce_text.proofs.TextLemmas.{begins, begins-not, begins-from}
 
 -- pieces after the first k bytes are those of what stands there
 pub pieces-skip : (k : ℕ) (name : List ℕ) → pieces k name ≡ pieces 0 (drop k name)
@@ -51,7 +52,6 @@ pub first_piece-plain : (name : List ℕ) → (get_or name 0 0 ≡ 46 → ⊥) �
 unfolding first_piece
 first_piece-plain name dot dollar =
     cond-false (starts_with nat_eq name (codes "..")) _ _ (begins-not name (codes "..") dot (omega arith))
-    ∙ cond-false (starts_with nat_eq name (codes "$u")) _ _ (begins-not name (codes "$u") dollar (omega arith))
     ∙ cond-false (starts_with nat_eq name (codes "$")) _ _ (begins-not name (codes "$") dollar (omega arith))
 
 pub first_piece-dots : (name : List ℕ) → starts_with nat_eq name (codes "..") ≡ true
@@ -64,27 +64,24 @@ pub first_piece-dot : (name : List ℕ) → starts_with nat_eq name (codes "..")
 unfolding first_piece
 first_piece-dot name h dot =
     cond-false (starts_with nat_eq name (codes "..")) _ _ h
-    ∙ cond-false (starts_with nat_eq name (codes "$u")) _ _ (begins-not name (codes "$u") (λ e. absurd (omega (arith, e, dot))) (omega arith))
     ∙ cond-false (starts_with nat_eq name (codes "$")) _ _ (begins-not name (codes "$") (λ e. absurd (omega (arith, e, dot))) (omega arith))
+
+begins_dollar : (name : List ℕ) → get_or name 0 0 ≡ 36 → starts_with nat_eq name (codes "$") ≡ true
+begins_dollar [] e = absurd (omega (arith, e))
+begins_dollar (b ∷ name) e = begins-from (b ∷ name) (codes "$") name (ap (λ (x : ℕ). x ∷ name) e)
+
+-- no escape that has a name begins with `$u`
+named-none : (name : List ℕ) → starts_with nat_eq name (codes "$u") ≡ true → named_escape name ≡ None
+unfolding named_escape
+named-none name h = ap named_escape (begins name (codes "$u") h)
 
 pub first_piece-numbered : (name : List ℕ) → get_or name 0 0 ≡ 36 → starts_with nat_eq name (codes "$u") ≡ true
     → first_piece name ≡ piece_or_all name (numbered_escape name)
 unfolding first_piece
 first_piece-numbered name dollar h =
     cond-false (starts_with nat_eq name (codes "..")) _ _ (begins-not name (codes "..") (λ e. absurd (omega (arith, e, dollar))) (omega arith))
-    ∙ cond-true (starts_with nat_eq name (codes "$u")) _ _ h
-
-begins_dollar : (name : List ℕ) → get_or name 0 0 ≡ 36 → starts_with nat_eq name (codes "$") ≡ true
-begins_dollar [] e = absurd (omega (arith, e))
-begins_dollar (b ∷ name) e = begins-from (b ∷ name) (codes "$") name (ap (λ (x : ℕ). x ∷ name) e)
-
-pub first_piece-named : (name : List ℕ) → get_or name 0 0 ≡ 36 → starts_with nat_eq name (codes "$u") ≡ false
-    → first_piece name ≡ piece_or_all name (named_escape name)
-unfolding first_piece
-first_piece-named name dollar h =
-    cond-false (starts_with nat_eq name (codes "..")) _ _ (begins-not name (codes "..") (λ e. absurd (omega (arith, e, dollar))) (omega arith))
-    ∙ cond-false (starts_with nat_eq name (codes "$u")) _ _ h
     ∙ cond-true (starts_with nat_eq name (codes "$")) _ _ (begins_dollar name dollar)
+    ∙ ap (λ (e : Option Piece). piece_or_all name (option_or e (numbered_escape name))) (named-none name h)
 
 -- bytes that stand for themselves, before anything else
 pub chars_left-plain : (name : List ℕ) → chars_left name
@@ -166,6 +163,20 @@ numbered-none name lacks =
       ends = ap (λ k. get_or name (2 + k) 0) (sym len) ∙ eqb-true _ 36 ab.1;
       printed = abc.1;
     })))
+
+-- an escape that has a name, or none
+or-none : (e : Option Piece) → option_or e None ≡ e
+or-none None = refl
+or-none (Some p) = refl
+
+pub first_piece-named : (name : List ℕ) → get_or name 0 0 ≡ 36 → starts_with nat_eq name (codes "$u") ≡ false
+    → first_piece name ≡ piece_or_all name (named_escape name)
+unfolding first_piece
+first_piece-named name dollar h =
+    cond-false (starts_with nat_eq name (codes "..")) _ _ (begins-not name (codes "..") (λ e. absurd (omega (arith, e, dollar))) (omega arith))
+    ∙ cond-true (starts_with nat_eq name (codes "$")) _ _ (begins_dollar name dollar)
+    ∙ ap (λ (e : Option Piece). piece_or_all name (option_or (named_escape name) e)) (numbered-none name (λ is. false≢true (sym h ∙ is.begins)))
+    ∙ ap (piece_or_all name) (or-none (named_escape name))
 
 -- a number that is held at 0x110000 is printed where the number itself is
 not_printed_past : (v : ℕ) → 0x110000 ≤ v → is_printed v ≡ false

@@ -1,6 +1,7 @@
 -- The legacy mangling that `rustc` writes: `_ZN`, elements that are each counted, and `E`.
 use Rattle.std.specs.Prelude.{◌≡◌, ℕ, zero, suc, ◌+◌, ◌-◌, ◌<◌, Bool, ◌&&◌, not, List, [], ◌∷◌, ◌++◌, length, take, drop, Option, Some, None, if◌then◌else◌, ◌==◌, nat_eq, nat_lt, slice_index, codes, IsTrue, ⊤}
-use Rattle.std.specs.Option.{option_map, unwrap_or}
+use Rattle.std.proofs.Common.{refl, arith}
+use Rattle.std.specs.Option.{option_map, option_or, unwrap_or}
 use Rattle.std.specs.List.{find, flat_map, join_by, list_any, starts_with, take_while, before_last}
 use Rattle.std.specs.Char.{is_ascii_digit, is_control}
 use Rattle.std.specs.Str.{IsAscii}
@@ -11,7 +12,7 @@ use Rattle.binfarce_text.specs.Prefixes.{after_prefix}
 use Rattle.binfarce_text.specs.Suffixes.{is_allowed_rest}
 
 -- what stands after the prefix: `_ZN`, `ZN` or `__ZN`
-unfoldable pub part_after_prefix : List ℕ → Option (List ℕ)
+unfoldable pub part_after_prefix : (text : List ℕ) → Option (List ℕ)
 part_after_prefix text = after_prefix (codes "_ZN" ∷ codes "ZN" ∷ codes "__ZN" ∷ []) text
 
 -- an element: the digits of its length, and its name
@@ -19,26 +20,26 @@ pub record Element : Type 0 where
   pub digits : List ℕ
   pub name : List ℕ
 
--- the bytes of the elements, `E`, and the rest after it
-abbrev pub print : List Element → List ℕ → List ℕ
-print [] rest = codes "E" ++ rest
-print (e ∷ elements) rest = e.digits ++ (e.name ++ print elements rest)
+-- elements as they stand in a mangling: each with its digits in front, `E`, and the rest after it
+abbrev pub mangled : (elements : List Element) (rest : List ℕ) → List ℕ
+mangled [] rest = codes "E" ++ rest
+mangled (e ∷ elements) rest = e.digits ++ (e.name ++ mangled elements rest)
 
 -- with these bytes after it, e is counted: its digits are the longest run of decimal digits, and
 -- the number that they write is the length of its name
 pub record IsCounted (e : Element) (after : List ℕ) : Type 0 where
   pub longest : e.digits ≡ take_while is_ascii_digit (e.digits ++ (e.name ++ after))
-  pub some : 0 < length e.digits
+  pub not_empty : 0 < length e.digits
   pub counts : length e.name ≡ digits_value 10 e.digits
 
 -- each element is counted
-abbrev pub AreCounted : List Element → List ℕ → Type 0
+abbrev pub AreCounted : (elements : List Element) (rest : List ℕ) → Type 0
 AreCounted [] rest = ⊤
-AreCounted (e ∷ elements) rest = IsCounted e (print elements rest) × AreCounted elements rest
+AreCounted (e ∷ elements) rest = IsCounted e (mangled elements rest) × AreCounted elements rest
 
 -- part is counted elements, `E` and the rest
-abbrev pub Reads : List ℕ → List Element → List ℕ → Type 0
-Reads part elements rest = AreCounted elements rest × (part ≡ print elements rest)
+abbrev pub Reads : (part : List ℕ) (elements : List Element) (rest : List ℕ) → Type 0
+Reads part elements rest = AreCounted elements rest × (part ≡ mangled elements rest)
 
 -- text is a legacy mangling of these elements: part stands after its prefix, and the rest after
 -- its `E`
@@ -60,17 +61,17 @@ named_escapes =
     ∷ (codes "$LP$", codes "(") ∷ (codes "$RP$", codes ")") ∷ (codes "$BP$", codes "*") ∷ (codes "$SP$", codes "@") ∷ []
 
 -- the piece that such an escape makes where the name begins with it
-unfoldable pub named_escape : List ℕ → Option Piece
+unfoldable pub named_escape : (name : List ℕ) → Option Piece
 named_escape name =
     option_map (λ e. record { len = length e.0; chars = e.1 })
     (find (λ e. starts_with nat_eq name e.0) named_escapes)
 
 -- a character that is printed: a scalar value that is no control character
-abbrev pub is_printed : ℕ → Bool
+abbrev pub is_printed : (c : ℕ) → Bool
 is_printed c = is_scalar c && not (is_control c)
 
 -- the piece that `$u`, hexadecimal digits and `$` make where the name begins with them
-unfoldable pub numbered_escape : List ℕ → Option Piece
+unfoldable pub numbered_escape : (name : List ℕ) → Option Piece
 numbered_escape name =
     let digits = take_while is_hex_digit (drop 2 name) in
     if starts_with nat_eq name (codes "$u") && nat_lt 0 (length digits)
@@ -80,35 +81,58 @@ numbered_escape name =
 
 -- the piece that begins a name: `..` is `::`, an escape is its character, a `$` that begins no
 -- escape keeps all the rest as it is, and any other byte is itself
-unfoldable pub first_piece : List ℕ → Piece
+unfoldable pub first_piece : (name : List ℕ) → Piece
 first_piece name =
     if starts_with nat_eq name (codes "..") then record { len = 2; chars = codes "::" }
-    else (if starts_with nat_eq name (codes "$u")
-    then unwrap_or (numbered_escape name) (record { len = length name; chars = name })
     else (if starts_with nat_eq name (codes "$")
-    then unwrap_or (named_escape name) (record { len = length name; chars = name })
-    else record { len = 1; chars = take 1 name }))
+    then unwrap_or (option_or (named_escape name) (numbered_escape name)) (record { len = length name; chars = name })
+    else record { len = 1; chars = take 1 name })
 
 -- the pieces of a name from left to right. The bytes of a piece after its first are skipped, and
 -- `skip` is how many are still to be skipped
-abbrev pub pieces : ℕ → List ℕ → List Piece
+abbrev pub pieces : (skip : ℕ) (name : List ℕ) → List Piece
 pieces skip [] = []
 pieces (suc skip) (b ∷ name) = pieces skip name
 pieces zero (b ∷ name) = first_piece (b ∷ name) ∷ pieces ((first_piece (b ∷ name)).len - 1) name
 
 -- the characters that a name stands for: a leading `_` is dropped before a `$`
-unfoldable pub name_chars : List ℕ → List ℕ
+unfoldable pub name_chars : (name : List ℕ) → List ℕ
 name_chars name =
     flat_map (λ p. p.chars) (pieces (if starts_with nat_eq name (codes "_$") then 1 else 0) name)
 
 -- the characters of a mangling: those of the elements' names, joined by `::`
-unfoldable pub legacy_chars : List Element → List ℕ
+unfoldable pub legacy_chars : (elements : List Element) → List ℕ
 legacy_chars elements = join_by (λ e. name_chars e.name) (codes "::") elements
 
--- the characters before the one that precedes the last `:`: none where that `:` is first, and all
--- where there is no `:`
-unfoldable pub without_last_part : List ℕ → List ℕ
+-- what stands before the last `:` and the one character in front of it; empty where that `:` is first, and all where there is none
+unfoldable pub without_last_part : (chars : List ℕ) → List ℕ
 without_last_part chars =
     if list_any (λ c. c == ':') chars
     then (let front = before_last (λ c. c == ':') chars in take (length front - 1) front)
     else chars
+
+-- `_ZN4$LT$3barE` is `$LT$` and `bar`
+abbrev worked_elements : List Element
+worked_elements =
+    record { digits = codes "4"; name = codes "$LT$" } ∷ record { digits = codes "3"; name = codes "bar" } ∷ []
+
+worked_prefix : part_after_prefix (codes "_ZN4$LT$3barE") ≡ Some (codes "4$LT$3barE")
+unfolding part_after_prefix
+worked_prefix = refl
+
+worked_reading : Reads (codes "4$LT$3barE") worked_elements []
+worked_reading = (
+  (
+    record { longest = refl; not_empty = omega arith; counts = refl },
+    (record { longest = refl; not_empty = omega arith; counts = refl }, tt),
+  ),
+  refl,
+)
+
+worked_text : legacy_chars worked_elements ≡ codes "<::bar"
+unfolding legacy_chars name_chars first_piece named_escape numbered_escape
+worked_text = refl
+
+worked_trimmed : without_last_part (codes "<::bar") ≡ codes "<"
+unfolding without_last_part
+worked_trimmed = refl

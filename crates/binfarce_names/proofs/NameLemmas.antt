@@ -1,19 +1,76 @@
 -- The answer of a name.
-use Rattle.std.proofs.Common.{◌≡◌, ℕ, List, Bool, true, false, Result, Ok, Err, inl, inr, refl, ap, sym, ◌∙◌, subst}
+use Rattle.std.proofs.Common.{◌≡◌, ℕ, ◌⊎◌, List, [], ◌∷◌, get_or, nat_eq, Bool, true, false, Some, None, Result, Ok, Err, inl, inr, refl, ap, sym, ◌∙◌, subst, arith}
+use Rattle.std.proofs.lemmas.Bool.{cases_Bool, cond-false}
 use Rattle.std.specs.Prelude.{IfOk}
+use Rattle.std.specs.List.{starts_with}
+use Rattle.binfarce_text.specs.Prefixes.{after_prefix}
 use Rattle.binfarce_names.specs.declared.demangle.Kind.TheVariants.{Unknown, Legacy, V0}
 use Rattle.binfarce_text.specs.Suffixes.{without_llvm}
+use Rattle.binfarce_legacy.specs.Legacy as legacy_names
 use Rattle.binfarce_legacy.specs.Legacy.{Element, IsLegacy}
 use Rattle.binfarce_legacy.proofs.ElementLemmas.{reads_one_way}
 use Rattle.binfarce_names.specs.Name.{Name, Mangled}
 use Rattle.binfarce_names.specs.Named.{IsLegacyMangled, IsV0Mangled, IsMangled, IsNamed, legacy, v0, unknown}
-use Rattle.binfarce_names.specs.machine.Laws.{HasAnAnswer, HasOneAnswer}
-use Rattle.binfarce_v0.specs.Mangling.{IsV0}
+use Rattle.binfarce_names.specs.Laws.{HasAnAnswer, HasOneAnswer}
+use Rattle.binfarce_v0.specs.Mangling.{part_after_prefix, IsV0}
 use Rattle.binfarce_v0_grammar.specs.Tree.{PathTree}
 use Rattle.binfarce_v0_grammar.specs.Unfolding.{UnfoldsTo}
 use Rattle.binfarce_v0.proofs.Manglings.{unfolds_once, printed, printed_is_outcome, printed_over}
 use Rattle.binfarce_v0.proofs.RestLemmas.{one_part}
-use Rattle.binfarce_text.proofs.TextLemmas.{some_same}
+use Rattle.binfarce_text.proofs.TextLemmas.{some_same, begins-at}
+
+-- Prefixes
+
+one_of : (p q r text part : List ℕ) → after_prefix (p ∷ q ∷ r ∷ []) text ≡ Some part
+    → (starts_with nat_eq text p ≡ true) ⊎ ((starts_with nat_eq text q ≡ true) ⊎ (starts_with nat_eq text r ≡ true))
+one_of p q r text part e = elim (cases_Bool (starts_with nat_eq text p)) [
+  | inl a ↦ inl a
+  | inr a ↦ elim (cases_Bool (starts_with nat_eq text q)) [
+    | inl b ↦ inr (inl b)
+    | inr b ↦ elim (cases_Bool (starts_with nat_eq text r)) [
+      | inl c ↦ inr (inr c)
+      | inr c ↦
+          let none : after_prefix (p ∷ q ∷ r ∷ []) text ≡ None =
+          cond-false (starts_with nat_eq text p) _ _ a ∙ cond-false (starts_with nat_eq text q) _ _ b ∙ cond-false (starts_with nat_eq text r) _ _ c in
+          let both = sym none ∙ e in absurd cc
+    ]
+  ]
+]
+
+-- a text begins with a letter, which stands after no `_`, one or two
+abbrev BeginsWith : ℕ → List ℕ → Type 0
+BeginsWith letter text =
+    ((get_or text 0 0 ≡ 95) × (get_or text 1 0 ≡ letter))
+    ⊎ ((get_or text 0 0 ≡ letter) ⊎ ((get_or text 0 0 ≡ 95) × (get_or text 1 0 ≡ 95) × (get_or text 2 0 ≡ letter)))
+
+begins_with : (letter : ℕ) (more text part : List ℕ)
+    → after_prefix ((95 ∷ letter ∷ more) ∷ (letter ∷ more) ∷ (95 ∷ 95 ∷ letter ∷ more) ∷ []) text ≡ Some part → BeginsWith letter text
+begins_with letter more text part e = elim (one_of (95 ∷ letter ∷ more) (letter ∷ more) (95 ∷ 95 ∷ letter ∷ more) text part e) [
+  | inl a ↦ inl (begins-at text (95 ∷ letter ∷ more) 0 a (omega arith), begins-at text (95 ∷ letter ∷ more) 1 a (omega arith))
+  | inr b ↦ elim b [
+    | inl c ↦ inr (inl (begins-at text (letter ∷ more) 0 c (omega arith)))
+    | inr c ↦
+        inr (inr (begins-at text (95 ∷ 95 ∷ letter ∷ more) 0 c (omega arith), begins-at text (95 ∷ 95 ∷ letter ∷ more) 1 c (omega arith), begins-at text (95 ∷ 95 ∷ letter ∷ more) 2 c (omega arith)))
+  ]
+]
+
+apart : (text : List ℕ) → BeginsWith 82 text → BeginsWith 90 text → ⊥
+apart text (inl a) (inl b) = omega (arith, a.0, a.1, b.0, b.1)
+apart text (inl a) (inr (inl b)) = omega (arith, a.0, a.1, b)
+apart text (inl a) (inr (inr b)) = omega (arith, a.0, a.1, b.0, b.1)
+apart text (inr (inl a)) (inl b) = omega (arith, a, b.0)
+apart text (inr (inl a)) (inr (inl b)) = omega (arith, a, b)
+apart text (inr (inl a)) (inr (inr b)) = omega (arith, a, b.0)
+apart text (inr (inr a)) (inl b) = omega (arith, a.1, b.1)
+apart text (inr (inr a)) (inr (inl b)) = omega (arith, a.0, b)
+apart text (inr (inr a)) (inr (inr b)) = omega (arith, a.2, b.2)
+
+-- no prefix of a v0 mangling is one of a legacy mangling
+v0_not_legacy : (text part : List ℕ) → part_after_prefix text ≡ Some part
+    → (other : List ℕ) (elements : List Element) (rest : List ℕ) → IsLegacy text other elements rest → ⊥
+unfolding part_after_prefix legacy_names.part_after_prefix
+v0_not_legacy text part e other elements rest is =
+    apart text (begins_with 82 [] text part e) (begins_with 90 (78 ∷ []) text other is.prefix)
 
 -- a v0 name unfolds to one tree
 pub one_tree : (text p q : List ℕ) (t u : PathTree) → IsV0 text p → UnfoldsTo p t → IsV0 text q → UnfoldsTo q u → t ≡ u
@@ -40,7 +97,7 @@ unfolding IsMangled IsNamed
 named_past_limits text m name is k none e = elim is [
   | inl a ↦ absurd (legacy_not_v0 text m a k)
   | inr a ↦ elim a [
-    | inl v ↦ inr (inr (record { not_legacy = v.not_legacy; no_tree = λ part tree w u. none tree (subst (λ x. UnfoldsTo x tree) (sym (one_part (without_llvm text) m.part part v.mangling.after w.after v.mangling.mangling w.mangling)) u); name_is = e }))
+    | inl v ↦ inr (inr (record { not_legacy = v0_not_legacy (without_llvm text) m.part v.mangling.mangling.prefix; no_tree = λ part tree w u. none tree (subst (λ x. UnfoldsTo x tree) (sym (one_part (without_llvm text) m.part part v.mangling.after w.after v.mangling.mangling w.mangling)) u); name_is = e }))
     | inr v ↦ inr (inr (record { not_legacy = v.not_legacy; no_tree = λ part tree w u. v.not_v0 part w; name_is = e }))
   ]
 ]
@@ -71,7 +128,7 @@ has_answer text m is = elim is [
         (unknown text, named_past_limits text m (unknown text) is v.kind_is (λ tree u. printed_over m.part true o tree u) refl)
     by v false o =
         let t = printed_is_outcome m.part true o in
-        (v0 t.tree, inr (inl (record { not_legacy = v.not_legacy; part = m.part; mangling = v.mangling; tree = t.tree; unfolds = t.unfolds; name_is = refl })))
+        (v0 t.tree, inr (inl (record { part = m.part; mangling = v.mangling; tree = t.tree; unfolds = t.unfolds; name_is = refl })))
 
 -- a text is a legacy mangling of one list of elements
 one_mangling : (text part other : List ℕ) (elements others : List Element) (rest after : List ℕ)
@@ -87,13 +144,13 @@ answers_same text first second a b = elim a [
   | inl m ↦ elim b [
     | inl n ↦ m.name_is ∙ ap legacy (one_mangling (without_llvm text) m.part n.part m.elements n.elements m.rest n.rest m.mangling n.mangling) ∙ sym n.name_is
     | inr n ↦ elim n [
-      | inl w ↦ absurd (w.not_legacy m.part m.elements m.rest m.mangling)
+      | inl w ↦ absurd (v0_not_legacy (without_llvm text) w.part w.mangling.mangling.prefix m.part m.elements m.rest m.mangling)
       | inr w ↦ absurd (w.not_legacy m.part m.elements m.rest m.mangling)
     ]
   ]
   | inr m ↦ elim b [
     | inl n ↦ elim m [
-      | inl v ↦ absurd (v.not_legacy n.part n.elements n.rest n.mangling)
+      | inl v ↦ absurd (v0_not_legacy (without_llvm text) v.part v.mangling.mangling.prefix n.part n.elements n.rest n.mangling)
       | inr v ↦ absurd (v.not_legacy n.part n.elements n.rest n.mangling)
     ]
     | inr n ↦ elim m [

@@ -6,8 +6,8 @@ use Rattle.binfarce_names.specs.declared.demangle.Kind.TheVariants.{V0}
 use Rattle.binfarce_text.specs.Suffixes.{without_llvm}
 use Rattle.binfarce_legacy.specs.Legacy.{Element, Reads, IsLegacy, legacy_chars, without_last_part}
 use Rattle.binfarce_v0_grammar.specs.Tree.{PathTree}
-use Rattle.binfarce_v0.specs.Mangling.{IsV0}
-use Rattle.binfarce_v0.specs.machine.Outcome.{Outcome, HasNoTree, HasTree, IsOutcome, IsCrateName, AreTexts}
+use Rattle.binfarce_v0.specs.Mangling.{IsV0, HasNoTree}
+use Rattle.binfarce_v0.specs.machine.Outcome.{Outcome, HasTree, IsOutcome, IsCrateName, AreTexts}
 use Rattle.binfarce_names.specs.Crates.{crate_of, path_crate}
 use Rattle.binfarce_names.specs.Name.{Name}
 use Rattle.binfarce_names.specs.Named.{IsNotLegacy, IsNamed, legacy, unknown, v0}
@@ -43,7 +43,7 @@ named_legacy name text part rest elements n e is same =
 pub named_v0 : (name text : List ℕ) (tree : PathTree) (n : Name) → IsOther name text → HasTree text tree → n ≡ v0 tree → IsNamed name n
 unfolding IsNamed
 named_v0 name text tree n o t same =
-    inr (inl (record { not_legacy = other_not_legacy name text o; part = t.part; mangling = subst (λ s. IsV0 s t.part) o.stripped t.mangling; tree = tree; unfolds = t.unfolds; name_is = same }))
+    inr (inl (record { part = t.part; mangling = subst (λ s. IsV0 s t.part) o.stripped t.mangling; tree = tree; unfolds = t.unfolds; name_is = same }))
 
 -- the texts of a tree are those of a name
 pub named_texts : (name text complete trimmed : List ℕ) (crate_name : Option (List ℕ)) → IsOther name text → AreTexts text complete trimmed crate_name

@@ -4,7 +4,7 @@ use Rattle.std.proofs.lemmas.Bool.Decides.{nat_tests}
 use Rattle.binfarce_text.specs.Steps.{◌>>=◌}
 use Rattle.binfarce_v0_grammar.specs.Base62.{number, back_reference}
 use Rattle.binfarce_v0_grammar.specs.Tree.{path_height, path_steps, name_text, path_root, InValue}
-use Rattle.binfarce_names.specs.machine.Laws.{UnfoldsOneWay, ReadsOneWay, NamesAnEarlierPosition, KnowsNoLimit}
+use Rattle.binfarce_names.specs.Laws.{UnfoldsOneWay, ReadsOneWay, NamesAnEarlierPosition, KnowsNoLimit}
 use Rattle.binfarce_v0.specs.machine.Printing.{State}
 use Rattle.binfarce_v0.proofs.Complete.{path_complete}
 use Rattle.binfarce_v0_grammar.proofs.ReadingTrees.{reads_one_tree}

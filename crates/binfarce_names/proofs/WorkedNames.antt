@@ -9,17 +9,16 @@ use Rattle.std.specs.Fmt.{digits}
 use Rattle.binfarce_names.specs.declared.demangle.Kind.TheVariants.{V0}
 use Rattle.binfarce_v0_grammar.specs.Base62.{digit_62, number, tagged, back_reference, hex_digits, hex_number}
 use Rattle.binfarce_text.specs.Suffixes.{without_llvm, is_allowed_rest}
-use Rattle.binfarce_v0_grammar.specs.Forms.{path_form_by, path_form, lifetime, basic_type, abi, type_form_by, type_form, const_type, has_sign, value_of, const_value, const_form_by, const_form}
+use Rattle.binfarce_v0_grammar.specs.Forms.{path_form, lifetime, basic_type, abi, type_form_by, type_form, const_type, has_sign, value_of, const_value, const_form}
 use Rattle.binfarce_v0_grammar.specs.Identifiers.{length_at, identifier_of, identifier_bytes, undisambiguated_identifier, identifier, identifier_text}
 use Rattle.binfarce_legacy.specs.Legacy as legacy_names
-use Rattle.binfarce_legacy.specs.Legacy.{Element, IsLegacy}
 use Rattle.binfarce_v0.specs.Mangling.{part_after_prefix, is_upper_at, IsMangling, IsV0}
 use Rattle.binfarce_names.specs.Name.{Name}
 use Rattle.binfarce_names.specs.Named.{IsNotLegacy, IsNamed, unknown}
 use Rattle.binfarce_v0_grammar.specs.Tree.{path_height, path_steps, lifetime_text, binder_text, nested_text, signature_text, number_text, character_text, value_text, InValue}
 use Rattle.binfarce_v0_grammar.specs.Unfolding.{UnfoldsTo, bound_end}
 use Rattle.binfarce_v0_grammar.specs.Punycode.{digit_of, weight, integer, scaled_bias, adapted_bias, decoder_after, text_of, punycode_decoded}
-use Rattle.binfarce_names.specs.machine.Laws.{Counts}
+use Rattle.binfarce_names.specs.Laws.{Counts}
 use Rattle.binfarce_v0_grammar.specs.machine.Ends.{const_end, bindings_end, item_end, items_end, type_end, path_end, ends}
 use Rattle.binfarce_v0_grammar.specs.declared.limits.TheConstants.{MAX_LEVELS, MAX_STEPS}
 use Rattle.binfarce_v0.specs.machine.Mangling.{paths_end}
@@ -31,7 +30,7 @@ use Rattle.binfarce_text.proofs.TextLemmas.{some_same}
 
 -- all that a worked name computes with
 unfoldable pub computing : ℕ
-unfolding digits digit_62 number tagged back_reference hex_digits hex_number without_llvm is_allowed_rest path_form_by path_form lifetime basic_type abi type_form_by type_form const_type has_sign value_of const_value const_form_by const_form length_at identifier_of identifier_bytes undisambiguated_identifier identifier identifier_text digit_of weight integer scaled_bias adapted_bias decoder_after text_of punycode_decoded legacy_names.part_after_prefix part_after_prefix path_height path_steps lifetime_text binder_text nested_text signature_text number_text character_text value_text bound_end const_end bindings_end item_end items_end type_end path_end ends const_rule bindings_rule item_rule items_rule type_rule path_rule readers lib.Utf8.encode
+unfolding digits digit_62 number tagged back_reference hex_digits hex_number without_llvm is_allowed_rest path_form lifetime basic_type abi type_form_by type_form const_type has_sign value_of const_value const_form length_at identifier_of identifier_bytes undisambiguated_identifier identifier identifier_text digit_of weight integer scaled_bias adapted_bias decoder_after text_of punycode_decoded legacy_names.part_after_prefix part_after_prefix path_height path_steps lifetime_text binder_text nested_text signature_text number_text character_text value_text bound_end const_end bindings_end item_end items_end type_end path_end ends const_rule bindings_rule item_rule items_rule type_rule path_rule readers lib.Utf8.encode
 computing = 0
 
 both : (a b : Bool) → (a && b) ≡ true → (a ≡ true) × (b ≡ true)
@@ -50,20 +49,20 @@ not_legacy text e part elements rest l = let p = l.prefix in cc
 
 -- a text whose part after the prefix reads to its end and is printed
 pub means : (text part : List ℕ) (name : Name)
-    → legacy_names.part_after_prefix (without_llvm text) ≡ None → part_after_prefix (without_llvm text) ≡ Some part
+    → part_after_prefix (without_llvm text) ≡ Some part
     → paths_end part ≡ Some (length part)
     → (is_upper_at part 0 && (list_all (λ c. nat_lt c 128) part && is_allowed_rest (drop (length part) part))) ≡ true
     → (printed part true).1.over ≡ false → (printed part false).1.over ≡ false
     → name ≡ record { complete = (printed part true).1.text; trimmed = (printed part false).1.text; crate_name = option_map identifier_text (printed part true).1.root; kind = V0 }
     → IsNamed text name
 unfolding IsNamed
-means text part name l b p w o s e =
+means text part name b p w o s e =
     let first = both (is_upper_at part 0) (list_all (λ c. nat_lt c 128) part && is_allowed_rest (drop (length part) part)) w in
     let second = both (list_all (λ c. nat_lt c 128) part) (is_allowed_rest (drop (length part) part)) first.1 in
     let mangling : IsMangling (without_llvm text) part (length part) = record { prefix = b; begins = first.0; ascii = ascii part second.0; paths = paths_read part (length part) p } in
     let is : IsV0 (without_llvm text) part = record { after = length part; mangling = mangling; rest = second.1 } in
     let texts = are_texts (without_llvm text) part (outcome_of (printed part true).1) (outcome_of (printed part false).1) _ _ (option_map identifier_text (printed part true).1.root) is (printed_is_outcome part true o) (printed_is_outcome part false s) refl refl refl in
-    inr (inl (record { not_legacy = not_legacy text l; part = texts.has_tree.part; mangling = texts.has_tree.mangling; tree = texts.tree; unfolds = texts.has_tree.unfolds; name_is = e ∙ λ i. record { complete = texts.complete_is i; trimmed = texts.trimmed_is i; crate_name = texts.crate_is i; kind = V0 } }))
+    inr (inl (record { part = texts.has_tree.part; mangling = texts.has_tree.mangling; tree = texts.tree; unfolds = texts.has_tree.unfolds; name_is = e ∙ λ i. record { complete = texts.complete_is i; trimmed = texts.trimmed_is i; crate_name = texts.crate_is i; kind = V0 } }))
 
 -- a text whose part after the prefix passes a limit
 pub means_nothing : (text part : List ℕ) → legacy_names.part_after_prefix (without_llvm text) ≡ None

@@ -6,20 +6,20 @@ use Rattle.binfarce_names.specs.declared.demangle.Kind.TheVariants.{Unknown, Leg
 use Rattle.binfarce_names.specs.Name.{Name}
 
 -- a path up to its first `::`, or all of it where there is none
-abbrev pub first_part : List ℕ → List ℕ
+abbrev pub first_part : (path : List ℕ) → List ℕ
 first_part [] = []
-first_part (x ∷ xs) = if starts_with nat_eq (x ∷ xs) (codes "::") then [] else x ∷ first_part xs
+first_part (b ∷ path) = if starts_with nat_eq (b ∷ path) (codes "::") then [] else b ∷ first_part path
 
 -- the crate that a path begins with, unless it is a type or a trait that it begins with
-abbrev pub path_crate : List ℕ → Option (List ℕ)
+abbrev pub path_crate : (path : List ℕ) → Option (List ℕ)
 path_crate path = if starts_with nat_eq path (codes "<") then None else Some (first_part path)
 
 -- the crate that a name of this kind tells, which has this crate root and this path
-abbrev pub told_crate : Kind → Option (List ℕ) → List ℕ → Option (List ℕ)
+abbrev pub told_crate : (kind : Kind) (root : Option (List ℕ)) (path : List ℕ) → Option (List ℕ)
 told_crate Legacy root path = path_crate path
 told_crate V0 root path = root
 told_crate Unknown root path = None
 
 -- the crate that a name tells: a legacy name by its path, and a v0 name by its crate root
-unfoldable pub crate_of : Name → Option (List ℕ)
+unfoldable pub crate_of : (name : Name) → Option (List ℕ)
 crate_of name = told_crate name.kind name.crate_name name.complete

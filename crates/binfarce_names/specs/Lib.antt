@@ -1,4 +1,4 @@
 pub mod Name
 pub mod Named
 pub mod Crates
-pub mod machine
+pub mod Laws

@@ -5,13 +5,13 @@ use Rattle.binfarce_names.specs.declared.demangle.Kind.TheVariants.{Unknown, Leg
 use Rattle.binfarce_text.specs.Suffixes.{without_llvm}
 use Rattle.binfarce_legacy.specs.Legacy.{Element, IsLegacy, legacy_chars, without_last_part}
 use Rattle.binfarce_v0_grammar.specs.Identifiers.{identifier_text}
-use Rattle.binfarce_v0.specs.Mangling.{IsV0}
+use Rattle.binfarce_v0.specs.Mangling.{IsV0, HasNoTree}
 use Rattle.binfarce_names.specs.Name.{Name, Mangled}
 use Rattle.binfarce_v0_grammar.specs.Tree.{PathTree, name_text, path_root}
 use Rattle.binfarce_v0_grammar.specs.Unfolding.{UnfoldsTo}
 
 -- the name of a legacy mangling: complete, and without the last part of its path
-abbrev pub legacy : List Element → Name
+abbrev pub legacy : (elements : List Element) → Name
 legacy elements = record {
   complete = encode_utf8_all (legacy_chars elements);
   trimmed = encode_utf8_all (without_last_part (legacy_chars elements));
@@ -20,17 +20,17 @@ legacy elements = record {
 }
 
 -- a name that is no mangling stands unchanged
-abbrev pub unknown : List ℕ → Name
+abbrev pub unknown : (text : List ℕ) → Name
 unknown text = record { complete = text; trimmed = text; crate_name = None; kind = Unknown }
 
 -- text is no legacy mangling
-abbrev pub IsNotLegacy : List ℕ → Type 0
+abbrev pub IsNotLegacy : (text : List ℕ) → Type 0
 IsNotLegacy text =
     (part : List ℕ) (elements : List Element) (rest : List ℕ)
     → ¬ (IsLegacy (without_llvm text) part elements rest)
 
 -- the name of a v0 mangling: both texts are of one tree
-abbrev pub v0 : PathTree → Name
+abbrev pub v0 : (tree : PathTree) → Name
 v0 tree = record {
   complete = name_text true tree;
   trimmed = name_text false tree;
@@ -39,12 +39,8 @@ v0 tree = record {
 }
 
 -- text is no v0 mangling
-abbrev pub IsNotV0 : List ℕ → Type 0
+abbrev pub IsNotV0 : (text : List ℕ) → Type 0
 IsNotV0 text = (part : List ℕ) → ¬ (IsV0 (without_llvm text) part)
-
--- text is no v0 mangling that unfolds to a tree within the limits
-abbrev pub HasNoTree : List ℕ → Type 0
-HasNoTree text = (part : List ℕ) (tree : PathTree) → IsV0 (without_llvm text) part → ¬ (UnfoldsTo part tree)
 
 -- text is a legacy mangling, and name is the one of its elements
 pub record IsLegacyName (text : List ℕ) (name : Name) : Type 0 where
@@ -54,9 +50,9 @@ pub record IsLegacyName (text : List ℕ) (name : Name) : Type 0 where
   pub mangling : IsLegacy (without_llvm text) part elements rest
   pub name_is : name ≡ legacy elements
 
--- text is a v0 mangling, and name is the one of the tree that it unfolds to within the limits
+-- text is a v0 mangling, and name is the one of the tree that it unfolds to within the limits. No v0 mangling is a legacy one too, since no
+-- prefix is one of both
 pub record IsV0Name (text : List ℕ) (name : Name) : Type 0 where
-  pub not_legacy : IsNotLegacy text
   pub part : List ℕ
   pub mangling : IsV0 (without_llvm text) part
   pub tree : PathTree
@@ -66,11 +62,11 @@ pub record IsV0Name (text : List ℕ) (name : Name) : Type 0 where
 -- text is no mangling, or a v0 mangling that unfolds to no tree within the limits, and name is text
 pub record StandsUnchanged (text : List ℕ) (name : Name) : Type 0 where
   pub not_legacy : IsNotLegacy text
-  pub no_tree : HasNoTree text
+  pub no_tree : HasNoTree (without_llvm text)
   pub name_is : name ≡ unknown text
 
 -- name is the answer of text
-unfoldable pub IsNamed : List ℕ → Name → Type 0
+unfoldable pub IsNamed : (text : List ℕ) (name : Name) → Type 0
 IsNamed text name = IsLegacyName text name ⊎ (IsV0Name text name ⊎ StandsUnchanged text name)
 
 -- m keeps of text the part after the prefix of a legacy mangling
@@ -82,7 +78,6 @@ pub record IsLegacyMangled (text : List ℕ) (m : Mangled) : Type 0 where
 
 -- m keeps of text the part after the prefix of a v0 mangling
 pub record IsV0Mangled (text : List ℕ) (m : Mangled) : Type 0 where
-  pub not_legacy : IsNotLegacy text
   pub mangling : IsV0 (without_llvm text) m.part
   pub kind_is : m.kind ≡ V0
 
@@ -93,5 +88,5 @@ pub record IsNotMangled (text : List ℕ) (m : Mangled) : Type 0 where
   pub all : m ≡ record { part = text; kind = Unknown }
 
 -- m is the kind of text, and the part that is kept
-unfoldable pub IsMangled : List ℕ → Mangled → Type 0
+unfoldable pub IsMangled : (text : List ℕ) (m : Mangled) → Type 0
 IsMangled text m = IsLegacyMangled text m ⊎ (IsV0Mangled text m ⊎ IsNotMangled text m)

@@ -1,6 +1,6 @@
 //! Laws of names, which their definitions keep.
 
-ghost use Rattle.binfarce_names.specs.machine.Laws.{
+ghost use Rattle.binfarce_names.specs.Laws.{
   HasAnAnswer,
   HasOneAnswer,
   UnfoldsOneWay,

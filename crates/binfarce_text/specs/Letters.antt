@@ -22,9 +22,6 @@ abbrev pub ':' : ℕ
 abbrev pub '0' : ℕ
 '0' = 48
 
-abbrev pub '1' : ℕ
-'1' = 49
-
 abbrev pub '9' : ℕ
 '9' = 57
 
@@ -158,5 +155,5 @@ abbrev pub '_' : ℕ
 '_' = 95
 
 -- a lower-case hexadecimal digit
-abbrev pub is_hex_digit : ℕ → Bool
-is_hex_digit c = is_in_range '0' '9' c || is_in_range 'a' 'f' c
+abbrev pub is_hex_digit : (byte : ℕ) → Bool
+is_hex_digit byte = is_in_range '0' '9' byte || is_in_range 'a' 'f' byte

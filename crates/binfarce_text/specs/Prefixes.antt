@@ -3,7 +3,7 @@ use Rattle.std.specs.Prelude.{ℕ, List, [], ◌∷◌, Option, Some, None, if�
 use Rattle.std.specs.List.{starts_with}
 
 -- what stands after the first of these prefixes that the text begins with
-abbrev pub after_prefix : List (List ℕ) → List ℕ → Option (List ℕ)
+abbrev pub after_prefix : (prefixes : List (List ℕ)) (text : List ℕ) → Option (List ℕ)
 after_prefix [] text = None
 after_prefix (prefix ∷ prefixes) text =
     if starts_with nat_eq text prefix then Some (drop (length prefix) text) else after_prefix prefixes text

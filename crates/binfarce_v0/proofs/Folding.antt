@@ -1,8 +1,10 @@
 -- What a position unfolds to, up to a position after it, is read there: a back reference as a leaf that names its target.
 use Rattle.std.proofs.Common.{◌≡◌, ℕ, ◌+◌, ◌≤◌, Bool, true, false, List, Option, Some, None, cond, eqb, get_or, refl, sym, ap, subst, ◌∙◌, arith}
+use Rattle.std.proofs.lemmas.Bool.{not-false, not-true}
 use Rattle.binfarce_v0_grammar.specs.Base62.{number}
+use Rattle.binfarce_v0_grammar.proofs.ReadingForward.{indexed_lifetime}
 use Rattle.binfarce_v0_grammar.specs.Identifiers.{Identifier, identifier}
-use Rattle.binfarce_v0_grammar.specs.Forms.{Lifetime, NoLifetime, InvalidLifetime, IndexedLifetime, stands, after_byte, identifier_at, indexed_lifetime, lifetime, path_form, type_form, const_form, CrateRoot, BackToPath, BasicType, BackToType, UntypedPlaceholderConst, PlaceholderConst, ValueConst, BackToConst}
+use Rattle.binfarce_v0_grammar.specs.Forms.{Lifetime, NoLifetime, InvalidLifetime, IndexedLifetime, stands, after_byte, identifier_at, lifetime, path_form, type_form, const_form, CrateRoot, BackToPath, BasicType, BackToType, UntypedPlaceholderConst, PlaceholderConst, ValueConst, BackToConst}
 use Rattle.binfarce_v0_grammar.specs.Tree.{PathTree, TypeTree, ConstTree, Item, Items, Bindings, NoConst, UntypedPlaceholder, Placeholder, Value, InvalidValue, BackConst, ConstTarget, NoPath, Crate, Nested, InvalidNested, OfType, OfImpl, OfTrait, Generic, BackPath, PathTarget, NoType, Basic, Reference, InvalidReferenceType, Pointer, Slice, Array, Tuple, Function, FunctionTo, InvalidFunction, Dyn, InvalidDynType, Named, BackType, TypeTarget, LifetimeItem, TypeItem, ConstItem, TraitItem, NoItems, ItemThen, NoBindings, Binding, InvalidBinding, path_height, type_height, const_height, item_height, items_height, bindings_height, Listed, Arguments, Types, Traits, is_announced}
 use Rattle.binfarce_v0_grammar.specs.Unfolding.{bound_end, required_end, IsConst, IsPath, IsType, IsItem, AreItems, AreBindings}
 use Rattle.binfarce_v0_grammar.specs.Reading.{ReadsConst, ReadsPath, ReadsType, ReadsItem, ReadsItems, ReadsBindings}
@@ -289,20 +291,12 @@ mutual
 
   pub items_fold : (items : Items) (name : List ℕ) (listed : Listed) (at depth after : ℕ) → AreItems name listed items (Some at) depth (Some after) → ItemsFold name listed at after (items_height items)
   items_fold NoItems name listed at depth after is =
-      record { tree = NoItems; reads = (ended (stands name 69 (Some at)) is.0, same_position after (at + 1) is.1); levels = omega arith }
-    where
-      ended : (b : Bool) → cond b false true ≡ false → b ≡ true
-      ended true e = refl
-      ended false e = absurd cc
+      record { tree = NoItems; reads = (not-false (stands name 69 (Some at)) is.0, same_position after (at + 1) is.1); levels = omega arith }
   items_fold (ItemThen i items) name listed at depth after is =
       let m = items_from items name listed is.0 depth after is.3 in
       let f = item_folds i name listed at depth m.0 (subst (λ x. IsItem name listed i (Some at) depth x) m.1 is.2) in
       let g = items_fold items name listed m.0 depth after (subst (λ x. AreItems name listed items x depth (Some after)) m.1 is.3) in
-      record { tree = ItemThen f.tree g.tree; reads = (m.0, goes_on (stands name 69 (Some at)) is.1, f.reads, g.reads); levels = omega (arith, f.levels, g.levels) }
-    where
-      goes_on : (b : Bool) → cond b false true ≡ true → b ≡ false
-      goes_on true e = absurd cc
-      goes_on false e = refl
+      record { tree = ItemThen f.tree g.tree; reads = (m.0, not-true (stands name 69 (Some at)) is.1, f.reads, g.reads); levels = omega (arith, f.levels, g.levels) }
 
   pub bindings_fold : (bound : Bindings) (name : List ℕ) (at depth after : ℕ) → AreBindings name bound (Some at) depth (Some after) → BindingsFold name at after (bindings_height bound)
   bindings_fold NoBindings name at depth after is =

@@ -5,9 +5,9 @@ use Rattle.binfarce_v0_grammar.specs.Identifiers.{identifier_text}
 use Rattle.binfarce_v0_grammar.specs.Tree.{PathTree, path_height, path_steps, name_text, InValue}
 use Rattle.binfarce_v0_grammar.specs.Unfolding.{IsPath, UnfoldsTo}
 use Rattle.binfarce_v0_grammar.specs.declared.limits.TheConstants.{MAX_LEVELS, MAX_STEPS}
-use Rattle.binfarce_v0.specs.Mangling.{is_upper_at, PathStands, SecondPath, ReadsPaths, IsMangling, IsV0, part_after_prefix}
+use Rattle.binfarce_v0.specs.Mangling.{is_upper_at, PathStands, SecondPath, ReadsPaths, IsMangling, IsV0, HasNoTree, part_after_prefix}
 use Rattle.binfarce_v0.specs.machine.Mangling.{paths_end}
-use Rattle.binfarce_v0.specs.machine.Outcome.{Outcome, outcome_of, ReadsUpTo, HasNoTree, IsOutcome, IsCrateName, AreTexts}
+use Rattle.binfarce_v0.specs.machine.Outcome.{Outcome, outcome_of, ReadsUpTo, IsOutcome, IsCrateName, AreTexts}
 use Rattle.binfarce_v0.specs.machine.Printing.{State, readers, first_state}
 use Rattle.binfarce_v0_grammar.specs.machine.Ends.{ends}
 use Rattle.std.specs.Prelude.{MatchOption}

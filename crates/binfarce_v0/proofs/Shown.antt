@@ -1,10 +1,10 @@
 -- What is shown of an identifier: a disambiguator that isn't shown need not be known.
-use Rattle.std.proofs.Common.{◌≡◌, ℕ, List, [], ◌++◌, Bool, true, false, Option, Some, None, codes, cond, refl, ap, sym, ◌∙◌, append-nil}
-use Rattle.std.specs.Option.{option_map}
+use Rattle.std.proofs.Common.{◌≡◌, ℕ, List, [], ◌++◌, Bool, true, false, Option, Some, None, codes, refl, ap, ◌∙◌, append-nil}
+use Rattle.std.specs.Option.{option_map, option_map_or}
 use Rattle.std.specs.Char.{is_ascii_uppercase}
 use Rattle.std.proofs.lemmas.Bool.{cond-false}
 use Rattle.binfarce_v0_grammar.specs.Identifiers.{UndisambiguatedIdentifier, Identifier, identifier_text}
-use Rattle.binfarce_v0_grammar.specs.Forms.{crate_form}
+use Rattle.binfarce_v0_grammar.specs.Forms.{PathForm, NoPathForm, CrateRoot}
 use Rattle.binfarce_v0_grammar.specs.Tree.{Position, after_mark, nested_text, disambiguator_text, is_left_open}
 use Rattle.binfarce_v0.specs.machine.Printing.{State, Readers, heard, say, go, faulted, rooted, named_state, crate_state, path_rule}
 
@@ -44,6 +44,10 @@ trimmed_root s None short = refl
 trimmed_root s (Some l) short =
     let named : State = say (identifier_text l.0.name) (rooted l.0.name (go (Some l.1) s)) in
     ap (λ full. say (disambiguator_text full l.0.disambiguator) named) short ∙ says_nothing named
+
+-- the front of a crate root
+abbrev crate_form : Option (Identifier × ℕ) → PathForm
+crate_form l = option_map_or (λ (i : Identifier × ℕ). CrateRoot i.0 i.1) l NoPathForm
 
 pub root_state : (name : List ℕ) (R : Readers) (position : Position) (depth : ℕ) (s : State) (l : Option (Identifier × ℕ)) → (path_rule name R position depth s (crate_form l)).1 ≡ crate_state l s
 unfolding path_rule

@@ -2,8 +2,9 @@
 use Rattle.std.proofs.Common.{◌≡◌, ℕ, zero, suc, ◌+◌, ◌≤◌, Bool, true, false, List, Option, Some, None, cond, nat_le, if◌then◌else◌, refl, arith}
 use Rattle.std.proofs.lemmas.Bool.Decides.{nat_tests}
 use Rattle.binfarce_v0_grammar.specs.Identifiers.{UndisambiguatedIdentifier}
-use Rattle.binfarce_v0_grammar.specs.Forms.{NoLifetime, stands, after_byte, undisambiguated_at, lifetime, indexed_lifetime, const_form, ConstForm, NoConstForm, UntypedPlaceholderConst, PlaceholderConst, ValueConst, InvalidConst, BackToConst}
+use Rattle.binfarce_v0_grammar.specs.Forms.{NoLifetime, stands, after_byte, undisambiguated_at, lifetime, const_form, ConstForm, NoConstForm, UntypedPlaceholderConst, PlaceholderConst, ValueConst, InvalidConst, BackToConst}
 use Rattle.binfarce_v0_grammar.specs.Base62.{number}
+use Rattle.binfarce_v0_grammar.proofs.ReadingForward.{indexed_lifetime}
 use Rattle.binfarce_v0_grammar.specs.Tree.{PathTree, TypeTree, ConstTree, Item, Items, Bindings, LifetimeItem, lifetime_steps, path_height, type_height, const_height, item_height, items_height, bindings_height, path_steps, type_steps, const_steps, item_steps, items_steps, bindings_steps, Position, OpenTrait, separator, Listed, Arguments, Types, Traits}
 use Rattle.binfarce_v0_grammar.specs.Unfolding.{list_goes_on, IsConst, IsPath, IsType, IsItem, AreItems, AreBindings}
 use Rattle.binfarce_v0.specs.machine.Printing.{State, Readers, say, go, stopped, take, into, taking, const_rule, lifetime_item, argument_rule, binding_rule, named_binding, bindings_rule, item_rule, list_rule, items_rule}

@@ -2,7 +2,7 @@
 use Rattle.std.proofs.Common.{◌≡◌, ℕ, suc, ◌+◌, ◌-◌, ◌≤◌, Bool, true, false, List, [], ◌++◌, Option, Some, None, max, min, refl, ap, sym, ◌∙◌, append_assoc, append-nil, arith}
 use Rattle.std.specs.Prelude.{codes}
 use Rattle.binfarce_v0_grammar.specs.Identifiers.{UndisambiguatedIdentifier}
-use Rattle.binfarce_v0_grammar.specs.Tree.{first_of}
+use Rattle.std.specs.Option.{option_or}
 use Rattle.binfarce_v0.specs.machine.Printing.{State, heard, say, go, faulted, take, entered, rooted, kept_root, into, back_to, mute, unmute}
 
 -- a tree of a text, a root, a height and steps was shown with some levels left, and the position after it is `after`
@@ -38,13 +38,13 @@ root0 true None = refl
 root0 true (Some i) = refl
 root0 false r = refl
 
-root2 : (o : Bool) (r x y : Option UndisambiguatedIdentifier) → kept_root o (kept_root o r x) y ≡ kept_root o r (first_of x y)
+root2 : (o : Bool) (r x y : Option UndisambiguatedIdentifier) → kept_root o (kept_root o r x) y ≡ kept_root o r (option_or x y)
 root2 true None x y = refl
 root2 true (Some i) x y = refl
 root2 false r x y = refl
 
-root3 : (o : Bool) (r x y z : Option UndisambiguatedIdentifier) → kept_root o (kept_root o (kept_root o r x) y) z ≡ kept_root o r (first_of (first_of x y) z)
-root3 o r x y z = ap (λ w. kept_root o w z) (root2 o r x y) ∙ root2 o r (first_of x y) z
+root3 : (o : Bool) (r x y z : Option UndisambiguatedIdentifier) → kept_root o (kept_root o (kept_root o r x) y) z ≡ kept_root o r (option_or (option_or x y) z)
+root3 o r x y z = ap (λ w. kept_root o w z) (root2 o r x y) ∙ root2 o r (option_or x y) z
 
 least1 : (a l h : ℕ) → min (min a (l - 1)) (l - 1 - h) ≡ min a (l - suc h)
 least1 a l h = omega arith
@@ -130,23 +130,23 @@ pub shown_array : (s : State) (l : ℕ) (at mid after : Option ℕ) (a b c d e :
 shown_array s l at mid after a b c d e r h n k m =
     made s refl (omega arith) (least2 s.least l h k) (heard5 s.muted s.text a b c d e) (sym (root0 s.outside (kept_root s.outside s.root r)))
 
-pub shown_function_to : (s : State) (l j : ℕ) (at end after : Option ℕ) (a b c d e f : List ℕ) (r q : Option UndisambiguatedIdentifier) (h n k m : ℕ) → shown f q k m after (l - 1) (say e (say d (shown c r h n end (l - 1) (say b (say a (go at (take j (entered (l - 1) s)))))))) ≡ shown (a ++ (b ++ (c ++ (d ++ (e ++ f))))) (first_of r q) (suc (max h k)) (suc (j + n + m)) after l s
+pub shown_function_to : (s : State) (l j : ℕ) (at end after : Option ℕ) (a b c d e f : List ℕ) (r q : Option UndisambiguatedIdentifier) (h n k m : ℕ) → shown f q k m after (l - 1) (say e (say d (shown c r h n end (l - 1) (say b (say a (go at (take j (entered (l - 1) s)))))))) ≡ shown (a ++ (b ++ (c ++ (d ++ (e ++ f))))) (option_or r q) (suc (max h k)) (suc (j + n + m)) after l s
 shown_function_to s l j at end after a b c d e f r q h n k m =
     made s refl (omega arith) (least2 s.least l h k) (heard6 s.muted s.text a b c d e f) (root2 s.outside s.root r q)
 
-pub shown_of_type : (s : State) (l : ℕ) (at mid after : Option ℕ) (p a b c : List ℕ) (r q : Option UndisambiguatedIdentifier) (h n k m : ℕ) → say c (shown b q k m after (l - 1) (say a (unmute s.muted (shown p r h n mid (l - 1) (mute (go at (entered (l - 1) s))))))) ≡ shown (a ++ (b ++ c)) (first_of r q) (suc (max h k)) (suc (n + m)) after l s
+pub shown_of_type : (s : State) (l : ℕ) (at mid after : Option ℕ) (p a b c : List ℕ) (r q : Option UndisambiguatedIdentifier) (h n k m : ℕ) → say c (shown b q k m after (l - 1) (say a (unmute s.muted (shown p r h n mid (l - 1) (mute (go at (entered (l - 1) s))))))) ≡ shown (a ++ (b ++ c)) (option_or r q) (suc (max h k)) (suc (n + m)) after l s
 shown_of_type s l at mid after p a b c r q h n k m =
     made s refl (omega arith) (least2 s.least l h k) (rw (append-nil s.text) (heard3 s.muted s.text a b c)) (root2 s.outside s.root r q)
 
-pub shown_of_impl : (s : State) (l : ℕ) (at mid end after : Option ℕ) (p a b c d e : List ℕ) (r q z : Option UndisambiguatedIdentifier) (h n k m j i : ℕ) → say e (shown d z j i after (l - 1) (say c (shown b q k m end (l - 1) (say a (unmute s.muted (shown p r h n mid (l - 1) (mute (go at (entered (l - 1) s))))))))) ≡ shown (a ++ (b ++ (c ++ (d ++ e)))) (first_of (first_of r q) z) (suc (max h (max k j))) (suc (n + m + i)) after l s
+pub shown_of_impl : (s : State) (l : ℕ) (at mid end after : Option ℕ) (p a b c d e : List ℕ) (r q z : Option UndisambiguatedIdentifier) (h n k m j i : ℕ) → say e (shown d z j i after (l - 1) (say c (shown b q k m end (l - 1) (say a (unmute s.muted (shown p r h n mid (l - 1) (mute (go at (entered (l - 1) s))))))))) ≡ shown (a ++ (b ++ (c ++ (d ++ e)))) (option_or (option_or r q) z) (suc (max h (max k j))) (suc (n + m + i)) after l s
 shown_of_impl s l at mid end after p a b c d e r q z h n k m j i =
     made s refl (omega arith) (least3 s.least l h k j) (rw (append-nil s.text) (heard5 s.muted s.text a b c d e)) (root3 s.outside s.root r q z)
 
-pub shown_of_trait : (s : State) (l : ℕ) (at mid after : Option ℕ) (a b c d e : List ℕ) (r q : Option UndisambiguatedIdentifier) (h n k m : ℕ) → say e (shown d q k m after (l - 1) (say c (shown b r h n mid (l - 1) (say a (go at (entered (l - 1) s)))))) ≡ shown (a ++ (b ++ (c ++ (d ++ e)))) (first_of r q) (suc (max h k)) (suc (n + m)) after l s
+pub shown_of_trait : (s : State) (l : ℕ) (at mid after : Option ℕ) (a b c d e : List ℕ) (r q : Option UndisambiguatedIdentifier) (h n k m : ℕ) → say e (shown d q k m after (l - 1) (say c (shown b r h n mid (l - 1) (say a (go at (entered (l - 1) s)))))) ≡ shown (a ++ (b ++ (c ++ (d ++ e)))) (option_or r q) (suc (max h k)) (suc (n + m)) after l s
 shown_of_trait s l at mid after a b c d e r q h n k m =
     made s refl (omega arith) (least2 s.least l h k) (heard5 s.muted s.text a b c d e) (root2 s.outside s.root r q)
 
-pub shown_generic : (s : State) (l : ℕ) (at mid after : Option ℕ) (a b c d e : List ℕ) (r q : Option UndisambiguatedIdentifier) (h n k m : ℕ) → say e (shown d q k m after (l - 1) (say c (say b (shown a r h n mid (l - 1) (go at (entered (l - 1) s)))))) ≡ shown (a ++ (b ++ (c ++ (d ++ e)))) (first_of r q) (suc (max h k)) (suc (n + m)) after l s
+pub shown_generic : (s : State) (l : ℕ) (at mid after : Option ℕ) (a b c d e : List ℕ) (r q : Option UndisambiguatedIdentifier) (h n k m : ℕ) → say e (shown d q k m after (l - 1) (say c (say b (shown a r h n mid (l - 1) (go at (entered (l - 1) s)))))) ≡ shown (a ++ (b ++ (c ++ (d ++ e)))) (option_or r q) (suc (max h k)) (suc (n + m)) after l s
 shown_generic s l at mid after a b c d e r q h n k m =
     made s refl (omega arith) (least2 s.least l h k) (heard5 s.muted s.text a b c d e) (root2 s.outside s.root r q)
 
@@ -156,7 +156,7 @@ pub shown_end : (s : State) (l : ℕ) (after : Option ℕ) → s.least ≤ l →
 shown_end s l after h =
     made s refl (omega arith) (least_none s.least l h) (heard0 s.muted s.text) (root0 s.outside s.root)
 
-pub shown_items : (s : State) (l : ℕ) (mid after : Option ℕ) (a b c : List ℕ) (r q : Option UndisambiguatedIdentifier) (h n k m : ℕ) → shown c q k m after l (shown b r h n mid l (say a s)) ≡ shown (a ++ (b ++ c)) (first_of r q) (max h k) (n + m) after l s
+pub shown_items : (s : State) (l : ℕ) (mid after : Option ℕ) (a b c : List ℕ) (r q : Option UndisambiguatedIdentifier) (h n k m : ℕ) → shown c q k m after l (shown b r h n mid l (say a s)) ≡ shown (a ++ (b ++ c)) (option_or r q) (max h k) (n + m) after l s
 shown_items s l mid after a b c r q h n k m =
     made s refl (omega arith) (least_both s.least l h k) (heard3 s.muted s.text a b c) (root2 s.outside s.root r q)
 
@@ -164,7 +164,7 @@ pub shown_lifetime : (s : State) (l n : ℕ) (after : Option ℕ) (a : List ℕ)
 shown_lifetime s l n after a h e =
     made s refl (ap (λ k. s.room - k) (sym e)) (least_none s.least l h) refl (root0 s.outside s.root)
 
-pub shown_trait : (s : State) (l : ℕ) (mid after : Option ℕ) (a b : List ℕ) (r q : Option UndisambiguatedIdentifier) (h n k m : ℕ) → shown b q k m after l (shown a r h n mid l s) ≡ shown (a ++ b) (first_of r q) (max h k) (n + m) after l s
+pub shown_trait : (s : State) (l : ℕ) (mid after : Option ℕ) (a b : List ℕ) (r q : Option UndisambiguatedIdentifier) (h n k m : ℕ) → shown b q k m after l (shown a r h n mid l s) ≡ shown (a ++ b) (option_or r q) (max h k) (n + m) after l s
 shown_trait s l mid after a b r q h n k m =
     made s refl (omega arith) (least_both s.least l h k) (heard2 s.muted s.text a b) (root2 s.outside s.root r q)
 
@@ -176,6 +176,6 @@ pub shown_bindings_fault : (s : State) (l : ℕ) (a : List ℕ) → s.least ≤ 
 shown_bindings_fault s l a h =
     made s refl (omega arith) (least_none s.least l h) (heard2 s.muted s.text a (codes "?")) (root0 s.outside s.root)
 
-pub shown_binding : (s : State) (l : ℕ) (at mid after : Option ℕ) (a b c d e : List ℕ) (r q : Option UndisambiguatedIdentifier) (h n k m : ℕ) → shown e q k m after l (shown d r h n mid l (say c (say b (go at (say a s))))) ≡ shown (a ++ (b ++ (c ++ (d ++ e)))) (first_of r q) (max h k) (n + m) after l s
+pub shown_binding : (s : State) (l : ℕ) (at mid after : Option ℕ) (a b c d e : List ℕ) (r q : Option UndisambiguatedIdentifier) (h n k m : ℕ) → shown e q k m after l (shown d r h n mid l (say c (say b (go at (say a s))))) ≡ shown (a ++ (b ++ (c ++ (d ++ e)))) (option_or r q) (max h k) (n + m) after l s
 shown_binding s l at mid after a b c d e r q h n k m =
     made s refl (omega arith) (least_both s.least l h k) (heard5 s.muted s.text a b c d e) (root2 s.outside s.root r q)

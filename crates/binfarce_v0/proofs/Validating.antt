@@ -1,13 +1,12 @@
 -- A name that is printed before it is known to be a mangling.
-use Rattle.std.proofs.Common.{◌≡◌, ℕ, List, Some, None, Bool, true, false, drop, subst, sym, ◌∙◌}
+use Rattle.std.proofs.Common.{◌≡◌, ℕ, List, Some, None, true, false, drop, subst, sym, ◌∙◌}
 use Rattle.std.specs.Str.{IsAscii}
 use Rattle.binfarce_text.specs.Suffixes.{is_allowed_rest}
 use Rattle.binfarce_text.proofs.TextLemmas.{some_same}
 use Rattle.binfarce_v0_grammar.specs.Tree.{PathTree}
 use Rattle.binfarce_v0_grammar.specs.Unfolding.{UnfoldsTo}
-use Rattle.binfarce_v0.specs.Mangling.{part_after_prefix, is_upper_at, IsMangling, IsV0}
+use Rattle.binfarce_v0.specs.Mangling.{part_after_prefix, is_upper_at, IsMangling, IsV0, HasNoTree}
 use Rattle.binfarce_v0.specs.machine.Mangling.{paths_end}
-use Rattle.binfarce_v0.specs.machine.Outcome.{HasNoTree}
 use Rattle.binfarce_v0.proofs.Manglings.{not_mangling, paths_read}
 use Rattle.binfarce_v0.proofs.RestLemmas.{rest_not_allowed}
 

@@ -1,47 +1,58 @@
 -- Rust's v0 manglings (RFC 2603, "Symbol name": <symbol-name> = "_R" <path> [<instantiating-crate>]).
 use Rattle.std.specs.Prelude.{◌≡◌, ℕ, ◌≤◌, List, [], ◌∷◌, Option, Some, Bool, true, false, slice_index, drop, codes}
+use Rattle.std.proofs.Common.{refl}
 use Rattle.std.specs.Str.{IsAscii}
 use Rattle.std.specs.Char.{is_ascii_uppercase}
 use Rattle.binfarce_text.specs.Suffixes.{is_allowed_rest}
 use Rattle.binfarce_text.specs.Prefixes.{after_prefix}
 use Rattle.binfarce_v0_grammar.specs.Tree.{PathTree, path_height}
 use Rattle.binfarce_v0_grammar.specs.Reading.{ReadsPath}
+use Rattle.binfarce_v0_grammar.specs.Unfolding.{UnfoldsTo}
 use Rattle.binfarce_v0_grammar.specs.declared.limits.TheConstants.{MAX_LEVELS}
 
 -- what stands after the prefix, "_R", or "R" or "__R" where a platform drops or adds a "_": positions are counted from there
-unfoldable pub part_after_prefix : List ℕ → Option (List ℕ)
+unfoldable pub part_after_prefix : (text : List ℕ) → Option (List ℕ)
 part_after_prefix text = after_prefix (codes "_R" ∷ codes "R" ∷ codes "__R" ∷ []) text
 
 -- a path begins with an upper-case letter
-abbrev pub is_upper_at : List ℕ → ℕ → Bool
-is_upper_at name at = is_ascii_uppercase (slice_index name at)
+abbrev pub is_upper_at : (part : List ℕ) (at : ℕ) → Bool
+is_upper_at part at = is_ascii_uppercase (slice_index part at)
 
--- a path of at most `MAX_LEVELS` levels reads from a position up to another
-pub record PathStands (name : List ℕ) (at after : ℕ) : Type 0 where
+-- a path of at most 500 levels (`MAX_LEVELS`) reads from a position up to another
+pub record PathStands (part : List ℕ) (at after : ℕ) : Type 0 where
   pub tree : PathTree
-  pub reads : ReadsPath name tree at after
+  pub reads : ReadsPath part tree at after
   pub levels : path_height tree ≤ MAX_LEVELS
 
 -- the path of the instantiating crate, where an upper-case letter stands
-abbrev pub SecondPath : Bool → List ℕ → ℕ → ℕ → Type 0
-SecondPath true name at after = PathStands name at after
-SecondPath false name at after = after ≡ at
+abbrev pub SecondPath : (is_there : Bool) (part : List ℕ) (at after : ℕ) → Type 0
+SecondPath true part at after = PathStands part at after
+SecondPath false part at after = after ≡ at
 
--- the paths of a name
-pub record ReadsPaths (name : List ℕ) (after : ℕ) : Type 0 where
+-- the one path or two of a mangling read up to a position
+pub record ReadsPaths (part : List ℕ) (after : ℕ) : Type 0 where
   pub mid : ℕ
-  pub path : PathStands name 0 mid
-  pub instantiating_crate : SecondPath (is_upper_at name mid) name mid after
+  pub path : PathStands part 0 mid
+  pub instantiating_crate : SecondPath (is_upper_at part mid) part mid after
 
--- the v0 mangling that a text begins with: its name, and the position after the paths of the name
-pub record IsMangling (text name : List ℕ) (after : ℕ) : Type 0 where
-  pub prefix : part_after_prefix text ≡ Some name
-  pub begins : is_upper_at name 0 ≡ true
-  pub ascii : IsAscii name
-  pub paths : ReadsPaths name after
+-- the v0 mangling that a text begins with: what stands after its prefix, and the position there after its paths
+pub record IsMangling (text part : List ℕ) (after : ℕ) : Type 0 where
+  pub prefix : part_after_prefix text ≡ Some part
+  pub begins : is_upper_at part 0 ≡ true
+  pub ascii : IsAscii part
+  pub paths : ReadsPaths part after
 
 -- text is a v0 mangling, of which part is what stands after the prefix
 pub record IsV0 (text part : List ℕ) : Type 0 where
   pub after : ℕ
   pub mangling : IsMangling text part after
   pub rest : is_allowed_rest (drop after part) ≡ true
+
+-- text is no v0 mangling that unfolds to a tree within the limits
+abbrev pub HasNoTree : (text : List ℕ) → Type 0
+HasNoTree text = (part : List ℕ) (tree : PathTree) → IsV0 text part → ¬ (UnfoldsTo part tree)
+
+-- positions are counted from the letter of the first path
+worked_prefix : part_after_prefix (codes "__RNvC1a1b") ≡ Some (codes "NvC1a1b")
+unfolding part_after_prefix
+worked_prefix = refl

@@ -8,10 +8,9 @@ ghost use Rattle.binfarce_v0_grammar.specs.Identifiers.{identifier_text};
 ghost use Rattle.binfarce_v0_grammar.specs.Tree.{PathTree};
 ghost use Rattle.binfarce_v0_grammar.specs.Unfolding.{UnfoldsTo};
 ghost use Rattle.binfarce_v0_grammar.specs.machine.Seen.{undisambiguated_seen};
-ghost use Rattle.binfarce_v0.specs.Mangling.{part_after_prefix, is_upper_at, IsMangling, IsV0};
+ghost use Rattle.binfarce_v0.specs.Mangling.{part_after_prefix, is_upper_at, IsMangling, IsV0, HasNoTree};
 ghost use Rattle.binfarce_v0.specs.machine.Mangling.{paths_end};
 ghost use Rattle.binfarce_v0.specs.machine.Outcome.{
-  HasNoTree,
   ReadsUpTo,
   IsOutcome,
   IsCrateName,

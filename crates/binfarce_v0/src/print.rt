@@ -134,7 +134,7 @@ impl<'a> Printer<'a> {
     // A path by the letter that it begins with.
     #[cycle(printing)]
     #[inline(always)]
-    #[tactic(auto, using(crate::proofs::Shown::root_state, crate::proofs::Shown::root_closed), unfolding(crate::specs::machine::Printing::path_rule, binfarce_v0_grammar::specs::Forms::path_form, binfarce_v0_grammar::specs::Forms::path_form_by))]
+    #[tactic(auto, using(crate::proofs::Shown::root_state, crate::proofs::Shown::root_closed), unfolding(crate::specs::machine::Printing::path_rule, binfarce_v0_grammar::specs::Forms::path_form))]
     fn print_path_by_letter(
         &mut self,
         left: usize,

@@ -1,6 +1,7 @@
 -- What is read stands before the position after it.
-use Rattle.std.proofs.Common.{◌≡◌, ℕ, ◌+◌, ◌*◌, ◌-◌, ◌^◌, ◌≤◌, ◌<◌, Bool, true, false, List, [], ◌∷◌, drop, Option, Some, None, cond, eqb, nat_lt, nat_le, length, get_or, refl, subst, arith}
+use Rattle.std.proofs.Common.{◌≡◌, ℕ, ◌+◌, ◌^◌, ◌≤◌, ◌<◌, Bool, true, false, not, ◌&&◌, List, drop, Option, Some, None, cond, eqb, nat_lt, nat_le, length, get_or, refl, subst, arith}
 use Rattle.std.specs.Prelude.{⊤, codes}
+use Rattle.std.specs.Option.{option_map_or}
 use Rattle.std.specs.List.{take_while}
 use Rattle.std.specs.Char.{is_ascii_alphanumeric, is_ascii_alphabetic, is_ascii_digit}
 use Rattle.std.specs.Str.Parse.{digits_value}
@@ -8,8 +9,8 @@ use Rattle.std.proofs.lemmas.Bool.{cond_both}
 use Rattle.binfarce_text.specs.Letters.{is_hex_digit}
 use Rattle.binfarce_text.specs.Steps.{◌>>=◌}
 use Rattle.binfarce_v0_grammar.specs.Base62.{limited, value_62, number, tagged, back_reference, hex_digits}
-use Rattle.binfarce_v0_grammar.specs.Identifiers.{UndisambiguatedIdentifier, Identifier, length_at, past, identifier_of, identifier_bytes, undisambiguated_identifier, identifier}
-use Rattle.binfarce_v0_grammar.specs.Forms.{Lifetime, NoLifetime, stands, indexed_lifetime, lifetime, basic_type, const_type, has_sign, value_of, const_value, abi_name, abi, path_form_by, path_form, crate_form, impl_form, path_back_form, type_form_by, type_form, reference_form, signature_form, function_form, dyn_form, type_back_form, basic_form, const_form_by, const_form, typed_form, value_form, const_back_form, PathForm, NoPathForm, CrateRoot, NestedIn, InherentImpl, TraitImpl, TraitDefinition, WithArguments, BackToPath, TypeForm, NoTypeForm, BasicType, ReferenceTo, InvalidReference, PointerTo, SliceOf, ArrayOf, TupleOf, FunctionOf, InvalidAbi, DynOf, InvalidDyn, BackToType, PathType, ConstValue, ConstForm, NoConstForm, UntypedPlaceholderConst, PlaceholderConst, ValueConst, InvalidConst, BackToConst}
+use Rattle.binfarce_v0_grammar.specs.Identifiers.{is_empty, UndisambiguatedIdentifier, Identifier, length_at, past, identifier_of, identifier_bytes, undisambiguated_identifier, identifier}
+use Rattle.binfarce_v0_grammar.specs.Forms.{Lifetime, NoLifetime, stands, InvalidLifetime, IndexedLifetime, lifetime, basic_type, const_type, has_sign, value_of, const_value, abi, path_form, type_form_by, type_form, reference_form, function_form, const_form, typed_form, PathForm, NoPathForm, CrateRoot, NestedIn, InherentImpl, TraitImpl, TraitDefinition, WithArguments, BackToPath, TypeForm, NoTypeForm, BasicType, ReferenceTo, InvalidReference, PointerTo, SliceOf, ArrayOf, TupleOf, FunctionOf, InvalidAbi, DynOf, InvalidDyn, BackToType, PathType, ConstValue, ConstForm, NoConstForm, UntypedPlaceholderConst, PlaceholderConst, ValueConst, InvalidConst, BackToConst}
 use Rattle.binfarce_v0_grammar.specs.Tree.{PathTree, TypeTree, ConstTree, Item, Items, Bindings, NoConst, UntypedPlaceholder, Placeholder, Value, InvalidValue, BackConst, ConstTarget, NoPath, Crate, Nested, InvalidNested, OfType, OfImpl, OfTrait, Generic, BackPath, PathTarget, NoType, Basic, Reference, InvalidReferenceType, Pointer, Slice, Array, Tuple, Function, FunctionTo, InvalidFunction, Dyn, InvalidDynType, Named, BackType, TypeTarget, LifetimeItem, TypeItem, ConstItem, TraitItem, NoItems, ItemThen, NoBindings, Binding, InvalidBinding, Listed, Arguments, Types, Traits}
 use Rattle.binfarce_v0_grammar.specs.Reading.{ReadsConst, ReadsPath, ReadsType, ReadsItem, ReadsItems, ReadsBindings}
 
@@ -28,6 +29,11 @@ after_less less at (Some r) h b = omega arith
 after_then : {A B : Type 0} (at : ℕ) (o : Option A) (f : A → Option (B × ℕ)) → ((a : A) → o ≡ Some a → After at (f a)) → After at (o >>= f)
 after_then at None f h = tt
 after_then at (Some a) f h = h a refl
+
+-- what is made of an answer, and what stands in its place where there is none
+mapped_after : {A B : Type 0} (P : B → Type 0) (at : ℕ) (f : A × ℕ → B) (o : Option (A × ℕ)) (d : B) → ((r : A × ℕ) → at ≤ r.1 → P (f r)) → P d → After at o → P (option_map_or f o d)
+mapped_after P at f None d h k a = k
+mapped_after P at f (Some r) d h k a = h r a
 
 -- both branches
 each : {A : Type 0} (P : A → Type 0) (b : Bool) (x y : A) → P x → P y → P (cond b x y)
@@ -100,6 +106,10 @@ abbrev PositionAfter : ℕ → Option ℕ → Type 0
 PositionAfter at None = ⊤
 PositionAfter at (Some q) = at ≤ q
 
+-- what the number of an "L" makes of it
+abbrev pub indexed_lifetime : Option (ℕ × ℕ) → Lifetime × Option ℕ
+indexed_lifetime n = option_map_or (λ n. (IndexedLifetime n.0, Some n.1)) n (InvalidLifetime, None)
+
 indexed_after : (at : ℕ) (n : Option (ℕ × ℕ)) → After at n → PositionAfter at (indexed_lifetime n).1
 indexed_after at None h = tt
 indexed_after at (Some n) h = h
@@ -126,43 +136,23 @@ PathAfter at (TraitDefinition q) = at < q
 PathAfter at (WithArguments q) = at < q
 PathAfter at (BackToPath target q) = at < q
 
-crate_after : (at : ℕ) (l : Option (Identifier × ℕ)) → After (at + 1) l → PathAfter at (crate_form l)
-crate_after at None h = tt
-crate_after at (Some l) h = omega arith
-
-impl_after : (at : ℕ) (form : ℕ → PathForm) (d : Option (ℕ × ℕ)) → ((q : ℕ) → at < q → PathAfter at (form q)) → After (at + 1) d → PathAfter at (impl_form form d)
-impl_after at form None f h = tt
-impl_after at form (Some d) f h = f d.1 (omega arith)
-
-path_back_after : (at : ℕ) (b : Option (ℕ × ℕ)) → After (at + 1) b → PathAfter at (path_back_form b)
-path_back_after at None h = tt
-path_back_after at (Some b) h = omega arith
-
 path_form_after : (name : List ℕ) (at : ℕ) → PathAfter at (path_form name (Some at))
-unfolding path_form path_form_by
+unfolding path_form
 path_form_after name at =
     let P = PathAfter at in
     let tag = get_or name at 0 in
-    each P (eqb tag 67) _ _ (crate_after at (identifier name (at + 1)) (identifier_after name (at + 1))) (
+    each P (eqb tag 67) _ _ (mapped_after P (at + 1) (λ (i : Identifier × ℕ). CrateRoot i.0 i.1) (identifier name (at + 1)) NoPathForm (λ r h. omega arith) tt (identifier_after name (at + 1))) (
     each P (eqb tag 78) _ _ (each P (is_ascii_alphabetic (get_or name (at + 1) 0)) (NestedIn (get_or name (at + 1) 0) (at + 2)) NoPathForm (omega arith) tt) (
-    each P (eqb tag 77) _ _ (impl_after at InherentImpl (tagged name 115 (at + 1)) (λ q h. h) (tagged_after name 115 (at + 1))) (
-    each P (eqb tag 88) _ _ (impl_after at TraitImpl (tagged name 115 (at + 1)) (λ q h. h) (tagged_after name 115 (at + 1))) (
+    each P (eqb tag 77) _ _ (mapped_after P (at + 1) (λ (d : ℕ × ℕ). InherentImpl d.1) (tagged name 115 (at + 1)) NoPathForm (λ r h. omega arith) tt (tagged_after name 115 (at + 1))) (
+    each P (eqb tag 88) _ _ (mapped_after P (at + 1) (λ (d : ℕ × ℕ). TraitImpl d.1) (tagged name 115 (at + 1)) NoPathForm (λ r h. omega arith) tt (tagged_after name 115 (at + 1))) (
     each P (eqb tag 89) (TraitDefinition (at + 1)) _ (omega arith) (
     each P (eqb tag 73) (WithArguments (at + 1)) _ (omega arith) (
-    each P (eqb tag 66) _ NoPathForm (path_back_after at (back_reference name at) (back_reference_after name at)) tt))))))
-
-abi_name_after : (i : UndisambiguatedIdentifier × ℕ) → After i.1 (abi_name i)
-abi_name_after i = by i.0.ascii i.0.punycode
-  where
-    by : (ascii punycode : List ℕ) → After i.1 (abi_name (record { ascii = ascii; punycode = punycode }, i.1))
-    by [] punycode = tt
-    by (c ∷ ascii) [] = omega arith
-    by (c ∷ ascii) (d ∷ punycode) = tt
+    each P (eqb tag 66) _ NoPathForm (mapped_after P (at + 1) (λ (b : ℕ × ℕ). BackToPath b.0 b.1) (back_reference name at) NoPathForm (λ r h. omega arith) tt (back_reference_after name at)) tt))))))
 
 abi_after : (name : List ℕ) (at : ℕ) → After at (abi name at)
 unfolding abi
 abi_after name at =
-    each (After at) (eqb (get_or name at 0) 75) _ (Some (None, at)) (each (After at) (eqb (get_or name (at + 1) 0) 67) (Some (Some (codes "C"), at + 2)) _ (omega arith) (after_then at (undisambiguated_identifier name (at + 1)) abi_name (λ i e. after_less at i.1 _ (omega (arith, after_is (at + 1) _ i (undisambiguated_after name (at + 1)) e)) (abi_name_after i)))) (omega arith)
+    each (After at) (eqb (get_or name at 0) 75) _ (Some (None, at)) (each (After at) (eqb (get_or name (at + 1) 0) 67) (Some (Some (codes "C"), at + 2)) _ (omega arith) (after_then at (undisambiguated_identifier name (at + 1)) _ (λ i e. each (After at) (not (is_empty i.0.ascii) && is_empty i.0.punycode) (Some (Some i.0.ascii, i.1)) None (omega (arith, after_is (at + 1) _ i (undisambiguated_after name (at + 1)) e)) tt))) (omega arith)
 
 abbrev TypeAfter : ℕ → TypeForm → Type 0
 TypeAfter at NoTypeForm = ⊤
@@ -183,31 +173,15 @@ TypeAfter at PathType = ⊤
 reference_after : (at : ℕ) (mutable : Bool) (l : Lifetime × Option ℕ) → PositionAfter (at + 1) l.1 → TypeAfter at (reference_form mutable l)
 reference_after at mutable l h = by l.1 h
   where
-    by : (o : Option ℕ) → PositionAfter (at + 1) o → TypeAfter at (reference_form mutable (l.0, o))
+    by : (o : Option ℕ) → PositionAfter (at + 1) o → TypeAfter at (option_map_or (ReferenceTo mutable l.0) o InvalidReference)
     by None h = tt
     by (Some q) h = omega arith
-
-signature_after : (at binder : ℕ) (is_unsafe : Bool) (a : Option (Option (List ℕ) × ℕ)) → After (at + 1) a → TypeAfter at (signature_form binder is_unsafe a)
-signature_after at binder is_unsafe None h = tt
-signature_after at binder is_unsafe (Some a) h = omega arith
 
 function_after : (name : List ℕ) (at : ℕ) (b : Option (ℕ × ℕ)) → After (at + 1) b → TypeAfter at (function_form name b)
 function_after name at None h = tt
 function_after name at (Some b) h =
     let q = past name 85 b.1 in
-    signature_after at b.0 (eqb (get_or name b.1 0) 85) (abi name q) (after_less (at + 1) q (abi name q) (omega (arith, past_after name 85 b.1)) (abi_after name q))
-
-dyn_after : (at : ℕ) (b : Option (ℕ × ℕ)) → After (at + 1) b → TypeAfter at (dyn_form b)
-dyn_after at None h = tt
-dyn_after at (Some b) h = omega arith
-
-type_back_after : (at : ℕ) (b : Option (ℕ × ℕ)) → After (at + 1) b → TypeAfter at (type_back_form b)
-type_back_after at None h = tt
-type_back_after at (Some b) h = omega arith
-
-basic_after : (at : ℕ) (text : Option (List ℕ)) (other : TypeForm) → TypeAfter at other → TypeAfter at (basic_form text at other)
-basic_after at None other h = h
-basic_after at (Some text) other h = omega arith
+    mapped_after (TypeAfter at) (at + 1) (λ (a : Option (List ℕ) × ℕ). FunctionOf (record { binder = b.0; is_unsafe = eqb (get_or name b.1 0) 85; abi = a.0 }) a.1) (abi name q) (InvalidAbi b.0) (λ r h. omega arith) tt (after_less (at + 1) q (abi name q) (omega (arith, past_after name 85 b.1)) (abi_after name q))
 
 type_form_by_after : (name : List ℕ) (at tag : ℕ) → TypeAfter at (type_form_by name at tag)
 unfolding type_form_by
@@ -221,8 +195,12 @@ type_form_by_after name at tag =
     each T (eqb tag 65) (ArrayOf (at + 1)) _ (omega arith) (
     each T (eqb tag 84) (TupleOf (at + 1)) _ (omega arith) (
     each T (eqb tag 70) _ _ (function_after name at (tagged name 71 (at + 1)) (tagged_after name 71 (at + 1))) (
-    each T (eqb tag 68) _ _ (dyn_after at (tagged name 71 (at + 1)) (tagged_after name 71 (at + 1))) (
-    each T (eqb tag 66) _ PathType (type_back_after at (back_reference name at) (back_reference_after name at)) tt)))))))))
+    each T (eqb tag 68) _ _ (mapped_after T (at + 1) (λ (b : ℕ × ℕ). DynOf b.0 b.1) (tagged name 71 (at + 1)) InvalidDyn (λ r h. omega arith) tt (tagged_after name 71 (at + 1))) (
+    each T (eqb tag 66) _ PathType (mapped_after T (at + 1) (λ (b : ℕ × ℕ). BackToType b.0 b.1) (back_reference name at) NoTypeForm (λ r h. omega arith) tt (back_reference_after name at)) tt)))))))))
+
+basic_after : (at : ℕ) (text : Option (List ℕ)) (other : TypeForm) → TypeAfter at other → TypeAfter at (option_map_or (λ (name : List ℕ). BasicType name (at + 1)) text other)
+basic_after at None other h = h
+basic_after at (Some text) other h = omega arith
 
 type_form_after : (name : List ℕ) (at : ℕ) → TypeAfter at (type_form name (Some at))
 unfolding type_form
@@ -238,36 +216,25 @@ ConstAfter at (ValueConst type_name value q) = at < q
 ConstAfter at (InvalidConst negative type_name) = ⊤
 ConstAfter at (BackToConst target q) = at < q
 
-value_after : (at : ℕ) (negative : Bool) (type_name : List ℕ) (v : Option (ConstValue × ℕ)) → After (at + 1) v → ConstAfter at (value_form negative type_name v)
-value_after at negative type_name None h = tt
-value_after at negative type_name (Some v) h = omega arith
-
 const_value_after : (name : List ℕ) (letter : ℕ) (negative : Bool) (at : ℕ) → After at (const_value name letter negative at)
 unfolding const_value
 const_value_after name letter negative at =
     let start = cond negative (at + 1) at in
     after_then at (hex_digits name start) _ (λ d e. after_then at (value_of letter negative d.0) _ (λ v g. omega (arith, each (λ s. at ≤ s) negative (at + 1) at (omega arith) (omega arith), after_is (start + 1) _ d (hex_digits_after name start) e)))
 
-const_back_after : (at : ℕ) (b : Option (ℕ × ℕ)) → After (at + 1) b → ConstAfter at (const_back_form b)
-const_back_after at None h = tt
-const_back_after at (Some b) h = omega arith
-
 typed_after : (name : List ℕ) (letter at : ℕ) (type_name : Option (List ℕ)) → ConstAfter at (typed_form name letter (at + 1) type_name)
 typed_after name letter at None = tt
 typed_after name letter at (Some type_name) =
     let negative = has_sign name letter (at + 1) in
-    each (ConstAfter at) (eqb (get_or name (at + 1) 0) 112) (PlaceholderConst type_name (at + 1 + 1)) _ (omega arith) (value_after at negative type_name _ (const_value_after name letter negative (at + 1)))
-
-const_form_by_after : (name : List ℕ) (at tag : ℕ) → ConstAfter at (const_form_by name at tag)
-unfolding const_form_by
-const_form_by_after name at tag =
-    let C = ConstAfter at in
-    each C (eqb tag 66) _ _ (const_back_after at (back_reference name at) (back_reference_after name at)) (
-    each C (eqb tag 112) (UntypedPlaceholderConst (at + 1)) _ (omega arith) (typed_after name tag at (const_type tag)))
+    each (ConstAfter at) (eqb (get_or name (at + 1) 0) 112) (PlaceholderConst type_name (at + 1 + 1)) _ (omega arith) (mapped_after (ConstAfter at) (at + 1) (λ (v : ConstValue × ℕ). ValueConst type_name v.0 v.1) (const_value name letter negative (at + 1)) (InvalidConst negative type_name) (λ r h. omega arith) tt (const_value_after name letter negative (at + 1)))
 
 const_form_after : (name : List ℕ) (at : ℕ) → ConstAfter at (const_form name (Some at))
 unfolding const_form
-const_form_after name at = const_form_by_after name at (get_or name at 0)
+const_form_after name at =
+    let C = ConstAfter at in
+    let tag = get_or name at 0 in
+    each C (eqb tag 66) _ _ (mapped_after C (at + 1) (λ (b : ℕ × ℕ). BackToConst b.0 b.1) (back_reference name at) NoConstForm (λ r h. omega arith) tt (back_reference_after name at)) (
+    each C (eqb tag 112) (UntypedPlaceholderConst (at + 1)) _ (omega arith) (typed_after name tag at (const_type tag)))
 
 path_front : (name : List ℕ) (at : ℕ) (form : PathForm) → path_form name (Some at) ≡ form → PathAfter at form
 path_front name at form e = subst (PathAfter at) e (path_form_after name at)

@@ -1,81 +1,66 @@
--- Which form of the grammar stands at a position of a v0 name: the front of each row, up to where it asks for a path, a type or a const
--- (RFC 2603, "Syntax of mangled names"). A position is None after a fault, where no form stands.
-use Rattle.std.specs.Prelude.{ℕ, ◌+◌, List, [], ◌∷◌, Option, Some, None, Bool, true, false, ◌||◌, ◌&&◌, if◌then◌else◌, ◌==◌, nat_lt, slice_index, length, codes}
+-- Which form of the grammar stands at a position of a v0 mangling: the front of each row, up to where it asks for a path, a type or a const
+-- (RFC 2603, "Syntax of mangled names"). A position is None after invalid syntax, where no form stands.
+use Rattle.std.specs.Prelude.{◌≡◌, ℕ, ◌+◌, List, Option, Some, None, Bool, true, false, ◌||◌, ◌&&◌, not, if◌then◌else◌, ◌==◌, nat_lt, slice_index, length, codes}
+use Rattle.std.proofs.Common.{refl}
+use Rattle.std.specs.Option.{option_map_or}
 use Rattle.std.specs.Char.{is_ascii_alphabetic}
 use Rattle.binfarce_text.specs.Letters.{'A', 'B', 'C', 'D', 'F', 'G', 'I', 'K', 'L', 'M', 'N', 'O', 'P', 'Q', 'R', 'S', 'T', 'U', 'X', 'Y', 'a', 'b', 'c', 'd', 'e', 'f', 'h', 'i', 'j', 'l', 'm', 'n', 'o', 'p', 's', 't', 'u', 'v', 'x', 'y', 'z'}
 use Rattle.binfarce_text.specs.Characters.{is_scalar}
 use Rattle.binfarce_text.specs.Steps.{◌>>=◌}
-use Rattle.binfarce_v0_grammar.specs.Base62.{number, tagged, back_reference, hex_digits, hex_number}
-use Rattle.binfarce_v0_grammar.specs.Identifiers.{UndisambiguatedIdentifier, undisambiguated_identifier, Identifier, identifier, past}
+use Rattle.binfarce_v0_grammar.specs.Base62.{digit_62, number, tagged, back_reference, hex_digits, hex_number}
+use Rattle.binfarce_v0_grammar.specs.Identifiers.{is_empty, UndisambiguatedIdentifier, undisambiguated_identifier, Identifier, identifier, past}
 
 -- a byte stands at a position
-abbrev pub stands : List ℕ → ℕ → Option ℕ → Bool
-stands name byte None = false
-stands name byte (Some at) = slice_index name at == byte
+abbrev pub stands : (part : List ℕ) (byte : ℕ) (at : Option ℕ) → Bool
+stands part byte None = false
+stands part byte (Some at) = slice_index part at == byte
 
 -- the position after a byte that stands there
-abbrev pub after_byte : Option ℕ → Option ℕ
+abbrev pub after_byte : (at : Option ℕ) → Option ℕ
 after_byte None = None
 after_byte (Some at) = Some (at + 1)
 
--- a label asked for at a position
-abbrev pub identifier_at : List ℕ → Option ℕ → Option (Identifier × ℕ)
-identifier_at name None = None
-identifier_at name (Some at) = identifier name at
+-- an identifier asked for at a position, which may be none
+abbrev pub identifier_at : (part : List ℕ) (at : Option ℕ) → Option (Identifier × ℕ)
+identifier_at part at = at >>= identifier part
 
-abbrev pub undisambiguated_at : List ℕ → Option ℕ → Option (UndisambiguatedIdentifier × ℕ)
-undisambiguated_at name None = None
-undisambiguated_at name (Some at) = undisambiguated_identifier name at
+abbrev pub undisambiguated_at : (part : List ℕ) (at : Option ℕ) → Option (UndisambiguatedIdentifier × ℕ)
+undisambiguated_at part at = at >>= undisambiguated_identifier part
 
--- <path>
+-- <path>, with <impl-path> = [<disambiguator>] <path>
 pub data PathForm : Type 0 where
   -- none of the forms, or one whose number, name or namespace is invalid
   NoPathForm : PathForm
   -- "C" <identifier>
   CrateRoot : (root : Identifier) (after : ℕ) → PathForm
-  -- "N" <namespace> ..
+  -- "N" <namespace> <path> <identifier>
   NestedIn : (namespace after : ℕ) → PathForm
-  -- "M" [<disambiguator>] ..
+  -- "M" <impl-path> <type>
   InherentImpl : (after : ℕ) → PathForm
-  -- "X" [<disambiguator>] ..
+  -- "X" <impl-path> <type> <path>
   TraitImpl : (after : ℕ) → PathForm
-  -- "Y" ..
+  -- "Y" <type> <path>
   TraitDefinition : (after : ℕ) → PathForm
-  -- "I" ..
+  -- "I" <path> {<generic-arg>} "E"
   WithArguments : (after : ℕ) → PathForm
   -- <backref>
   BackToPath : (target after : ℕ) → PathForm
 
-abbrev pub crate_form : Option (Identifier × ℕ) → PathForm
-crate_form None = NoPathForm
-crate_form (Some l) = CrateRoot l.0 l.1
-
-abbrev pub impl_form : (ℕ → PathForm) → Option (ℕ × ℕ) → PathForm
-impl_form form None = NoPathForm
-impl_form form (Some d) = form d.1
-
-abbrev pub path_back_form : Option (ℕ × ℕ) → PathForm
-path_back_form None = NoPathForm
-path_back_form (Some b) = BackToPath b.0 b.1
-
 -- <namespace> = <a-zA-Z>
-abbrev pub nested_form : ℕ → ℕ → PathForm
+abbrev pub nested_form : (namespace after : ℕ) → PathForm
 nested_form namespace after = if is_ascii_alphabetic namespace then NestedIn namespace after else NoPathForm
 
--- the form that a path's first byte announces
-unfoldable pub path_form_by : List ℕ → ℕ → ℕ → PathForm
-path_form_by name at tag =
-    if tag == 'C' then crate_form (identifier name (at + 1)) else (
-    if tag == 'N' then nested_form (slice_index name (at + 1)) (at + 2) else (
-    if tag == 'M' then impl_form InherentImpl (tagged name 's' (at + 1)) else (
-    if tag == 'X' then impl_form TraitImpl (tagged name 's' (at + 1)) else (
+unfoldable pub path_form : (part : List ℕ) (at : Option ℕ) → PathForm
+path_form part None = NoPathForm
+path_form part (Some at) =
+    let tag = slice_index part at in
+    if tag == 'C' then option_map_or (λ i. CrateRoot i.0 i.1) (identifier part (at + 1)) NoPathForm else (
+    if tag == 'N' then nested_form (slice_index part (at + 1)) (at + 2) else (
+    if tag == 'M' then option_map_or (λ d. InherentImpl d.1) (tagged part 's' (at + 1)) NoPathForm else (
+    if tag == 'X' then option_map_or (λ d. TraitImpl d.1) (tagged part 's' (at + 1)) NoPathForm else (
     if tag == 'Y' then TraitDefinition (at + 1) else (
     if tag == 'I' then WithArguments (at + 1) else (
-    if tag == 'B' then path_back_form (back_reference name at) else NoPathForm))))))
-
-unfoldable pub path_form : List ℕ → Option ℕ → PathForm
-path_form name None = NoPathForm
-path_form name (Some at) = path_form_by name at (slice_index name at)
+    if tag == 'B' then option_map_or (λ b. BackToPath b.0 b.1) (back_reference part at) NoPathForm else NoPathForm))))))
 
 -- a lifetime that may stand at a position
 pub data Lifetime : Type 0 where
@@ -86,17 +71,16 @@ pub data Lifetime : Type 0 where
   -- <lifetime> = "L" <base-62-number>
   IndexedLifetime : (index : ℕ) → Lifetime
 
-abbrev pub indexed_lifetime : Option (ℕ × ℕ) → Lifetime × Option ℕ
-indexed_lifetime None = (InvalidLifetime, None)
-indexed_lifetime (Some n) = (IndexedLifetime n.0, Some n.1)
-
-unfoldable pub lifetime : List ℕ → Option ℕ → Lifetime × Option ℕ
-lifetime name None = (NoLifetime, None)
-lifetime name (Some at) =
-    if slice_index name at == 'L' then indexed_lifetime (number name (at + 1)) else (NoLifetime, Some at)
+-- [<lifetime>]: the lifetime, and the position after it
+unfoldable pub lifetime : (part : List ℕ) (at : Option ℕ) → Lifetime × Option ℕ
+lifetime part None = (NoLifetime, None)
+lifetime part (Some at) =
+    if slice_index part at == 'L'
+    then option_map_or (λ n. (IndexedLifetime n.0, Some n.1)) (number part (at + 1)) (InvalidLifetime, None)
+    else (NoLifetime, Some at)
 
 -- <basic-type>
-unfoldable pub basic_type : ℕ → Option (List ℕ)
+unfoldable pub basic_type : (letter : ℕ) → Option (List ℕ)
 basic_type c =
     if c == 'b' then Some (codes "bool") else (
     if c == 'c' then Some (codes "char") else (
@@ -120,25 +104,11 @@ basic_type c =
     if c == 'p' then Some (codes "_") else (
     if c == 'v' then Some (codes "...") else None))))))))))))))))))))
 
--- the front of a <fn-sig>: [<binder>] ["U"] ["K" <abi>]
+-- the front of a function type, "F" <fn-sig> with <fn-sig> = [<binder>] ["U"] ["K" <abi>] {<type>} "E" <type>, up to its types
 pub record Signature : Type 0 where
   pub binder : ℕ
   pub is_unsafe : Bool
   pub abi : Option (List ℕ)
-
--- an <abi> that is an identifier has an ASCII part, and no Punycode part
-abbrev pub abi_name : UndisambiguatedIdentifier × ℕ → Option (Option (List ℕ) × ℕ)
-abi_name i = abi_of i.0.ascii i.0.punycode i.1
-  where
-    abi_of : List ℕ → List ℕ → ℕ → Option (Option (List ℕ) × ℕ)
-    abi_of [] punycode after = None
-    abi_of (c ∷ ascii) [] after = Some (Some (c ∷ ascii), after)
-    abi_of (c ∷ ascii) (d ∷ punycode) after = None
-
--- ["K" <abi>], where <abi> = "C" | <undisambiguated-identifier>
-unfoldable pub abi : List ℕ → ℕ → Option (Option (List ℕ) × ℕ)
-abi name at =
-    if slice_index name at == 'K' then (if slice_index name (at + 1) == 'C' then Some (Some (codes "C"), at + 2) else (undisambiguated_identifier name (at + 1) >>= abi_name)) else Some (None, at)
 
 -- <type>
 pub data TypeForm : Type 0 where
@@ -146,77 +116,67 @@ pub data TypeForm : Type 0 where
   NoTypeForm : TypeForm
   -- <basic-type>, by its name
   BasicType : (name : List ℕ) (after : ℕ) → TypeForm
-  -- "R" [<lifetime>] .. and "Q" [<lifetime>] ..
+  -- "R" [<lifetime>] <type>, and "Q" [<lifetime>] <type> for a mutable one
   ReferenceTo : (mutable : Bool) (life : Lifetime) (after : ℕ) → TypeForm
   -- the same with an "L" whose number is invalid
   InvalidReference : TypeForm
-  -- "P" .. and "O" ..
+  -- "P" <type>, and "O" <type> for a mutable one
   PointerTo : (mutable : Bool) (after : ℕ) → TypeForm
-  -- "S" ..
+  -- "S" <type>
   SliceOf : (after : ℕ) → TypeForm
-  -- "A" ..
+  -- "A" <type> <const>
   ArrayOf : (after : ℕ) → TypeForm
-  -- "T" ..
+  -- "T" {<type>} "E"
   TupleOf : (after : ℕ) → TypeForm
-  -- "F" and the front of a <fn-sig>
+  -- "F" <fn-sig>
   FunctionOf : (signature : Signature) (after : ℕ) → TypeForm
   -- the same with an <abi> that is invalid
   InvalidAbi : (binder : ℕ) → TypeForm
-  -- "D" [<binder>] ..
+  -- "D" <dyn-bounds> <lifetime>, with <dyn-bounds> = [<binder>] {<dyn-trait>} "E" and <dyn-trait> = <path> {"p" <undisambiguated-identifier> <type>}
   DynOf : (binder after : ℕ) → TypeForm
   -- the same with a binder that is invalid
   InvalidDyn : TypeForm
   -- <backref>
   BackToType : (target after : ℕ) → TypeForm
-  -- another byte: a path
+  -- another byte: <path>
   PathType : TypeForm
 
-abbrev pub reference_form : Bool → Lifetime × Option ℕ → TypeForm
-reference_form mutable l = form_of l.0 l.1
-  where
-    form_of : Lifetime → Option ℕ → TypeForm
-    form_of life None = InvalidReference
-    form_of life (Some after) = ReferenceTo mutable life after
+-- "R" [<lifetime>] and "Q" [<lifetime>], from the lifetime on
+abbrev pub reference_form : (mutable : Bool) (life : Lifetime × Option ℕ) → TypeForm
+reference_form mutable life = option_map_or (ReferenceTo mutable life.0) life.1 InvalidReference
 
-abbrev pub signature_form : ℕ → Bool → Option (Option (List ℕ) × ℕ) → TypeForm
-signature_form binder is_unsafe None = InvalidAbi binder
-signature_form binder is_unsafe (Some a) =
-    FunctionOf (record { binder = binder; is_unsafe = is_unsafe; abi = a.0 }) a.1
+-- ["K" <abi>], with <abi> = "C" | <undisambiguated-identifier>: an identifier has an ASCII part, and no Punycode part
+unfoldable pub abi : (part : List ℕ) (at : ℕ) → Option (Option (List ℕ) × ℕ)
+abi part at =
+    let named : UndisambiguatedIdentifier × ℕ → Option (Option (List ℕ) × ℕ) = λ i. if not (is_empty i.0.ascii) && is_empty i.0.punycode then Some (Some i.0.ascii, i.1) else None in
+    if slice_index part at == 'K' then (if slice_index part (at + 1) == 'C' then Some (Some (codes "C"), at + 2) else (undisambiguated_identifier part (at + 1) >>= named)) else Some (None, at)
 
-abbrev pub function_form : List ℕ → Option (ℕ × ℕ) → TypeForm
-function_form name None = NoTypeForm
-function_form name (Some b) = signature_form b.0 (slice_index name b.1 == 'U') (abi name (past name 'U' b.1))
+-- "F" [<binder>] ["U"] ["K" <abi>], from the "U" on
+abbrev pub function_form : (part : List ℕ) (binder : Option (ℕ × ℕ)) → TypeForm
+function_form part None = NoTypeForm
+function_form part (Some b) =
+    let is_unsafe = slice_index part b.1 == 'U' in
+    option_map_or (λ a. FunctionOf (record { binder = b.0; is_unsafe = is_unsafe; abi = a.0 }) a.1) (abi part (past part 'U' b.1)) (InvalidAbi b.0)
 
-abbrev pub dyn_form : Option (ℕ × ℕ) → TypeForm
-dyn_form None = InvalidDyn
-dyn_form (Some b) = DynOf b.0 b.1
-
-abbrev pub type_back_form : Option (ℕ × ℕ) → TypeForm
-type_back_form None = NoTypeForm
-type_back_form (Some b) = BackToType b.0 b.1
-
--- the form of a type that is no basic type
-unfoldable pub type_form_by : List ℕ → ℕ → ℕ → TypeForm
-type_form_by name at tag =
-    if tag == 'R' then reference_form false (lifetime name (Some (at + 1))) else (
-    if tag == 'Q' then reference_form true (lifetime name (Some (at + 1))) else (
+-- a type that is no basic type, by its letter
+unfoldable pub type_form_by : (part : List ℕ) (at tag : ℕ) → TypeForm
+type_form_by part at tag =
+    if tag == 'R' then reference_form false (lifetime part (Some (at + 1))) else (
+    if tag == 'Q' then reference_form true (lifetime part (Some (at + 1))) else (
     if tag == 'P' then PointerTo false (at + 1) else (
     if tag == 'O' then PointerTo true (at + 1) else (
     if tag == 'S' then SliceOf (at + 1) else (
     if tag == 'A' then ArrayOf (at + 1) else (
     if tag == 'T' then TupleOf (at + 1) else (
-    if tag == 'F' then function_form name (tagged name 'G' (at + 1)) else (
-    if tag == 'D' then dyn_form (tagged name 'G' (at + 1)) else (
-    if tag == 'B' then type_back_form (back_reference name at) else PathType)))))))))
+    if tag == 'F' then function_form part (tagged part 'G' (at + 1)) else (
+    if tag == 'D' then option_map_or (λ b. DynOf b.0 b.1) (tagged part 'G' (at + 1)) InvalidDyn else (
+    if tag == 'B' then option_map_or (λ b. BackToType b.0 b.1) (back_reference part at) NoTypeForm else PathType)))))))))
 
-abbrev pub basic_form : Option (List ℕ) → ℕ → TypeForm → TypeForm
-basic_form None at other = other
-basic_form (Some text) at other = BasicType text (at + 1)
-
-unfoldable pub type_form : List ℕ → Option ℕ → TypeForm
-type_form name None = NoTypeForm
-type_form name (Some at) =
-    if nat_lt at (length name) then basic_form (basic_type (slice_index name at)) at (type_form_by name at (slice_index name at)) else NoTypeForm
+unfoldable pub type_form : (part : List ℕ) (at : Option ℕ) → TypeForm
+type_form part None = NoTypeForm
+type_form part (Some at) =
+    let tag = slice_index part at in
+    if nat_lt at (length part) then option_map_or (λ name. BasicType name (at + 1)) (basic_type tag) (type_form_by part at tag) else NoTypeForm
 
 -- the value of a const
 pub data ConstValue : Type 0 where
@@ -241,60 +201,64 @@ pub data ConstForm : Type 0 where
   -- <backref>
   BackToConst : (target after : ℕ) → ConstForm
 
-abbrev pub const_back_form : Option (ℕ × ℕ) → ConstForm
-const_back_form None = NoConstForm
-const_back_form (Some b) = BackToConst b.0 b.1
-
 -- the types of unsigned integers, and of signed ones
-abbrev pub is_unsigned : ℕ → Bool
+abbrev pub is_unsigned : (letter : ℕ) → Bool
 is_unsigned c = c == 'h' || (c == 't' || (c == 'm' || (c == 'y' || (c == 'o' || c == 'j'))))
 
-abbrev pub is_signed : ℕ → Bool
+abbrev pub is_signed : (letter : ℕ) → Bool
 is_signed c = c == 'a' || (c == 's' || (c == 'l' || (c == 'x' || (c == 'n' || c == 'i'))))
 
 -- the types of consts: integers, bool and char
-unfoldable pub const_type : ℕ → Option (List ℕ)
+unfoldable pub const_type : (letter : ℕ) → Option (List ℕ)
 const_type c = if is_unsigned c || (is_signed c || (c == 'b' || c == 'c')) then basic_type c else None
 
 -- "n" is the sign of a signed integer
-unfoldable pub has_sign : List ℕ → ℕ → ℕ → Bool
-has_sign name letter at = is_signed letter && slice_index name at == 'n'
+unfoldable pub has_sign : (part : List ℕ) (letter at : ℕ) → Bool
+has_sign part letter at = is_signed letter && slice_index part at == 'n'
 
 -- 0 is false, and 1 is true
-abbrev pub boolean_of : ℕ → Option ConstValue
+abbrev pub boolean_of : (n : ℕ) → Option ConstValue
 boolean_of n = if n == 0 then Some (Boolean false) else (if n == 1 then Some (Boolean true) else None)
 
 -- a char is a Unicode scalar value
-abbrev pub character_of : ℕ → Option ConstValue
+abbrev pub character_of : (n : ℕ) → Option ConstValue
 character_of n = if is_scalar n then Some (Character n) else None
 
 -- what hexadecimal digits write as a value of a type
-unfoldable pub value_of : ℕ → Bool → List ℕ → Option ConstValue
+unfoldable pub value_of : (letter : ℕ) (negative : Bool) (digits : List ℕ) → Option ConstValue
 value_of letter negative digits =
     if letter == 'b' then (hex_number digits >>= boolean_of) else (
     if letter == 'c' then (hex_number digits >>= character_of) else Some (Integer negative digits))
 
 -- <const-data> = ["n"] {<0-9a-f>} "_"
-unfoldable pub const_value : List ℕ → ℕ → Bool → ℕ → Option (ConstValue × ℕ)
-const_value name letter negative at =
-    hex_digits name (if negative then at + 1 else at) >>= λ d. (value_of letter negative d.0 >>= λ v. Some (v, d.1))
+unfoldable pub const_value : (part : List ℕ) (letter : ℕ) (negative : Bool) (at : ℕ) → Option (ConstValue × ℕ)
+const_value part letter negative at =
+    hex_digits part (if negative then at + 1 else at) >>= λ d. (value_of letter negative d.0 >>= λ v. Some (v, d.1))
 
-abbrev pub value_form : Bool → List ℕ → Option (ConstValue × ℕ) → ConstForm
-value_form negative type_name None = InvalidConst negative type_name
-value_form negative type_name (Some v) = ValueConst type_name v.0 v.1
+-- <type> "p" and <type> <const-data>, after the type's letter
+abbrev pub typed_form : (part : List ℕ) (letter at : ℕ) (type_name : Option (List ℕ)) → ConstForm
+typed_form part letter at None = NoConstForm
+typed_form part letter at (Some type_name) =
+    let negative = has_sign part letter at in
+    let value = option_map_or (λ v. ValueConst type_name v.0 v.1) (const_value part letter negative at) (InvalidConst negative type_name) in
+    if slice_index part at == 'p' then PlaceholderConst type_name (at + 1) else value
 
--- a const of a type, after the type's letter
-abbrev pub typed_form : List ℕ → ℕ → ℕ → Option (List ℕ) → ConstForm
-typed_form name letter at None = NoConstForm
-typed_form name letter at (Some type_name) =
-    if slice_index name at == 'p' then PlaceholderConst type_name (at + 1) else value_form (has_sign name letter at) type_name (const_value name letter (has_sign name letter at) at)
+unfoldable pub const_form : (part : List ℕ) (at : Option ℕ) → ConstForm
+const_form part None = NoConstForm
+const_form part (Some at) =
+    let tag = slice_index part at in
+    if tag == 'B' then option_map_or (λ b. BackToConst b.0 b.1) (back_reference part at) NoConstForm else (
+    if tag == 'p' then UntypedPlaceholderConst (at + 1) else typed_form part tag (at + 1) (const_type tag))
 
--- the form that a const's first byte announces
-unfoldable pub const_form_by : List ℕ → ℕ → ℕ → ConstForm
-const_form_by name at tag =
-    if tag == 'B' then const_back_form (back_reference name at) else (
-    if tag == 'p' then UntypedPlaceholderConst (at + 1) else typed_form name tag (at + 1) (const_type tag))
+-- the fronts of a nested path, of `&'a u8` under a binder, and of the const -128 of the type i8
+worked_path : path_form (codes "NvC1a1b") (Some 0) ≡ NestedIn 'v' 2
+unfolding path_form
+worked_path = refl
 
-unfoldable pub const_form : List ℕ → Option ℕ → ConstForm
-const_form name None = NoConstForm
-const_form name (Some at) = const_form_by name at (slice_index name at)
+worked_type : type_form (codes "RL0_h") (Some 0) ≡ ReferenceTo false (IndexedLifetime 1) 4
+unfolding type_form type_form_by basic_type lifetime number digit_62
+worked_type = refl
+
+worked_const : const_form (codes "an80_") (Some 0) ≡ ValueConst (codes "i8") (Integer true (codes "80")) 5
+unfolding const_form const_type basic_type has_sign const_value hex_digits value_of
+worked_const = refl

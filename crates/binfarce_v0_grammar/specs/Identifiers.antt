@@ -1,14 +1,16 @@
--- Identifiers of a v0 name (RFC 2603, "Identifiers" and "Punycode identifiers").
-use Rattle.std.specs.Prelude.{ℕ, ◌+◌, List, [], ◌∷◌, ◌++◌, Option, Some, None, Bool, true, false, ◌&&◌, if◌then◌else◌, ◌==◌, nat_le, slice_index, slice_range, drop, length, codes, encode_utf8_all}
+-- Identifiers of a v0 mangling (RFC 2603, "Identifiers" and "Punycode identifiers").
+use Rattle.std.specs.Prelude.{◌≡◌, ℕ, ◌+◌, List, [], ◌++◌, Option, Some, None, Bool, true, false, ◌&&◌, if◌then◌else◌, ◌==◌, nat_le, slice_index, slice_range, drop, length, codes, encode_utf8_all}
+use Rattle.std.proofs.Common.{refl}
+use Rattle.std.specs.Option.{option_map_or}
 use Rattle.std.specs.List.{before_last, after_last, take_while}
 use Rattle.std.specs.Char.{is_ascii_digit}
 use Rattle.std.specs.Str.Parse.{digits_value}
 use Rattle.binfarce_text.specs.Letters.{'0', 's', 'u', '_'}
 use Rattle.binfarce_text.specs.Steps.{◌>>=◌}
-use Rattle.binfarce_v0_grammar.specs.Base62.{limited, tagged}
-use Rattle.binfarce_v0_grammar.specs.Punycode.{punycode_decoded}
+use Rattle.binfarce_v0_grammar.specs.Base62.{digit_62, limited, number, tagged}
+use Rattle.binfarce_v0_grammar.specs.Punycode.{digit_of, weight, integer, scaled_bias, adapted_bias, decoder_after, text_of, punycode_decoded}
 
-abbrev pub is_empty : List ℕ → Bool
+abbrev pub is_empty : (text : List ℕ) → Bool
 is_empty text = length text == 0
 
 -- an identifier's ASCII part, and its Punycode part, which is empty where it has none
@@ -16,32 +18,36 @@ pub record UndisambiguatedIdentifier : Type 0 where
   pub ascii : List ℕ
   pub punycode : List ℕ
 
--- <decimal-number> = "0" | <1-9> {<0-9>}: a "0" alone, or the longest run of digits. A length is a number of the name too
-unfoldable pub length_at : List ℕ → ℕ → Option (ℕ × ℕ)
-length_at name at =
-    let digits = take_while is_ascii_digit (drop at name) in
+-- <decimal-number> = "0" | <1-9> {<0-9>}: a "0" alone, or the longest run of digits, whose number is below 2^64
+unfoldable pub length_at : (part : List ℕ) (at : ℕ) → Option (ℕ × ℕ)
+length_at part at =
+    let digits = take_while is_ascii_digit (drop at part) in
     let number = if is_empty digits then None else limited (digits_value 10 digits) (at + length digits) in
-    if slice_index name at == '0' then Some (0, at + 1) else number
+    if slice_index part at == '0' then Some (0, at + 1) else number
 
 -- the position after a byte that may stand here
-abbrev pub past : List ℕ → ℕ → ℕ → ℕ
-past name byte at = if slice_index name at == byte then at + 1 else at
+abbrev pub past : (part : List ℕ) (byte at : ℕ) → ℕ
+past part byte at = if slice_index part at == byte then at + 1 else at
 
--- the parts of an identifier's bytes: those of a Punycode identifier are split at their last "_", and some Punycode stands after it
-unfoldable pub identifier_of : Bool → List ℕ → Option UndisambiguatedIdentifier
+-- the two parts of an identifier's bytes: those of a Punycode identifier are split at their last "_", and all are Punycode where there
+-- is none. Some Punycode has to stand there
+unfoldable pub identifier_of : (is_punycode : Bool) (bytes : List ℕ) → Option UndisambiguatedIdentifier
 identifier_of false bytes = Some (record { ascii = bytes; punycode = [] })
 identifier_of true bytes =
-    if is_empty (after_last (λ c. c == '_') bytes) then None else Some (record { ascii = before_last (λ c. c == '_') bytes; punycode = after_last (λ c. c == '_') bytes })
+    let code = after_last (λ c. c == '_') bytes in
+    if is_empty code then None else Some (record { ascii = before_last (λ c. c == '_') bytes; punycode = code })
 
 -- as many bytes as the length says, where so many stand there
-unfoldable pub identifier_bytes : List ℕ → Bool → ℕ → ℕ → Option (UndisambiguatedIdentifier × ℕ)
-identifier_bytes name is_punycode start size =
-    if nat_le (start + size) (length name) then (identifier_of is_punycode (slice_range name start (start + size)) >>= λ i. Some (i, start + size)) else None
+unfoldable pub identifier_bytes : (part : List ℕ) (is_punycode : Bool) (start size : ℕ) → Option (UndisambiguatedIdentifier × ℕ)
+identifier_bytes part is_punycode start size =
+    let end = start + size in
+    if nat_le end (length part) then (identifier_of is_punycode (slice_range part start end) >>= λ i. Some (i, end)) else None
 
--- <undisambiguated-identifier> = ["u"] <decimal-number> ["_"] <bytes>
-unfoldable pub undisambiguated_identifier : List ℕ → ℕ → Option (UndisambiguatedIdentifier × ℕ)
-undisambiguated_identifier name at =
-    length_at name (past name 'u' at) >>= λ n. identifier_bytes name (slice_index name at == 'u') (past name '_' n.1) n.0
+-- <undisambiguated-identifier> = ["u"] <decimal-number> ["_"] <bytes>: a "u" says that it is Punycode. One "_" after the length is always
+-- taken, so bytes that begin with a "_" stand behind another
+unfoldable pub undisambiguated_identifier : (part : List ℕ) (at : ℕ) → Option (UndisambiguatedIdentifier × ℕ)
+undisambiguated_identifier part at =
+    length_at part (past part 'u' at) >>= λ n. identifier_bytes part (slice_index part at == 'u') (past part '_' n.1) n.0
 
 -- an identifier with its disambiguator
 pub record Identifier : Type 0 where
@@ -49,24 +55,30 @@ pub record Identifier : Type 0 where
   pub name : UndisambiguatedIdentifier
 
 -- <identifier> = [<disambiguator>] <undisambiguated-identifier>
-unfoldable pub identifier : List ℕ → ℕ → Option (Identifier × ℕ)
-identifier name at =
-    tagged name 's' at >>= λ d. (undisambiguated_identifier name d.1 >>= λ i. Some (record { disambiguator = d.0; name = i.0 }, i.1))
+unfoldable pub identifier : (part : List ℕ) (at : ℕ) → Option (Identifier × ℕ)
+identifier part at =
+    tagged part 's' at >>= λ d. (undisambiguated_identifier part d.1 >>= λ i. Some (record { disambiguator = d.0; name = i.0 }, i.1))
 
 -- an identifier without a character
-abbrev pub is_unnamed : UndisambiguatedIdentifier → Bool
+abbrev pub is_unnamed : (i : UndisambiguatedIdentifier) → Bool
 is_unnamed i = is_empty i.ascii && is_empty i.punycode
 
 -- Punycode that can't be decoded is shown as it stands
-abbrev pub undecoded : List ℕ → List ℕ → List ℕ
+abbrev pub undecoded : (ascii punycode : List ℕ) → List ℕ
 undecoded ascii punycode =
     codes "punycode{" ++ ((if is_empty ascii then [] else ascii ++ codes "-") ++ (punycode ++ codes "}"))
 
-abbrev pub decoded_or : List ℕ → List ℕ → Option (List ℕ) → List ℕ
-decoded_or ascii punycode None = undecoded ascii punycode
-decoded_or ascii punycode (Some chars) = encode_utf8_all chars
-
 -- the text of an identifier: its ASCII part, or the decoded text of both parts
-unfoldable pub identifier_text : UndisambiguatedIdentifier → List ℕ
+unfoldable pub identifier_text : (i : UndisambiguatedIdentifier) → List ℕ
 identifier_text i =
-    if is_empty i.punycode then i.ascii else decoded_or i.ascii i.punycode (punycode_decoded i.ascii i.punycode)
+    if is_empty i.punycode then i.ascii else option_map_or encode_utf8_all (punycode_decoded i.ascii i.punycode) (undecoded i.ascii i.punycode)
+
+-- `s_u9bcher_kva` has the disambiguator 1, and is `bücher`
+worked_identifier : identifier (codes "s_u9bcher_kva") 0
+    ≡ Some (record { disambiguator = 1; name = record { ascii = codes "bcher"; punycode = codes "kva" } }, 13)
+unfolding identifier undisambiguated_identifier identifier_bytes identifier_of length_at tagged number digit_62
+worked_identifier = refl
+
+worked_text : identifier_text (record { ascii = codes "bcher"; punycode = codes "kva" }) ≡ encode_utf8_all (codes "bücher")
+unfolding identifier_text punycode_decoded text_of decoder_after adapted_bias scaled_bias integer weight digit_of
+worked_text = refl

@@ -1,8 +1,8 @@
 pub mod Base62
-pub mod Identifiers
 pub mod Punycode
+pub mod Identifiers
 pub mod Forms
 pub mod Tree
-pub mod Unfolding
 pub mod Reading
+pub mod Unfolding
 pub mod machine

@@ -1,6 +1,7 @@
 -- Punycode (RFC 3492) as v0 names use it: the digits are `a` to `z` and `0` to `9` alone, and a text has at most 128
 -- characters. The comments begin with the RFC's sections. Numbers have no upper bound here, so nothing overflows (6.4).
-use Rattle.std.specs.Prelude.{ℕ, zero, suc, ◌+◌, ◌-◌, ◌*◌, ◌/◌, ◌%◌, min, max, Bool, ◌||◌, ◌==◌, nat_lt, nat_le, List, [], ◌∷◌, length, insert, Option, Some, None, option_map, option_and_then, if◌then◌else◌}
+use Rattle.std.specs.Prelude.{◌≡◌, ℕ, zero, suc, ◌+◌, ◌-◌, ◌*◌, ◌/◌, ◌%◌, min, max, Bool, ◌==◌, nat_lt, nat_le, List, [], ◌∷◌, length, insert, Option, Some, None, option_map, option_and_then, if◌then◌else◌, codes}
+use Rattle.std.proofs.Common.{refl}
 use Rattle.std.specs.Char.{is_ascii_digit, is_ascii_lowercase}
 use Rattle.binfarce_text.specs.Letters.{'0', 'a'}
 use Rattle.binfarce_text.specs.Characters.{is_scalar}
@@ -113,3 +114,8 @@ punycode_decoded ascii code =
     let start : Decoder = record { n = initial_n; i = 0; bias = initial_bias; output = ascii } in
     let text = text_of (most_characters - length ascii) start code in
     if nat_le (length ascii) most_characters then text else None
+
+-- the code `kva` puts `ü` into `bcher`
+worked_word : punycode_decoded (codes "bcher") (codes "kva") ≡ Some (codes "bücher")
+unfolding digit_of weight integer scaled_bias adapted_bias decoder_after text_of punycode_decoded
+worked_word = refl

@@ -1,75 +1,89 @@
--- Reading a v0 name by the grammar alone (RFC 2603, "Symbol grammar summary"): a position reads to a tree up to the position after it.
+-- Reading a v0 mangling by the grammar alone (RFC 2603, "Symbol grammar summary"): a position reads to a tree up to the position after it.
 -- A back reference is a leaf that names an earlier position; what stands there isn't looked at, nor is it looked at what a lifetime's index means.
-use Rattle.std.specs.Prelude.{◌≡◌, ℕ, ◌+◌, List, Some, true, false}
+-- This stands beside `Unfolding` since the two decide different things: this one whether a text is a v0 mangling at all, which every byte of
+-- it has to keep to and no limit of steps bounds; that one which tree it means, where invalid syntax behind a back reference is shown as `?`.
+-- `part` is all that follows the prefix. `front` is the position after a form's front, where what the form asks for begins.
+use Rattle.std.specs.Prelude.{◌≡◌, ℕ, ◌+◌, List, [], Some, true, false, codes}
+use Rattle.std.proofs.Common.{refl}
 use Rattle.binfarce_text.specs.Letters.{'E', 'K', 'L', 'p', 'u'}
-use Rattle.binfarce_v0_grammar.specs.Identifiers.{identifier, undisambiguated_identifier}
-use Rattle.binfarce_v0_grammar.specs.Forms.{stands, lifetime, path_form, type_form, const_form, CrateRoot, NestedIn, InherentImpl, TraitImpl, TraitDefinition, WithArguments, BackToPath, BasicType, ReferenceTo, PointerTo, SliceOf, ArrayOf, TupleOf, FunctionOf, DynOf, BackToType, PathType, UntypedPlaceholderConst, PlaceholderConst, ValueConst, BackToConst}
+use Rattle.binfarce_v0_grammar.specs.Base62.{digit_62, number, tagged, back_reference}
+use Rattle.binfarce_v0_grammar.specs.Identifiers.{length_at, identifier_of, identifier_bytes, identifier, undisambiguated_identifier}
+use Rattle.binfarce_v0_grammar.specs.Forms.{NoLifetime, stands, lifetime, basic_type, path_form, type_form_by, type_form, const_form, CrateRoot, NestedIn, InherentImpl, TraitImpl, TraitDefinition, WithArguments, BackToPath, BasicType, ReferenceTo, PointerTo, SliceOf, ArrayOf, TupleOf, FunctionOf, DynOf, BackToType, PathType, UntypedPlaceholderConst, PlaceholderConst, ValueConst, BackToConst}
 use Rattle.binfarce_v0_grammar.specs.Tree.{PathTree, TypeTree, ConstTree, Item, Items, Bindings, UntypedPlaceholder, Placeholder, Value, ConstTarget, Crate, Nested, OfType, OfImpl, OfTrait, Generic, PathTarget, Basic, Reference, Pointer, Slice, Array, Tuple, Function, FunctionTo, Dyn, Named, TypeTarget, LifetimeItem, TypeItem, ConstItem, TraitItem, NoItems, ItemThen, NoBindings, Binding, InvalidBinding, Listed, Arguments, Types, Traits}
 
-unfoldable pub ReadsConst : List ℕ → ConstTree → ℕ → ℕ → Type 0
-ReadsConst name UntypedPlaceholder at after = const_form name (Some at) ≡ UntypedPlaceholderConst after
-ReadsConst name (Placeholder type_name) at after = const_form name (Some at) ≡ PlaceholderConst type_name after
-ReadsConst name (Value type_name value) at after = const_form name (Some at) ≡ ValueConst type_name value after
-ReadsConst name (ConstTarget target) at after = const_form name (Some at) ≡ BackToConst target after
-ReadsConst name _ at after = ⊥
+unfoldable pub ReadsConst : (part : List ℕ) (tree : ConstTree) (at after : ℕ) → Type 0
+ReadsConst part UntypedPlaceholder at after = const_form part (Some at) ≡ UntypedPlaceholderConst after
+ReadsConst part (Placeholder type_name) at after = const_form part (Some at) ≡ PlaceholderConst type_name after
+ReadsConst part (Value type_name value) at after = const_form part (Some at) ≡ ValueConst type_name value after
+ReadsConst part (ConstTarget target) at after = const_form part (Some at) ≡ BackToConst target after
+-- what is invalid doesn't read
+ReadsConst part _ at after = ⊥
 
 unfoldable mutual
-  pub ReadsPath : List ℕ → PathTree → ℕ → ℕ → Type 0
-  ReadsPath name (Crate root) at after = path_form name (Some at) ≡ CrateRoot root after
-  ReadsPath name (Nested namespace p l) at after =
-      (q : ℕ) × (mid : ℕ) × (path_form name (Some at) ≡ NestedIn namespace q) × ReadsPath name p q mid × (identifier name mid ≡ Some (l, after))
-  ReadsPath name (OfType p t) at after =
-      (q : ℕ) × (mid : ℕ) × (path_form name (Some at) ≡ InherentImpl q) × ReadsPath name p q mid × ReadsType name t mid after
-  ReadsPath name (OfImpl p t u) at after =
-      (q : ℕ) × (mid : ℕ) × (end : ℕ) × (path_form name (Some at) ≡ TraitImpl q) × ReadsPath name p q mid × ReadsType name t mid end × ReadsPath name u end after
-  ReadsPath name (OfTrait t u) at after =
-      (q : ℕ) × (mid : ℕ) × (path_form name (Some at) ≡ TraitDefinition q) × ReadsType name t q mid × ReadsPath name u mid after
-  ReadsPath name (Generic p items) at after =
-      (q : ℕ) × (mid : ℕ) × (path_form name (Some at) ≡ WithArguments q) × ReadsPath name p q mid × ReadsItems name Arguments items mid after
-  ReadsPath name (PathTarget target) at after = path_form name (Some at) ≡ BackToPath target after
-  ReadsPath name _ at after = ⊥
+  pub ReadsPath : (part : List ℕ) (tree : PathTree) (at after : ℕ) → Type 0
+  ReadsPath part (Crate root) at after = path_form part (Some at) ≡ CrateRoot root after
+  ReadsPath part (Nested namespace p l) at after =
+      (front : ℕ) × (mid : ℕ) × (path_form part (Some at) ≡ NestedIn namespace front) × ReadsPath part p front mid × (identifier part mid ≡ Some (l, after))
+  ReadsPath part (OfType p t) at after =
+      (front : ℕ) × (mid : ℕ) × (path_form part (Some at) ≡ InherentImpl front) × ReadsPath part p front mid × ReadsType part t mid after
+  ReadsPath part (OfImpl p t u) at after =
+      (front : ℕ) × (mid : ℕ) × (end : ℕ) × (path_form part (Some at) ≡ TraitImpl front) × ReadsPath part p front mid × ReadsType part t mid end × ReadsPath part u end after
+  ReadsPath part (OfTrait t u) at after =
+      (front : ℕ) × (mid : ℕ) × (path_form part (Some at) ≡ TraitDefinition front) × ReadsType part t front mid × ReadsPath part u mid after
+  ReadsPath part (Generic p items) at after =
+      (front : ℕ) × (mid : ℕ) × (path_form part (Some at) ≡ WithArguments front) × ReadsPath part p front mid × ReadsItems part Arguments items mid after
+  ReadsPath part (PathTarget target) at after = path_form part (Some at) ≡ BackToPath target after
+  -- what is invalid doesn't read
+  ReadsPath part _ at after = ⊥
 
-  pub ReadsType : List ℕ → TypeTree → ℕ → ℕ → Type 0
-  ReadsType name (Basic text) at after = type_form name (Some at) ≡ BasicType text after
-  ReadsType name (Reference mutable life t) at after =
-      (q : ℕ) × (type_form name (Some at) ≡ ReferenceTo mutable life q) × ReadsType name t q after
-  ReadsType name (Pointer mutable t) at after =
-      (q : ℕ) × (type_form name (Some at) ≡ PointerTo mutable q) × ReadsType name t q after
-  ReadsType name (Slice t) at after =
-      (q : ℕ) × (type_form name (Some at) ≡ SliceOf q) × ReadsType name t q after
-  ReadsType name (Array t c) at after =
-      (q : ℕ) × (mid : ℕ) × (type_form name (Some at) ≡ ArrayOf q) × ReadsType name t q mid × ReadsConst name c mid after
-  ReadsType name (Tuple items) at after =
-      (q : ℕ) × (type_form name (Some at) ≡ TupleOf q) × ReadsItems name Types items q after
-  ReadsType name (Function signature items) at after =
-      (q : ℕ) × (end : ℕ) × (type_form name (Some at) ≡ FunctionOf signature q) × ReadsItems name Types items q end × (stands name 'u' (Some end) ≡ true) × (after ≡ end + 1)
-  ReadsType name (FunctionTo signature items t) at after =
-      (q : ℕ) × (end : ℕ) × (type_form name (Some at) ≡ FunctionOf signature q) × ReadsItems name Types items q end × (stands name 'u' (Some end) ≡ false) × ReadsType name t end after
-  ReadsType name (Dyn binder items life) at after =
-      (q : ℕ) × (end : ℕ) × (type_form name (Some at) ≡ DynOf binder q) × ReadsItems name Traits items q end × (stands name 'L' (Some end) ≡ true) × (lifetime name (Some end) ≡ (life, Some after))
-  ReadsType name (Named p) at after = (type_form name (Some at) ≡ PathType) × ReadsPath name p at after
-  ReadsType name (TypeTarget target) at after = type_form name (Some at) ≡ BackToType target after
-  ReadsType name _ at after = ⊥
+  pub ReadsType : (part : List ℕ) (tree : TypeTree) (at after : ℕ) → Type 0
+  ReadsType part (Basic text) at after = type_form part (Some at) ≡ BasicType text after
+  ReadsType part (Reference mutable life t) at after =
+      (front : ℕ) × (type_form part (Some at) ≡ ReferenceTo mutable life front) × ReadsType part t front after
+  ReadsType part (Pointer mutable t) at after =
+      (front : ℕ) × (type_form part (Some at) ≡ PointerTo mutable front) × ReadsType part t front after
+  ReadsType part (Slice t) at after =
+      (front : ℕ) × (type_form part (Some at) ≡ SliceOf front) × ReadsType part t front after
+  ReadsType part (Array t c) at after =
+      (front : ℕ) × (mid : ℕ) × (type_form part (Some at) ≡ ArrayOf front) × ReadsType part t front mid × ReadsConst part c mid after
+  ReadsType part (Tuple items) at after =
+      (front : ℕ) × (type_form part (Some at) ≡ TupleOf front) × ReadsItems part Types items front after
+  ReadsType part (Function signature items) at after =
+      (front : ℕ) × (end : ℕ) × (type_form part (Some at) ≡ FunctionOf signature front) × ReadsItems part Types items front end × (stands part 'u' (Some end) ≡ true) × (after ≡ end + 1)
+  ReadsType part (FunctionTo signature items t) at after =
+      (front : ℕ) × (end : ℕ) × (type_form part (Some at) ≡ FunctionOf signature front) × ReadsItems part Types items front end × (stands part 'u' (Some end) ≡ false) × ReadsType part t end after
+  ReadsType part (Dyn binder items life) at after =
+      (front : ℕ) × (end : ℕ) × (type_form part (Some at) ≡ DynOf binder front) × ReadsItems part Traits items front end × (stands part 'L' (Some end) ≡ true) × (lifetime part (Some end) ≡ (life, Some after))
+  ReadsType part (Named p) at after = (type_form part (Some at) ≡ PathType) × ReadsPath part p at after
+  ReadsType part (TypeTarget target) at after = type_form part (Some at) ≡ BackToType target after
+  -- what is invalid doesn't read
+  ReadsType part _ at after = ⊥
 
-  pub ReadsItem : List ℕ → Listed → Item → ℕ → ℕ → Type 0
-  ReadsItem name Arguments (LifetimeItem life) at after =
-      (stands name 'L' (Some at) ≡ true) × (lifetime name (Some at) ≡ (life, Some after))
-  ReadsItem name Arguments (ConstItem c) at after =
-      (stands name 'L' (Some at) ≡ false) × (stands name 'K' (Some at) ≡ true) × ReadsConst name c (at + 1) after
-  ReadsItem name Arguments (TypeItem t) at after =
-      (stands name 'L' (Some at) ≡ false) × (stands name 'K' (Some at) ≡ false) × ReadsType name t at after
-  ReadsItem name Types (TypeItem t) at after = ReadsType name t at after
-  ReadsItem name Traits (TraitItem p bindings) at after =
-      (mid : ℕ) × ReadsPath name p at mid × ReadsBindings name bindings mid after
-  ReadsItem name _ _ at after = ⊥
+  pub ReadsItem : (part : List ℕ) (listed : Listed) (i : Item) (at after : ℕ) → Type 0
+  ReadsItem part Arguments (LifetimeItem life) at after =
+      (stands part 'L' (Some at) ≡ true) × (lifetime part (Some at) ≡ (life, Some after))
+  ReadsItem part Arguments (ConstItem c) at after =
+      (stands part 'L' (Some at) ≡ false) × (stands part 'K' (Some at) ≡ true) × ReadsConst part c (at + 1) after
+  ReadsItem part Arguments (TypeItem t) at after =
+      (stands part 'L' (Some at) ≡ false) × (stands part 'K' (Some at) ≡ false) × ReadsType part t at after
+  ReadsItem part Types (TypeItem t) at after = ReadsType part t at after
+  ReadsItem part Traits (TraitItem p bindings) at after =
+      (mid : ℕ) × ReadsPath part p at mid × ReadsBindings part bindings mid after
+  -- a list holds no other items
+  ReadsItem part _ _ at after = ⊥
 
-  pub ReadsItems : List ℕ → Listed → Items → ℕ → ℕ → Type 0
-  ReadsItems name listed NoItems at after = (stands name 'E' (Some at) ≡ true) × (after ≡ at + 1)
-  ReadsItems name listed (ItemThen i items) at after =
-      (mid : ℕ) × (stands name 'E' (Some at) ≡ false) × ReadsItem name listed i at mid × ReadsItems name listed items mid after
+  pub ReadsItems : (part : List ℕ) (listed : Listed) (items : Items) (at after : ℕ) → Type 0
+  ReadsItems part listed NoItems at after = (stands part 'E' (Some at) ≡ true) × (after ≡ at + 1)
+  ReadsItems part listed (ItemThen i items) at after =
+      (mid : ℕ) × (stands part 'E' (Some at) ≡ false) × ReadsItem part listed i at mid × ReadsItems part listed items mid after
 
-  pub ReadsBindings : List ℕ → Bindings → ℕ → ℕ → Type 0
-  ReadsBindings name NoBindings at after = (stands name 'p' (Some at) ≡ false) × (after ≡ at)
-  ReadsBindings name (Binding i t bindings) at after =
-      (q : ℕ) × (mid : ℕ) × (stands name 'p' (Some at) ≡ true) × (undisambiguated_identifier name (at + 1) ≡ Some (i, q)) × ReadsType name t q mid × ReadsBindings name bindings mid after
-  ReadsBindings name InvalidBinding at after = ⊥
+  pub ReadsBindings : (part : List ℕ) (bindings : Bindings) (at after : ℕ) → Type 0
+  ReadsBindings part NoBindings at after = (stands part 'p' (Some at) ≡ false) × (after ≡ at)
+  ReadsBindings part (Binding i t bindings) at after =
+      (front : ℕ) × (mid : ℕ) × (stands part 'p' (Some at) ≡ true) × (undisambiguated_identifier part (at + 1) ≡ Some (i, front)) × ReadsType part t front mid × ReadsBindings part bindings mid after
+  ReadsBindings part InvalidBinding at after = ⊥
+
+-- `a::<&u8, &u8>`, of which the second type is a back reference to position 4
+worked_reading : ReadsPath (codes "IC1aRhB3_E") (Generic (Crate (record { disambiguator = 0; name = record { ascii = codes "a"; punycode = [] } })) (ItemThen (TypeItem (Reference false NoLifetime (Basic (codes "u8")))) (ItemThen (TypeItem (TypeTarget 4)) NoItems))) 0 10
+unfolding ReadsPath path_form type_form type_form_by basic_type lifetime back_reference number digit_62 tagged length_at identifier_of identifier_bytes undisambiguated_identifier identifier
+worked_reading = (1, 4, refl, refl, (6, refl, (refl, refl, (5, refl, refl)), (9, refl, (refl, refl, refl), (refl, refl))))

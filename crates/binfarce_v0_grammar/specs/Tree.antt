@@ -1,12 +1,14 @@
--- What a v0 name means: trees of paths, types and consts, and what is counted and shown of a tree. No byte of a name is seen here.
-use Rattle.std.specs.Prelude.{ℕ, zero, suc, ◌+◌, ◌-◌, List, [], ◌∷◌, ◌++◌, Option, Some, None, Bool, true, false, not, ◌&&◌, ◌||◌, if◌then◌else◌, nat_le, codes, max, map, ◌==◌}
+-- What a v0 mangling means: trees of paths, types and consts, and what is counted and shown of a tree. No byte of a mangling is seen here.
+use Rattle.std.specs.Prelude.{◌≡◌, ℕ, zero, suc, ◌+◌, ◌-◌, List, [], ◌∷◌, ◌++◌, Option, Some, None, Bool, true, false, not, ◌&&◌, ◌||◌, if◌then◌else◌, nat_le, codes, max, map, ◌==◌}
+use Rattle.std.proofs.Common.{refl}
+use Rattle.std.specs.Option.{option_map_or, option_or}
 use Rattle.std.specs.Char.{is_ascii_uppercase}
 use Rattle.std.specs.Fmt.{decimal, digits}
 use Rattle.std.specs.Int.{is_in_range}
 use Rattle.binfarce_text.specs.Letters.{'a', 'C', 'S', '_', '-'}
 use Rattle.binfarce_v0_grammar.specs.Base62.{hex_number}
 use Rattle.binfarce_v0_grammar.specs.Identifiers.{UndisambiguatedIdentifier, Identifier, identifier_text, is_unnamed}
-use Rattle.binfarce_v0_grammar.specs.Forms.{Lifetime, NoLifetime, InvalidLifetime, IndexedLifetime, Signature, ConstValue, Integer, Boolean, Character}
+use Rattle.binfarce_v0_grammar.specs.Forms.{Lifetime, NoLifetime, IndexedLifetime, Signature, ConstValue, Integer, Boolean, Character}
 
 pub data ConstTree : Type 0 where
   -- what is invalid
@@ -19,7 +21,7 @@ pub data ConstTree : Type 0 where
   -- what a back reference stands for, in an unfolding
   BackConst : ConstTree → ConstTree
   -- the position that a back reference names, in a reading
-  ConstTarget : ℕ → ConstTree
+  ConstTarget : (target : ℕ) → ConstTree
 
 mutual
   pub data PathTree : Type 0 where
@@ -39,7 +41,7 @@ mutual
     -- what a back reference stands for, in an unfolding
     BackPath : PathTree → PathTree
     -- the position that a back reference names, in a reading
-    PathTarget : ℕ → PathTree
+    PathTarget : (target : ℕ) → PathTree
 
   pub data TypeTree : Type 0 where
     -- what is invalid
@@ -61,7 +63,7 @@ mutual
     -- what a back reference stands for, in an unfolding
     BackType : TypeTree → TypeTree
     -- the position that a back reference names, in a reading
-    TypeTarget : ℕ → TypeTree
+    TypeTarget : (target : ℕ) → TypeTree
 
   -- an item of a list: an argument, a type, or a trait with its bindings
   pub data Item : Type 0 where
@@ -70,10 +72,12 @@ mutual
     ConstItem : ConstTree → Item
     TraitItem : (path : PathTree) (bindings : Bindings) → Item
 
+  -- the items of a list, in order
   pub data Items : Type 0 where
     NoItems : Items
     ItemThen : Item → Items → Items
 
+  -- the bindings of a trait, in order: an invalid one ends them
   pub data Bindings : Type 0 where
     NoBindings : Bindings
     Binding : (name : UndisambiguatedIdentifier) (bound : TypeTree) → Bindings → Bindings
@@ -88,15 +92,13 @@ pub data Listed : Type 0 where
 
 -- Levels and steps
 
-abbrev pub const_height : ConstTree → ℕ
+abbrev pub const_height : (c : ConstTree) → ℕ
 const_height (BackConst c) = suc (const_height c)
 const_height _ = 1
 
--- 1 and the greatest height of what a tree asks for
+-- levels: 1 and the greatest height of what a tree asks for
 unfoldable mutual
   pub path_height : PathTree → ℕ
-  path_height NoPath = 1
-  path_height (Crate root) = 1
   path_height (Nested namespace p name) = suc (path_height p)
   path_height (InvalidNested p) = suc (path_height p)
   path_height (OfType p t) = suc (max (path_height p) (type_height t))
@@ -104,25 +106,20 @@ unfoldable mutual
   path_height (OfTrait t u) = suc (max (type_height t) (path_height u))
   path_height (Generic p items) = suc (max (path_height p) (items_height items))
   path_height (BackPath p) = suc (path_height p)
-  path_height (PathTarget at) = 1
+  path_height _ = 1
 
   pub type_height : TypeTree → ℕ
-  type_height NoType = 1
-  type_height (Basic name) = 1
   type_height (Reference mutable life t) = suc (type_height t)
-  type_height InvalidReferenceType = 1
   type_height (Pointer mutable t) = suc (type_height t)
   type_height (Slice t) = suc (type_height t)
   type_height (Array t c) = suc (max (type_height t) (const_height c))
   type_height (Tuple items) = suc (items_height items)
   type_height (Function signature items) = suc (items_height items)
   type_height (FunctionTo signature items t) = suc (max (items_height items) (type_height t))
-  type_height (InvalidFunction binder) = 1
   type_height (Dyn binder items life) = suc (items_height items)
-  type_height InvalidDynType = 1
   type_height (Named p) = suc (path_height p)
   type_height (BackType t) = suc (type_height t)
-  type_height (TypeTarget at) = 1
+  type_height _ = 1
 
   pub item_height : Item → ℕ
   item_height (LifetimeItem life) = 0
@@ -135,25 +132,21 @@ unfoldable mutual
   items_height (ItemThen i items) = max (item_height i) (items_height items)
 
   pub bindings_height : Bindings → ℕ
-  bindings_height NoBindings = 0
   bindings_height (Binding name t bindings) = max (type_height t) (bindings_height bindings)
-  bindings_height InvalidBinding = 0
+  bindings_height _ = 0
 
--- an "L" that was read
-abbrev pub lifetime_steps : Lifetime → ℕ
+-- 1 for an "L" that was read, also for one whose number is invalid
+abbrev pub lifetime_steps : (life : Lifetime) → ℕ
 lifetime_steps NoLifetime = 0
-lifetime_steps InvalidLifetime = 1
-lifetime_steps (IndexedLifetime index) = 1
+lifetime_steps _ = 1
 
-abbrev pub const_steps : ConstTree → ℕ
+abbrev pub const_steps : (c : ConstTree) → ℕ
 const_steps (BackConst c) = suc (const_steps c)
 const_steps _ = 1
 
--- 1 for each path, type and const, holes among them, 1 for each "L" read, and 1 for each lifetime announced
+-- steps: 1 for each path, type and const, also for one that is invalid, 1 for each "L" read, and 1 for each lifetime announced
 unfoldable mutual
   pub path_steps : PathTree → ℕ
-  path_steps NoPath = 1
-  path_steps (Crate root) = 1
   path_steps (Nested namespace p name) = suc (path_steps p)
   path_steps (InvalidNested p) = suc (path_steps p)
   path_steps (OfType p t) = suc (path_steps p + type_steps t)
@@ -161,11 +154,9 @@ unfoldable mutual
   path_steps (OfTrait t u) = suc (type_steps t + path_steps u)
   path_steps (Generic p items) = suc (path_steps p + items_steps items)
   path_steps (BackPath p) = suc (path_steps p)
-  path_steps (PathTarget at) = 1
+  path_steps _ = 1
 
   pub type_steps : TypeTree → ℕ
-  type_steps NoType = 1
-  type_steps (Basic name) = 1
   type_steps (Reference mutable life t) = suc (lifetime_steps life + type_steps t)
   type_steps InvalidReferenceType = 2
   type_steps (Pointer mutable t) = suc (type_steps t)
@@ -176,10 +167,9 @@ unfoldable mutual
   type_steps (FunctionTo signature items t) = suc (signature.binder + items_steps items + type_steps t)
   type_steps (InvalidFunction binder) = suc binder
   type_steps (Dyn binder items life) = suc (binder + items_steps items + lifetime_steps life)
-  type_steps InvalidDynType = 1
   type_steps (Named p) = suc (path_steps p)
   type_steps (BackType t) = suc (type_steps t)
-  type_steps (TypeTarget at) = 1
+  type_steps _ = 1
 
   pub item_steps : Item → ℕ
   item_steps (LifetimeItem life) = lifetime_steps life
@@ -192,62 +182,47 @@ unfoldable mutual
   items_steps (ItemThen i items) = item_steps i + items_steps items
 
   pub bindings_steps : Bindings → ℕ
-  bindings_steps NoBindings = 0
   bindings_steps (Binding name t bindings) = type_steps t + bindings_steps bindings
-  bindings_steps InvalidBinding = 0
+  bindings_steps _ = 0
 
 -- The crate's name
-
-abbrev pub first_of : Option UndisambiguatedIdentifier → Option UndisambiguatedIdentifier → Option UndisambiguatedIdentifier
-first_of None other = other
-first_of (Some root) other = Some root
 
 -- the first crate root in reading order that is in no back reference
 unfoldable mutual
   pub path_root : PathTree → Option UndisambiguatedIdentifier
-  path_root NoPath = None
   path_root (Crate root) = Some root.name
   path_root (Nested namespace p name) = path_root p
   path_root (InvalidNested p) = path_root p
-  path_root (OfType p t) = first_of (path_root p) (type_root t)
-  path_root (OfImpl p t u) = first_of (first_of (path_root p) (type_root t)) (path_root u)
-  path_root (OfTrait t u) = first_of (type_root t) (path_root u)
-  path_root (Generic p items) = first_of (path_root p) (items_root items)
-  path_root (BackPath p) = None
-  path_root (PathTarget at) = None
+  path_root (OfType p t) = option_or (path_root p) (type_root t)
+  path_root (OfImpl p t u) = option_or (option_or (path_root p) (type_root t)) (path_root u)
+  path_root (OfTrait t u) = option_or (type_root t) (path_root u)
+  path_root (Generic p items) = option_or (path_root p) (items_root items)
+  path_root _ = None
 
   pub type_root : TypeTree → Option UndisambiguatedIdentifier
-  type_root NoType = None
-  type_root (Basic name) = None
   type_root (Reference mutable life t) = type_root t
-  type_root InvalidReferenceType = None
   type_root (Pointer mutable t) = type_root t
   type_root (Slice t) = type_root t
   type_root (Array t c) = type_root t
   type_root (Tuple items) = items_root items
   type_root (Function signature items) = items_root items
-  type_root (FunctionTo signature items t) = first_of (items_root items) (type_root t)
-  type_root (InvalidFunction binder) = None
+  type_root (FunctionTo signature items t) = option_or (items_root items) (type_root t)
   type_root (Dyn binder items life) = items_root items
-  type_root InvalidDynType = None
   type_root (Named p) = path_root p
-  type_root (BackType t) = None
-  type_root (TypeTarget at) = None
+  type_root _ = None
 
   pub item_root : Item → Option UndisambiguatedIdentifier
-  item_root (LifetimeItem life) = None
   item_root (TypeItem t) = type_root t
-  item_root (ConstItem c) = None
-  item_root (TraitItem p bindings) = first_of (path_root p) (bindings_root bindings)
+  item_root (TraitItem p bindings) = option_or (path_root p) (bindings_root bindings)
+  item_root _ = None
 
   pub items_root : Items → Option UndisambiguatedIdentifier
   items_root NoItems = None
-  items_root (ItemThen i items) = first_of (item_root i) (items_root items)
+  items_root (ItemThen i items) = option_or (item_root i) (items_root items)
 
   pub bindings_root : Bindings → Option UndisambiguatedIdentifier
-  bindings_root NoBindings = None
-  bindings_root (Binding name t bindings) = first_of (type_root t) (bindings_root bindings)
-  bindings_root InvalidBinding = None
+  bindings_root (Binding name t bindings) = option_or (type_root t) (bindings_root bindings)
+  bindings_root _ = None
 
 -- Text
 
@@ -257,89 +232,91 @@ pub data Position : Type 0 where
   InType : Position
   OpenTrait : Position
 
--- what a path hands on to its parent: only a back reference hands on an open trait
-abbrev pub parent_position : Position → Position
-parent_position InValue = InValue
-parent_position InType = InType
+-- where the path within a path is shown: as a type where the whole is an open trait, since only the arguments that end a trait's path stay
+-- open. A back reference hands its own position on
+abbrev pub parent_position : (position : Position) → Position
 parent_position OpenTrait = InType
+parent_position position = position
 
 -- an index counts the lifetimes that the binders around it announce, from the innermost out; 0 is none of them
-abbrev pub is_announced : ℕ → ℕ → Bool
+abbrev pub is_announced : (depth index : ℕ) → Bool
 is_announced depth index = nat_le index depth
 
--- the lifetime of an index under a depth of binders: '_ for 0, a letter or a number for one that is announced, and '? for any other
-abbrev pub numbered_lifetime : ℕ → List ℕ
+-- the lifetime of a number, counted from the outermost binder in: 'a to 'z for 0 to 25, and '_26 and so on after them
+abbrev pub numbered_lifetime : (n : ℕ) → List ℕ
 numbered_lifetime n = if nat_le 26 n then codes "'_" ++ decimal n else codes "'" ++ ('a' + n) ∷ []
 
-unfoldable pub lifetime_text : ℕ → ℕ → List ℕ
+-- the lifetime of an index under a depth of binders: '_ for 0, its number's for one that is announced, and '? for any other
+unfoldable pub lifetime_text : (depth index : ℕ) → List ℕ
 lifetime_text depth zero = codes "'_"
 lifetime_text depth (suc k) = if is_announced depth (suc k) then numbered_lifetime (depth - suc k) else codes "'?"
 
--- the lifetimes that a binder announces, each printed as index 1 under the depth that it raises
-abbrev pub more_announced : ℕ → ℕ → List ℕ
+-- the lifetimes that a binder announces after its first, each shown as index 1 under the depth that it raises
+abbrev pub more_announced : (depth n : ℕ) → List ℕ
 more_announced depth zero = []
 more_announced depth (suc n) = codes ", " ++ (lifetime_text (depth + 1) 1 ++ more_announced (depth + 1) n)
 
-unfoldable pub binder_text : ℕ → ℕ → List ℕ
+-- a binder of so many lifetimes
+unfoldable pub binder_text : (depth n : ℕ) → List ℕ
 binder_text depth zero = []
 binder_text depth (suc n) =
     codes "for<" ++ (lifetime_text (depth + 1) 1 ++ (more_announced (depth + 1) n ++ codes "> "))
 
--- the lifetime of a reference, of an argument, and of a dyn type
-abbrev pub reference_lifetime : ℕ → Lifetime → List ℕ
-reference_lifetime depth NoLifetime = []
-reference_lifetime depth InvalidLifetime = []
+-- the lifetime of a reference. An invalid one is never asked for: such a reference is an `InvalidReferenceType`
+abbrev pub reference_lifetime : (depth : ℕ) (life : Lifetime) → List ℕ
 reference_lifetime depth (IndexedLifetime k) = if k == 0 then [] else lifetime_text depth k ++ codes " "
+reference_lifetime depth _ = []
 
-abbrev pub argument_lifetime : ℕ → Lifetime → List ℕ
-argument_lifetime depth NoLifetime = codes "?"
-argument_lifetime depth InvalidLifetime = codes "?"
+-- the lifetime of an argument. One that isn't there is never asked for: an "L" is what makes an argument a lifetime
+abbrev pub argument_lifetime : (depth : ℕ) (life : Lifetime) → List ℕ
 argument_lifetime depth (IndexedLifetime k) = lifetime_text depth k
+argument_lifetime depth _ = codes "?"
 
-abbrev pub dyn_lifetime : ℕ → Lifetime → List ℕ
-dyn_lifetime depth NoLifetime = codes "?"
-dyn_lifetime depth InvalidLifetime = codes "?"
+-- the lifetime of a dyn type, which has to stand there
+abbrev pub dyn_lifetime : (depth : ℕ) (life : Lifetime) → List ℕ
 dyn_lifetime depth (IndexedLifetime k) = if k == 0 then [] else codes " + " ++ lifetime_text depth k
+dyn_lifetime depth _ = codes "?"
 
--- a crate's name, and its disambiguator in lower-case hexadecimal where that is asked for
-abbrev pub disambiguator_text : Bool → ℕ → List ℕ
-disambiguator_text false n = []
-disambiguator_text true n = codes "[" ++ (digits 16 false n ++ codes "]")
+-- a crate's disambiguator in lower-case hexadecimal, where it is asked for
+abbrev pub disambiguator_text : (full : Bool) (disambiguator : ℕ) → List ℕ
+disambiguator_text false disambiguator = []
+disambiguator_text true disambiguator = codes "[" ++ (digits 16 false disambiguator ++ codes "]")
 
 -- the words of a special namespace, as "closure"
-abbrev pub namespace_text : ℕ → List ℕ
-namespace_text c = if c == 'C' then codes "closure" else (if c == 'S' then codes "shim" else c ∷ [])
+abbrev pub namespace_text : (namespace : ℕ) → List ℕ
+namespace_text namespace =
+    if namespace == 'C' then codes "closure" else (if namespace == 'S' then codes "shim" else namespace ∷ [])
 
-abbrev pub after_mark : List ℕ → UndisambiguatedIdentifier → List ℕ
+-- an identifier behind a mark, or nothing where it has no character
+abbrev pub after_mark : (mark : List ℕ) (name : UndisambiguatedIdentifier) → List ℕ
 after_mark mark name = if is_unnamed name then [] else mark ++ identifier_text name
 
 -- what a nested path adds to its parent: an upper-case namespace is a special one
-unfoldable pub nested_text : ℕ → Identifier → List ℕ
-nested_text c l =
-    if is_ascii_uppercase c then codes "::{" ++ (namespace_text c ++ (after_mark (codes ":") l.name ++ (codes "#" ++ (decimal l.disambiguator ++ codes "}")))) else after_mark (codes "::") l.name
+unfoldable pub nested_text : (namespace : ℕ) (i : Identifier) → List ℕ
+nested_text namespace i =
+    if is_ascii_uppercase namespace
+    then codes "::{" ++ (namespace_text namespace ++ (after_mark (codes ":") i.name ++ (codes "#" ++ (decimal i.disambiguator ++ codes "}"))))
+    else after_mark (codes "::") i.name
 
-abbrev pub mutable_text : Bool → List ℕ → List ℕ → List ℕ
-mutable_text true mutable constant = mutable
-mutable_text false mutable constant = constant
+-- the one text where a flag is set, and else the other
+abbrev pub mutable_text : (flag : Bool) (set unset : List ℕ) → List ℕ
+mutable_text true set unset = set
+mutable_text false set unset = unset
 
 -- the name of an ABI, in which "_" stands for "-"
-abbrev pub abi_text : Option (List ℕ) → List ℕ
+abbrev pub abi_text : (abi : Option (List ℕ)) → List ℕ
 abi_text None = []
 abi_text (Some name) = codes "extern \"" ++ (map (λ c. if c == '_' then '-' else c) name ++ codes "\" ")
 
 -- "unsafe ", the ABI and "fn("
-unfoldable pub signature_text : Signature → List ℕ
+unfoldable pub signature_text : (s : Signature) → List ℕ
 signature_text s = mutable_text s.is_unsafe (codes "unsafe ") [] ++ (abi_text s.abi ++ codes "fn(")
 
--- at most 16 hexadecimal digits are shown in decimal
-abbrev pub decimal_or : List ℕ → Option ℕ → List ℕ
-decimal_or hex None = codes "0x" ++ hex
-decimal_or hex (Some n) = decimal n
+-- at most 16 hexadecimal digits are shown in decimal, and more as they stand
+unfoldable pub number_text : (hex : List ℕ) → List ℕ
+number_text hex = option_map_or decimal (hex_number hex) (codes "0x" ++ hex)
 
-unfoldable pub number_text : List ℕ → List ℕ
-number_text hex = decimal_or hex (hex_number hex)
-
-abbrev pub sign_text : Bool → List ℕ
+abbrev pub sign_text : (negative : Bool) → List ℕ
 sign_text true = codes "-"
 sign_text false = []
 
@@ -351,20 +328,20 @@ abbrev pub backslash : ℕ
 backslash = 0x5C
 
 -- printable ASCII stands for itself between quotes, but for a quote and a backslash
-abbrev pub stands_for_itself : ℕ → Bool
+abbrev pub stands_for_itself : (c : ℕ) → Bool
 stands_for_itself c = is_in_range 0x20 0x7E c && not (c == quote || c == backslash)
 
 -- any other character is shown by its number in lower-case hexadecimal
-unfoldable pub character_text : ℕ → List ℕ
+unfoldable pub character_text : (c : ℕ) → List ℕ
 character_text c = if stands_for_itself c then c ∷ [] else codes "\\u{" ++ (digits 16 false c ++ codes "}")
 
-unfoldable pub value_text : ConstValue → List ℕ
+unfoldable pub value_text : (value : ConstValue) → List ℕ
 value_text (Integer negative digits) = sign_text negative ++ number_text digits
 value_text (Boolean false) = codes "false"
 value_text (Boolean true) = codes "true"
 value_text (Character c) = codes "'" ++ (character_text c ++ codes "'")
 
-abbrev pub const_text : ConstTree → List ℕ
+abbrev pub const_text : (c : ConstTree) → List ℕ
 const_text NoConst = codes "?"
 const_text UntypedPlaceholder = codes "_"
 const_text (Placeholder type_name) = codes "_" ++ (codes ": " ++ type_name)
@@ -375,50 +352,49 @@ const_text (BackConst c) = const_text c
 const_text (ConstTarget at) = []
 
 -- "::" before the arguments of a value
-abbrev pub value_mark : Position → List ℕ
+abbrev pub value_mark : (position : Position) → List ℕ
 value_mark InValue = codes "::"
-value_mark InType = []
-value_mark OpenTrait = []
+value_mark _ = []
 
 -- the arguments of an open trait are not closed
-abbrev pub closing : Position → List ℕ
-closing InValue = codes ">"
-closing InType = codes ">"
+abbrev pub closing : (position : Position) → List ℕ
 closing OpenTrait = []
+closing _ = codes ">"
 
-abbrev pub is_open_trait : Position → Bool
-is_open_trait InValue = false
-is_open_trait InType = false
+abbrev pub is_open_trait : (position : Position) → Bool
 is_open_trait OpenTrait = true
+is_open_trait _ = false
 
 -- a path with arguments that a position leaves open
-abbrev pub is_left_open : PathTree → Position → Bool
+abbrev pub is_left_open : (path : PathTree) (position : Position) → Bool
 is_left_open (Generic p items) position = is_open_trait position
 is_left_open (BackPath p) position = is_left_open p position
 is_left_open _ position = false
 
--- between two items
-abbrev pub separator : Bool → List ℕ → List ℕ
-separator true text = []
-separator false text = text
+-- what stands before an item: nothing before the first
+abbrev pub separator : (is_first : Bool) (between : List ℕ) → List ℕ
+separator true between = []
+separator false between = between
 
 -- a tuple of one has a ","
-abbrev pub single_mark : Items → List ℕ
+abbrev pub single_mark : (items : Items) → List ℕ
 single_mark NoItems = []
 single_mark (ItemThen i NoItems) = codes ","
 single_mark (ItemThen i (ItemThen j items)) = []
 
-abbrev pub open_mark : Bool → List ℕ
+-- before a binding: its trait's arguments may have been left open, or an earlier binding have opened the list
+abbrev pub open_mark : (is_open : Bool) → List ℕ
 open_mark true = codes ", "
 open_mark false = codes "<"
 
-abbrev pub close_mark : Bool → List ℕ
+-- after the last binding, where a list was opened
+abbrev pub close_mark : (is_open : Bool) → List ℕ
 close_mark true = codes ">"
 close_mark false = []
 
--- the text of a tree, with or without the disambiguators of crates, under a depth of binders
+-- the text of a tree, with or without the disambiguators of crates, under a depth of binders. The path of an impl isn't shown
 unfoldable mutual
-  pub path_text : Bool → PathTree → Position → ℕ → List ℕ
+  pub path_text : (full : Bool) (tree : PathTree) (position : Position) (depth : ℕ) → List ℕ
   path_text full NoPath position depth = codes "?"
   path_text full (Crate root) position depth = identifier_text root.name ++ disambiguator_text full root.disambiguator
   path_text full (Nested namespace p name) position depth =
@@ -436,7 +412,7 @@ unfoldable mutual
   -- a position stands in readings alone, which are never shown
   path_text full (PathTarget at) position depth = []
 
-  pub type_text : Bool → TypeTree → ℕ → List ℕ
+  pub type_text : (full : Bool) (tree : TypeTree) (depth : ℕ) → List ℕ
   type_text full NoType depth = codes "?"
   type_text full (Basic name) depth = name
   type_text full (Reference mutable life t) depth =
@@ -462,24 +438,42 @@ unfoldable mutual
   -- a position stands in readings alone, which are never shown
   type_text full (TypeTarget at) depth = []
 
-  pub item_text : Bool → Item → ℕ → List ℕ
+  pub item_text : (full : Bool) (i : Item) (depth : ℕ) → List ℕ
   item_text full (LifetimeItem life) depth = argument_lifetime depth life
   item_text full (TypeItem t) depth = type_text full t depth
   item_text full (ConstItem c) depth = const_text c
   item_text full (TraitItem p bindings) depth =
       path_text full p OpenTrait depth ++ bindings_text full bindings (is_left_open p OpenTrait) depth
 
-  pub items_text : Bool → Items → List ℕ → Bool → ℕ → List ℕ
+  pub items_text : (full : Bool) (items : Items) (between : List ℕ) (is_first : Bool) (depth : ℕ) → List ℕ
   items_text full NoItems between is_first depth = []
   items_text full (ItemThen i items) between is_first depth =
       separator is_first between ++ (item_text full i depth ++ items_text full items between false depth)
 
-  pub bindings_text : Bool → Bindings → Bool → ℕ → List ℕ
+  pub bindings_text : (full : Bool) (bindings : Bindings) (is_open : Bool) (depth : ℕ) → List ℕ
   bindings_text full NoBindings is_open depth = close_mark is_open
   bindings_text full (Binding name t bindings) is_open depth =
       open_mark is_open ++ (identifier_text name ++ (codes " = " ++ (type_text full t depth ++ bindings_text full bindings true depth)))
   bindings_text full InvalidBinding is_open depth = open_mark is_open ++ codes "?"
 
--- the text of a name that means a tree
-abbrev pub name_text : Bool → PathTree → List ℕ
+-- the text of a mangling that unfolds to a tree
+abbrev pub name_text : (full : Bool) (tree : PathTree) → List ℕ
 name_text full tree = path_text full tree InValue 0
+
+-- `a::<&u8, &u8>`, of which the second type is a back reference to the first
+abbrev pub worked_tree : PathTree
+worked_tree =
+    let u : TypeTree = Reference false NoLifetime (Basic (codes "u8")) in
+    Generic (Crate (record { disambiguator = 0; name = record { ascii = codes "a"; punycode = [] } })) (ItemThen (TypeItem u) (ItemThen (TypeItem (BackType u)) NoItems))
+
+worked_text : name_text true worked_tree ≡ codes "a[0]::<&u8, &u8>"
+unfolding path_text identifier_text digits
+worked_text = refl
+
+worked_levels : path_height worked_tree ≡ 4
+unfolding path_height
+worked_levels = refl
+
+worked_steps : path_steps worked_tree ≡ 7
+unfolding path_steps
+worked_steps = refl

@@ -1,121 +1,144 @@
--- What a position of a v0 name unfolds to (RFC 2603, "Symbol grammar summary" and "Compression/Substitution"), whatever the limits.
--- A position is None after a fault. From there a path, a type or a const is a hole, a byte that may stand is not there, and a list ends.
--- A tree is unfolded from a position, under a depth of binders, up to the position after it.
-use Rattle.std.specs.Prelude.{◌≡◌, ℕ, ◌+◌, ◌≤◌, List, Option, Some, None, Bool, true, false, if◌then◌else◌}
+-- What a position of a v0 mangling unfolds to (RFC 2603, "Symbol grammar summary" and "Compression/Substitution"), whatever the limits.
+-- A position is None after invalid syntax. From there a path, a type or a const is a tree of its own that is shown as `?`, a byte that may
+-- stand is not there, and a list ends. A tree is unfolded from a position, under a depth of binders, up to the position after it.
+-- `part` is all that follows the prefix. `front` is the position after a form's front, where what the form asks for begins.
+use Rattle.std.specs.Prelude.{◌≡◌, ℕ, ◌+◌, ◌≤◌, List, Option, Some, None, Bool, true, false, if◌then◌else◌, not, codes}
+use Rattle.std.proofs.Common.{refl, arith}
 use Rattle.binfarce_text.specs.Letters.{'E', 'K', 'L', 'p', 'u'}
-use Rattle.binfarce_v0_grammar.specs.Forms.{Lifetime, NoLifetime, InvalidLifetime, IndexedLifetime, stands, after_byte, identifier_at, undisambiguated_at, lifetime, path_form, type_form, const_form, NoPathForm, CrateRoot, NestedIn, InherentImpl, TraitImpl, TraitDefinition, WithArguments, BackToPath, NoTypeForm, BasicType, ReferenceTo, InvalidReference, PointerTo, SliceOf, ArrayOf, TupleOf, FunctionOf, InvalidAbi, DynOf, InvalidDyn, BackToType, PathType, NoConstForm, UntypedPlaceholderConst, PlaceholderConst, ValueConst, InvalidConst, BackToConst}
-use Rattle.binfarce_v0_grammar.specs.Tree.{PathTree, TypeTree, ConstTree, Item, Items, Bindings, NoConst, UntypedPlaceholder, Placeholder, Value, InvalidValue, BackConst, ConstTarget, NoPath, Crate, Nested, InvalidNested, OfType, OfImpl, OfTrait, Generic, BackPath, PathTarget, NoType, Basic, Reference, InvalidReferenceType, Pointer, Slice, Array, Tuple, Function, FunctionTo, InvalidFunction, Dyn, InvalidDynType, Named, BackType, TypeTarget, LifetimeItem, TypeItem, ConstItem, TraitItem, NoItems, ItemThen, Listed, Arguments, Types, Traits, NoBindings, Binding, InvalidBinding, path_height, path_steps, is_announced}
+use Rattle.binfarce_v0_grammar.specs.Base62.{digit_62, number, tagged, back_reference}
+use Rattle.binfarce_v0_grammar.specs.Identifiers.{length_at, identifier_of, identifier_bytes, undisambiguated_identifier, identifier}
+use Rattle.binfarce_v0_grammar.specs.Forms.{basic_type, type_form_by, Lifetime, NoLifetime, InvalidLifetime, IndexedLifetime, stands, after_byte, identifier_at, undisambiguated_at, lifetime, path_form, type_form, const_form, NoPathForm, CrateRoot, NestedIn, InherentImpl, TraitImpl, TraitDefinition, WithArguments, BackToPath, NoTypeForm, BasicType, ReferenceTo, InvalidReference, PointerTo, SliceOf, ArrayOf, TupleOf, FunctionOf, InvalidAbi, DynOf, InvalidDyn, BackToType, PathType, NoConstForm, UntypedPlaceholderConst, PlaceholderConst, ValueConst, InvalidConst, BackToConst}
+use Rattle.binfarce_v0_grammar.specs.Tree.{PathTree, TypeTree, ConstTree, Item, Items, Bindings, NoConst, UntypedPlaceholder, Placeholder, Value, InvalidValue, BackConst, ConstTarget, NoPath, Crate, Nested, InvalidNested, OfType, OfImpl, OfTrait, Generic, BackPath, PathTarget, NoType, Basic, Reference, InvalidReferenceType, Pointer, Slice, Array, Tuple, Function, FunctionTo, InvalidFunction, Dyn, InvalidDynType, Named, BackType, TypeTarget, LifetimeItem, TypeItem, ConstItem, TraitItem, NoItems, ItemThen, Listed, Arguments, Types, Traits, NoBindings, Binding, InvalidBinding, path_height, path_steps, is_announced, worked_tree}
 use Rattle.binfarce_v0_grammar.specs.declared.limits.TheConstants.{MAX_LEVELS, MAX_STEPS}
 
--- an index that no binder announces is a fault
-unfoldable pub bound_end : ℕ → Lifetime → Option ℕ → Option ℕ
+-- the position after a lifetime that may stand there: none where no binder announces its index. An invalid one is never asked for, since it
+-- makes an `InvalidReference`
+unfoldable pub bound_end : (depth : ℕ) (life : Lifetime) (after : Option ℕ) → Option ℕ
 bound_end depth NoLifetime after = after
 bound_end depth InvalidLifetime after = None
 bound_end depth (IndexedLifetime k) after = if is_announced depth k then after else None
 
--- a lifetime that has to stand at a position
-abbrev pub required_end : ℕ → Lifetime → Option ℕ → Option ℕ
-required_end depth NoLifetime after = None
-required_end depth InvalidLifetime after = None
+-- the same of a lifetime that has to stand there
+abbrev pub required_end : (depth : ℕ) (life : Lifetime) (after : Option ℕ) → Option ℕ
 required_end depth (IndexedLifetime k) after = bound_end depth (IndexedLifetime k) after
+required_end depth _ after = None
 
--- a list ends at an "E", and after a fault
-abbrev pub list_goes_on : List ℕ → Option ℕ → Bool
-list_goes_on name None = false
-list_goes_on name (Some at) = if stands name 'E' (Some at) then false else true
+-- a list ends at an "E", and after invalid syntax
+abbrev pub list_goes_on : (part : List ℕ) (at : Option ℕ) → Bool
+list_goes_on part None = false
+list_goes_on part (Some at) = not (stands part 'E' (Some at))
 
-unfoldable pub IsConst : List ℕ → ConstTree → Option ℕ → Option ℕ → Type 0
-IsConst name NoConst at after = (const_form name at ≡ NoConstForm) × (after ≡ None)
-IsConst name UntypedPlaceholder at after =
-    (q : ℕ) × (const_form name at ≡ UntypedPlaceholderConst q) × (after ≡ Some q)
-IsConst name (Placeholder type_name) at after =
-    (q : ℕ) × (const_form name at ≡ PlaceholderConst type_name q) × (after ≡ Some q)
-IsConst name (Value type_name value) at after =
-    (q : ℕ) × (const_form name at ≡ ValueConst type_name value q) × (after ≡ Some q)
-IsConst name (InvalidValue negative type_name) at after =
-    (const_form name at ≡ InvalidConst negative type_name) × (after ≡ None)
-IsConst name (BackConst c) at after =
-    (target : ℕ) × (q : ℕ) × (end : Option ℕ) × (const_form name at ≡ BackToConst target q) × IsConst name c (Some target) end × (after ≡ Some q)
-IsConst name (ConstTarget target) at after = ⊥
+unfoldable pub IsConst : (part : List ℕ) (tree : ConstTree) (at after : Option ℕ) → Type 0
+IsConst part NoConst at after = (const_form part at ≡ NoConstForm) × (after ≡ None)
+IsConst part UntypedPlaceholder at after =
+    (front : ℕ) × (const_form part at ≡ UntypedPlaceholderConst front) × (after ≡ Some front)
+IsConst part (Placeholder type_name) at after =
+    (front : ℕ) × (const_form part at ≡ PlaceholderConst type_name front) × (after ≡ Some front)
+IsConst part (Value type_name value) at after =
+    (front : ℕ) × (const_form part at ≡ ValueConst type_name value front) × (after ≡ Some front)
+IsConst part (InvalidValue negative type_name) at after =
+    (const_form part at ≡ InvalidConst negative type_name) × (after ≡ None)
+IsConst part (BackConst c) at after =
+    (target : ℕ) × (front : ℕ) × (end : Option ℕ) × (const_form part at ≡ BackToConst target front) × IsConst part c (Some target) end × (after ≡ Some front)
+-- a position stands in readings alone
+IsConst part (ConstTarget target) at after = ⊥
 
 unfoldable mutual
-  pub IsPath : List ℕ → PathTree → Option ℕ → ℕ → Option ℕ → Type 0
-  IsPath name NoPath at depth after = (path_form name at ≡ NoPathForm) × (after ≡ None)
-  IsPath name (Crate root) at depth after =
-      (q : ℕ) × (path_form name at ≡ CrateRoot root q) × (after ≡ Some q)
-  IsPath name (Nested namespace p l) at depth after =
-      (q : ℕ) × (mid : Option ℕ) × (end : ℕ) × (path_form name at ≡ NestedIn namespace q) × IsPath name p (Some q) depth mid × (identifier_at name mid ≡ Some (l, end)) × (after ≡ Some end)
-  IsPath name (InvalidNested p) at depth after =
-      (namespace : ℕ) × (q : ℕ) × (mid : Option ℕ) × (path_form name at ≡ NestedIn namespace q) × IsPath name p (Some q) depth mid × (identifier_at name mid ≡ None) × (after ≡ None)
-  IsPath name (OfType p t) at depth after =
-      (q : ℕ) × (mid : Option ℕ) × (path_form name at ≡ InherentImpl q) × IsPath name p (Some q) depth mid × IsType name t mid depth after
-  IsPath name (OfImpl p t u) at depth after =
-      (q : ℕ) × (mid : Option ℕ) × (end : Option ℕ) × (path_form name at ≡ TraitImpl q) × IsPath name p (Some q) depth mid × IsType name t mid depth end × IsPath name u end depth after
-  IsPath name (OfTrait t u) at depth after =
-      (q : ℕ) × (mid : Option ℕ) × (path_form name at ≡ TraitDefinition q) × IsType name t (Some q) depth mid × IsPath name u mid depth after
-  IsPath name (Generic p items) at depth after =
-      (q : ℕ) × (mid : Option ℕ) × (path_form name at ≡ WithArguments q) × IsPath name p (Some q) depth mid × AreItems name Arguments items mid depth after
-  IsPath name (BackPath p) at depth after =
-      (target : ℕ) × (q : ℕ) × (end : Option ℕ) × (path_form name at ≡ BackToPath target q) × IsPath name p (Some target) depth end × (after ≡ Some q)
-  IsPath name (PathTarget target) at depth after = ⊥
+  pub IsPath : (part : List ℕ) (tree : PathTree) (at : Option ℕ) (depth : ℕ) (after : Option ℕ) → Type 0
+  IsPath part NoPath at depth after = (path_form part at ≡ NoPathForm) × (after ≡ None)
+  IsPath part (Crate root) at depth after =
+      (front : ℕ) × (path_form part at ≡ CrateRoot root front) × (after ≡ Some front)
+  IsPath part (Nested namespace p l) at depth after =
+      (front : ℕ) × (mid : Option ℕ) × (end : ℕ) × (path_form part at ≡ NestedIn namespace front) × IsPath part p (Some front) depth mid × (identifier_at part mid ≡ Some (l, end)) × (after ≡ Some end)
+  IsPath part (InvalidNested p) at depth after =
+      (namespace : ℕ) × (front : ℕ) × (mid : Option ℕ) × (path_form part at ≡ NestedIn namespace front) × IsPath part p (Some front) depth mid × (identifier_at part mid ≡ None) × (after ≡ None)
+  IsPath part (OfType p t) at depth after =
+      (front : ℕ) × (mid : Option ℕ) × (path_form part at ≡ InherentImpl front) × IsPath part p (Some front) depth mid × IsType part t mid depth after
+  IsPath part (OfImpl p t u) at depth after =
+      (front : ℕ) × (mid : Option ℕ) × (end : Option ℕ) × (path_form part at ≡ TraitImpl front) × IsPath part p (Some front) depth mid × IsType part t mid depth end × IsPath part u end depth after
+  IsPath part (OfTrait t u) at depth after =
+      (front : ℕ) × (mid : Option ℕ) × (path_form part at ≡ TraitDefinition front) × IsType part t (Some front) depth mid × IsPath part u mid depth after
+  IsPath part (Generic p items) at depth after =
+      (front : ℕ) × (mid : Option ℕ) × (path_form part at ≡ WithArguments front) × IsPath part p (Some front) depth mid × AreItems part Arguments items mid depth after
+  IsPath part (BackPath p) at depth after =
+      (target : ℕ) × (front : ℕ) × (end : Option ℕ) × (path_form part at ≡ BackToPath target front) × IsPath part p (Some target) depth end × (after ≡ Some front)
+  -- a position stands in readings alone
+  IsPath part (PathTarget target) at depth after = ⊥
 
-  pub IsType : List ℕ → TypeTree → Option ℕ → ℕ → Option ℕ → Type 0
-  IsType name NoType at depth after = (type_form name at ≡ NoTypeForm) × (after ≡ None)
-  IsType name (Basic text) at depth after =
-      (q : ℕ) × (type_form name at ≡ BasicType text q) × (after ≡ Some q)
-  IsType name (Reference mutable life t) at depth after =
-      (q : ℕ) × (type_form name at ≡ ReferenceTo mutable life q) × IsType name t (bound_end depth life (Some q)) depth after
-  IsType name InvalidReferenceType at depth after = (type_form name at ≡ InvalidReference) × (after ≡ None)
-  IsType name (Pointer mutable t) at depth after =
-      (q : ℕ) × (type_form name at ≡ PointerTo mutable q) × IsType name t (Some q) depth after
-  IsType name (Slice t) at depth after =
-      (q : ℕ) × (type_form name at ≡ SliceOf q) × IsType name t (Some q) depth after
-  IsType name (Array t c) at depth after =
-      (q : ℕ) × (mid : Option ℕ) × (type_form name at ≡ ArrayOf q) × IsType name t (Some q) depth mid × IsConst name c mid after
-  IsType name (Tuple items) at depth after =
-      (q : ℕ) × (type_form name at ≡ TupleOf q) × AreItems name Types items (Some q) depth after
-  IsType name (Function signature items) at depth after =
-      (q : ℕ) × (end : Option ℕ) × (type_form name at ≡ FunctionOf signature q) × AreItems name Types items (Some q) (depth + signature.binder) end × (stands name 'u' end ≡ true) × (after ≡ after_byte end)
-  IsType name (FunctionTo signature items t) at depth after =
-      (q : ℕ) × (end : Option ℕ) × (type_form name at ≡ FunctionOf signature q) × AreItems name Types items (Some q) (depth + signature.binder) end × (stands name 'u' end ≡ false) × IsType name t end (depth + signature.binder) after
-  IsType name (InvalidFunction binder) at depth after = (type_form name at ≡ InvalidAbi binder) × (after ≡ None)
-  IsType name (Dyn binder items life) at depth after =
-      (q : ℕ) × (end : Option ℕ) × (last : Option ℕ) × (type_form name at ≡ DynOf binder q) × AreItems name Traits items (Some q) (depth + binder) end × (lifetime name end ≡ (life, last)) × (after ≡ required_end depth life last)
-  IsType name InvalidDynType at depth after = (type_form name at ≡ InvalidDyn) × (after ≡ None)
-  IsType name (Named p) at depth after = (type_form name at ≡ PathType) × IsPath name p at depth after
-  IsType name (BackType t) at depth after =
-      (target : ℕ) × (q : ℕ) × (end : Option ℕ) × (type_form name at ≡ BackToType target q) × IsType name t (Some target) depth end × (after ≡ Some q)
-  IsType name (TypeTarget target) at depth after = ⊥
+  pub IsType : (part : List ℕ) (tree : TypeTree) (at : Option ℕ) (depth : ℕ) (after : Option ℕ) → Type 0
+  IsType part NoType at depth after = (type_form part at ≡ NoTypeForm) × (after ≡ None)
+  IsType part (Basic text) at depth after =
+      (front : ℕ) × (type_form part at ≡ BasicType text front) × (after ≡ Some front)
+  IsType part (Reference mutable life t) at depth after =
+      (front : ℕ) × (type_form part at ≡ ReferenceTo mutable life front) × IsType part t (bound_end depth life (Some front)) depth after
+  IsType part InvalidReferenceType at depth after = (type_form part at ≡ InvalidReference) × (after ≡ None)
+  IsType part (Pointer mutable t) at depth after =
+      (front : ℕ) × (type_form part at ≡ PointerTo mutable front) × IsType part t (Some front) depth after
+  IsType part (Slice t) at depth after =
+      (front : ℕ) × (type_form part at ≡ SliceOf front) × IsType part t (Some front) depth after
+  IsType part (Array t c) at depth after =
+      (front : ℕ) × (mid : Option ℕ) × (type_form part at ≡ ArrayOf front) × IsType part t (Some front) depth mid × IsConst part c mid after
+  IsType part (Tuple items) at depth after =
+      (front : ℕ) × (type_form part at ≡ TupleOf front) × AreItems part Types items (Some front) depth after
+  IsType part (Function signature items) at depth after =
+      (front : ℕ) × (end : Option ℕ) × (type_form part at ≡ FunctionOf signature front) × AreItems part Types items (Some front) (depth + signature.binder) end × (stands part 'u' end ≡ true) × (after ≡ after_byte end)
+  IsType part (FunctionTo signature items t) at depth after =
+      (front : ℕ) × (end : Option ℕ) × (type_form part at ≡ FunctionOf signature front) × AreItems part Types items (Some front) (depth + signature.binder) end × (stands part 'u' end ≡ false) × IsType part t end (depth + signature.binder) after
+  IsType part (InvalidFunction binder) at depth after = (type_form part at ≡ InvalidAbi binder) × (after ≡ None)
+  IsType part (Dyn binder items life) at depth after =
+      (front : ℕ) × (end : Option ℕ) × (last : Option ℕ) × (type_form part at ≡ DynOf binder front) × AreItems part Traits items (Some front) (depth + binder) end × (lifetime part end ≡ (life, last)) × (after ≡ required_end depth life last)
+  IsType part InvalidDynType at depth after = (type_form part at ≡ InvalidDyn) × (after ≡ None)
+  IsType part (Named p) at depth after = (type_form part at ≡ PathType) × IsPath part p at depth after
+  IsType part (BackType t) at depth after =
+      (target : ℕ) × (front : ℕ) × (end : Option ℕ) × (type_form part at ≡ BackToType target front) × IsType part t (Some target) depth end × (after ≡ Some front)
+  -- a position stands in readings alone
+  IsType part (TypeTarget target) at depth after = ⊥
 
   -- an item of a list, where the list goes on
-  pub IsItem : List ℕ → Listed → Item → Option ℕ → ℕ → Option ℕ → Type 0
-  IsItem name Arguments (LifetimeItem life) at depth after =
-      (last : Option ℕ) × (stands name 'L' at ≡ true) × (lifetime name at ≡ (life, last)) × (after ≡ required_end depth life last)
-  IsItem name Arguments (ConstItem c) at depth after =
-      (stands name 'L' at ≡ false) × (stands name 'K' at ≡ true) × IsConst name c (after_byte at) after
-  IsItem name Arguments (TypeItem t) at depth after =
-      (stands name 'L' at ≡ false) × (stands name 'K' at ≡ false) × IsType name t at depth after
-  IsItem name Types (TypeItem t) at depth after = IsType name t at depth after
-  IsItem name Traits (TraitItem p bindings) at depth after =
-      (mid : Option ℕ) × IsPath name p at depth mid × AreBindings name bindings mid depth after
-  IsItem name _ _ at depth after = ⊥
+  pub IsItem : (part : List ℕ) (listed : Listed) (i : Item) (at : Option ℕ) (depth : ℕ) (after : Option ℕ) → Type 0
+  IsItem part Arguments (LifetimeItem life) at depth after =
+      (last : Option ℕ) × (stands part 'L' at ≡ true) × (lifetime part at ≡ (life, last)) × (after ≡ required_end depth life last)
+  IsItem part Arguments (ConstItem c) at depth after =
+      (stands part 'L' at ≡ false) × (stands part 'K' at ≡ true) × IsConst part c (after_byte at) after
+  IsItem part Arguments (TypeItem t) at depth after =
+      (stands part 'L' at ≡ false) × (stands part 'K' at ≡ false) × IsType part t at depth after
+  IsItem part Types (TypeItem t) at depth after = IsType part t at depth after
+  IsItem part Traits (TraitItem p bindings) at depth after =
+      (mid : Option ℕ) × IsPath part p at depth mid × AreBindings part bindings mid depth after
+  -- a list holds no other items
+  IsItem part _ _ at depth after = ⊥
 
-  pub AreItems : List ℕ → Listed → Items → Option ℕ → ℕ → Option ℕ → Type 0
-  AreItems name listed NoItems at depth after =
-      (list_goes_on name at ≡ false) × (after ≡ after_byte at)
-  AreItems name listed (ItemThen i items) at depth after =
-      (mid : Option ℕ) × (list_goes_on name at ≡ true) × IsItem name listed i at depth mid × AreItems name listed items mid depth after
+  pub AreItems : (part : List ℕ) (listed : Listed) (items : Items) (at : Option ℕ) (depth : ℕ) (after : Option ℕ) → Type 0
+  AreItems part listed NoItems at depth after =
+      (list_goes_on part at ≡ false) × (after ≡ after_byte at)
+  AreItems part listed (ItemThen i items) at depth after =
+      (mid : Option ℕ) × (list_goes_on part at ≡ true) × IsItem part listed i at depth mid × AreItems part listed items mid depth after
 
-  pub AreBindings : List ℕ → Bindings → Option ℕ → ℕ → Option ℕ → Type 0
-  AreBindings name NoBindings at depth after = (stands name 'p' at ≡ false) × (after ≡ at)
-  AreBindings name (Binding i t bindings) at depth after =
-      (q : ℕ) × (mid : Option ℕ) × (stands name 'p' at ≡ true) × (undisambiguated_at name (after_byte at) ≡ Some (i, q)) × IsType name t (Some q) depth mid × AreBindings name bindings mid depth after
-  AreBindings name InvalidBinding at depth after =
-      (stands name 'p' at ≡ true) × (undisambiguated_at name (after_byte at) ≡ None) × (after ≡ None)
+  pub AreBindings : (part : List ℕ) (bindings : Bindings) (at : Option ℕ) (depth : ℕ) (after : Option ℕ) → Type 0
+  AreBindings part NoBindings at depth after = (stands part 'p' at ≡ false) × (after ≡ at)
+  AreBindings part (Binding i t bindings) at depth after =
+      (front : ℕ) × (mid : Option ℕ) × (stands part 'p' at ≡ true) × (undisambiguated_at part (after_byte at) ≡ Some (i, front)) × IsType part t (Some front) depth mid × AreBindings part bindings mid depth after
+  AreBindings part InvalidBinding at depth after =
+      (stands part 'p' at ≡ true) × (undisambiguated_at part (after_byte at) ≡ None) × (after ≡ None)
 
--- a name unfolds to a tree within the limits
-pub record UnfoldsTo (name : List ℕ) (tree : PathTree) : Type 0 where
+-- the first path of a mangling unfolds to a tree within some limits. `part` is all that follows the prefix, the rest after the paths too, since
+-- a back reference may lead there. `after` may be anything, also none: where the paths have to end is for `Reading` to say
+pub record UnfoldsWithin (most_levels most_steps : ℕ) (part : List ℕ) (tree : PathTree) : Type 0 where
   pub after : Option ℕ
-  pub is_path : IsPath name tree (Some 0) 0 after
-  pub levels : path_height tree ≤ MAX_LEVELS
-  pub steps : path_steps tree ≤ MAX_STEPS
+  pub is_path : IsPath part tree (Some 0) 0 after
+  pub levels : path_height tree ≤ most_levels
+  pub steps : path_steps tree ≤ most_steps
+
+-- within the limits of every answer: 500 levels (`MAX_LEVELS`) and 65,536 steps (`MAX_STEPS`)
+abbrev pub UnfoldsTo : (part : List ℕ) (tree : PathTree) → Type 0
+UnfoldsTo part tree = UnfoldsWithin MAX_LEVELS MAX_STEPS part tree
+
+-- `a::<&u8, &u8>`: the back reference unfolds to what stands at position 4
+worked_unfolding : UnfoldsTo (codes "IC1aRhB3_E") worked_tree
+unfolding IsPath bound_end path_height path_steps path_form type_form type_form_by basic_type lifetime back_reference number digit_62 tagged length_at identifier_of identifier_bytes undisambiguated_identifier identifier
+worked_unfolding = record {
+  after = Some 10;
+  is_path = (1, Some 4, refl, (4, refl, refl), (Some 6, refl, (refl, refl, (5, refl, (6, refl, refl))), (Some 9, refl, (refl, refl, (4, 9, Some 6, refl, (5, refl, (6, refl, refl)), refl)), (refl, refl))));
+  levels = omega arith;
+  steps = omega arith;
+}

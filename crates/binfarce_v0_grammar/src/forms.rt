@@ -9,7 +9,6 @@ ghost use Rattle.std.specs.Option.{ForSome, option_map};
 ghost use Rattle.std.specs.Str.{IsAscii};
 ghost use Rattle.binfarce_v0_grammar.specs.Forms.{
   nested_form,
-  path_form_by,
   path_form,
   lifetime,
   basic_type,
@@ -125,7 +124,7 @@ fn nested_form<'a>(namespace: u8, after: usize) -> PathForm<'a>
 }
 
 /// The form of a path that stands at a position, where there is one.
-#[tactic(auto, unfolding(crate::specs::Forms::path_form, crate::specs::Forms::path_form_by))]
+#[tactic(auto, unfolding(crate::specs::Forms::path_form))]
 pub fn path_form<'a>(name: &'a str, at: Option<usize>) -> PathForm<'a>
     requires ascii { IsAscii name.now }
     ensures { path_seen result ≡ path_form name.now at }

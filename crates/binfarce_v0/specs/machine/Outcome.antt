@@ -7,7 +7,7 @@ use Rattle.binfarce_v0_grammar.specs.Tree.{PathTree, path_height, path_steps, pa
 use Rattle.binfarce_v0_grammar.specs.Unfolding.{UnfoldsTo}
 use Rattle.binfarce_v0_grammar.specs.machine.Seen.{undisambiguated_seen}
 use Rattle.binfarce_v0_grammar.specs.declared.limits.TheConstants.{MAX_LEVELS, MAX_STEPS}
-use Rattle.binfarce_v0.specs.Mangling.{PathStands, IsV0}
+use Rattle.binfarce_v0.specs.Mangling.{PathStands, IsV0, HasNoTree}
 use Rattle.binfarce_v0.specs.declared.state.Printed.{Printed}
 use Rattle.binfarce_v0.specs.machine.Printing.{State}
 
@@ -43,10 +43,6 @@ pub record IsOutcome (name : List ℕ) (full : Bool) (outcome : Outcome) : Type 
   pub levels_are : outcome.levels ≡ path_height tree
   pub steps_are : outcome.steps ≡ path_steps tree
   pub reads : ReadsUpTo name outcome.after
-
--- text is no v0 mangling that unfolds to a tree within the limits
-abbrev pub HasNoTree : List ℕ → Type 0
-HasNoTree text = (part : List ℕ) (tree : PathTree) → IsV0 text part → UnfoldsTo part tree → ⊥
 
 -- text is a v0 mangling that unfolds to a tree within the limits
 pub record HasTree (text : List ℕ) (tree : PathTree) : Type 0 where

@@ -48,7 +48,7 @@ pub enum ConstForm<'a> {
 }
 
 /// The form of a const that stands at a position, where there is one.
-#[tactic(auto, unfolding(crate::specs::Forms::const_form, crate::specs::Forms::const_form_by))]
+#[tactic(auto, unfolding(crate::specs::Forms::const_form))]
 pub fn const_form<'a>(name: &'a str, at: Option<usize>) -> ConstForm<'a>
     requires ascii { IsAscii name.now }
     ensures { const_seen result ≡ const_form name.now at }

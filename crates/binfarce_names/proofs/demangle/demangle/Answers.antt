@@ -7,8 +7,7 @@ use Rattle.binfarce_names.proofs.demangle.demangle.Goals as goal
 pub returns-in-Some-mangled_part : goal.returns-in-Some-mangled_part
 unfolding IsMangled
 returns-in-Some-mangled_part c =
-    let P : List ℕ → Type 0 = λ text. (part : List ℕ) (elements : List Element) (rest : List ℕ) → IsLegacy text part elements rest → ⊥ in
-    record { mangled = inr (inl (record { not_legacy = subst P c.without_llvm-text.ensures c.in_default.ensures; mangling = subst (λ text. IsV0 text c.in-Some-mangled_part.part.now) c.without_llvm-text.ensures c.in-Some-mangled_part.ensures; kind_is = refl })) }
+    record { mangled = inr (inl (record { mangling = subst (λ text. IsV0 text c.in-Some-mangled_part.part.now) c.without_llvm-text.ensures c.in-Some-mangled_part.ensures; kind_is = refl })) }
 
 pub returns-in-None : goal.returns-in-None
 unfolding IsMangled

@@ -19,7 +19,7 @@ rows="listings 40
 reports 120
 symbols 70
 names 95
-trimmed 110
+trimmed 75
 crates 65
 tuples 85
 files 35

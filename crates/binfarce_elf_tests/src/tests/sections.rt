@@ -176,8 +176,8 @@ fn intact_files(rt: HostRuntime) -> Result<(), Fail> {
             layout: *layout,
             ask: *ask,
         };
-        let answer = question.answer(rt.alloc(), layout.bytes())?;
-        assert!(rt; answer.as_str() == *text, "{ask:?}, {layout:?}: {answer}");
+        let wrong = wrong_with(rt.alloc(), &question, layout.bytes(), &[], text)?;
+        assert!(rt; wrong.is_none(), "{ask:?}, {layout:?}: {wrong:?}");
     }
     Ok(())
 }

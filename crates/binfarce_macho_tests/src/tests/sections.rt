@@ -47,19 +47,27 @@ impl Question for Ask {
 }
 
 // Which section is asked for, and its range.
-const INTACT: [(Ask, &str); 5] = [
-    (Ask::First, "0..256"),
-    (Ask::Named("__TEXT", "__text"), "0..256"),
-    (Ask::Named("__DATA", "__text"), "none"),
-    (Ask::Named("__TEXT", "__data"), "none"),
-    (Ask::PastTheLast, "none"),
+const INTACT: [(&str, Ask, &str); 5] = [
+    ("the first", Ask::First, "0..256"),
+    ("by its names", Ask::Named("__TEXT", "__text"), "0..256"),
+    (
+        "by another segment name",
+        Ask::Named("__DATA", "__text"),
+        "none",
+    ),
+    (
+        "by another section name",
+        Ask::Named("__TEXT", "__data"),
+        "none",
+    ),
+    ("past the last", Ask::PastTheLast, "none"),
 ];
 
 #[test]
 fn intact_file(rt: HostRuntime) -> Result<(), Fail> {
-    for (ask, text) in &INTACT {
-        let answer = ask.answer(rt.alloc(), &MACHO)?;
-        assert!(rt; answer.as_str() == *text, "{ask:?}: {answer}");
+    for (what, ask, text) in &INTACT {
+        let wrong = wrong_with(rt.alloc(), ask, &MACHO, &[], text)?;
+        assert!(rt; wrong.is_none(), "{what}: {wrong:?}");
     }
     Ok(())
 }

@@ -47,18 +47,18 @@ impl Question for Ask {
 }
 
 // Which section is asked for, and its range.
-const INTACT: [(Ask, &str); 4] = [
-    (Ask::Named(".text"), "0..256"),
-    (Ask::Named(""), "none"),
-    (Ask::First, "0..256"),
-    (Ask::PastTheLast, "none"),
+const INTACT: [(&str, Ask, &str); 4] = [
+    ("by its name", Ask::Named(".text"), "0..256"),
+    ("by an empty name", Ask::Named(""), "none"),
+    ("the first", Ask::First, "0..256"),
+    ("past the last", Ask::PastTheLast, "none"),
 ];
 
 #[test]
 fn intact_file(rt: HostRuntime) -> Result<(), Fail> {
-    for (ask, text) in &INTACT {
-        let answer = ask.answer(rt.alloc(), &PE)?;
-        assert!(rt; answer.as_str() == *text, "{ask:?}: {answer}");
+    for (what, ask, text) in &INTACT {
+        let wrong = wrong_with(rt.alloc(), ask, &PE, &[], text)?;
+        assert!(rt; wrong.is_none(), "{what}: {wrong:?}");
     }
     Ok(())
 }

@@ -5,7 +5,7 @@ use binfarce_samples::Patch;
 use binfarce_samples::elf::{LISTING, Layout};
 use binfarce_samples::macho::{LISTING as MACHO_LISTING, MAGIC as MACHO_MAGIC};
 use binfarce_samples::pe::{LISTING as PE_LISTING, MAGIC as PE_MAGIC};
-use binfarce_samples::question::{Question, wrong_with};
+use binfarce_samples::question::wrong_with;
 use std::test::Fail;
 
 // Who is asked, of which file and section, and the answer.
@@ -36,8 +36,8 @@ fn intact_files(rt: HostRuntime) -> Result<(), Fail> {
             call: *call,
             section,
         };
-        let answer = ask.answer(rt.alloc(), layout.bytes())?;
-        assert!(rt; answer.as_str() == *text, "{layout:?}, {ask:?}: {answer}");
+        let wrong = wrong_with(rt.alloc(), &ask, layout.bytes(), &[], text)?;
+        assert!(rt; wrong.is_none(), "{layout:?}, {ask:?}: {wrong:?}");
     }
     Ok(())
 }

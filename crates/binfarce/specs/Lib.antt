@@ -1,8 +1,10 @@
-pub mod Format
+pub use Rattle.binfarce_names.specs.Name
+pub use Rattle.binfarce_names.specs.Named
+pub use Rattle.binfarce_names.specs.Crates
 pub use Rattle.binfarce_bytes.specs.Number
 pub use Rattle.binfarce_bytes.specs.Field
-pub use Rattle.binfarce_bytes.specs.Steps
 pub use Rattle.binfarce_bytes.specs.Text
+pub use Rattle.binfarce_bytes.specs.Steps
 pub use Rattle.binfarce_bytes.specs.Refusal
 pub use Rattle.binfarce_bytes.specs.Walk
 pub use Rattle.binfarce_symbols.specs.Symbol
@@ -17,6 +19,4 @@ pub use Rattle.binfarce_macho.specs.MachoSeen
 pub use Rattle.binfarce_pe.specs.Pe
 pub use Rattle.binfarce_pe.specs.PeSymbols
 pub use Rattle.binfarce_pe.specs.PeSeen
-pub use Rattle.binfarce_names.specs.Name
-pub use Rattle.binfarce_names.specs.Named
-pub use Rattle.binfarce_names.specs.Crates
+pub mod Format

@@ -29,15 +29,15 @@ find_none seen post test (x ∷ xs) computes all =
 
 -- the search finds the first section that passes the test
 pub first_is : {T S E : Type 0} (why : E → Refusal) (seen : T → S) (post : T → Bool → Type 0) (test : S → Bool) (sections : Walk S) (result : Result (Option T) E)
-    → Computes seen post test → FirstAccepted why seen post sections result → Gives why (option_map seen) result (first test sections)
+    → Computes seen post test → FirstAccepted why seen post sections result → Gives why (option_map seen) (first test sections) result
 first_is why seen post test sections (Ok (Some value)) computes f =
-    let found : find test sections.sections ≡ Some (seen value) =
+    let found : find test sections.items ≡ Some (seen value) =
     ap (find test) f.stands ∙ find_past_refused seen post test f.before (seen value ∷ f.after) computes f.refused ∙ rw (← computes value true f.accepted) refl in
     ap (λ (o : Option _). found_or_end o sections.refusal) found
 first_is why seen post test sections (Ok None) computes f =
-    ap (λ (o : Option _). found_or_end o sections.refusal) (find_none seen post test sections.sections computes f.refused) ∙ ap end_of f.end_is
+    ap (λ (o : Option _). found_or_end o sections.refusal) (find_none seen post test sections.items computes f.refused) ∙ ap end_of f.end_is
 first_is why seen post test sections (Err e) computes f =
-    ap (λ (o : Option _). found_or_end o sections.refusal) (find_none seen post test sections.sections computes f.refused) ∙ ap end_of f.end_is
+    ap (λ (o : Option _). found_or_end o sections.refusal) (find_none seen post test sections.items computes f.refused) ∙ ap end_of f.end_is
 
 -- without an error, it doesn't matter how errors are told
 pub retold : {T S E F : Type 0} (why : E → Refusal) (other : F → Refusal) (seen : T → S) (post : T → Bool → Type 0) (sections same : Walk S) (found : Option T)

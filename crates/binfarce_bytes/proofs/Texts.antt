@@ -1,5 +1,5 @@
 -- What a run of bytes is as a text.
-use Rattle.std.proofs.Common.{◌≡◌, ◌≢◌, ℕ, suc, ◌+◌, ◌-◌, ◌<◌, Bool, true, false, cond, ◌&&◌, eqb, ltb, List, [], ◌∷◌, ◌++◌, length, get_or, take, drop, Option, Some, None, refl, sym, ap, subst, ◌∙◌, arith}
+use Rattle.std.proofs.Common.{◌≡◌, ◌≢◌, ℕ, suc, ◌+◌, ◌-◌, ◌<◌, ◌≤◌, Bool, true, false, cond, eqb, ltb, List, [], ◌∷◌, ◌++◌, length, get_or, take, drop, Option, Some, None, refl, sym, ap, subst, ◌∙◌, arith}
 use Rattle.std.specs.Option.{option_and_then}
 use Rattle.std.specs.List.{position_or_len}
 use Rattle.std.specs.Str.{IsUtf8, is_utf8}
@@ -24,17 +24,17 @@ pub utf8_none : (bytes : List ℕ) → ¬ (IsUtf8 bytes) → utf8_of bytes ≡ N
 utf8_none bytes h = rw (not_utf8 bytes (is_utf8 bytes) refl h) refl
 
 -- the first n bytes, of which there is one, are a text where they are UTF-8
-pub text_of_is : (bytes : List ℕ) (n : ℕ) → 0 < n → text_of bytes n ≡ utf8_of (take n bytes)
-text_of_is bytes n some = rw (lt-ltb 0 n some) refl
+pub text_of_is : (bytes : List ℕ) (n : ℕ) → 0 < n → n ≤ length bytes → text_of (take n bytes) ≡ utf8_of (take n bytes)
+text_of_is bytes n some whole = rw (lt-ltb 0 (length (take n bytes)) (omega (arith, length-take n bytes))) refl
 
 abbrev is_nul : ℕ → Bool
 is_nul b = eqb b 0
 
-taken : (bytes : List ℕ) (n : ℕ) (text : List ℕ) → text_of bytes n ≡ Some text → (text ≡ take n bytes) × (0 < n) × IsUtf8 (take n bytes)
-taken bytes n text e = by_tests (ltb 0 n) (is_utf8 (take n bytes)) refl refl e
+taken : (bytes text : List ℕ) → text_of bytes ≡ Some text → (text ≡ bytes) × (0 < length bytes) × IsUtf8 bytes
+taken bytes text e = by_tests (ltb 0 (length bytes)) (is_utf8 bytes) refl refl e
   where
-    by_tests : (some utf8 : Bool) → ltb 0 n ≡ some → is_utf8 (take n bytes) ≡ utf8 → cond (some && utf8) (Some (take n bytes)) None ≡ Some text → (text ≡ take n bytes) × (0 < n) × IsUtf8 (take n bytes)
-    by_tests true true s u e = (cc, ltb-true 0 n s, IsUtf8-from_is_utf8 (take n bytes) u)
+    by_tests : (some utf8 : Bool) → ltb 0 (length bytes) ≡ some → is_utf8 bytes ≡ utf8 → cond some (cond utf8 (Some bytes) None) None ≡ Some text → (text ≡ bytes) × (0 < length bytes) × IsUtf8 bytes
+    by_tests true true s u e = (cc, ltb-true 0 (length bytes) s, IsUtf8-from_is_utf8 bytes u)
     by_tests true false s u e = absurd cc
     by_tests false utf8 s u e = absurd cc
 
@@ -49,18 +49,18 @@ nul_not b ne = by_test (is_nul b) refl
     by_test false e = refl
 
 -- what stands up to the first NUL stands there as a text
-stands_to_nul : (bytes : List ℕ) (start n : ℕ) (text : List ℕ) → nul_at (drop start bytes) ≡ Some n → text_of (drop start bytes) n ≡ Some text → IsTextAt bytes start text
+stands_to_nul : (bytes : List ℕ) (start n : ℕ) (text : List ℕ) → nul_at (drop start bytes) ≡ Some n → text_of (take n (drop start bytes)) ≡ Some text → IsTextAt bytes start text
 stands_to_nul bytes start n text at e =
     let xs = drop start bytes in
     let p = position-Some is_nul xs n 1 at in
-    let t = taken xs n text e in
+    let t = taken (take n xs) text e in
     let nul : get_or xs n 1 ≡ 0 = eqb-true (get_or xs n 1) 0 p.1 in
     let whole : xs ≡ take n xs ++ 0 ∷ drop (suc n) xs = sym (take-append-drop n xs) ∙ ap (λ (ys : List ℕ). take n xs ++ ys) (drop-cons xs n 1 p.0 ∙ ap (λ (b : ℕ). b ∷ drop (suc n) xs) nul) in
     record {
       stands = (drop (suc n) xs, whole ∙ ap (λ (ys : List ℕ). ys ++ 0 ∷ drop (suc n) xs) (sym t.0));
       no_nul = All-same (λ (b : ℕ). b ≢ 0) text (take n xs) t.0 (λ k d lt. let below : k < n = omega (arith, length-take n xs) in not_nul (get_or (take n xs) k d) (rw (get_or-take n xs k d below) (rw (get_or_default xs k d 1 (omega arith)) (p.2 k below))));
       utf8 = subst IsUtf8 (sym t.0) t.2;
-      some = λ empty. absurd (omega (arith, ap length (sym t.0 ∙ empty), length-take n xs));
+      not_empty = λ empty. absurd (omega (arith, t.1, ap length (sym t.0 ∙ empty)));
     }
 
 -- the text that stands there is the one that is found
@@ -78,8 +78,8 @@ only_text bytes start text h =
     let first : position_or_len is_nul xs ≡ n = position_or_len_is is_nul xs n 1 (omega arith) before (λ _. eq-eqb (get_or xs n 1) 0 at_end) in
     let at : nul_at xs ≡ Some n = rw (first, lt-ltb n (length xs) long) refl in
     let taken_is : take n xs ≡ text = ap (take n) whole ∙ take_at text (0 ∷ rest) n refl in
-    let some : 0 < n = positive text h.some in
-    ap (option_and_then (text_of xs)) at ∙ text_of_is xs n some ∙ utf8_is (take n xs) (subst IsUtf8 (sym taken_is) h.utf8) ∙ ap (λ (t : List ℕ). Some t) taken_is
+    let some : 0 < n = positive text h.not_empty in
+    ap (option_and_then (λ (k : ℕ). text_of (take k xs))) at ∙ text_of_is xs n some (omega arith) ∙ utf8_is (take n xs) (subst IsUtf8 (sym taken_is) h.utf8) ∙ ap (λ (t : List ℕ). Some t) taken_is
   where
     nothing : (k : ℕ) → k - k ≡ 0
     nothing k = omega arith
@@ -93,7 +93,7 @@ pub found_text : (bytes : List ℕ) (start : ℕ) (text : List ℕ) → text_at 
 unfolding text_at
 found_text bytes start text e = by_place (nul_at (drop start bytes)) refl e
   where
-    by_place : (o : Option ℕ) → nul_at (drop start bytes) ≡ o → option_and_then (text_of (drop start bytes)) o ≡ Some text → IsTextAt bytes start text
+    by_place : (o : Option ℕ) → nul_at (drop start bytes) ≡ o → option_and_then (λ (k : ℕ). text_of (take k (drop start bytes))) o ≡ Some text → IsTextAt bytes start text
     by_place (Some n) at e = stands_to_nul bytes start n text at e
     by_place None at e = absurd cc
 
@@ -107,7 +107,7 @@ part_stands file at size start text h =
     let n = length text in
     let rest = h.stands.0 in
     let whole : drop start (take size (drop at file)) ≡ text ++ 0 ∷ rest = h.stands.1 in
-    let some : 0 < n = positive text h.some in
+    let some : 0 < n = positive text h.not_empty in
     let long : start + n < size = omega (arith, ap length whole, length-append text (0 ∷ rest), length-drop start (take size (drop at file)), length-take size (drop at file)) in
     let xs = drop at file in
     let m = size - start in

@@ -12,7 +12,7 @@ pub record Field : Type 0 where
 abbrev pub field : ℕ → ℕ → Field
 field offset width = record { offset = offset; width = width }
 
--- the number in a field of the structure that begins at start
+-- the number in a field of the structure that begins at start; of a field that is truncated, that of the bytes that are there
 abbrev pub value_at : ByteOrder → List ℕ → ℕ → Field → ℕ
 value_at order file start f = number order (bytes_at file (start + f.offset) f.width)
 

@@ -1,6 +1,6 @@
 pub mod Number
 pub mod Field
-pub mod Steps
 pub mod Text
+pub mod Steps
 pub mod Refusal
 pub mod Walk

@@ -17,6 +17,6 @@ number BigEndian bytes = little_endian (reverse bytes)
 unfoldable pub signed : ℕ → ℕ → ℤ
 signed width n = if nat_lt (2 * n) (256 ^ width) then pos n else (pos n -ℤ pos (256 ^ width))
 
--- the bytes of a field: as many as its width, from its place on
+-- the bytes of a field: as many as its width, from its place on. They are fewer where the file ends; that all are there is always a comparison of lengths beside it
 abbrev pub bytes_at : List ℕ → ℕ → ℕ → List ℕ
 bytes_at file place width = take width (drop place file)

@@ -41,7 +41,7 @@ abbrev pub required : {A : Type 0} → Refusal → Option A → Result A Refusal
 required refusal None = Err refusal
 required refusal (Some x) = Ok x
 
--- what a call returned is this answer: its value seen by view, its error by why
-abbrev pub Gives : {X Y E : Type 0} → (E → Refusal) → (X → Y) → Result X E → Result Y Refusal → Type 0
-Gives why view (Ok x) answer = answer ≡ Ok (view x)
-Gives why view (Err e) answer = answer ≡ Err (why e)
+-- where the answer is this, a call returned it: its value seen by view, its error by why
+abbrev pub Gives : {X Y E : Type 0} → (E → Refusal) → (X → Y) → Result Y Refusal → Result X E → Type 0
+Gives why view answer (Ok x) = answer ≡ Ok (view x)
+Gives why view answer (Err e) = answer ≡ Err (why e)

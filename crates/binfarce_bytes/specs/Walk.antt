@@ -1,45 +1,58 @@
--- A walk over the sections of a file, and the first section that a callback accepts.
-use Rattle.std.specs.Prelude.{◌≡◌, Bool, true, false, List, ◌∷◌, ◌++◌, All, Option, Some, None, Result, Ok, Err, find}
+-- A walk over what a file holds in order (sections, load commands), and the first item that a callback accepts.
+use Rattle.std.specs.Prelude.{◌≡◌, Bool, true, false, List, [], ◌∷◌, ◌++◌, All, Option, Some, None, Result, Ok, Err, find}
 use Rattle.binfarce_bytes.specs.Refusal.{Refusal}
 
--- the sections in file order, and the refusal that the walk ends with, if it isn't done
+-- the items in file order, and the refusal that the walk ends with, if it isn't done
 pub record Walk (S : Type 0) : Type 0 where
-  pub sections : List S
+  pub items : List S
   pub refusal : Option Refusal
+
+-- a walk without items, that ends so
+abbrev pub ended : {S : Type 0} → Option Refusal → Walk S
+ended refusal = record { items = []; refusal = refusal }
+
+-- an item, and then a walk
+abbrev pub ahead_of : {S : Type 0} → S → Walk S → Walk S
+ahead_of item walk = record { items = item ∷ walk.items; refusal = walk.refusal }
+
+-- items, and after them another walk, unless a refusal ends them
+abbrev pub and_then : {S : Type 0} → List S → Option Refusal → Walk S → Walk S
+and_then items None after = record { items = items ++ after.items; refusal = after.refusal }
+and_then items (Some refusal) after = record { items = items; refusal = Some refusal }
 
 -- what the end of a walk gives
 abbrev pub end_of : {S : Type 0} → Option Refusal → Result (Option S) Refusal
 end_of None = Ok None
 end_of (Some refusal) = Err refusal
 
--- a section that was found, or else what the end gives
+-- an item that was found, or else what the end gives
 abbrev pub found_or_end : {S : Type 0} → Option S → Option Refusal → Result (Option S) Refusal
-found_or_end (Some section) end = Ok (Some section)
+found_or_end (Some item) end = Ok (Some item)
 found_or_end None end = end_of end
 
--- the first section that is accepted; where none is, the walk's refusal, or nothing where it has none
+-- the first item that is accepted; where none is, the walk's refusal, or nothing where it has none
 abbrev pub first : {S : Type 0} → (S → Bool) → Walk S → Result (Option S) Refusal
-first accepts walk = found_or_end (find accepts walk.sections) walk.refusal
+first accepts walk = found_or_end (find accepts walk.items) walk.refusal
 
--- the callback may be called on every value that is seen as this section
+-- the callback may be called on every value that is seen as this item
 abbrev pub MayBeAsked : {T S : Type 0} → (T → S) → (T → Type 0) → S → Type 0
-MayBeAsked {T} seen pre section = (value : T) → seen value ≡ section → pre value
+MayBeAsked {T} seen pre item = (value : T) → seen value ≡ item → pre value
 
--- the callback gave this answer on a value that is seen as this section
+-- the callback gave this answer on a value that is seen as this item
 abbrev pub Answered : {T S : Type 0} → (T → S) → (T → Bool → Type 0) → Bool → S → Type 0
-Answered {T} seen post answer section = (value : T) × (seen value ≡ section) × post value answer
+Answered {T} seen post answer item = (value : T) × (seen value ≡ item) × post value answer
 
--- the callback answered true on this value, which is a section of the walk, and false on each section before it
+-- the callback answered true on this value, which is an item of the walk, and false on each item before it
 pub record IsFirstAccepted {T S : Type 0} (seen : T → S) (post : T → Bool → Type 0) (walk : Walk S) (value : T) : Type 0 where
   pub before : List S
   pub after : List S
-  pub stands : walk.sections ≡ before ++ seen value ∷ after
+  pub stands : walk.items ≡ before ++ seen value ∷ after
   pub accepted : post value true
   pub refused : All (Answered seen post false) before
 
--- the callback answered false on every section, and the walk ends so
+-- the callback answered false on every item, and the walk ends so
 pub record NoneAccepted {T S : Type 0} (seen : T → S) (post : T → Bool → Type 0) (walk : Walk S) (end : Option Refusal) : Type 0 where
-  pub refused : All (Answered seen post false) walk.sections
+  pub refused : All (Answered seen post false) walk.items
   pub end_is : walk.refusal ≡ end
 
 -- what a search by the callback answers

@@ -414,7 +414,7 @@ fn has_nul(bytes: &[u8]) -> bool
 #[tactic(auto, using(crate::proofs::Texts::text_of_is))]
 fn first_text(bytes: &[u8], len: usize) -> Option<&str>
     requires { len ≤ length bytes.now }
-    ensures { option_map (λ t. t.now) result ≡ text_of bytes.now len }
+    ensures { option_map (λ t. t.now) result ≡ text_of (take len bytes.now) }
 {
     if len == 0 {
         return None;

@@ -3,14 +3,14 @@ use Rattle.std.proofs.Common.{◌≡◌, ℕ, ◌+◌, ◌*◌, List, ap, ◌∙
 use Rattle.binfarce_bytes.specs.declared.ByteOrder.{ByteOrder}
 use Rattle.binfarce_bytes.specs.Number.{number, bytes_at}
 use Rattle.binfarce_bytes.specs.declared.parser.Stream.{Stream}
-use Rattle.binfarce_elf.specs.Elf.{ElfClass, header_at, section_at}
-use Rattle.binfarce_elf.specs.machine.RawElf.{header_of, section_of}
+use Rattle.binfarce_elf.specs.Elf.{ElfClass, header_of, section_at}
+use Rattle.binfarce_elf.specs.machine.RawElf.{fields_of_header, fields_of_section}
 
 from_start : (n : ℕ) → 0 + n ≡ n
 from_start n = omega arith
 
 pub header_is : (class : ElfClass) (w : ℕ) (order : ByteOrder) (file : List ℕ) (elf_type machine version entry phoff shoff flags ehsize phentsize phnum shentsize shnum shstrndx : ℕ)
-    → class.header ≡ header_of w
+    → class.header ≡ fields_of_header w
     → elf_type ≡ number order (bytes_at file 16 2)
     → machine ≡ number order (bytes_at file 18 2)
     → version ≡ number order (bytes_at file 20 4)
@@ -24,8 +24,8 @@ pub header_is : (class : ElfClass) (w : ℕ) (order : ByteOrder) (file : List �
     → shentsize ≡ number order (bytes_at file (34 + 3 * w) 2)
     → shnum ≡ number order (bytes_at file (36 + 3 * w) 2)
     → shstrndx ≡ number order (bytes_at file (38 + 3 * w) 2)
-    → (record { elf_type = elf_type; machine = machine; version = version; entry = entry; phoff = phoff; shoff = shoff; flags = flags; ehsize = ehsize; phentsize = phentsize; phnum = phnum; shentsize = shentsize; shnum = shnum; shstrndx = shstrndx }) ≡ header_at class order file
-unfolding header_at
+    → (record { elf_type = elf_type; machine = machine; version = version; entry = entry; phoff = phoff; shoff = shoff; flags = flags; ehsize = ehsize; phentsize = phentsize; phnum = phnum; shentsize = shentsize; shnum = shnum; shstrndx = shstrndx }) ≡ header_of class order file
+unfolding header_of
 header_is class w order file elf_type machine version entry phoff shoff flags ehsize phentsize phnum shentsize shnum shstrndx layout is_elf_type is_machine is_version is_entry is_phoff is_shoff is_flags is_ehsize is_phentsize is_phnum is_shentsize is_shnum is_shstrndx = rw layout (cc (from_start (24 + w), from_start (24 + 2 * w), from_start (24 + 3 * w), from_start (28 + 3 * w), from_start (30 + 3 * w), from_start (32 + 3 * w), from_start (34 + 3 * w), from_start (36 + 3 * w), from_start (38 + 3 * w)))
 
 -- the stream is at an offset of these bytes
@@ -47,7 +47,7 @@ pub read_at : (bytes : List ℕ) (order : ByteOrder) (n k v : ℕ) (s : Stream) 
 read_at bytes order n k v s at e = e ∙ cc (at.bytes_are, at.order_is, at.offset_is)
 
 pub section_is : (class : ElfClass) (w : ℕ) (order : ByteOrder) (file : List ℕ) (start index name kind offset size link entry_size : ℕ)
-    → class.section ≡ section_of w
+    → class.section ≡ fields_of_section w
     → name ≡ number order (bytes_at file (start + 0) 4)
     → kind ≡ number order (bytes_at file (start + 4) 4)
     → offset ≡ number order (bytes_at file (start + (8 + 2 * w)) w)

@@ -14,10 +14,6 @@ use Rattle.binfarce_symbols.specs.Symbol.{Entry, AreSymbolsOf}
 use Rattle.binfarce_symbols.specs.SymbolSeen.{function_seen}
 use Rattle.binfarce_symbols.proofs.Made.{drained}
 
--- what f gives of the numbers from 0 on is what it gives of those below n
-pub from_first : {X : Type 0} (f : ℕ → Option X) (n : ℕ) → filter_map f (range_with_len 0 (n - 0)) ≡ filter_map f (range_with_len 0 n)
-from_first f n = let e : n - 0 ≡ n = omega arith in rw e refl
-
 -- row k has none
 pub passed : {X : Type 0} (f : ℕ → Option X) (k n : ℕ) → k < n → f k ≡ None → filter_map f (range_with_len k (n - k)) ≡ filter_map f (range_with_len (k + 1) (n - (k + 1)))
 passed f k n h e = let s : n - k ≡ suc (n - (k + 1)) = omega arith in rw (s, e) refl

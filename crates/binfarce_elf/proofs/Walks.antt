@@ -35,7 +35,7 @@ is_truncated len shoff start size i some at truncated =
     let little : len - shoff < (i + 1) * size = grind arith in
     omega (arith, div_below (len - shoff) size (i + 1) some little)
 
-sections_is : (class : ElfClass) (table : SectionTable) (n : ℕ) → min table.shnum (whole_headers class table) ≡ n → (walk class table).sections ≡ numbered_below class table n
+sections_is : (class : ElfClass) (table : SectionTable) (n : ℕ) → min table.shnum (whole_headers class table) ≡ n → (walk class table).items ≡ numbered_below class table n
 unfolding walk
 sections_is class table n e = ap (numbered_below class table) e
 
@@ -61,19 +61,19 @@ pub outside : {T : Type 0} (class : ElfClass) (table : SectionTable) (seen : T �
 outside class table seen post some past =
     let none : min table.shnum (whole_headers class table) ≡ 0 = omega (arith, div_below (length table.file - table.shoff) class.section_length 1 some (omega arith)) in
     record {
-      refused = All-same (Answered seen post false) (walk class table).sections [] (sections_is class table 0 none) (All-nil (Answered seen post false));
+      refused = All-same (Answered seen post false) (walk class table).items [] (sections_is class table 0 none) (All-nil (Answered seen post false));
       end_is = outside_is class table past;
     }
 
 -- what a callback is handed is a section of the walk
 pub may_be_asked : {T : Type 0} (class : ElfClass) (table : SectionTable) (seen : T → Section) (pre : T → Type 0) (i : ℕ) (value : T)
-    → All (MayBeAsked seen pre) (walk class table).sections → i < table.shnum → i < whole_headers class table → seen value ≡ section_of class table i → pre value
+    → All (MayBeAsked seen pre) (walk class table).items → i < table.shnum → i < whole_headers class table → seen value ≡ section_of class table i → pre value
 may_be_asked class table seen pre i value all lt room is =
     let n = min table.shnum (whole_headers class table) in
     let same = sections_is class table n refl in
-    let here : get_or (walk class table).sections i (section_of class table i) ≡ section_of class table i =
+    let here : get_or (walk class table).items i (section_of class table i) ≡ section_of class table i =
     ap (λ (xs : List Section). get_or xs i (section_of class table i)) same ∙ get_or-map-range_with_len (section_of class table) 0 n i i (section_of class table i) (omega arith) (omega arith) in
-    let long : i < length (walk class table).sections = omega (arith, ap length same, length-map-range_with_len (section_of class table) 0 n) in
+    let long : i < length (walk class table).items = omega (arith, ap length same, length-map-range_with_len (section_of class table) 0 n) in
     all i (section_of class table i) long value (is ∙ sym here)
 
 -- the callback accepted section i, and refused those before it
@@ -97,7 +97,7 @@ pub truncated_at : {T : Type 0} (class : ElfClass) (table : SectionTable) (seen 
     → All (Answered seen post false) (numbered_below class table i) → NoneAccepted seen post (walk class table) (Some unexpected_eof)
 truncated_at class table seen post i lt room truncated refused =
     record {
-      refused = All-same (Answered seen post false) (walk class table).sections (numbered_below class table i) (sections_is class table i (omega arith)) refused;
+      refused = All-same (Answered seen post false) (walk class table).items (numbered_below class table i) (sections_is class table i (omega arith)) refused;
       end_is = truncated_is class table (omega arith);
     }
 
@@ -107,7 +107,7 @@ pub none_left : {T : Type 0} (class : ElfClass) (table : SectionTable) (seen : T
     → All (Answered seen post false) (numbered_below class table table.shnum) → NoneAccepted seen post (walk class table) None
 none_left class table seen post inside room refused =
     record {
-      refused = All-same (Answered seen post false) (walk class table).sections (numbered_below class table table.shnum) (sections_is class table table.shnum (omega arith)) refused;
+      refused = All-same (Answered seen post false) (walk class table).items (numbered_below class table table.shnum) (sections_is class table table.shnum (omega arith)) refused;
       end_is = done_is class table inside room;
     }
 

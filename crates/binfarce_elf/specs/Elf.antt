@@ -143,8 +143,8 @@ elf64 = record {
 }
 
 -- the file's header
-unfoldable pub header_at : ElfClass → ByteOrder → List ℕ → Header ℕ
-header_at class order file = record {
+unfoldable pub header_of : ElfClass → ByteOrder → List ℕ → Header ℕ
+header_of class order file = record {
   elf_type = value_at order file 0 class.header.elf_type;
   machine = value_at order file 0 class.header.machine;
   version = value_at order file 0 class.header.version;
@@ -203,9 +203,9 @@ unfoldable pub section_table : ElfClass → ElfFile → SectionTable
 section_table class file = record {
   order = file.order;
   file = file.bytes;
-  shoff = (header_at class file.order file.bytes).shoff;
-  shnum = (header_at class file.order file.bytes).shnum;
-  shstrndx = (header_at class file.order file.bytes).shstrndx;
+  shoff = (header_of class file.order file.bytes).shoff;
+  shnum = (header_of class file.order file.bytes).shnum;
+  shstrndx = (header_of class file.order file.bytes).shstrndx;
 }
 
 -- section header i of the table
@@ -219,7 +219,7 @@ whole_headers class table = (length table.file - table.shoff) / class.section_le
 -- the sections are those numbered below the count, up to the first whose header is truncated; a table that doesn't begin in the file is refused even where it is empty
 unfoldable pub walk : ElfClass → SectionTable → Walk Section
 walk class table = record {
-  sections = map (section_of class table) (range_with_len 0 (min table.shnum (whole_headers class table)));
+  items = map (section_of class table) (range_with_len 0 (min table.shnum (whole_headers class table)));
   refusal = if nat_lt table.shoff (length table.file) && nat_le table.shnum (whole_headers class table) then None else Some unexpected_eof;
 }
 
@@ -227,11 +227,11 @@ walk class table = record {
 abbrev pub contents : List ℕ → Section → Option (List ℕ)
 contents file section = if nat_le (section.offset + section.size) (length file) then Some (bytes_at file section.offset section.size) else None
 
--- the section of the section names, where its header is whole; it isn't held against the count
+-- the section of the section names, where its header is whole; that its index is below the count isn't asked
 abbrev pub names_section : ElfClass → SectionTable → Option Section
 names_section class table = if nat_lt table.shstrndx (whole_headers class table) then Some (section_of class table table.shstrndx) else None
 
--- a section's name: the text at its name offset among the section names
+-- a section's name, where it has one: the text at its name offset among the section names
 unfoldable pub name_of : ElfClass → SectionTable → Section → Option (List ℕ)
 name_of class table section = do
   names ← names_section class table

@@ -35,26 +35,21 @@ function_name strings index row = if is_function_of index row then text_at strin
 abbrev pub entry_of : List ℕ → ℕ → SymbolRow ℕ → Option Entry
 entry_of strings index row = option_map (λ name. record { name = name; address = row.value; size = row.size }) (function_name strings index row)
 
--- the entries of the rows numbered below n, in table order
-abbrev pub entries_of : ElfClass → ByteOrder → List ℕ → ℕ → List ℕ → ℕ → List Entry
-entries_of class order strings index rows n =
-    filter_map (λ k. entry_of strings index (symbol_at class order rows (k * class.symbol_length))) (range_with_len 0 n)
-
--- the entries of the rows numbered k and on
+-- the entries of the rows numbered from k on, in table order
 abbrev pub entries_from : ElfClass → ByteOrder → List ℕ → ℕ → List ℕ → ℕ → List Entry
 entries_from class order strings index rows k =
-    filter_map (λ k. entry_of strings index (symbol_at class order rows (k * class.symbol_length))) (range_with_len k (length rows / class.symbol_length - k))
+    filter_map (λ row. entry_of strings index (symbol_at class order rows (row * class.symbol_length))) (range_with_len k (length rows / class.symbol_length - k))
 
--- the section has this name
-abbrev pub is_name : List ℕ → Option (List ℕ) → Bool
-is_name text None = false
-is_name text (Some name) = bytes_eq name text
+-- a name is this one
+abbrev pub is_named : List ℕ → Option (List ℕ) → Bool
+is_named text None = false
+is_named text (Some name) = bytes_eq name text
 
 -- the first such section, or the refusal where there is none
 abbrev pub sought : Refusal → (Section → Bool) → Walk Section → Result Section Refusal
 sought refusal accepts sections = first accepts sections >>= required refusal
 
--- the bytes of a section: its end fits an address, and lies in the file
+-- the bytes of a section: its end is below 2^64, and lies in the file
 unfoldable pub part_of : List ℕ → Section → Result (List ℕ) Refusal
 part_of file section =
     if nat_le (2 ^ 64) (section.offset + section.size) then Err malformed_input
@@ -78,7 +73,7 @@ pub record Located : Type 0 where
 -- the refusals in order; else where the symbols are
 unfoldable pub located : ElfClass → SectionTable → List ℕ → Result Located Refusal
 located class table name = do
-  text ← sought symbols_section_is_missing (λ section. is_name name (name_of class table section)) (walk class table)
+  text ← sought symbols_section_is_missing (λ section. is_named name (name_of class table section)) (walk class table)
   symbols ← sought (section_is_missing (codes ".symtab")) (λ section. nat_eq section.kind 2) (walk class table)
   linked ← sought (section_is_missing (codes ".strtab")) (λ section. nat_eq section.index symbols.link) (walk class table)
   string_table ← string_table_kind linked
@@ -87,8 +82,8 @@ located class table name = do
   rows ← whole_rows class part
   Ok (record { text = text; strings = strings; rows = rows })
 
--- the entries of the rows, and the size of the section that was asked for
+-- the entries of all rows, and the size of the section that was asked for
 unfoldable pub elf_answer : ElfClass → SectionTable → List ℕ → Result Listed Refusal
 elf_answer class table name = do
   found ← located class table name
-  Ok (record { entries = entries_of class table.order found.strings found.text.index found.rows (length found.rows / class.symbol_length); section_size = found.text.size })
+  Ok (record { entries = entries_from class table.order found.strings found.text.index found.rows 0; section_size = found.text.size })

@@ -4,7 +4,7 @@ ghost use Rattle.std.specs.Prelude.{◌≡◌, ◌+◌, ◌*◌, ◌<◌, ◌≤
 ghost use Rattle.binfarce_bytes.specs.Number.{number};
 ghost use Rattle.binfarce_elf.specs.Elf.{elf32, elf64, entry_count};
 ghost use Rattle.binfarce_elf.specs.ElfSymbols.{symbol_at};
-ghost use Rattle.binfarce_elf.specs.machine.RawElf.{row_seen, header_of, section_of};
+ghost use Rattle.binfarce_elf.specs.machine.RawElf.{row_seen, fields_of_header, fields_of_section};
 
 use binfarce_bytes::ByteOrder;
 use binfarce_bytes::parser::{RawNumber, Stream, UnexpectedEof, part};
@@ -72,11 +72,11 @@ pub trait Class: RawNumber + Copy + Drop {
 
     ghost narrow_word: { Self.SIZE ≤ 8 };
 
-    ghost header: { table.header ≡ header_of Self.SIZE };
+    ghost header: { table.header ≡ fields_of_header Self.SIZE };
 
     ghost header_length: { table.header_length ≡ 40 + 3 * Self.SIZE };
 
-    ghost section: { table.section ≡ section_of Self.SIZE };
+    ghost section: { table.section ≡ fields_of_section Self.SIZE };
 
     ghost section_fields: { table.section_length ≡ 16 + 6 * Self.SIZE };
 

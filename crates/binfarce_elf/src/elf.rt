@@ -5,8 +5,8 @@ ghost use Rattle.std.specs.Option.{option_map};
 ghost use Rattle.binfarce_bytes.specs.Refusal.{Gives, refusal_of, malformed_input, unexpected_eof};
 ghost use Rattle.binfarce_bytes.specs.Walk.{MayBeAsked, FirstAccepted, first};
 ghost use Rattle.binfarce_symbols.specs.Symbol.{Answers, HoldsSymbols, ListsSome};
-ghost use Rattle.binfarce_elf.specs.Elf.{header_at, section_table, walk, name_of, entry_count, NameIsInFile};
-ghost use Rattle.binfarce_elf.specs.ElfSymbols.{is_name, elf_answer};
+ghost use Rattle.binfarce_elf.specs.Elf.{header_of, section_table, walk, name_of, entry_count, NameIsInFile};
+ghost use Rattle.binfarce_elf.specs.ElfSymbols.{is_named, elf_answer};
 ghost use Rattle.binfarce_elf.specs.ElfSeen.{header_seen, section_seen, functions_seen};
 ghost use Rattle.binfarce_elf.specs.machine.RawElf.{table_seen};
 
@@ -88,7 +88,7 @@ pub struct Section<C> {
 impl<C: Class> Section<C> {
     /// The section's bytes as a range of the file (`sh_offset`, `sh_size`); `MalformedInput` where its end passes `usize`.
     ///
-    /// The range isn't held against the file's length.
+    /// The range isn't checked against the file's length.
     pub fn range(&self) -> Result<Range<usize>, ParseError>
         ensures { let s = section_seen C.number_of self.now in MatchResult result
             (λ r. (r.start ≡ s.offset) × (r.end ≡ s.offset + s.size))
@@ -128,14 +128,14 @@ pub struct Elf<'a, C: Class> {
 
 impl<'a, C: Class> Model for Elf<'a, C> {
     ghost use Rattle.std.specs.Prelude.{◌≡◌};
-    ghost use Rattle.binfarce_elf.specs.Elf.{ElfFile, header_at};
+    ghost use Rattle.binfarce_elf.specs.Elf.{ElfFile, header_of};
     ghost use Rattle.binfarce_elf.specs.ElfSeen.{header_seen};
 
     ghost Value = { ElfFile };
 
     ghost view = { λ e. record { order = e.byte_order; bytes = e.bytes.now } };
 
-    ghost invariant = { λ e. header_seen C.number_of e.header ≡ header_at C.table e.byte_order e.bytes.now };
+    ghost invariant = { λ e. header_seen C.number_of e.header ≡ header_of C.table e.byte_order e.bytes.now };
 }
 
 /// Reads the file header in the given order, without a look at the magic number.
@@ -154,7 +154,7 @@ pub(crate) fn parse<C: Class>(bytes: &[u8], byte_order: ByteOrder) -> Result<Elf
 
 fn parse_header<C: Class>(bytes: &[u8], byte_order: ByteOrder) -> Result<Header<C>, UnexpectedEof>
     ensures { MatchResult result
-        (λ h. (C.table.header_length ≤ length bytes.now) × (header_seen C.number_of h ≡ header_at C.table byte_order bytes.now))
+        (λ h. (C.table.header_length ≤ length bytes.now) × (header_seen C.number_of h ≡ header_of C.table byte_order bytes.now))
         (λ _. length bytes.now < C.table.header_length) }
 {
     let word = C::SIZE;
@@ -178,7 +178,7 @@ fn parse_header<C: Class>(bytes: &[u8], byte_order: ByteOrder) -> Result<Header<
 impl<'a, C: Class> Elf<'a, C> {
     /// The file header, as it was read by `parse`.
     pub fn header(&self) -> Header<C>
-        ensures { header_seen C.number_of result ≡ header_at C.table self.now.order self.now.bytes }
+        ensures { header_seen C.number_of result ≡ header_of C.table self.now.order self.now.bytes }
     {
         self.header
     }
@@ -191,7 +191,7 @@ impl<'a, C: Class> Elf<'a, C> {
         &self,
         callback: F,
     ) -> Result<Option<Section<C>>, ParseError>
-        requires { All (MayBeAsked (section_seen C.number_of) (F.pre callback)) (walk C.table (section_table C.table self.now)).sections }
+        requires { All (MayBeAsked (section_seen C.number_of) (F.pre callback)) (walk C.table (section_table C.table self.now)).items }
         ensures { FirstAccepted refusal_of (section_seen C.number_of) (F.post callback) (walk C.table (section_table C.table self.now)) result }
     {
         Ok(sections::first_section::<C, F>(self.table(), callback)?)
@@ -199,8 +199,8 @@ impl<'a, C: Class> Elf<'a, C> {
 
     /// The first section with this name; refused as `find_section` is.
     pub fn section_with_name(&self, name: &str) -> Result<Option<Section<C>>, ParseError>
-        ensures { let table = section_table C.table self.now in Gives refusal_of (option_map (section_seen C.number_of)) result
-            (first (λ s. is_name name.now (name_of C.table table s)) (walk C.table table)) }
+        ensures { let table = section_table C.table self.now in Gives refusal_of (option_map (section_seen C.number_of))
+            (first (λ s. is_named name.now (name_of C.table table s)) (walk C.table table)) result }
     {
         Ok(sections::section_with_name::<C>(self.table(), name)?)
     }
@@ -214,7 +214,7 @@ impl<'a, C: Class> Elf<'a, C> {
     /// where that isn't of kind 3 (`SHT_STRTAB`); `MalformedInput` and `UnexpectedEof` where the string table's and
     /// then the symbol table's bytes end past `usize` and past the file; `UnexpectedEof` for a truncated last row.
     pub fn functions(&self, section_name: &str) -> Result<(Functions<'a, C>, u64), ParseError>
-        ensures { Gives refusal_of (functions_seen C.table) result (elf_answer C.table (section_table C.table self.now) section_name.now) }
+        ensures { Gives refusal_of (functions_seen C.table) (elf_answer C.table (section_table C.table self.now) section_name.now) result }
     {
         symbols::section_functions::<C>(self.table(), section_name)
     }

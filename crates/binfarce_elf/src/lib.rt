@@ -5,5 +5,6 @@ mod class;
 mod elf;
 pub mod elf32;
 pub mod elf64;
+mod laws;
 mod sections;
 mod symbols;

@@ -1,11 +1,11 @@
 //! The walk over the section headers of a file, and the names of sections.
 
-ghost use Rattle.std.specs.Prelude.{◌≡◌, ◌+◌, ◌*◌, ◌<◌, ◌≤◌, length, All, MatchResult};
+ghost use Rattle.std.specs.Prelude.{◌≡◌, ◌+◌, ◌<◌, ◌≤◌, length, All, MatchResult};
 ghost use Rattle.std.specs.Option.{option_map};
 ghost use Rattle.binfarce_bytes.specs.Refusal.{Gives, unexpected_eof};
 ghost use Rattle.binfarce_bytes.specs.Walk.{MayBeAsked, FirstAccepted, first};
-ghost use Rattle.binfarce_elf.specs.Elf.{section_at, walk, names_section, contents, name_of};
-ghost use Rattle.binfarce_elf.specs.ElfSymbols.{is_name};
+ghost use Rattle.binfarce_elf.specs.Elf.{section_at, walk, names_section, name_of};
+ghost use Rattle.binfarce_elf.specs.ElfSymbols.{is_named};
 ghost use Rattle.binfarce_elf.specs.ElfSeen.{section_seen};
 ghost use Rattle.binfarce_elf.specs.machine.RawElf.{table_seen, names_bytes, name_among};
 
@@ -62,7 +62,7 @@ pub(crate) fn first_section<C: Class, F: Fn(Section<C>) -> bool>(
     table: Table<'_>,
     callback: F,
 ) -> Result<Option<Section<C>>, UnexpectedEof>
-    requires { All (MayBeAsked (section_seen C.number_of) (F.pre callback)) (walk C.table (table_seen table)).sections }
+    requires { All (MayBeAsked (section_seen C.number_of) (F.pre callback)) (walk C.table (table_seen table)).items }
     ensures { FirstAccepted (λ _. unexpected_eof) (section_seen C.number_of) (F.post callback) (walk C.table (table_seen table.entry)) result }
 {
     let mut start = table.shoff;
@@ -84,17 +84,17 @@ pub(crate) fn section_with_name<C: Class>(
     table: Table<'_>,
     name: &str,
 ) -> Result<Option<Section<C>>, UnexpectedEof>
-    ensures { Gives (λ _. unexpected_eof) (option_map (section_seen C.number_of)) result
-        (first (λ s. is_name name.now (name_of C.table (table_seen table.entry) s)) (walk C.table (table_seen table.entry))) }
+    ensures { Gives (λ _. unexpected_eof) (option_map (section_seen C.number_of))
+        (first (λ s. is_named name.now (name_of C.table (table_seen table.entry) s)) (walk C.table (table_seen table.entry))) result }
 {
     let names = names_bytes::<C>(table);
     first_section::<C, _>(table, |section| {
-        is_name(name_at(names, section.name_offset), name)
+        is_named(name_at(names, section.name_offset), name)
     })
 }
 
-fn is_name(found: Option<&str>, name: &str) -> bool
-    ensures { result ≡ is_name name.now (option_map (λ t. t.now) found.entry) }
+fn is_named(found: Option<&str>, name: &str) -> bool
+    ensures { result ≡ is_named name.now (option_map (λ t. t.now) found.entry) }
 {
     match found {
         None => false,
@@ -129,7 +129,7 @@ fn names_bytes<'a, C: Class>(table: Table<'a>) -> Option<&'a [u8]>
     .ok()
 }
 
-// The section of the section names, which isn't held against the count.
+// The section of the section names, which isn't checked against the count.
 fn names_section<C: Class>(table: Table<'_>) -> Option<Section<C>>
     ensures { option_map (section_seen C.number_of) result ≡ names_section C.table (table_seen table.entry) }
 {

@@ -1,12 +1,12 @@
 //! The function symbols of one section.
 
-ghost use Rattle.std.specs.Prelude.{◌≡◌, ◌/◌, [], ◌∷◌, length, MatchOption, nat_eq, codes};
+ghost use Rattle.std.specs.Prelude.{◌≡◌, [], ◌∷◌, MatchOption, nat_eq, codes};
 ghost use Rattle.std.specs.Option.{option_map};
 ghost use Rattle.binfarce_bytes.specs.Refusal.{Gives, refusal_of, unexpected_eof, symbols_section_is_missing, section_is_missing};
 ghost use Rattle.binfarce_bytes.specs.Walk.{first};
 ghost use Rattle.binfarce_symbols.specs.SymbolSeen.{function_seen};
 ghost use Rattle.binfarce_elf.specs.Elf.{walk, name_of};
-ghost use Rattle.binfarce_elf.specs.ElfSymbols.{is_name, sought, string_table_kind, whole_rows, part_of, located, elf_answer, entries_of, function_name};
+ghost use Rattle.binfarce_elf.specs.ElfSymbols.{is_named, sought, string_table_kind, whole_rows, part_of, located, elf_answer, entries_from, function_name};
 ghost use Rattle.binfarce_elf.specs.ElfSeen.{section_seen, functions_left, functions_seen};
 ghost use Rattle.binfarce_elf.specs.machine.RawElf.{row_seen, table_seen, found_seen};
 
@@ -38,7 +38,7 @@ pub(crate) fn section_functions<'a, C: Class>(
     table: Table<'a>,
     section_name: &str,
 ) -> Result<(Functions<'a, C>, u64), ParseError>
-    ensures { Gives refusal_of (functions_seen C.table) result (elf_answer C.table (table_seen table.entry) section_name.now) }
+    ensures { Gives refusal_of (functions_seen C.table) (elf_answer C.table (table_seen table.entry) section_name.now) result }
 {
     let Found {
         text,
@@ -52,7 +52,7 @@ pub(crate) fn section_functions<'a, C: Class>(
 // The section with this name, and the rows and the strings of the symbol table.
 #[tactic(auto, unfolding(crate::specs::ElfSymbols::located))]
 fn locate<'a, C: Class>(table: Table<'a>, section_name: &str) -> Result<Found<'a, C>, ParseError>
-    ensures { Gives refusal_of (found_seen C.number_of) result (located C.table (table_seen table.entry) section_name.now) }
+    ensures { Gives refusal_of (found_seen C.number_of) (located C.table (table_seen table.entry) section_name.now) result }
 {
     let text = named_section::<C>(table, section_name)?;
     let symbols = symbol_table::<C>(table)?;
@@ -69,15 +69,15 @@ fn locate<'a, C: Class>(table: Table<'a>, section_name: &str) -> Result<Found<'a
 }
 
 fn named_section<C: Class>(table: Table<'_>, name: &str) -> Result<Section<C>, ParseError>
-    ensures { Gives refusal_of (section_seen C.number_of) result
-        (sought symbols_section_is_missing (λ s. is_name name.now (name_of C.table (table_seen table.entry) s)) (walk C.table (table_seen table.entry))) }
+    ensures { Gives refusal_of (section_seen C.number_of)
+        (sought symbols_section_is_missing (λ s. is_named name.now (name_of C.table (table_seen table.entry) s)) (walk C.table (table_seen table.entry))) result }
 {
     section_with_name::<C>(table, name)?.ok_or(ParseError::SymbolsSectionIsMissing)
 }
 
 fn symbol_table<C: Class>(table: Table<'_>) -> Result<Section<C>, ParseError>
-    ensures { Gives refusal_of (section_seen C.number_of) result
-        (sought (section_is_missing (codes ".symtab")) (λ s. nat_eq s.kind 2) (walk C.table (table_seen table.entry))) }
+    ensures { Gives refusal_of (section_seen C.number_of)
+        (sought (section_is_missing (codes ".symtab")) (λ s. nat_eq s.kind 2) (walk C.table (table_seen table.entry))) result }
 {
     section_of_kind::<C>(table, SYMBOL_TABLE)?.ok_or(ParseError::SectionIsMissing(".symtab"))
 }
@@ -86,15 +86,15 @@ fn section_of_kind<C: Class>(
     table: Table<'_>,
     kind: Word,
 ) -> Result<Option<Section<C>>, UnexpectedEof>
-    ensures { Gives (λ _. unexpected_eof) (option_map (section_seen C.number_of)) result
-        (first (λ s. nat_eq s.kind kind) (walk C.table (table_seen table.entry))) }
+    ensures { Gives (λ _. unexpected_eof) (option_map (section_seen C.number_of))
+        (first (λ s. nat_eq s.kind kind) (walk C.table (table_seen table.entry))) result }
 {
     first_section::<C, _>(table, |section| section.kind == kind)
 }
 
 fn linked_section<C: Class>(table: Table<'_>, link: Word) -> Result<Section<C>, ParseError>
-    ensures { Gives refusal_of (section_seen C.number_of) result
-        (sought (section_is_missing (codes ".strtab")) (λ s. nat_eq s.index link) (walk C.table (table_seen table.entry))) }
+    ensures { Gives refusal_of (section_seen C.number_of)
+        (sought (section_is_missing (codes ".strtab")) (λ s. nat_eq s.index link) (walk C.table (table_seen table.entry))) result }
 {
     section_of_index::<C>(table, link)?.ok_or(ParseError::SectionIsMissing(".strtab"))
 }
@@ -103,14 +103,14 @@ fn section_of_index<C: Class>(
     table: Table<'_>,
     index: Word,
 ) -> Result<Option<Section<C>>, UnexpectedEof>
-    ensures { Gives (λ _. unexpected_eof) (option_map (section_seen C.number_of)) result
-        (first (λ s. nat_eq s.index index) (walk C.table (table_seen table.entry))) }
+    ensures { Gives (λ _. unexpected_eof) (option_map (section_seen C.number_of))
+        (first (λ s. nat_eq s.index index) (walk C.table (table_seen table.entry))) result }
 {
     first_section::<C, _>(table, |section| u32::from(section.index) == index)
 }
 
 fn string_table<C: Class>(section: Section<C>) -> Result<Section<C>, ParseError>
-    ensures { Gives refusal_of (section_seen C.number_of) result (string_table_kind (section_seen C.number_of section)) }
+    ensures { Gives refusal_of (section_seen C.number_of) (string_table_kind (section_seen C.number_of section)) result }
 {
     if section.kind == STRING_TABLE {
         Ok(section)
@@ -125,13 +125,13 @@ fn string_table<C: Class>(section: Section<C>) -> Result<Section<C>, ParseError>
 // The section's bytes, which have to lie in the file.
 #[tactic(auto, unfolding(crate::specs::ElfSymbols::part_of))]
 fn part_of<C: Class>(bytes: &[u8], section: Section<C>) -> Result<&[u8], ParseError>
-    ensures { Gives refusal_of (λ b. b.now) result (part_of bytes.now (section_seen C.number_of section)) }
+    ensures { Gives refusal_of (λ b. b.now) (part_of bytes.now (section_seen C.number_of section)) result }
 {
     bytes.get(section.range()?).ok_or(ParseError::UnexpectedEof)
 }
 
 fn whole_rows<C: Class>(rows: &[u8]) -> Result<&[u8], ParseError>
-    ensures { Gives refusal_of (λ b. b.now) result (whole_rows C.table rows.now) }
+    ensures { Gives refusal_of (λ b. b.now) (whole_rows C.table rows.now) result }
 {
     if rows.len() % C::SYMBOL_LENGTH == 0 {
         Ok(rows)
@@ -155,9 +155,8 @@ pub struct Functions<'a, C> {
 
 impl<'a, C: Class> Functions<'a, C> {
     // The functions of the section `index` in whole rows.
-    #[tactic(auto, using(crate::proofs::RowsLeft::from_first))]
     fn new(rows: &'a [u8], strings: &'a [u8], byte_order: ByteOrder, index: Half) -> Self
-        ensures { functions_left C.table result ≡ entries_of C.table byte_order strings.entry.now index rows.entry.now (length rows.entry.now / C.table.symbol_length) }
+        ensures { functions_left C.table result ≡ entries_from C.table byte_order strings.entry.now index rows.entry.now 0 }
     {
         Functions {
             rows,

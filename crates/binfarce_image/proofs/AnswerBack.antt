@@ -1,12 +1,12 @@
 -- From the sections that were found on, the reader answers what the image holds.
-use Rattle.std.proofs.Common.{◌≡◌, ℕ, ◌+◌, ◌*◌, ◌/◌, ◌%◌, ◌^◌, ◌<◌, Bool, true, false, cond, eqb, List, [], length, Result, Ok, Err, refl, sym, ap, ◌∙◌, arith}
-use Rattle.std.specs.List.{AllByRecursion, flat_map}
+use Rattle.std.proofs.Common.{◌≡◌, ℕ, ◌+◌, ◌-◌, ◌*◌, ◌/◌, ◌%◌, ◌^◌, ◌<◌, Bool, true, false, cond, eqb, List, [], length, Result, Ok, Err, refl, sym, ap, ◌∙◌, arith}
+use Rattle.std.specs.List.{AllByRecursion, filter_map, flat_map, range_with_len}
 use Rattle.std.specs.Global.{Vec}
 use Rattle.std.proofs.lemmas.Bool.{eq-eqb}
 use Rattle.std.proofs.lemmas.Nat.{div-mul-add, mod-mul-add}
 use Rattle.binfarce.specs.Refusal.{Refusal, ◌>>=◌, unexpected_section_type, unexpected_eof}
 use Rattle.binfarce.specs.Elf.{ElfClass, Section, SectionTable}
-use Rattle.binfarce.specs.ElfSymbols.{Located, part_of, string_table_kind, whole_rows, entries_of}
+use Rattle.binfarce.specs.ElfSymbols.{Located, part_of, string_table_kind, whole_rows, symbol_at, entry_of, entries_from}
 use Rattle.binfarce.specs.Symbol.{Entry, Listed}
 use Rattle.binfarce_image.specs.declared.image.ElfLayout.{ElfLayout}
 use Rattle.binfarce_image.specs.declared.image.Image.{Image}
@@ -25,7 +25,7 @@ use Rattle.binfarce_image.proofs.PartsBack.{Holds, part_back}
 -- the answer, where it is known what was located
 abbrev pub answer_of : ElfClass → SectionTable → Result Located Refusal → Result Listed Refusal
 answer_of class table r = r >>= λ (found : Located). Ok (record {
-  entries = entries_of class table.order found.strings found.text.index found.rows (length found.rows / class.symbol_length);
+  entries = entries_from class table.order found.strings found.text.index found.rows 0;
   section_size = found.text.size;
 })
 
@@ -57,14 +57,17 @@ count_is len n size some long =
     let split : len ≡ n * size + 0 = omega arith in
     ap (λ (m : ℕ). m / size) split ∙ div-mul-add n size 0 some
 
+from_none : (n : ℕ) → n - 0 ≡ n
+from_none n = omega arith
+
 -- the entries of the written rows
 entries_back : (layout : ElfLayout) (strings : List ℕ) (index : ℕ) (rows : List Row) (written : List ℕ) → written ≡ flat_map (symbol_bytes (class_of layout) (order_of layout)) rows
     → length written ≡ length rows * (class_of layout).symbol_length → AllByRecursion RowFits rows
-    → entries_of (class_of layout) (order_of layout) strings index written (length written / (class_of layout).symbol_length) ≡ image_entries strings index rows
+    → entries_from (class_of layout) (order_of layout) strings index written 0 ≡ image_entries strings index rows
 entries_back layout strings index rows written are long fits =
     let class = class_of layout in
     let order = order_of layout in
-    ap (λ (n : ℕ). entries_of class order strings index written n) (count_is (length written) (length rows) class.symbol_length (is_class layout).symbol_some long)
+    ap (λ (n : ℕ). filter_map (λ row. entry_of strings index (symbol_at class order written (row * class.symbol_length))) (range_with_len 0 n)) (from_none (length written / class.symbol_length) ∙ count_is (length written) (length rows) class.symbol_length (is_class layout).symbol_some long)
     ∙ rows_back layout strings index written [] 0 rows are (omega arith) fits
 
 -- the size of the section that was asked for
@@ -109,7 +112,7 @@ module _ (image : Image) (layout : ElfLayout) (small : length (bytes image layou
       let located = located_is class table text symbols linked strings.items written (kind_passes linked kind (ap (λ (x : Section). x.kind) r.is) is) first second whole in
       let index : text.index ≡ found.0 = ap (λ (x : Section). x.index) t.is in
       let size : text.size ≡ part_size found.1 = ap (λ (x : Section). x.size) t.is ∙ size_back class found.1 other in
-      let all = entries_of class order strings.items text.index written (length written / class.symbol_length) in
+      let all = entries_from class order strings.items text.index written 0 in
       let entries : all ≡ image_entries strings.items found.0 rows.items = entries_back layout strings.items text.index rows.items written refl long s.fits.2 ∙ ap (λ (i : ℕ). image_entries strings.items i rows.items) index in
       ap (answer_of class table) located
       ∙ same_listed all (image_entries strings.items found.0 rows.items) text.size (part_size found.1) entries size

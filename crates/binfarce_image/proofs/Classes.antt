@@ -6,12 +6,12 @@ use Rattle.binfarce_image.specs.declared.image.ElfLayout.TheVariants.{Elf32Littl
 use Rattle.binfarce_image.specs.declared.image.Image.{Image}
 use Rattle.binfarce_image.specs.declared.image.Part.{Part}
 use Rattle.binfarce_image.specs.declared.image.Row.{Row}
-use Rattle.binfarce_image.specs.Image.{class_of, bodies_end, body_length, entry_length, part_name, part_kind, part_link, symbol_numbers, section_numbers, header_numbers}
+use Rattle.binfarce_image.specs.Image.{class_of, bodies_end, body_length, entry_length, name_offset, part_kind, part_link, symbol_numbers, section_numbers, header_numbers}
 use Rattle.binfarce_image.proofs.Fields.{IsPut}
 
 -- what a section header says is read where it was put
 pub record SectionPut (class : ElfClass) (place : ℕ) (part : Part) : Type 0 where
-  pub name : IsPut class.section_length class.section.name (section_numbers class place part) (part_name part) (2 ^ 32)
+  pub name : IsPut class.section_length class.section.name (section_numbers class place part) (name_offset part) (2 ^ 32)
   pub kind : IsPut class.section_length class.section.kind (section_numbers class place part) (part_kind part) (2 ^ 32)
   pub link : IsPut class.section_length class.section.link (section_numbers class place part) (part_link part) (2 ^ 32)
   pub offset : IsPut class.section_length class.section.offset (section_numbers class place part) place (2 ^ 32)

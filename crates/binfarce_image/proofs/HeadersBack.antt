@@ -8,7 +8,7 @@ use Rattle.binfarce.specs.Elf.{ElfClass, Section, section_at}
 use Rattle.binfarce_image.specs.declared.image.ElfLayout.{ElfLayout}
 use Rattle.binfarce_image.specs.declared.image.Part.{Part}
 use Rattle.binfarce_image.specs.declared.image.Part.TheVariants.{Bytes, Table}
-use Rattle.binfarce_image.specs.Image.{class_of, order_of, bodies_end, body_length, entry_length, part_name, part_kind, part_link, section_numbers, section_bytes, section_headers}
+use Rattle.binfarce_image.specs.Image.{class_of, order_of, bodies_end, body_length, entry_length, name_offset, part_kind, part_link, section_numbers, section_bytes, section_headers}
 use Rattle.binfarce_image.specs.ImageSymbols.{PartFits}
 use Rattle.binfarce_image.proofs.Lengths.{lengths, section_fits, length-section_bytes, bodies_end_above}
 use Rattle.binfarce_image.proofs.Fields.{IsPut, field_back}
@@ -18,7 +18,7 @@ use Rattle.binfarce_image.proofs.Classes.{SectionPut, is_class}
 abbrev pub section_of_part : ElfClass → ℕ → ℕ → Part → Section
 section_of_part class place index part = record {
   index = index;
-  name_offset = part_name part;
+  name_offset = name_offset part;
   kind = part_kind part;
   link = part_link part;
   offset = place;
@@ -43,7 +43,7 @@ module _ (layout : ElfLayout) where
 
   -- the numbers of a section header are below 2^32
   record NumbersFit (place : ℕ) (part : Part) : Type 0 where
-    pub name : part_name part < 2 ^ 32
+    pub name : name_offset part < 2 ^ 32
     pub kind : part_kind part < 2 ^ 32
     pub link : part_link part < 2 ^ 32
     pub offset : place < 2 ^ 32
@@ -70,7 +70,7 @@ module _ (layout : ElfLayout) where
   section_back front behind start place index part fit at =
       let put : SectionPut class place part = (is_class layout).section_put place part in
       same_section
-      (field_of_section front behind start place part class.section.name (part_name part) at fit.name put.name)
+      (field_of_section front behind start place part class.section.name (name_offset part) at fit.name put.name)
       (field_of_section front behind start place part class.section.kind (part_kind part) at fit.kind put.kind)
       (field_of_section front behind start place part class.section.link (part_link part) at fit.link put.link)
       (field_of_section front behind start place part class.section.offset place at fit.offset put.offset)

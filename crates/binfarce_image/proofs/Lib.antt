@@ -13,3 +13,4 @@ pub mod WalkBack
 pub mod PartsBack
 pub mod AnswerBack
 pub mod ReadsBack
+pub mod Formats

@@ -14,7 +14,7 @@ use Rattle.binfarce_image.specs.declared.image.ElfLayout.{ElfLayout}
 use Rattle.binfarce_image.specs.declared.image.Image.{Image}
 use Rattle.binfarce_image.specs.declared.image.Part.{Part}
 use Rattle.binfarce_image.specs.declared.image.Part.TheVariants.{Bytes, Table}
-use Rattle.binfarce_image.specs.Image.{bytes, body, body_length, class_of, order_of, part_name}
+use Rattle.binfarce_image.specs.Image.{bytes, body, body_length, class_of, order_of, name_offset}
 use Rattle.binfarce_image.specs.ImageRefusal.{bytes_of, names_of}
 use Rattle.binfarce_image.specs.ImageSymbols.{PartFits, name_of as part_name_of}
 use Rattle.binfarce_image.proofs.BodiesBack.{IsSectionOf}
@@ -104,5 +104,5 @@ name_back image layout due fits section found r =
     let held : Holds image layout s (image.names_at, n.0) = section_at_index image layout due fits image.names_at n.0 at.there at.at in
     let strings : contents (bytes image layout) s ≡ Some names = contents_back class order (bytes image layout) s (image.names_at, n.0) held ∙ ap (λ (xs : List ℕ). Some xs) (body_of_names class order n.0 names at.holds) in
     let there : image.names_at < whole_headers class table = omega (arith, whole_back image layout, at.there) in
-    named_by class table section s names (part_name found.1) (names_section_is class table there) strings (ap (λ (t : Section). t.name_offset) r.is)
-    ∙ sym (ap (option_and_then (λ (xs : List ℕ). text_at xs (part_name found.1))) at.are)
+    named_by class table section s names (name_offset found.1) (names_section_is class table there) strings (ap (λ (t : Section). t.name_offset) r.is)
+    ∙ sym (ap (option_and_then (λ (xs : List ℕ). text_at xs (name_offset found.1))) at.are)

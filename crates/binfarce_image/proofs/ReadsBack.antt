@@ -7,7 +7,7 @@ use Rattle.std.specs.Global.{Vec}
 use Rattle.binfarce.specs.Refusal.{Refusal, ◌>>=◌, required, symbols_section_is_missing, section_is_missing}
 use Rattle.binfarce.specs.Walk.{Walk, found_or_end}
 use Rattle.binfarce.specs.Elf.{ElfClass, Section, SectionTable, walk, name_of}
-use Rattle.binfarce.specs.ElfSymbols.{Located, sought, located, is_name, elf_answer}
+use Rattle.binfarce.specs.ElfSymbols.{Located, sought, located, is_named, elf_answer}
 use Rattle.binfarce.specs.Symbol.{Listed}
 use Rattle.binfarce_image.specs.declared.image.ElfLayout.{ElfLayout}
 use Rattle.binfarce_image.specs.declared.image.Image.{Image}
@@ -24,7 +24,7 @@ use Rattle.binfarce_image.proofs.AnswerBack.{answer_of, located_with, answer_wit
 use Rattle.binfarce_image.proofs.Found.{BothOrNone, find_both, find_index, find_numbered, found_passes}
 
 -- a search in a walk that is done
-sought_is : (missing : Refusal) (accepts : Section → Bool) (w : Walk Section) (sections : List Section) (o : Option Section) → w.sections ≡ sections → w.refusal ≡ None → find accepts sections ≡ o
+sought_is : (missing : Refusal) (accepts : Section → Bool) (w : Walk Section) (sections : List Section) (o : Option Section) → w.items ≡ sections → w.refusal ≡ None → find accepts sections ≡ o
     → sought missing accepts w ≡ required missing o
 sought_is missing accepts w sections o same done found =
     ap (λ (xs : List Section). found_or_end (find accepts xs) w.refusal >>= required missing) same
@@ -146,9 +146,9 @@ module _ (image : Image) (layout : ElfLayout) (due : LaysOut image layout) (fits
   read_back : (name : List ℕ) → IsNotTable (part_named image name) → elf_answer class table name ≡ symbols_of image name
   unfolding elf_answer located symbols_of
   read_back name other =
-      let f : Section → Bool = λ s. is_name name (name_of class table s) in
-      let g : ℕ × Part → Bool = λ q. is_name name (part_name_of image q.1) in
-      let agree : (s : Section) (q : ℕ × Part) → Holds image layout s q → f s ≡ g q = λ s q h. ap (is_name name) (name_back image layout due fits s q h) in
+      let f : Section → Bool = λ s. is_named name (name_of class table s) in
+      let g : ℕ × Part → Bool = λ q. is_named name (part_name_of image q.1) in
+      let agree : (s : Section) (q : ℕ × Part) → Holds image layout s q → f s ≡ g q = λ s q h. ap (is_named name) (name_back image layout due fits s q h) in
       ap (λ (x : Result Section Refusal). answer_of class table (x >>= λ (text : Section). located_for text)) (sought_in_file symbols_section_is_missing f (find f sections) refl)
       ∙ named_by name (find f sections) (find g numbered) (both f g agree) other
 

@@ -8,7 +8,7 @@ use Rattle.std.proofs.lemmas.Nat.{div-mul-add}
 use Rattle.std.proofs.lemmas.List.Sums.{count_by-le-length}
 use Rattle.binfarce.specs.declared.ByteOrder.{ByteOrder}
 use Rattle.binfarce.specs.Field.{Field, value_at}
-use Rattle.binfarce.specs.Elf.{ElfClass, SectionTable, section_table, header_at, section_of, whole_headers, walk}
+use Rattle.binfarce.specs.Elf.{ElfClass, SectionTable, section_table, header_of, section_of, whole_headers, walk}
 use Rattle.binfarce_image.specs.declared.image.ElfLayout.{ElfLayout}
 use Rattle.binfarce_image.specs.declared.image.Image.{Image}
 use Rattle.binfarce_image.specs.declared.image.ImageError.TheVariants.{TooManySections, TableCount, NamesPlace, TooLarge}
@@ -58,7 +58,7 @@ whole_is len shoff n size some long =
     let rest : len - shoff ≡ n * size + 0 = omega arith in
     ap (λ (m : ℕ). m / size) rest ∙ div-mul-add n size 0 some
 
-walk_sections : (class : ElfClass) (table : SectionTable) (n : ℕ) → table.shnum ≡ n → whole_headers class table ≡ n → (walk class table).sections ≡ map (section_of class table) (range_with_len 0 n)
+walk_sections : (class : ElfClass) (table : SectionTable) (n : ℕ) → table.shnum ≡ n → whole_headers class table ≡ n → (walk class table).items ≡ map (section_of class table) (range_with_len 0 n)
 unfolding walk
 walk_sections class table n count whole =
     let least : min table.shnum (whole_headers class table) ≡ n = omega arith in
@@ -112,7 +112,7 @@ module _ (image : Image) (layout : ElfLayout) where
 
   -- the header of the file says where the section headers are
   pub table_back : LaysOut image layout → image.names_at < length parts → section_table class (record { order = order; bytes = bytes image layout }) ≡ table_of image layout
-  unfolding section_table header_at
+  unfolding section_table header_of
   table_back due there =
       let put : HeaderPut class image = (is_class layout).header_put image in
       let below : shoff < 2 ^ 32 = omega (arith, length-bytes image layout, due.small) in
@@ -144,7 +144,7 @@ module _ (image : Image) (layout : ElfLayout) where
   parts_back due fits = bodies_back layout (bytes image layout) (header_bytes layout image) headers class.header_length 0 parts bytes_is (length-header_bytes layout image) fits due.unclaimed
 
   -- the walk over the file
-  pub walk_back : LaysOut image layout → AllByRecursion PartFits parts → (walk class (table_of image layout)).sections ≡ sections_from class class.header_length 0 parts
+  pub walk_back : LaysOut image layout → AllByRecursion PartFits parts → (walk class (table_of image layout)).items ≡ sections_from class class.header_length 0 parts
   walk_back due fits = walk_sections class (table_of image layout) (length parts) refl whole_back ∙ sections_back due fits
 
   pub walk_done : LaysOut image layout → (walk class (table_of image layout)).refusal ≡ None

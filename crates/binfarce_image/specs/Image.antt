@@ -3,6 +3,8 @@ use Rattle.std.specs.Prelude.{ℕ, ◌+◌, ◌-◌, ◌*◌, List, [], ◌∷�
 use Rattle.std.specs.List.{flat_map}
 use Rattle.binfarce.specs.declared.ByteOrder.{ByteOrder}
 use Rattle.binfarce.specs.declared.ByteOrder.TheVariants.{LittleEndian, BigEndian}
+use Rattle.binfarce.specs.declared.Format.{Format}
+use Rattle.binfarce.specs.declared.Format.TheVariants.{Elf32, Elf64}
 use Rattle.binfarce.specs.Field.{Field}
 use Rattle.binfarce.specs.Elf.{ElfClass, elf32, elf64}
 use Rattle.binfarce_image.specs.declared.image.ElfLayout.{ElfLayout}
@@ -25,6 +27,13 @@ order_of Elf32Big = BigEndian
 order_of Elf64Little = LittleEndian
 order_of Elf64Big = BigEndian
 
+-- the format of a layout's files
+abbrev pub layout_format : ElfLayout → Format
+layout_format Elf32Little = Elf32 LittleEndian
+layout_format Elf32Big = Elf32 BigEndian
+layout_format Elf64Little = Elf64 LittleEndian
+layout_format Elf64Big = Elf64 BigEndian
+
 -- EI_CLASS: ELFCLASS32 or ELFCLASS64
 abbrev pub class_byte : ElfLayout → ℕ
 class_byte Elf32Little = 1
@@ -39,10 +48,10 @@ order_byte Elf32Big = 2
 order_byte Elf64Little = 1
 order_byte Elf64Big = 2
 
--- the offset of a part's name among the section names
-abbrev pub part_name : Part → ℕ
-part_name (Bytes name kind link body) = name
-part_name (Table name link rows) = name
+-- where a part's name begins among the section names
+abbrev pub name_offset : Part → ℕ
+name_offset (Bytes name kind link body) = name
+name_offset (Table name link rows) = name
 
 -- a table is SHT_SYMTAB
 abbrev pub part_kind : Part → ℕ
@@ -82,7 +91,7 @@ symbol_numbers class row =
 -- the numbers of a section header, whose part's body begins at this place; its other fields are 0
 abbrev pub section_numbers : ElfClass → ℕ → Part → List (Field × ℕ)
 section_numbers class place part =
-    (class.section.name, part_name part)
+    (class.section.name, name_offset part)
     ∷ (class.section.kind, part_kind part)
     ∷ (class.section.offset, place)
     ∷ (class.section.size, body_length class part)
@@ -103,9 +112,9 @@ header_numbers class image =
     ∷ (class.header.shstrndx, image.names_at)
     ∷ []
 
--- e_ident: the magic number, the class, the order, EV_CURRENT, and nine zero bytes
+-- e_ident, of 16 bytes: the magic number, the class, the order, EV_CURRENT, and nine zero bytes
 abbrev pub identification : ElfLayout → List ℕ
-identification layout = 127 ∷ 69 ∷ 76 ∷ 70 ∷ class_byte layout ∷ order_byte layout ∷ 1 ∷ replicate 9 0
+identification layout = 0x7F ∷ 0x45 ∷ 0x4C ∷ 0x46 ∷ class_byte layout ∷ order_byte layout ∷ 1 ∷ replicate 9 0
 
 -- a symbol table entry
 unfoldable pub symbol_bytes : ElfClass → ByteOrder → Row → List ℕ

@@ -5,35 +5,35 @@ use Rattle.std.specs.Option.{option_and_then}
 use Rattle.binfarce.specs.Text.{text_at}
 use Rattle.binfarce.specs.Refusal.{◌>>=◌, Refusal, required, symbols_section_is_missing, section_is_missing, unexpected_section_type}
 use Rattle.binfarce.specs.Elf.{SymbolRow, section_table}
-use Rattle.binfarce.specs.ElfSymbols.{entry_of, is_name, elf_answer}
+use Rattle.binfarce.specs.ElfSymbols.{entry_of, is_named, elf_answer}
 use Rattle.binfarce.specs.Symbol.{Entry, Listed}
 use Rattle.binfarce_image.specs.declared.image.ElfLayout.{ElfLayout}
 use Rattle.binfarce_image.specs.declared.image.Image.{Image}
 use Rattle.binfarce_image.specs.declared.image.Part.{Part}
 use Rattle.binfarce_image.specs.declared.image.Part.TheVariants.{Bytes, Table}
 use Rattle.binfarce_image.specs.declared.image.Row.{Row}
-use Rattle.binfarce_image.specs.Image.{bytes, class_of, order_of, part_name, part_link}
+use Rattle.binfarce_image.specs.Image.{bytes, class_of, order_of, name_offset, part_link}
 use Rattle.binfarce_image.specs.ImageRefusal.{is_table, names_of, refusal_due}
 
 -- a part's name: the text at its name offset among the section names
 abbrev pub name_of : Image → Part → Option (List ℕ)
-name_of image part = option_and_then (λ names. text_at names (part_name part)) (names_of image)
+name_of image part = option_and_then (λ names. text_at names (name_offset part)) (names_of image)
 
 -- the first part of a name, and its index
 abbrev pub part_named : Image → List ℕ → Option (ℕ × Part)
-part_named image name = find (λ found. is_name name (name_of image found.1)) (enumerate_from 0 image.parts.items)
+part_named image name = find (λ found. is_named name (name_of image found.1)) (enumerate_from 0 image.parts.items)
 
 -- the bytes of a string table, SHT_STRTAB
 abbrev pub strings_of : Part → Result (List ℕ) Refusal
 strings_of (Bytes name kind link body) = if nat_eq kind 3 then Ok body.items else Err (unexpected_section_type 3 kind)
 strings_of (Table name link rows) = Err (unexpected_section_type 3 2)
 
--- the rows of a table
+-- the rows of a table; it is asked of the first table alone, so that nothing is asked of other parts
 abbrev pub rows_of : Part → List Row
 rows_of (Bytes name kind link body) = []
 rows_of (Table name link rows) = rows.items
 
--- how much a part holds: bytes, or rows
+-- how much a part holds. The law is about names whose first part isn't the table, so that the number of a table's rows says nothing there
 abbrev pub part_size : Part → ℕ
 part_size (Bytes name kind link body) = length body.items
 part_size (Table name link rows) = length rows.items

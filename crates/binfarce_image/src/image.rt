@@ -4,7 +4,8 @@
 //! image holds, whichever it is.
 
 ghost use Rattle.std.specs.Prelude.{◌≡◌, Some, IfOk};
-ghost use Rattle.binfarce_image.specs.Image.{bytes};
+ghost use Rattle.binfarce.specs.Format.{format_of};
+ghost use Rattle.binfarce_image.specs.Image.{bytes, layout_format};
 ghost use Rattle.binfarce_image.specs.ImageRefusal.{refusal_due, Refuses};
 ghost use Rattle.binfarce_image.specs.ImageSymbols.{ReadsBack};
 
@@ -137,6 +138,8 @@ impl From<AllocError> for ImageError {
 /// after the other refusals.
 pub fn lay_out(alloc: Global, image: &Image, layout: ElfLayout) -> Result<Vec<u8>, ImageError>
     ensures file { IfOk result (λ v. v.items ≡ bytes image.now layout) }
+    // The file's first bytes name the layout's class and order.
+    ensures format { IfOk result (λ v. format_of v.items ≡ layout_format layout) }
     // The ELF answer of the file is what the image holds, for every name whose first part isn't the table.
     ensures law { IfOk result (λ v. ReadsBack layout image.now v.items) }
     ensures refused { Refuses (refusal_due image.now layout) result }

@@ -2,8 +2,8 @@
 use Rattle.std.proofs.Common.{◌≡◌, ℕ, zero, suc, ◌+◌, ◌-◌, ◌<◌, ◌≤◌, Bool, true, false, List, [], ◌∷◌, length, Option, Some, None, Result, Ok, Err, IsErrAnd, refl, sym, ap, ◌∙◌, arith, cond, ltb}
 use Rattle.std.proofs.lemmas.Bool.{lt-ltb, le-ltb, ltb-false}
 use Rattle.binfarce_bytes.specs.Refusal.{Refusal, Gives, malformed_input}
-use Rattle.binfarce_bytes.specs.Walk.{Walk, first}
-use Rattle.binfarce_macho.specs.Macho.{Command, header_at, header_fields, command_at, commands_from, ended, ahead_of}
+use Rattle.binfarce_bytes.specs.Walk.{Walk, first, ended, ahead_of}
+use Rattle.binfarce_macho.specs.Macho.{Command, header_of, header_fields, command_at, commands_from}
 use Rattle.binfarce_macho.specs.machine.RawMacho.{Takes, command_seen, damage_refusal}
 use Rattle.binfarce_macho.specs.declared.macho.Damage.{Damage}
 use Rattle.binfarce_macho.specs.declared.macho.Command as raw
@@ -18,8 +18,8 @@ pub header_is : (file : List ℕ) (cputype cpusubtype filetype ncmds sizeofcmds 
     → ncmds ≡ number LittleEndian (bytes_at file 16 4)
     → sizeofcmds ≡ number LittleEndian (bytes_at file 20 4)
     → flags ≡ number LittleEndian (bytes_at file 24 4)
-    → (record { cputype = cputype; cpusubtype = cpusubtype; filetype = filetype; ncmds = ncmds; sizeofcmds = sizeofcmds; flags = flags }) ≡ header_at file
-unfolding header_at header_fields
+    → (record { cputype = cputype; cpusubtype = cpusubtype; filetype = filetype; ncmds = ncmds; sizeofcmds = sizeofcmds; flags = flags }) ≡ header_of file
+unfolding header_of header_fields
 header_is file cputype cpusubtype filetype ncmds sizeofcmds flags is_cputype is_cpusubtype is_filetype is_ncmds is_sizeofcmds is_flags = cc
 
 -- no more are allowed
@@ -57,18 +57,18 @@ offset_of (command ∷ others) = command.offset
 -- a command that is given has its head in the file
 pub inside : (file : List ℕ) (n offset : ℕ) (command : Command) (left : Walk Command) → commands_from file n offset ≡ ahead_of command left → command.offset + 8 ≤ length file
 unfolding commands_from offset_of
-inside file zero offset command left e = let none : [] ≡ command ∷ left.sections = ap (λ (w : Walk Command). w.sections) e in absurd cc
+inside file zero offset command left e = let none : [] ≡ command ∷ left.items = ap (λ (w : Walk Command). w.items) e in absurd cc
 inside file (suc n) offset command left e = by_head (ltb (length file) (offset + 8)) refl e
   where
     nothing : {r : Option Refusal} → ended r ≡ ahead_of command left → command.offset + 8 ≤ length file
-    nothing e = let none : [] ≡ command ∷ left.sections = ap (λ (w : Walk Command). w.sections) e in absurd cc
+    nothing e = let none : [] ≡ command ∷ left.items = ap (λ (w : Walk Command). w.items) e in absurd cc
 
     by_size : (b : Bool) → offset + 8 ≤ length file
         → cond b (ended (Some malformed_input)) (ahead_of (command_at file offset) (commands_from file n (offset + (command_at file offset).size))) ≡ ahead_of command left
         → command.offset + 8 ≤ length file
     by_size true whole e = nothing e
     by_size false whole e =
-        let same : command_at file offset ∷ (commands_from file n (offset + (command_at file offset).size)).sections ≡ command ∷ left.sections = ap (λ (w : Walk Command). w.sections) e in
+        let same : command_at file offset ∷ (commands_from file n (offset + (command_at file offset).size)).items ≡ command ∷ left.items = ap (λ (w : Walk Command). w.items) e in
         let here : offset ≡ command.offset = ap (λ (cs : List Command). offset_of cs) same in
         omega arith
 
@@ -93,6 +93,6 @@ pub first_after : (test : Command → Bool) (command : Command) (left : Walk Com
 first_after test command left e = rw e refl
 
 -- a refusal that a `?` passes on
-pub gives_refusal : {X Y E : Type 0} (why : E → Refusal) (view : X → Y) (answer : Result Y Refusal) (refusal : Refusal) (result : Result X E) → answer ≡ Err refusal → IsErrAnd result (λ e. why e ≡ refusal) → Gives why view result answer
+pub gives_refusal : {X Y E : Type 0} (why : E → Refusal) (view : X → Y) (answer : Result Y Refusal) (refusal : Refusal) (result : Result X E) → answer ≡ Err refusal → IsErrAnd result (λ e. why e ≡ refusal) → Gives why view answer result
 gives_refusal why view answer refusal (Ok x) at is = absurd is
 gives_refusal why view answer refusal (Err e) at is = at ∙ ap Err (sym is)

@@ -7,7 +7,7 @@ use Rattle.binfarce_bytes.specs.Refusal.{◌>>=◌, Refusal}
 use Rattle.binfarce_macho.specs.MachoSymbols.{kept, symbol_of, address_of, row_addresses}
 use Rattle.binfarce_symbols.specs.Sizes.{RowAddress}
 use Rattle.binfarce_symbols.specs.declared.sizes.RowAddress as code
-use Rattle.binfarce_symbols.specs.machine.Rows.{row_seen, rows_seen}
+use Rattle.binfarce_symbols.specs.RowSeen.{row_seen, rows_seen}
 use Rattle.std.proofs.lemmas.List.Elements.{All-nil, All-cons, All-head, All-tail, All-append, All-same}
 use Rattle.binfarce_macho.proofs.Sections.{kept_after}
 use Rattle.binfarce_symbols.proofs.Rows.{one_more}

@@ -5,9 +5,9 @@ use Rattle.std.proofs.lemmas.List.Elements.{All-nil, All-cons, All-weaker}
 use Rattle.binfarce_bytes.specs.Refusal.{◌>>=◌, Refusal}
 use Rattle.binfarce_symbols.specs.Symbol.{Entry, Listed}
 use Rattle.binfarce_bytes.specs.Text.{text_at}
-use Rattle.binfarce_symbols.specs.Sizes.{RowAddress, ListsArranged, addresses_of, arranged, least_above, LeastAbove}
+use Rattle.binfarce_symbols.specs.Sizes.{RowAddress, ListsArranged, addresses_of, arranged, least_above}
 use Rattle.binfarce_macho.specs.MachoSymbols.{Located, located, symbol_of, is_candidate, size_up_to, macho_size, sized_entry, entry_of, kept, address_of, row_addresses, answer_of, macho_answer, AreSized}
-use Rattle.binfarce_symbols.proofs.Above.{least_above_is}
+use Rattle.binfarce_symbols.proofs.Above.{LeastAbove, least_above_is}
 use Rattle.binfarce_symbols.proofs.Arrangement.{Rising, arrangement_of}
 use Rattle.binfarce_macho.proofs.Kept.{address_row}
 

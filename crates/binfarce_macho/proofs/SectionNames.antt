@@ -1,13 +1,12 @@
 -- The names of a Mach-O section, from their bytes.
 use Rattle.std.proofs.Common.{◌≡◌, ◌≢◌, ℕ, List, length, None, refl, arith}
 use Rattle.std.proofs.lemmas.Bool.{lt-ltb, le-ltb}
-use Rattle.binfarce_bytes.specs.Text.{up_to_nul, utf8_of}
-use Rattle.binfarce_macho.specs.Macho.{name_of}
+use Rattle.binfarce_bytes.specs.Text.{up_to_nul, utf8_of, padded_name}
 
-pub name_is : (bytes text : List ℕ) → text ≡ up_to_nul bytes → length text ≢ 0 → name_of bytes ≡ utf8_of text
-unfolding name_of
+pub name_is : (bytes text : List ℕ) → text ≡ up_to_nul bytes → length text ≢ 0 → padded_name bytes ≡ utf8_of text
+unfolding padded_name
 name_is bytes text is some = rw (← is, lt-ltb 0 (length text) (omega arith)) refl
 
-pub name_empty : (bytes text : List ℕ) → text ≡ up_to_nul bytes → length text ≡ 0 → name_of bytes ≡ None
-unfolding name_of
+pub name_empty : (bytes text : List ℕ) → text ≡ up_to_nul bytes → length text ≡ 0 → padded_name bytes ≡ None
+unfolding padded_name
 name_empty bytes text is none = rw (← is, le-ltb 0 (length text) (omega arith)) refl

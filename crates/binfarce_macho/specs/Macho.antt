@@ -1,12 +1,12 @@
 -- 64-bit Mach-O files, which are always little endian (Apple's <mach-o/loader.h>): tables of offsets and widths, and what stands there.
-use Rattle.std.specs.Prelude.{ℕ, zero, suc, ◌+◌, ◌-◌, ◌*◌, ◌/◌, Bool, ◌&&◌, List, [], ◌∷◌, ◌++◌, length, Option, Some, None, nat_eq, nat_lt, nat_le, min, if◌then◌else◌}
+use Rattle.std.specs.Prelude.{ℕ, zero, suc, ◌+◌, ◌-◌, ◌*◌, ◌/◌, Bool, ◌&&◌, List, [], ◌∷◌, length, Option, Some, None, nat_eq, nat_lt, nat_le, min, if◌then◌else◌}
 use Rattle.std.specs.List.{range_with_len, filter_map}
 use Rattle.std.specs.Str.{bytes_eq}
 use Rattle.binfarce_bytes.specs.Steps.{◌>>=◌}
 use Rattle.binfarce_bytes.specs.Number.{bytes_at}
-use Rattle.binfarce_bytes.specs.Text.{up_to_nul, utf8_of}
+use Rattle.binfarce_bytes.specs.Text.{padded_name}
 use Rattle.binfarce_bytes.specs.Refusal.{Refusal, malformed_input, unexpected_eof}
-use Rattle.binfarce_bytes.specs.Walk.{Walk}
+use Rattle.binfarce_bytes.specs.Walk.{Walk, ended, ahead_of, and_then}
 use Rattle.binfarce_bytes.specs.Field.{Field, field, number_in}
 
 -- mach_header_64: one A for each field after the magic number
@@ -28,9 +28,16 @@ header_fields = record {
   flags = field 24 4;
 }
 
+-- mach_header_64 has 32 bytes. Its fields end at 28; the four reserved bytes after them aren't read and may be missing
+abbrev pub header_length : ℕ
+header_length = 32
+
+abbrev pub least_length : ℕ
+least_length = 28
+
 -- the file's header
-unfoldable pub header_at : List ℕ → Header ℕ
-header_at file = record {
+unfoldable pub header_of : List ℕ → Header ℕ
+header_of file = record {
   cputype = number_in file 0 header_fields.cputype;
   cpusubtype = number_in file 0 header_fields.cpusubtype;
   filetype = number_in file 0 header_fields.filetype;
@@ -39,15 +46,11 @@ header_at file = record {
   flags = number_in file 0 header_fields.flags;
 }
 
--- a walk that gives nothing, and ends so
-abbrev pub ended : {S : Type 0} → Option Refusal → Walk S
-ended refusal = record { sections = []; refusal = refusal }
+-- load_command has 8 bytes: its kind, and its size, which counts these bytes too
+abbrev pub command_length : ℕ
+command_length = 8
 
--- what a walk gives, after something else
-abbrev pub ahead_of : {S : Type 0} → S → Walk S → Walk S
-ahead_of s walk = record { sections = s ∷ walk.sections; refusal = walk.refusal }
-
--- load_command: where it begins, its kind, and its size with these 8 bytes
+-- a load command, and where it begins
 pub record Command : Type 0 where
   pub offset : ℕ
   pub kind : ℕ
@@ -58,19 +61,19 @@ command_at file offset = record { offset = offset; kind = number_in file offset 
 
 -- where a command's body begins
 abbrev pub body_of : Command → ℕ
-body_of command = command.offset + 8
+body_of command = command.offset + command_length
 
--- at most n commands from an offset on, each right after the one before it. They end where no head of 8 bytes fits, and with a refusal at a size under 8: that command isn't given
+-- at most n commands from an offset on, each right after the one before it. They end where none fits, and with a refusal at a size that doesn't count the command itself: that command isn't given
 unfoldable pub commands_from : List ℕ → ℕ → ℕ → Walk Command
 commands_from file zero offset = ended None
 commands_from file (suc n) offset =
-    if nat_lt (length file) (offset + 8) then ended None
-    else if nat_lt (command_at file offset).size 8 then ended (Some malformed_input)
+    if nat_lt (length file) (offset + command_length) then ended None
+    else if nat_lt (command_at file offset).size command_length then ended (Some malformed_input)
     else ahead_of (command_at file offset) (commands_from file n (offset + (command_at file offset).size))
 
--- the file's commands, as many as the header says at most, from byte 32 on
+-- the file's commands, as many as the header says at most, from its end on
 abbrev pub commands : List ℕ → Walk Command
-commands file = commands_from file (header_at file).ncmds 32
+commands file = commands_from file (header_of file).ncmds header_length
 
 -- section_64: one A for each field that is read
 pub record SectionFields (A : Type 0) : Type 0 where
@@ -89,6 +92,13 @@ section_fields = record {
   offset = field 48 4;
 }
 
+-- section_64 has 80 bytes. The fields that are read end at 52; of the last structure of a file the 28 bytes after them may be missing
+abbrev pub section_length : ℕ
+section_length = 80
+
+abbrev pub section_unread : ℕ
+section_unread = 28
+
 -- a section: its two names, its address in memory, and the offset and the number of its bytes in the file
 pub record Section : Type 0 where
   pub segment_name : List ℕ
@@ -97,13 +107,9 @@ pub record Section : Type 0 where
   pub offset : ℕ
   pub size : ℕ
 
--- what the bytes of a name say: those up to the first NUL, or all where there is none. A name isn't empty, and is UTF-8
-unfoldable pub name_of : List ℕ → Option (List ℕ)
-name_of bytes = if nat_lt 0 (length (up_to_nul bytes)) then utf8_of (up_to_nul bytes) else None
-
--- a name, from its own 16 bytes
+-- a section's or a segment's name, from its own 16 bytes
 abbrev pub name_in : List ℕ → ℕ → Field → Option (List ℕ)
-name_in file start f = name_of (bytes_at file (start + f.offset) f.width)
+name_in file start f = padded_name (bytes_at file (start + f.offset) f.width)
 
 -- the section whose structure begins at start, where both its names are valid
 unfoldable pub section_at : List ℕ → ℕ → Option Section
@@ -118,13 +124,24 @@ section_at file start = do
     size = number_in file start section_fields.size;
   })
 
--- where structure i of a segment command stands: from byte 64 of its body on, 80 bytes each
-abbrev pub section_offset : ℕ → ℕ → ℕ
-section_offset body i = body + 64 + i * 80
+-- segment_command_64, in its body: the number of its sections, after which 4 bytes of flags aren't read
+abbrev pub section_count : List ℕ → ℕ → ℕ
+section_count file body = number_in file body (field 56 4)
 
--- how many structures the file has room for: of the last one, the 28 bytes that aren't read may be missing
-abbrev pub whole_sections : List ℕ → ℕ → ℕ
-whole_sections file body = (length file + 28 - (body + 64)) / 80
+-- the body up to the end of that number, and the whole body, after which the sections stand
+abbrev pub segment_read : ℕ
+segment_read = 60
+
+abbrev pub segment_length : ℕ
+segment_length = 64
+
+-- where structure i of a segment command stands
+abbrev pub section_offset : ℕ → ℕ → ℕ
+section_offset body i = body + segment_length + i * section_length
+
+-- how many section structures of a segment command the file has room for
+abbrev pub whole_headers : List ℕ → ℕ → ℕ
+whole_headers file body = (length file + section_unread - (body + segment_length)) / section_length
 
 -- the sections numbered below n of a segment command with this body
 abbrev pub sections_below : List ℕ → ℕ → ℕ → List Section
@@ -133,16 +150,11 @@ sections_below file body n = filter_map (λ i. section_at file (section_offset b
 -- segment_command_64: the sections of the structures numbered below its count, up to the first that is truncated
 unfoldable pub segment : List ℕ → ℕ → Walk Section
 segment file body =
-    if nat_lt (length file) (body + 60) then ended (Some unexpected_eof)
+    if nat_lt (length file) (body + segment_read) then ended (Some unexpected_eof)
     else record {
-      sections = sections_below file body (min (number_in file body (field 56 4)) (whole_sections file body));
-      refusal = if nat_le (number_in file body (field 56 4)) (whole_sections file body) then None else Some unexpected_eof;
+      items = sections_below file body (min (section_count file body) (whole_headers file body));
+      refusal = if nat_le (section_count file body) (whole_headers file body) then None else Some unexpected_eof;
     }
-
--- sections, and after them another walk, unless a refusal ends them
-abbrev pub and_then : {S : Type 0} → List S → Option Refusal → Walk S → Walk S
-and_then sections None after = record { sections = sections ++ after.sections; refusal = after.refusal }
-and_then sections (Some refusal) after = record { sections = sections; refusal = Some refusal }
 
 -- LC_SEGMENT_64
 abbrev pub is_segment : Command → Bool
@@ -152,12 +164,12 @@ is_segment command = nat_eq command.kind 0x19
 unfoldable pub sections_of : List ℕ → List Command → Option Refusal → Walk Section
 sections_of file [] refusal = ended refusal
 sections_of file (command ∷ others) refusal =
-    if is_segment command then and_then (segment file (body_of command)).sections (segment file (body_of command)).refusal (sections_of file others refusal)
+    if is_segment command then and_then (segment file (body_of command)).items (segment file (body_of command)).refusal (sections_of file others refusal)
     else sections_of file others refusal
 
 -- the file's sections, up to the first truncated field or the bad command
 unfoldable pub walk : List ℕ → Walk Section
-walk file = sections_of file (commands file).sections (commands file).refusal
+walk file = sections_of file (commands file).items (commands file).refusal
 
 -- the section has these two names
 abbrev pub is_named : List ℕ → List ℕ → Section → Bool

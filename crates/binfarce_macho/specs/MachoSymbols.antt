@@ -7,10 +7,10 @@ use Rattle.binfarce_bytes.specs.Refusal.{◌>>=◌, Refusal, required, symbols_s
 use Rattle.binfarce_bytes.specs.Walk.{first}
 use Rattle.binfarce_bytes.specs.Field.{Field, field, number_in}
 use Rattle.binfarce_macho.specs.Macho.{Command, body_of, commands, Section, walk, is_named}
-use Rattle.binfarce_symbols.specs.Sizes.{RowAddress, arranged, addresses_of, least_above}
+use Rattle.binfarce_symbols.specs.Sizes.{RowAddress, arranged, addresses_of, least_above, ListsArranged}
 use Rattle.binfarce_symbols.specs.Symbol.{Entry, Listed}
 
--- symtab_command, in its body: one A for each field
+-- symtab_command, in its body of 16 bytes: one A for each field
 pub record SymbolTable (A : Type 0) : Type 0 where
   pub symbol_offset : A
   pub row_count : A
@@ -25,6 +25,9 @@ symbol_table_fields = record {
   strings_size = field 12 4;
 }
 
+abbrev pub symbol_table_length : ℕ
+symbol_table_length = 16
+
 unfoldable pub symbol_table_at : List ℕ → ℕ → SymbolTable ℕ
 symbol_table_at file body = record {
   symbol_offset = number_in file body symbol_table_fields.symbol_offset;
@@ -33,7 +36,7 @@ symbol_table_at file body = record {
   strings_size = number_in file body symbol_table_fields.strings_size;
 }
 
--- nlist_64: one A for each field that is read
+-- nlist_64, of 16 bytes: one A for each field that is read
 pub record SymbolRow (A : Type 0) : Type 0 where
   pub name : A
   pub kind : A
@@ -48,6 +51,9 @@ symbol_fields = record {
   value = field 8 8;
 }
 
+abbrev pub symbol_length : ℕ
+symbol_length = 16
+
 -- the row that begins at start
 unfoldable pub symbol_at : List ℕ → ℕ → SymbolRow ℕ
 symbol_at rows start = record {
@@ -57,15 +63,15 @@ symbol_at rows start = record {
   value = number_in rows start symbol_fields.value;
 }
 
--- row k of a table's rows, 16 bytes each
+-- row k of a table's rows
 abbrev pub symbol_of : List ℕ → ℕ → SymbolRow ℕ
-symbol_of rows k = symbol_at rows (k * 16)
+symbol_of rows k = symbol_at rows (k * symbol_length)
 
 -- bytes that lie in the file
 abbrev pub part_at : List ℕ → ℕ → ℕ → Result (List ℕ) Refusal
 part_at file offset size = if nat_le (offset + size) (length file) then Ok (bytes_at file offset size) else Err unexpected_eof
 
--- the section of the program's code
+-- the text: the first section `__text` of `__TEXT`
 abbrev pub text_section : List ℕ → Result Section Refusal
 text_section file = first (λ section. is_named (codes "__TEXT") (codes "__text") section) (walk file) >>= required symbols_section_is_missing
 
@@ -79,9 +85,9 @@ symbol_command file = first (λ command. nat_eq command.kind 2) (commands file)
 -- the body of that command, whole
 abbrev pub whole_table : List ℕ → Command → Result (SymbolTable ℕ) Refusal
 whole_table file command =
-    if nat_le (body_of command + 16) (length file) then Ok (symbol_table_at file (body_of command)) else Err unexpected_eof
+    if nat_le (body_of command + symbol_table_length) (length file) then Ok (symbol_table_at file (body_of command)) else Err unexpected_eof
 
--- where the text ends: it fits an address
+-- where the text ends: below 2^64
 abbrev pub text_end_of : Section → Result ℕ Refusal
 text_end_of text = if nat_lt (text.address + text.size) (2 ^ 64) then Ok (text.address + text.size) else Err malformed_input
 
@@ -98,7 +104,7 @@ located_by file text None = Ok None
 located_by file text (Some command) = do
   table ← whole_table file command
   strings ← part_at file table.strings_offset table.strings_size
-  rows ← part_at file table.symbol_offset (16 * table.row_count)
+  rows ← part_at file table.symbol_offset (symbol_length * table.row_count)
   text_end ← text_end_of text
   Ok (Some (record { text_end = text_end; text_size = text.size; strings = strings; rows = rows }))
 
@@ -116,24 +122,21 @@ address_of rows k = if nat_eq (symbol_of rows k).value 0 then None else Some (re
 
 -- the addresses of a table: the values that aren't 0, of any section or kind, in table order
 abbrev pub row_addresses : List ℕ → List RowAddress
-row_addresses rows = filter_map (address_of rows) (range_with_len 0 (length rows / 16))
+row_addresses rows = filter_map (address_of rows) (range_with_len 0 (length rows / symbol_length))
 
--- a row with a name offset, one of the two bits of its type, and section 1, which is the program's code
+-- a row with a name offset, one of the two bits of its type, and the number 1 of the file's first section, whichever that is
 abbrev pub is_candidate : SymbolRow ℕ → Bool
 is_candidate row = not (nat_eq row.name 0) && not (nat_eq (bit_and row.kind 0x0A) 0) && nat_eq row.section 1
 
--- up to the text's end: no size at that end, and a refusal past it
-abbrev pub size_to_end : ℕ → ℕ → Result (Option ℕ) Refusal
-size_to_end text_end address =
+-- up to the address above; where there is none up to the text's end, with no size at that end and a refusal past it
+abbrev pub size_up_to : Option ℕ → ℕ → ℕ → Result (Option ℕ) Refusal
+size_up_to (Some above) text_end address = Ok (Some (above - address))
+size_up_to None text_end address =
     if nat_lt address text_end then Ok (Some (text_end - address))
     else if nat_eq address text_end then Ok None
     else Err malformed_input
 
-abbrev pub size_up_to : Option ℕ → ℕ → ℕ → Result (Option ℕ) Refusal
-size_up_to (Some above) text_end address = Ok (Some (above - address))
-size_up_to None text_end address = size_to_end text_end address
-
--- the size of a symbol: up to the least address above its own, in whatever section that lies, and with none above up to the text's end
+-- the size of a symbol: up to the least address above its own, in whatever section that lies, else to the text's end
 unfoldable pub macho_size : List ℕ → ℕ → ℕ → Result (Option ℕ) Refusal
 macho_size addresses text_end address = size_up_to (least_above addresses address) text_end address
 
@@ -143,16 +146,12 @@ sized_entry address None name = None
 sized_entry address (Some size) None = None
 sized_entry address (Some size) (Some name) = Some (record { name = name; address = address; size = size })
 
--- a candidate's entry: the refusal of its size comes whether or not its name is valid
-abbrev pub candidate_entry : Located → ℕ → ℕ → Result (Option Entry) Refusal
-candidate_entry found address name = do
-  size ← macho_size (addresses_of (row_addresses found.rows)) found.text_end address
-  Ok (sized_entry address size (text_at found.strings name))
-
--- what a row with an address gives: nothing, its entry, or a refusal
+-- what a row with an address gives: nothing, its entry, or the refusal of a candidate's size, whether or not its name is valid
 unfoldable pub entry_of : Located → RowAddress → Result (Option Entry) Refusal
 entry_of found at =
-    if is_candidate (symbol_of found.rows at.row) then candidate_entry found at.address (symbol_of found.rows at.row).name
+    if is_candidate (symbol_of found.rows at.row)
+    then (macho_size (addresses_of (row_addresses found.rows)) found.text_end at.address
+    >>= λ size. Ok (sized_entry at.address size (text_at found.strings (symbol_of found.rows at.row).name)))
     else Ok None
 
 -- what is kept of each, unless one is refused
@@ -177,10 +176,20 @@ answer_of (Some found) = listed_of found (arranged (row_addresses found.rows))
 unfoldable pub macho_answer : List ℕ → Result Listed Refusal
 macho_answer file = located file >>= answer_of
 
--- laws of sizes over a table's addresses: no address lies strictly inside an entry's range, and entries of one address have one size
+-- a law of that answer: its entries are what is kept of the table's rows with an address, arranged so that (address, row number) rises strictly
+abbrev pub ArrangesRows : List ℕ → Type 0
+ArrangesRows file = (found : Located) (listed : Listed) → located file ≡ Ok (Some found) → macho_answer file ≡ Ok listed
+    → ListsArranged (row_addresses found.rows) (λ in_order entries. kept (entry_of found) in_order ≡ Ok entries) listed.entries
+
+-- sizes over a table's addresses: no address lies strictly inside an entry's range, and entries of one address have one size
 pub record AreSized (addresses : List ℕ) (entries : List Entry) : Type 0 where
   pub apart : All (λ e. All (λ a. e.address < a → e.address + e.size ≤ a) addresses) entries
   pub agree : All (λ e. All (λ f. e.address ≡ f.address → e.size ≡ f.size) entries) entries
+
+-- another law of that answer: its entries are sized so over the table's addresses
+abbrev pub SizesEntries : List ℕ → Type 0
+SizesEntries file = (found : Located) (listed : Listed) → located file ≡ Ok (Some found) → macho_answer file ≡ Ok listed
+    → AreSized (addresses_of (row_addresses found.rows)) listed.entries
 
 -- the symbol table is there, and has a value that isn't 0
 pub record HasAddress (file : List ℕ) : Type 0 where

@@ -4,12 +4,13 @@ ghost use Rattle.std.specs.Prelude.{◌≡◌, ◌≢◌, ℕ, List, ◌+◌, �
 ghost use Rattle.std.specs.Option.{option_map};
 ghost use Rattle.std.specs.Iterator.{UpTo};
 ghost use Rattle.binfarce_bytes.specs.Refusal.{Gives, refusal_of, malformed_input, unexpected_eof};
+ghost use Rattle.binfarce_bytes.specs.Text.{padded_name};
 ghost use Rattle.binfarce_bytes.specs.Walk.{MayBeAsked, FirstAccepted, first};
-ghost use Rattle.binfarce_macho.specs.Macho.{header_at, command_at, body_of, commands, walk, segment, section_at, name_of, is_named};
-ghost use Rattle.binfarce_macho.specs.MachoSymbols.{AreSized, Located, HasAddress, macho_answer, answer_of, listed_of, located, located_by, text_section, some_size, symbol_command, symbol_table_at, text_end_of, row_addresses, symbol_at, is_candidate, size_up_to, sized_entry, entry_of, kept};
-ghost use Rattle.binfarce_symbols.specs.Sizes.{ListsArranged, addresses_of, least_above};
-ghost use Rattle.binfarce_symbols.specs.machine.Rows.{row_seen, rows_seen};
-ghost use Rattle.binfarce_symbols.specs.Symbol.{Listed, HoldsSymbols, Answers};
+ghost use Rattle.binfarce_macho.specs.Macho.{header_of, command_at, body_of, commands, walk, segment, section_at, is_named, least_length};
+ghost use Rattle.binfarce_macho.specs.MachoSymbols.{ArrangesRows, SizesEntries, HasAddress, macho_answer, answer_of, listed_of, located, located_by, text_section, some_size, symbol_command, symbol_table_at, text_end_of, row_addresses, symbol_at, is_candidate, size_up_to, sized_entry, entry_of};
+ghost use Rattle.binfarce_symbols.specs.Sizes.{addresses_of, least_above};
+ghost use Rattle.binfarce_symbols.specs.RowSeen.{row_seen, rows_seen};
+ghost use Rattle.binfarce_symbols.specs.Symbol.{HoldsSymbols, Answers};
 ghost use Rattle.binfarce_symbols.specs.SymbolSeen.{function_seen, HoldsFunctions};
 ghost use Rattle.binfarce_macho.specs.MachoSeen.{header_seen, section_seen};
 ghost use Rattle.binfarce_macho.specs.machine.RawMacho.{command_seen, damage_refusal, commands_left, found_seen, raw_symbol, raw_symbol_table};
@@ -52,7 +53,7 @@ pub struct Section<'a> {
 impl Section<'_> {
     /// The section's bytes as a range of the file (`offset`, `size`); `MalformedInput` where its end passes `usize`.
     ///
-    /// The range isn't held against the file's length.
+    /// The range isn't checked against the file's length.
     pub fn range(&self) -> Result<Range<usize>, ParseError>
         ensures { let s = section_seen self.now in MatchResult result
             (λ r. (r.start ≡ s.offset) × (r.end ≡ s.offset + s.size))
@@ -85,14 +86,14 @@ pub struct Macho<'a> {
 
 impl<'a> Model for Macho<'a> {
     ghost use Rattle.std.specs.Prelude.{◌≡◌, ℕ, List};
-    ghost use Rattle.binfarce_macho.specs.Macho.{header_at};
+    ghost use Rattle.binfarce_macho.specs.Macho.{header_of};
     ghost use Rattle.binfarce_macho.specs.MachoSeen.{header_seen};
 
     ghost Value = { List ℕ };
 
     ghost view = { λ m. m.data.now };
 
-    ghost invariant = { λ m. header_seen m.header ≡ header_at m.data.now };
+    ghost invariant = { λ m. header_seen m.header ≡ header_of m.data.now };
 }
 
 /// Reads the header of a Mach-O file, without a look at the magic number.
@@ -100,8 +101,8 @@ impl<'a> Model for Macho<'a> {
 /// `UnexpectedEof` for fewer than 28 bytes.
 pub fn parse(data: &[u8]) -> Result<Macho<'_>, ParseError>
     ensures { MatchResult result
-        (λ m. (28 ≤ length data.now) × (m ≡ data.now))
-        (λ e. (length data.now < 28) × (refusal_of e ≡ unexpected_eof)) }
+        (λ m. (least_length ≤ length data.now) × (m ≡ data.now))
+        (λ e. (length data.now < least_length) × (refusal_of e ≡ unexpected_eof)) }
 {
     let header = parse_macho_header(data)?;
     Ok(Macho { data, header })
@@ -110,7 +111,7 @@ pub fn parse(data: &[u8]) -> Result<Macho<'_>, ParseError>
 impl<'a> Macho<'a> {
     /// The file header, as it was read by `parse`.
     pub fn header(&self) -> MachoHeader
-        ensures { header_seen result ≡ header_at self.now }
+        ensures { header_seen result ≡ header_of self.now }
     {
         self.header
     }
@@ -126,7 +127,7 @@ impl<'a> Macho<'a> {
         &self,
         callback: F,
     ) -> Result<Option<Section<'a>>, ParseError>
-        requires { All (MayBeAsked section_seen (F.pre callback)) (walk self.now).sections }
+        requires { All (MayBeAsked section_seen (F.pre callback)) (walk self.now).items }
         ensures { FirstAccepted refusal_of section_seen (F.post callback) (walk self.now) result }
     {
         Ok(self.first_section(callback)?)
@@ -138,8 +139,8 @@ impl<'a> Macho<'a> {
         segment_name: &str,
         section_name: &str,
     ) -> Result<Option<Section<'a>>, ParseError>
-        ensures { Gives refusal_of (option_map section_seen) result
-            (first (λ s. is_named segment_name.now section_name.now s) (walk self.now)) }
+        ensures { Gives refusal_of (option_map section_seen)
+            (first (λ s. is_named segment_name.now section_name.now s) (walk self.now)) result }
     {
         Ok(self.named_section(segment_name, section_name)?)
     }
@@ -149,8 +150,8 @@ impl<'a> Macho<'a> {
         segment_name: &str,
         section_name: &str,
     ) -> Result<Option<Section<'a>>, Damage>
-        ensures { Gives damage_refusal (option_map section_seen) result
-            (first (λ s. is_named segment_name.now section_name.now s) (walk self.now)) }
+        ensures { Gives damage_refusal (option_map section_seen)
+            (first (λ s. is_named segment_name.now section_name.now s) (walk self.now)) result }
     {
         self.first_section(|section| {
             section.segment_name == segment_name && section.section_name == section_name
@@ -161,7 +162,7 @@ impl<'a> Macho<'a> {
         &self,
         callback: F,
     ) -> Result<Option<Section<'a>>, Damage>
-        requires { All (MayBeAsked section_seen (F.pre callback)) (walk self.now).sections }
+        requires { All (MayBeAsked section_seen (F.pre callback)) (walk self.now).items }
         ensures { FirstAccepted damage_refusal section_seen (F.post callback) (walk self.now) result }
     {
         for item in self.commands() {
@@ -189,12 +190,8 @@ impl<'a> Macho<'a> {
     #[tactic(auto, using(crate::proofs::MachoLaws::answer_sized, crate::proofs::MachoLaws::answer_in_order))]
     pub fn symbols(&self, alloc: Global) -> Result<(Vec<SymbolData>, u64), ParseError>
         ensures answer { Answers HoldsSymbols (λ _. HasAddress self.now) (macho_answer self.now) result }
-        // A law of that answer: ranges hold no address of the table, and equal addresses have equal sizes.
-        ensures sized { (found : Located) (listed : Listed) → located self.now ≡ Ok (Some found) → macho_answer self.now ≡ Ok listed
-            → AreSized (addresses_of (row_addresses found.rows)) listed.entries }
-        // Another: its entries are what is kept of the table's rows with an address, in strictly rising order of (address, row number).
-        ensures order { (found : Located) (listed : Listed) → located self.now ≡ Ok (Some found) → macho_answer self.now ≡ Ok listed
-            → ListsArranged (row_addresses found.rows) (λ rows entries. kept (entry_of found) rows ≡ Ok entries) listed.entries }
+        ensures order { ArrangesRows self.now }
+        ensures sizes { SizesEntries self.now }
     {
         let (functions, text_size) = self.functions(alloc)?;
         let symbols = symbols_of(alloc, functions.iter().copied())?;
@@ -215,7 +212,7 @@ impl<'a> Macho<'a> {
 
     #[tactic(auto, unfolding(crate::specs::MachoSymbols::located))]
     fn locate(&self) -> Result<Option<Found<'a>>, ParseError>
-        ensures { Gives refusal_of (option_map found_seen) result (located self.now) }
+        ensures { Gives refusal_of (option_map found_seen) (located self.now) result }
     {
         let found = self.text_section()?;
         let text = some_size(found)?;
@@ -224,7 +221,7 @@ impl<'a> Macho<'a> {
     }
 
     fn text_section(&self) -> Result<Section<'a>, ParseError>
-        ensures { Gives refusal_of section_seen result (text_section self.now) }
+        ensures { Gives refusal_of section_seen (text_section self.now) result }
     {
         self.named_section("__TEXT", "__text")?
             .ok_or(ParseError::SymbolsSectionIsMissing)
@@ -232,7 +229,7 @@ impl<'a> Macho<'a> {
 
     // The first command that names a symbol table.
     fn symbol_command(&self) -> Result<Option<Command>, ParseError>
-        ensures { Gives refusal_of (option_map command_seen) result (symbol_command self.now) }
+        ensures { Gives refusal_of (option_map command_seen) (symbol_command self.now) result }
     {
         for item in self.commands() {
             let command = item?;
@@ -247,7 +244,7 @@ impl<'a> Macho<'a> {
         ensures bytes { result.bytes.now ≡ self.now }
         ensures left { commands_left result ≡ commands self.now }
         // No more items come than the header has commands, and then they end.
-        ensures at_most { UpTo (⟦<MachoCommandsIterator<'static> as Iterator>⟧.remaining result) (header_at self.now).ncmds }
+        ensures at_most { UpTo (⟦<MachoCommandsIterator<'static> as Iterator>⟧.remaining result) (header_of self.now).ncmds }
     {
         MachoCommandsIterator {
             bytes: self.data,
@@ -354,7 +351,7 @@ fn first_in_segment<'a, F: Fn(Section<'_>) -> bool>(
     body: usize,
     callback: &F,
 ) -> Result<Option<Section<'a>>, UnexpectedEof>
-    requires asked { All (MayBeAsked section_seen (F.pre callback.now)) (segment bytes.now body).sections }
+    requires asked { All (MayBeAsked section_seen (F.pre callback.now)) (segment bytes.now body).items }
     requires inside { body ≤ length bytes.now }
     ensures { FirstAccepted (λ _. unexpected_eof) section_seen (F.post callback.now) (segment bytes.entry.now body) result }
 {
@@ -405,7 +402,7 @@ fn section_at(bytes: &[u8], start: usize) -> Result<Option<Section<'_>>, Unexpec
 // The name in a field's bytes: those up to the first NUL, or all where there is none.
 #[tactic(auto, using(crate::proofs::SectionNames::name_is, crate::proofs::SectionNames::name_empty))]
 fn name_in(bytes: &[u8]) -> Option<&str>
-    ensures { option_map (λ t. t.now) result ≡ name_of bytes.now }
+    ensures { option_map (λ t. t.now) result ≡ padded_name bytes.now }
 {
     let name = up_to_nul(bytes);
     if name.is_empty() {
@@ -414,10 +411,10 @@ fn name_in(bytes: &[u8]) -> Option<&str>
     utf8_text(name)
 }
 
-#[tactic(auto, unfolding(crate::specs::Macho::header_at, crate::specs::Macho::header_fields))]
+#[tactic(auto, unfolding(crate::specs::Macho::header_of, crate::specs::Macho::header_fields))]
 fn parse_macho_header(data: &[u8]) -> Result<MachoHeader, UnexpectedEof>
     ensures { MatchResult result
-        (λ h. (28 ≤ length data.now) × (header_seen h ≡ header_at data.now))
+        (λ h. (28 ≤ length data.now) × (header_seen h ≡ header_of data.now))
         (λ _. length data.now < 28) }
 {
     let order = ByteOrder::LittleEndian;
@@ -432,7 +429,7 @@ fn parse_macho_header(data: &[u8]) -> Result<MachoHeader, UnexpectedEof>
 }
 
 fn some_size(section: Section<'_>) -> Result<Section<'_>, ParseError>
-    ensures { Gives refusal_of section_seen result (some_size (section_seen section.entry)) }
+    ensures { Gives refusal_of section_seen (some_size (section_seen section.entry)) result }
 {
     if section.size == 0 {
         Err(ParseError::MalformedInput)
@@ -456,8 +453,8 @@ fn located_by<'a>(
     text: Section<'_>,
     command: Option<Command>,
 ) -> Result<Option<Found<'a>>, ParseError>
-    ensures { Gives refusal_of (option_map found_seen) result
-        (located_by bytes.entry.now (section_seen text.entry) (option_map command_seen command)) }
+    ensures { Gives refusal_of (option_map found_seen)
+        (located_by bytes.entry.now (section_seen text.entry) (option_map command_seen command)) result }
 {
     match command {
         None => Ok(None),
@@ -514,7 +511,7 @@ fn symbol_table_at(bytes: &[u8], command: Command) -> Result<RawSymbolTable, Une
 }
 
 fn text_end(text: Section<'_>) -> Result<u64, ParseError>
-    ensures { Gives refusal_of (λ n. n) result (text_end_of (section_seen text.entry)) }
+    ensures { Gives refusal_of (λ n. n) (text_end_of (section_seen text.entry)) result }
 {
     text.address
         .checked_add(text.size)
@@ -615,7 +612,7 @@ fn entry_of<'a>(
 ) -> Result<Option<FunctionSymbol<'a>>, ParseError>
     requires above { above ≡ least_above (addresses_of (row_addresses found.rows.now)) at.address }
     requires inside { at.row * 16 + 16 ≤ length found.rows.now }
-    ensures { Gives refusal_of (option_map function_seen) result (entry_of (found_seen found.entry) (row_seen at)) }
+    ensures { Gives refusal_of (option_map function_seen) (entry_of (found_seen found.entry) (row_seen at)) result }
 {
     let row = symbol_at(found.rows, at.row * SYMBOL_LENGTH).unwrap();
     if !is_candidate(row) {
@@ -640,7 +637,7 @@ fn is_candidate(row: RawSymbol) -> bool
 
 fn size_up_to(above: Option<u64>, text_end: u64, address: u64) -> Result<Option<u64>, ParseError>
     requires { (n : ℕ) → above ≡ Some n → address < n }
-    ensures { Gives refusal_of (λ o. o) result (size_up_to above text_end address) }
+    ensures { Gives refusal_of (λ o. o) (size_up_to above text_end address) result }
 {
     match above {
         Some(above) => Ok(Some(above - address)),

@@ -9,12 +9,12 @@ use Rattle.std.proofs.lemmas.List.Elements.{All-nil, All-cons, All-contains}
 use Rattle.std.proofs.lemmas.Slice.Zip.{AllZip-long}
 use Rattle.binfarce_names.specs.declared.demangle.SymbolData.{SymbolData}
 use Rattle.binfarce_symbols.specs.declared.sizes.RowAddress as code
-use Rattle.binfarce_symbols.specs.Sizes.{RowAddress, comes_before, put_in, arranged, addresses_of, least, least_of, least_above, LeastAbove}
+use Rattle.binfarce_symbols.specs.Sizes.{RowAddress, comes_before, put_in, arranged, addresses_of, least, least_of, least_above}
 use Rattle.binfarce_symbols.specs.Symbol.{Entry, AreSymbolsOf}
-use Rattle.binfarce_symbols.specs.machine.Rows.{row_seen, rows_seen}
+use Rattle.binfarce_symbols.specs.RowSeen.{row_seen, rows_seen}
 use Rattle.binfarce_pe.specs.PeSymbols.{SymbolTable, record_of, name_of, kept_rows, size_among, size_members, entry_of, entries_of, EqualAddressesEqualSizes}
 use Rattle.binfarce_pe.specs.machine.RawPe.{numbered, IsNameOf, HoldsKept, function_at}
-use Rattle.binfarce_symbols.proofs.Above.{arranged_above, least_above_is}
+use Rattle.binfarce_symbols.proofs.Above.{LeastAbove, arranged_above, least_above_is}
 use Rattle.binfarce_symbols.proofs.Arrangement.{Rising}
 use Rattle.binfarce_pe.proofs.Strictly.{kept_rise}
 

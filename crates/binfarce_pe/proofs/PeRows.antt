@@ -10,8 +10,7 @@ use Rattle.std.proofs.lemmas.List.Sorted.{All-permutation, length_permutation}
 use Rattle.std.proofs.lemmas.Slice.Zip.{AllZip-long}
 use Rattle.binfarce_symbols.specs.declared.sizes.RowAddress as code
 use Rattle.binfarce_symbols.specs.Sizes.{RowAddress, arranged, addresses_of}
-use Rattle.binfarce_symbols.specs.machine.Rows.{row_seen, rows_seen}
-use Rattle.binfarce_symbols.specs.Symbol.{IsNotEmpty}
+use Rattle.binfarce_symbols.specs.RowSeen.{row_seen, rows_seen}
 use Rattle.binfarce_pe.specs.PeSymbols.{SymbolTable, SymbolRecord, record_count, record_of, rows_from, name_of, function_name, is_function_of, kept_row, kept_rows, size_among, size_members, entry_of, entries_in, entries_of}
 use Rattle.binfarce_pe.specs.machine.RawPe.{numbered, IsNameOf, HoldsKept}
 use Rattle.binfarce_symbols.proofs.Arranging.{arranged_same}
@@ -187,21 +186,20 @@ arranged_named : (table : SymbolTable) (index : ℕ) → All (HasName table) (ar
 unfolding kept_rows
 arranged_named table index = All-permutation (HasName table) (kept_rows table index) (arranged (kept_rows table index)) (arranged_same (kept_rows table index)) (all_from table index (record_count table) 0)
 
-first_entry : (table : SymbolTable) (members : List ℕ) (rows : List RowAddress) → rows ≢ [] → All (HasName table) rows → IsNotEmpty (filter_map (entry_of table members) rows)
+first_entry : (table : SymbolTable) (members : List ℕ) (rows : List RowAddress) → rows ≢ [] → All (HasName table) rows → filter_map (entry_of table members) rows ≢ []
 first_entry table members [] some all = absurd (some refl)
 first_entry table members (r ∷ rows) some all =
-    let is = All-head (HasName table) r rows all in (
-      record { name = is.0; address = r.address; size = size_among members r.address },
-      filter_map (entry_of table members) rows,
-      ap (λ (o : Option (List ℕ)). cons_option (option_map (λ (name : List ℕ). record { name = name; address = r.address; size = size_among members r.address }) o) (filter_map (entry_of table members) rows)) is.1,
-    )
+    let is = All-head (HasName table) r rows all in
+    let begins : filter_map (entry_of table members) (r ∷ rows) ≡ record { name = is.0; address = r.address; size = size_among members r.address } ∷ filter_map (entry_of table members) rows =
+    ap (λ (o : Option (List ℕ)). cons_option (option_map (λ (name : List ℕ). record { name = name; address = r.address; size = size_among members r.address }) o) (filter_map (entry_of table members) rows)) is.1 in
+    λ empty. cc (sym begins ∙ empty)
 
 not_nothing : (xs ys : List RowAddress) → IsPermutation xs ys → xs ≢ [] → ys ≢ []
 not_nothing [] ys same some none = some refl
 not_nothing (x ∷ xs) ys same some none = let long : length ys ≡ length (x ∷ xs) = length_permutation (x ∷ xs) ys same in absurd (omega (arith, ap length none))
 
 -- with a kept row there is an entry
-pub some_entry : (table : SymbolTable) (index t : ℕ) → kept_rows table index ≢ [] → IsNotEmpty (entries_of table index t)
+pub some_entry : (table : SymbolTable) (index t : ℕ) → kept_rows table index ≢ [] → entries_of table index t ≢ []
 unfolding entries_of
 some_entry table index t some =
     first_entry table (size_members t (kept_rows table index)) (arranged (kept_rows table index)) (not_nothing (kept_rows table index) (arranged (kept_rows table index)) (arranged_same (kept_rows table index)) some) (arranged_named table index)

@@ -5,7 +5,7 @@ use Rattle.std.proofs.lemmas.List.Elements.{All-nil, All-same}
 use Rattle.std.proofs.lemmas.Nat.{le-div, div_below}
 use Rattle.binfarce_bytes.specs.Refusal.{unexpected_eof}
 use Rattle.binfarce_bytes.specs.Walk.{Walk, Answered, MayBeAsked, IsFirstAccepted, NoneAccepted, FirstAccepted}
-use Rattle.binfarce_pe.specs.Pe.{Section, header_of, section_at, sections_offset, section_of, readable_headers, walk}
+use Rattle.binfarce_pe.specs.Pe.{Section, header_of, section_at, sections_offset, section_of, whole_headers, walk}
 use Rattle.binfarce_pe.proofs.Numbered.{held_below, after_held, held_may_be_asked}
 
 -- a header that can be read is one of those that the file has room for
@@ -20,21 +20,21 @@ is_truncated len table start i at short =
     let little : len + 16 - table < (i + 1) * 40 = omega arith in
     omega (arith, div_below (len + 16 - table) 40 (i + 1) (omega arith) little)
 
-sections_is : (file : List ℕ) (n : ℕ) → min (header_of file).number_of_sections (readable_headers file) ≡ n → (walk file).sections ≡ held_below (section_of file) n
+sections_is : (file : List ℕ) (n : ℕ) → min (header_of file).number_of_sections (whole_headers file) ≡ n → (walk file).items ≡ held_below (section_of file) n
 unfolding walk
 sections_is file n e = ap (held_below (section_of file)) e
 
-done_is : (file : List ℕ) → sections_offset file < length file → (header_of file).number_of_sections ≤ readable_headers file → (walk file).refusal ≡ None
+done_is : (file : List ℕ) → sections_offset file < length file → (header_of file).number_of_sections ≤ whole_headers file → (walk file).refusal ≡ None
 unfolding walk
-done_is file inside room = rw (lt-ltb (sections_offset file) (length file) inside, le-leb (header_of file).number_of_sections (readable_headers file) room) refl
+done_is file inside room = rw (lt-ltb (sections_offset file) (length file) inside, le-leb (header_of file).number_of_sections (whole_headers file) room) refl
 
 and_false : (b : Bool) → (b && false) ≡ false
 and_false true = refl
 and_false false = refl
 
-truncated_is : (file : List ℕ) → readable_headers file < (header_of file).number_of_sections → (walk file).refusal ≡ Some unexpected_eof
+truncated_is : (file : List ℕ) → whole_headers file < (header_of file).number_of_sections → (walk file).refusal ≡ Some unexpected_eof
 unfolding walk
-truncated_is file short = rw (lt-leb (header_of file).number_of_sections (readable_headers file) short, and_false (ltb (sections_offset file) (length file))) refl
+truncated_is file short = rw (lt-leb (header_of file).number_of_sections (whole_headers file) short, and_false (ltb (sections_offset file) (length file))) refl
 
 outside_is : (file : List ℕ) → length file ≤ sections_offset file → (walk file).refusal ≡ Some unexpected_eof
 unfolding walk
@@ -43,25 +43,25 @@ outside_is file outside = rw (le-ltb (sections_offset file) (length file) outsid
 -- a table that begins after the file's end has no section
 pub outside : {T : Type 0} (file : List ℕ) (seen : T → Section) (post : T → Bool → Type 0) → length file ≤ sections_offset file → NoneAccepted seen post (walk file) (Some unexpected_eof)
 outside file seen post past =
-    let none : min (header_of file).number_of_sections (readable_headers file) ≡ 0 = omega (arith, div_below (length file + 16 - sections_offset file) 40 1 (omega arith) (omega arith)) in
+    let none : min (header_of file).number_of_sections (whole_headers file) ≡ 0 = omega (arith, div_below (length file + 16 - sections_offset file) 40 1 (omega arith) (omega arith)) in
     record {
-      refused = All-same (Answered seen post false) (walk file).sections [] (sections_is file 0 none) (All-nil (Answered seen post false));
+      refused = All-same (Answered seen post false) (walk file).items [] (sections_is file 0 none) (All-nil (Answered seen post false));
       end_is = outside_is file past;
     }
 
 -- what a callback is handed is a section of the walk
 pub may_be_asked : {T : Type 0} (file : List ℕ) (seen : T → Section) (pre : T → Type 0) (i : ℕ) (value : T)
-    → All (MayBeAsked seen pre) (walk file).sections → i < (header_of file).number_of_sections → i < readable_headers file → section_of file i ≡ Some (seen value) → pre value
+    → All (MayBeAsked seen pre) (walk file).items → i < (header_of file).number_of_sections → i < whole_headers file → section_of file i ≡ Some (seen value) → pre value
 may_be_asked file seen pre i value all lt room is =
-    let n = min (header_of file).number_of_sections (readable_headers file) in
-    held_may_be_asked (section_of file) seen pre (walk file).sections n i value (sections_is file n refl) (omega arith) is all
+    let n = min (header_of file).number_of_sections (whole_headers file) in
+    held_may_be_asked (section_of file) seen pre (walk file).items n i value (sections_is file n refl) (omega arith) is all
 
 -- the callback accepted section i, and refused those before it
 pub accepted_at : {T : Type 0} (file : List ℕ) (seen : T → Section) (post : T → Bool → Type 0) (i : ℕ) (value : T)
-    → i < (header_of file).number_of_sections → i < readable_headers file → section_of file i ≡ Some (seen value) → post value true
+    → i < (header_of file).number_of_sections → i < whole_headers file → section_of file i ≡ Some (seen value) → post value true
     → All (Answered seen post false) (held_below (section_of file) i) → IsFirstAccepted seen post (walk file) value
 accepted_at file seen post i value lt room is accepted refused =
-    let n = min (header_of file).number_of_sections (readable_headers file) in
+    let n = min (header_of file).number_of_sections (whole_headers file) in
     let b = after_held (section_of file) n i (seen value) (omega arith) is in
     record {
       before = held_below (section_of file) i;
@@ -73,21 +73,21 @@ accepted_at file seen post i value lt room is accepted refused =
 
 -- header i is truncated, and the callback refused those before it
 pub truncated_at : {T : Type 0} (file : List ℕ) (seen : T → Section) (post : T → Bool → Type 0) (i : ℕ)
-    → i < (header_of file).number_of_sections → i ≤ readable_headers file → readable_headers file ≤ i
+    → i < (header_of file).number_of_sections → i ≤ whole_headers file → whole_headers file ≤ i
     → All (Answered seen post false) (held_below (section_of file) i) → NoneAccepted seen post (walk file) (Some unexpected_eof)
 truncated_at file seen post i lt room short refused =
     record {
-      refused = All-same (Answered seen post false) (walk file).sections (held_below (section_of file) i) (sections_is file i (omega arith)) refused;
+      refused = All-same (Answered seen post false) (walk file).items (held_below (section_of file) i) (sections_is file i (omega arith)) refused;
       end_is = truncated_is file (omega arith);
     }
 
 -- the callback refused all
 pub none_left : {T : Type 0} (file : List ℕ) (seen : T → Section) (post : T → Bool → Type 0)
-    → sections_offset file < length file → (header_of file).number_of_sections ≤ readable_headers file
+    → sections_offset file < length file → (header_of file).number_of_sections ≤ whole_headers file
     → All (Answered seen post false) (held_below (section_of file) (header_of file).number_of_sections) → NoneAccepted seen post (walk file) None
 none_left file seen post inside room refused =
     record {
-      refused = All-same (Answered seen post false) (walk file).sections (held_below (section_of file) (header_of file).number_of_sections) (sections_is file (header_of file).number_of_sections (omega arith)) refused;
+      refused = All-same (Answered seen post false) (walk file).items (held_below (section_of file) (header_of file).number_of_sections) (sections_is file (header_of file).number_of_sections (omega arith)) refused;
       end_is = done_is file inside room;
     }
 

@@ -1,4 +1,4 @@
 pub mod Pe
-pub mod PeSeen
 pub mod PeSymbols
+pub mod PeSeen
 pub mod machine

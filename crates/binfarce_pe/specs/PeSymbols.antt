@@ -2,14 +2,13 @@
 use Rattle.std.specs.Prelude.{◌≡◌, ℕ, zero, suc, ◌+◌, ◌-◌, ◌*◌, ◌/◌, Bool, ◌&&◌, List, [], ◌∷◌, length, drop, Contains, codes, Option, None, Result, Ok, Err, nat_eq, nat_lt, nat_le, unwrap_or, if◌then◌else◌}
 use Rattle.std.specs.Option.{option_map}
 use Rattle.std.specs.List.{filter_map}
-use Rattle.std.specs.Str.{bytes_eq}
 use Rattle.binfarce_names.specs.declared.demangle.SymbolData.{SymbolData}
 use Rattle.binfarce_bytes.specs.Number.{bytes_at}
-use Rattle.binfarce_bytes.specs.Text.{text_at}
+use Rattle.binfarce_bytes.specs.Text.{text_at, padded_text}
 use Rattle.binfarce_bytes.specs.Refusal.{◌>>=◌, Refusal, required, symbols_section_is_missing, unexpected_eof}
 use Rattle.binfarce_bytes.specs.Walk.{first}
 use Rattle.binfarce_bytes.specs.Field.{Field, field, number_in}
-use Rattle.binfarce_pe.specs.Pe.{header_of, short_name, Section, walk}
+use Rattle.binfarce_pe.specs.Pe.{header_of, Section, walk, is_named}
 use Rattle.binfarce_symbols.specs.Sizes.{RowAddress, arranged, addresses_of, least_above, ListsArranged}
 use Rattle.binfarce_symbols.specs.Symbol.{Entry, Listed}
 
@@ -23,8 +22,8 @@ pub record SymbolRecord (A : Type 0) : Type 0 where
   pub storage_class : A
   pub number_of_aux_symbols : A
 
-unfoldable pub symbol_record : SymbolRecord Field
-symbol_record = record {
+unfoldable pub symbol_fields : SymbolRecord Field
+symbol_fields = record {
   zeroes = field 0 4;
   offset = field 4 4;
   value = field 8 4;
@@ -37,26 +36,30 @@ symbol_record = record {
 -- the numbers of the record that begins at start
 unfoldable pub record_at : List ℕ → ℕ → SymbolRecord ℕ
 record_at file start = record {
-  zeroes = number_in file start symbol_record.zeroes;
-  offset = number_in file start symbol_record.offset;
-  value = number_in file start symbol_record.value;
-  section_number = number_in file start symbol_record.section_number;
-  kind = number_in file start symbol_record.kind;
-  storage_class = number_in file start symbol_record.storage_class;
-  number_of_aux_symbols = number_in file start symbol_record.number_of_aux_symbols;
+  zeroes = number_in file start symbol_fields.zeroes;
+  offset = number_in file start symbol_fields.offset;
+  value = number_in file start symbol_fields.value;
+  section_number = number_in file start symbol_fields.section_number;
+  kind = number_in file start symbol_fields.kind;
+  storage_class = number_in file start symbol_fields.storage_class;
+  number_of_aux_symbols = number_in file start symbol_fields.number_of_aux_symbols;
 }
 
--- a symbol table: its records, of 18 bytes each, and the file from the string table on, which follows them
+-- a symbol record has 18 bytes
+abbrev pub symbol_length : ℕ
+symbol_length = 18
+
+-- a symbol table: its records, and the file from the string table on, which follows them
 pub record SymbolTable : Type 0 where
   pub rows : List ℕ
   pub strings : List ℕ
 
 abbrev pub record_count : SymbolTable → ℕ
-record_count table = length table.rows / 18
+record_count table = length table.rows / symbol_length
 
 -- record k of the table
 abbrev pub record_of : SymbolTable → ℕ → SymbolRecord ℕ
-record_of table k = record_at table.rows (k * 18)
+record_of table k = record_at table.rows (k * symbol_length)
 
 -- the rows' numbers from k on, in at most n steps: after a row stand its auxiliary records, and then the next row
 unfoldable pub rows_from : SymbolTable → ℕ → ℕ → List ℕ
@@ -68,11 +71,11 @@ rows_from table (suc n) k =
 abbrev pub row_numbers : SymbolTable → List ℕ
 row_numbers table = rows_from table (record_count table) 0
 
--- the name of row k, which is this record, where it can be read: its own 8 bytes, which may hold none, or the text in the string table at its offset
+-- the name of row k, which is this record, where it can be read: that in its own 8 bytes, or the text in the string table at its offset
 unfoldable pub name_of : SymbolTable → ℕ → SymbolRecord ℕ → Option (List ℕ)
 name_of table k row =
     if nat_eq row.zeroes 0 then text_at table.strings row.offset
-    else short_name (bytes_at table.rows (k * 18) 8)
+    else padded_text (bytes_at table.rows (k * symbol_length) 8)
 
 -- a function (the complex type, from bit 4 of the type on, is 2) that is external (class 2), in the section of this index, which the file numbers from 1 on
 abbrev pub is_function_of : ℕ → SymbolRecord ℕ → Bool
@@ -102,7 +105,7 @@ size_members text_size rows = text_size ∷ addresses_of rows
 abbrev pub entry_of : SymbolTable → List ℕ → RowAddress → Option Entry
 entry_of table members at = option_map (λ name. record { name = name; address = at.address; size = size_among members at.address }) (name_of table at.row (record_of table at.row))
 
--- the entries of rows in this order
+-- the entries of kept rows in this order; each has a name, so that none is left out
 abbrev pub entries_in : SymbolTable → ℕ → ℕ → List RowAddress → List Entry
 entries_in table index text_size in_order = filter_map (entry_of table (size_members text_size (kept_rows table index))) in_order
 
@@ -110,16 +113,16 @@ entries_in table index text_size in_order = filter_map (entry_of table (size_mem
 unfoldable pub entries_of : SymbolTable → ℕ → ℕ → List Entry
 entries_of table index text_size = entries_in table index text_size (arranged (kept_rows table index))
 
--- the section of the program's code
+-- the text: the first section `.text`
 abbrev pub text_section : List ℕ → Result Section Refusal
-text_section file = first (λ section. bytes_eq section.name (codes ".text")) (walk file) >>= required symbols_section_is_missing
+text_section file = first (λ section. is_named (codes ".text") section) (walk file) >>= required symbols_section_is_missing
 
 -- where the symbol table begins, and how many bytes its records have
 abbrev pub table_offset : List ℕ → ℕ
 table_offset file = (header_of file).pointer_to_symbol_table
 
 abbrev pub table_size : List ℕ → ℕ
-table_size file = (header_of file).number_of_symbols * 18
+table_size file = (header_of file).number_of_symbols * symbol_length
 
 -- the symbol table, which has to begin in the file even where it is empty, and to end there
 unfoldable pub symbol_table : List ℕ → Result SymbolTable Refusal
@@ -128,7 +131,7 @@ symbol_table file =
     else if nat_lt (length file) (table_offset file + table_size file) then Err unexpected_eof
     else Ok (record { rows = bytes_at file (table_offset file) (table_size file); strings = drop (table_offset file + table_size file) file })
 
--- the section of the code, and the symbol table
+-- the text, and the symbol table
 pub record Located : Type 0 where
   pub text : Section
   pub table : SymbolTable
@@ -140,7 +143,7 @@ located file = do
   table ← symbol_table file
   Ok (record { text = text; table = table })
 
--- the entries, and the size of the code in the file
+-- the entries, and the size of the text in the file
 unfoldable pub pe_answer : List ℕ → Result Listed Refusal
 pe_answer file = do
   found ← located file

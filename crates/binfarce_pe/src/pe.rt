@@ -2,12 +2,12 @@
 
 ghost use Rattle.std.specs.Prelude.{◌≡◌, ◌+◌, ◌<◌, ◌≤◌, length, All, MatchResult, IfOk};
 ghost use Rattle.std.specs.Option.{option_map};
-ghost use Rattle.std.specs.Str.{bytes_eq};
 ghost use Rattle.binfarce_bytes.specs.Refusal.{Gives, refusal_of, unexpected_eof};
+ghost use Rattle.binfarce_bytes.specs.Text.{padded_text};
 ghost use Rattle.binfarce_bytes.specs.Walk.{MayBeAsked, FirstAccepted, first};
 ghost use Rattle.binfarce_symbols.specs.Symbol.{Answers, HoldsSymbols, ListsSome};
 ghost use Rattle.binfarce_symbols.specs.SymbolSeen.{HoldsFunctions};
-ghost use Rattle.binfarce_pe.specs.Pe.{least_length, signature_offset, header_after, header_of, short_name, section_at, sections_offset, walk};
+ghost use Rattle.binfarce_pe.specs.Pe.{least_length, signature_offset, header_after, header_of, section_at, sections_offset, walk, is_named};
 ghost use Rattle.binfarce_pe.specs.PeSymbols.{text_section, symbol_table, located, pe_answer, ArrangesRows, EqualAddressesEqualSizes};
 ghost use Rattle.binfarce_pe.specs.PeSeen.{header_seen, section_seen};
 ghost use Rattle.binfarce_pe.specs.machine.RawPe.{table_seen, found_seen};
@@ -56,7 +56,7 @@ pub struct Section<'a> {
 impl Section<'_> {
     /// The bytes of the file that the section has, from its raw pointer on and as many as its raw size.
     ///
-    /// The range isn't held against the file's length. It always fits a `usize`, so nothing is refused.
+    /// The range isn't checked against the file's length. It always fits a `usize`, so nothing is refused.
     pub fn range(&self) -> Result<Range<usize>, ParseError>
         ensures { let s = section_seen self.now in MatchResult result
             (λ r. (r.start ≡ s.pointer_to_raw_data) × (r.end ≡ s.pointer_to_raw_data + s.size_of_raw_data))
@@ -117,7 +117,7 @@ fn parse_pe_header(data: &[u8]) -> Result<(usize, PeHeader), UnexpectedEof>
 }
 
 // The file header after the signature at this offset.
-#[tactic(auto, unfolding(crate::specs::Pe::file_header, crate::specs::Pe::header_after))]
+#[tactic(auto, unfolding(crate::specs::Pe::header_fields, crate::specs::Pe::header_after))]
 fn header_after(data: &[u8], signature: usize) -> Result<PeHeader, UnexpectedEof>
     ensures { MatchResult result
         (λ h. (signature + 24 ≤ length data.now) × (header_seen h ≡ header_after data.now signature))
@@ -153,7 +153,7 @@ impl<'a> Pe<'a> {
         &self,
         callback: F,
     ) -> Result<Option<Section<'a>>, ParseError>
-        requires { All (MayBeAsked section_seen (F.pre callback)) (walk self.now).sections }
+        requires { All (MayBeAsked section_seen (F.pre callback)) (walk self.now).items }
         ensures { FirstAccepted refusal_of section_seen (F.post callback) (walk self.now) result }
     {
         Ok(self.first_section(callback)?)
@@ -161,14 +161,14 @@ impl<'a> Pe<'a> {
 
     /// The first section with this name; refused as `find_section` is.
     pub fn section_with_name(&self, name: &str) -> Result<Option<Section<'a>>, ParseError>
-        ensures { Gives refusal_of (option_map section_seen) result (first (λ s. bytes_eq s.name name.now) (walk self.now)) }
+        ensures { Gives refusal_of (option_map section_seen) (first (λ s. is_named name.now s) (walk self.now)) result }
     {
         Ok(self.section_named(name)?)
     }
 
     // The same with an error that holds no text, so that its closure may borrow the name.
     fn section_named(&self, name: &str) -> Result<Option<Section<'a>>, UnexpectedEof>
-        ensures { Gives (λ _. unexpected_eof) (option_map section_seen) result (first (λ s. bytes_eq s.name name.now) (walk self.now)) }
+        ensures { Gives (λ _. unexpected_eof) (option_map section_seen) (first (λ s. is_named name.now s) (walk self.now)) result }
     {
         self.first_section(|section| section.name == name)
     }
@@ -178,7 +178,7 @@ impl<'a> Pe<'a> {
         &self,
         callback: F,
     ) -> Result<Option<Section<'a>>, UnexpectedEof>
-        requires { All (MayBeAsked section_seen (F.pre callback)) (walk self.now).sections }
+        requires { All (MayBeAsked section_seen (F.pre callback)) (walk self.now).items }
         ensures { FirstAccepted (λ _. unexpected_eof) section_seen (F.post callback) (walk self.now) result }
     {
         let mut start = self.sections_offset();
@@ -235,7 +235,7 @@ impl<'a> Pe<'a> {
     // Where the symbols are, or the first refusal.
     #[tactic(auto, unfolding(crate::specs::PeSymbols::located))]
     fn locate(&self) -> Result<Found<'a>, ParseError>
-        ensures { Gives refusal_of found_seen result (located self.now) }
+        ensures { Gives refusal_of found_seen (located self.now) result }
     {
         let text = self.text_section()?;
         let table = self.symbol_table()?;
@@ -243,7 +243,7 @@ impl<'a> Pe<'a> {
     }
 
     fn text_section(&self) -> Result<Section<'a>, ParseError>
-        ensures { Gives refusal_of section_seen result (text_section self.now) }
+        ensures { Gives refusal_of section_seen (text_section self.now) result }
     {
         self.section_with_name(".text")?
             .ok_or(ParseError::SymbolsSectionIsMissing)
@@ -251,7 +251,7 @@ impl<'a> Pe<'a> {
 
     #[tactic(auto, unfolding(crate::specs::PeSymbols::symbol_table))]
     fn symbol_table(&self) -> Result<SymbolTable<'a>, ParseError>
-        ensures { Gives refusal_of table_seen result (symbol_table self.now) }
+        ensures { Gives refusal_of table_seen (symbol_table self.now) result }
     {
         let offset = self.header.pointer_to_symbol_table as usize;
         if offset >= self.data.len() {
@@ -282,7 +282,7 @@ fn is_accepted<'a, F: Fn(Section<'a>) -> bool>(callback: &F, section: Section<'a
 }
 
 // The section whose header begins at `start`, where its name is UTF-8; refused where a field is truncated.
-#[tactic(auto, unfolding(crate::specs::Pe::section_header, crate::specs::Pe::section_at))]
+#[tactic(auto, unfolding(crate::specs::Pe::section_fields, crate::specs::Pe::section_at))]
 fn section_at(data: &[u8], start: usize, index: u16) -> Result<Option<Section<'_>>, UnexpectedEof>
     ensures { MatchResult result
         (λ o. (start + 24 ≤ length data.now) × (option_map section_seen o ≡ section_at data.now start index))
@@ -307,9 +307,9 @@ fn section_at(data: &[u8], start: usize, index: u16) -> Result<Option<Section<'_
 }
 
 // The bytes up to the first NUL, or all where there is none, as UTF-8.
-#[tactic(auto, unfolding(crate::specs::Pe::short_name))]
+#[tactic(auto, unfolding(binfarce_bytes::specs::Text::padded_text))]
 pub(crate) fn short_name(bytes: &[u8]) -> Option<&str>
-    ensures { option_map (λ t. t.now) result ≡ short_name bytes.now }
+    ensures { option_map (λ t. t.now) result ≡ padded_text bytes.now }
 {
     utf8_text(up_to_nul(bytes))
 }

@@ -3,9 +3,8 @@
 ghost use Rattle.std.specs.Prelude.{◌≡◌, ◌≢◌, [], ◌+◌, ◌-◌, ◌<◌, ◌≤◌, length, map, All, MatchResult, IfOk, OnErr, IfSome, unwrap_or, nat_lt, if◌then◌else◌};
 ghost use Rattle.std.specs.Option.{option_map};
 ghost use Rattle.binfarce_symbols.specs.Sizes.{addresses_of, least_above, least_of};
-ghost use Rattle.binfarce_symbols.specs.Symbol.{IsNotEmpty};
 ghost use Rattle.binfarce_symbols.specs.SymbolSeen.{function_seen};
-ghost use Rattle.binfarce_symbols.specs.machine.Rows.{rows_seen};
+ghost use Rattle.binfarce_symbols.specs.RowSeen.{rows_seen};
 ghost use Rattle.binfarce_pe.specs.PeSymbols.{record_at, record_count, record_of, name_of, function_name, kept_rows, size_members, entries_of};
 ghost use Rattle.binfarce_pe.specs.machine.RawPe.{record_seen, table_seen, HoldsKept, function_at};
 
@@ -65,7 +64,7 @@ pub(crate) fn functions_of<'a>(
     text_size: u32,
 ) -> Result<Vec<FunctionSymbol<'a>>, AllocError>
     ensures functions { IfOk result (λ v. map function_seen v.items ≡ entries_of (table_seen table.entry) index text_size) }
-    ensures memory { OnErr result (IsNotEmpty (entries_of (table_seen table.entry) index text_size)) }
+    ensures memory { OnErr result (entries_of (table_seen table.entry) index text_size ≢ []) }
 {
     let kept = kept_rows(alloc, table, index)?;
     let mut rows = kept.rows;
@@ -191,7 +190,7 @@ fn record_of(table: SymbolTable<'_>, number: usize) -> SymbolRecord
 
 // The record that begins at `start`; refused where it is truncated.
 #[inline]
-#[tactic(auto, unfolding(crate::specs::PeSymbols::symbol_record, crate::specs::PeSymbols::record_at))]
+#[tactic(auto, unfolding(crate::specs::PeSymbols::symbol_fields, crate::specs::PeSymbols::record_at))]
 fn record_at(rows: &[u8], start: usize) -> Result<SymbolRecord, UnexpectedEof>
     ensures { MatchResult result
         (λ r. (start + 18 ≤ length rows.now) × (record_seen r ≡ record_at rows.now start))

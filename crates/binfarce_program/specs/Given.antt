@@ -12,7 +12,7 @@ words_of (file ∷ []) = Some (file, codes ".text")
 words_of (file ∷ section ∷ []) = Some (file, section)
 words_of (file ∷ section ∷ more ∷ others) = None
 
--- why a file wasn't read, where an error of this kind came: a refused allocation is reported as such
+-- why a file wasn't read, where an error of this kind came: a failed allocation is reported as such
 abbrev pub read_error_of : ErrorKind → ReadError
 read_error_of kinds.OutOfMemory = OutOfMemory
 read_error_of kind = File

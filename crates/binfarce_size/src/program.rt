@@ -4,9 +4,11 @@ ghost use Rattle.std.specs.Prelude.{◌≡◌, map, Some, None, MatchResult, IfS
 ghost use Rattle.std.specs.String.{string_bytes};
 ghost use Rattle.binfarce.specs.Format.{format_of};
 ghost use Rattle.binfarce_tools.specs.Answer.{symbols_answer, NeedsMemory};
+ghost use Rattle.binfarce_tools.specs.Report.{IsReportOf, ReportFits};
 ghost use Rattle.binfarce_tools.specs.Sink.{writer_of, has_failed};
+ghost use Rattle.binfarce_tools.specs.Writing.{ProgramTells, Takes, Fails, Leaves};
 ghost use Rattle.binfarce_program.specs.Given.{words_of};
-ghost use Rattle.binfarce_size.specs.Program.{status_of, Tells, Takes, Fails};
+ghost use Rattle.binfarce_size.specs.Program.{status_of, outcome_of};
 ghost use Rattle.binfarce_size.specs.declared.program.Fault.TheVariants.{Usage};
 
 use binfarce_program::{ReadError, file_and_section, read_whole};
@@ -62,10 +64,11 @@ pub fn run<R: Read, W: Write>(
     section: &str,
     out: &mut Out<W>,
 ) -> Result<(), Fault>
-    ensures tells { IfSome (R.remaining file.old) (λ bytes. Tells (NeedsMemory (format_of bytes) bytes) (symbols_answer (format_of bytes) bytes section.now) result) }
-    ensures takes { IfSome (R.remaining file.old) (λ bytes. Takes (symbols_answer (format_of bytes) bytes section.now)
-        (W.contents (writer_of out.old)) (W.contents (writer_of out.new)) result) }
-    ensures fails { Fails out.old out.new result }
+    ensures tells { IfSome (R.remaining file.old) (λ bytes. ProgramTells ReportFits (NeedsMemory (format_of bytes) bytes) (symbols_answer (format_of bytes) bytes section.now) (outcome_of result)) }
+    ensures takes { IfSome (R.remaining file.old) (λ bytes. Takes IsReportOf (symbols_answer (format_of bytes) bytes section.now)
+        (W.contents (writer_of out.old)) (W.contents (writer_of out.new)) (outcome_of result)) }
+    ensures fails { Fails (has_failed out.old) (has_failed out.new) (outcome_of result) }
+    ensures leaves { Leaves out.old out.new (outcome_of result) }
 {
     let bytes = read_whole(alloc, file)?;
     report(alloc, bytes.as_slice(), section, out).map_err(Fault::Report)

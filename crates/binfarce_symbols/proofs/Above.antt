@@ -3,8 +3,19 @@ use Rattle.std.proofs.Common.{◌≡◌, ℕ, suc, ◌<◌, ◌≤◌, Bool, tru
 use Rattle.std.proofs.lemmas.Bool.{ltb-true, ltb-false, cases_lt}
 use Rattle.std.proofs.lemmas.List.Elements.{All-nil, All-cons, All-weaker, All-contains}
 use Rattle.std.proofs.lemmas.List.Sorted.{All-permutation, Contains-permutation, IsPermutation-map}
-use Rattle.binfarce_symbols.specs.Sizes.{RowAddress, arranged, addresses_of, least, least_of, least_above, IsLeastAbove, LeastAbove}
+use Rattle.binfarce_symbols.specs.Sizes.{RowAddress, arranged, addresses_of, least, least_of, least_above}
 use Rattle.binfarce_symbols.proofs.Arranging.{arranged_same}
+
+-- b is a member above a, and no member above a is less
+pub record IsLeastAbove (members : List ℕ) (a b : ℕ) : Type 0 where
+  pub member : Contains members b
+  pub above : a < b
+  pub least : All (λ c. a < c → b ≤ c) members
+
+-- what `least_above` says: the least member above a, or that there is none
+abbrev pub LeastAbove : List ℕ → ℕ → Option ℕ → Type 0
+LeastAbove members a (Some b) = IsLeastAbove members a b
+LeastAbove members a None = All (λ c. c ≤ a) members
 
 behind_first : (x b : ℕ) (xs : List ℕ) → Contains xs b → Contains (x ∷ xs) b
 behind_first x b xs c = (suc c.0, omega (arith, c.1), c.2)

@@ -3,7 +3,7 @@ use Rattle.std.proofs.Common.{◌≡◌, ◌≢◌, ℕ, zero, suc, ◌+◌, ◌
 use Rattle.std.specs.List.{range_with_len, filter_map, AllZip}
 use Rattle.std.proofs.lemmas.List.{append-nil}
 use Rattle.std.proofs.lemmas.List.Elements.{filter_map-append}
-use Rattle.binfarce_symbols.specs.Symbol.{Entry, IsNotEmpty}
+use Rattle.binfarce_symbols.specs.Symbol.{Entry}
 
 range_more : (a n : ℕ) → range_with_len a (n + 1) ≡ range_with_len a n ++ (a + n) ∷ []
 range_more a zero = same_one a (a + 0) (omega arith)
@@ -57,8 +57,8 @@ begins f a (suc n) k x some low high =
     begins_by_first f a n (f a) refl (λ none. let other : a ≢ k = elsewhere f a k x some none in begins f (a + 1) n k x some (omega arith) (omega arith))
 
 -- some row below n is kept
-pub not_empty : (f : ℕ → Option Entry) (n k : ℕ) (x : Entry) → f k ≡ Some x → k < n → IsNotEmpty (filter_map f (range_with_len 0 n))
-not_empty f n k x some lt = begins f 0 n k x some (omega arith) (omega arith)
+pub not_empty : (f : ℕ → Option Entry) (n k : ℕ) (x : Entry) → f k ≡ Some x → k < n → filter_map f (range_with_len 0 n) ≢ []
+not_empty f n k x some lt = λ empty. cc (empty, (begins f 0 n k x some (omega arith) (omega arith)).2)
 
 -- what a call's value is known to be, where it is known to be there
 pub match_ok : {T E : Type 0} (r : Result T E) (x : T) (P : T → Type 0) (Q : E → Type 0) → r ≡ Ok x → MatchResult r P Q → P x

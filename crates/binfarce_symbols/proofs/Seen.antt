@@ -5,7 +5,7 @@ use Rattle.std.proofs.lemmas.List.{get_or-map, length-map}
 use Rattle.std.proofs.lemmas.List.Sorted.{IsPermutation-map}
 use Rattle.binfarce_symbols.specs.declared.sizes.RowAddress as code
 use Rattle.binfarce_symbols.specs.Sizes.{RowAddress, comes_before, arranged}
-use Rattle.binfarce_symbols.specs.machine.Rows.{row_seen, rows_seen}
+use Rattle.binfarce_symbols.specs.RowSeen.{row_seen, rows_seen}
 use Rattle.binfarce_symbols.proofs.Arranging.{arrangement_is, addresses_rise}
 
 abbrev pub before : code.RowAddress → code.RowAddress → Bool

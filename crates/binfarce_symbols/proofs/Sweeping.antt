@@ -7,7 +7,7 @@ use Rattle.std.proofs.lemmas.List.Elements.{All-map, All-from_get_or, Contains-g
 use Rattle.binfarce_symbols.specs.declared.sizes.RowAddress.{RowAddress}
 use Rattle.binfarce_symbols.specs.Sizes
 use Rattle.binfarce_symbols.specs.Sizes.{addresses_of, least_above}
-use Rattle.binfarce_symbols.specs.machine.Rows.{rows_seen}
+use Rattle.binfarce_symbols.specs.RowSeen.{rows_seen}
 use Rattle.binfarce_symbols.proofs.Above.{above_is, arranged_above}
 
 abbrev pub addresses : List RowAddress → List ℕ

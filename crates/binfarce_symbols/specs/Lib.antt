@@ -1,4 +1,4 @@
 pub mod Symbol
 pub mod SymbolSeen
 pub mod Sizes
-pub mod machine
+pub mod RowSeen

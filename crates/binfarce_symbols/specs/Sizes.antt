@@ -1,9 +1,9 @@
 -- Rows arranged by address, and the least address above another: what sizes are made of where a format stores none.
-use Rattle.std.specs.Prelude.{◌≡◌, ℕ, ◌+◌, ◌<◌, ◌≤◌, Bool, true, ◌&&◌, ◌||◌, List, [], ◌∷◌, length, map, filter, All, Contains, min, Option, Some, None, nat_lt, nat_eq, slice_index_or, if◌then◌else◌}
+use Rattle.std.specs.Prelude.{◌≡◌, ℕ, ◌+◌, ◌<◌, Bool, true, ◌&&◌, ◌||◌, List, [], ◌∷◌, length, map, filter, min, Option, Some, None, nat_lt, nat_eq, slice_index_or, if◌then◌else◌}
 use Rattle.std.specs.List.Sorted.{IsPermutation}
 use Rattle.binfarce_symbols.specs.Symbol.{Entry}
 
--- a row of a symbol table: the address that it holds, and its number
+-- a row of a symbol table: the address that it holds, and its number in the table
 pub record RowAddress : Type 0 where
   pub address : ℕ
   pub row : ℕ
@@ -53,14 +53,3 @@ least (x ∷ xs) = Some (least_of x (least xs))
 -- the least member of the set above a
 unfoldable pub least_above : List ℕ → ℕ → Option ℕ
 least_above members a = least (filter (λ b. nat_lt a b) members)
-
--- b is a member above a, and no member above a is less
-pub record IsLeastAbove (members : List ℕ) (a b : ℕ) : Type 0 where
-  pub member : Contains members b
-  pub above : a < b
-  pub least : All (λ c. a < c → b ≤ c) members
-
--- what `least_above` says: the least member above a, or that there is none
-abbrev pub LeastAbove : List ℕ → ℕ → Option ℕ → Type 0
-LeastAbove members a (Some b) = IsLeastAbove members a b
-LeastAbove members a None = All (λ c. c ≤ a) members

@@ -1,5 +1,5 @@
 -- The answer of `symbols`: one symbol for each entry, in order.
-use Rattle.std.specs.Prelude.{◌≡◌, ◌⊎◌, ℕ, List, ◌∷◌, Result, Ok, Err}
+use Rattle.std.specs.Prelude.{◌≡◌, ◌≢◌, ◌⊎◌, ℕ, List, [], Result, Ok, Err}
 use Rattle.std.specs.Global.{Vec}
 use Rattle.std.specs.List.{AllZip}
 use Rattle.binfarce_names.specs.declared.demangle.SymbolData.{SymbolData}
@@ -14,7 +14,7 @@ pub record Entry : Type 0 where
   pub address : ℕ
   pub size : ℕ
 
--- the entries, and the size of the section that they lie in
+-- the entries, and a size: in ELF that of the section that was asked for, in Mach-O and PE that of the text
 pub record Listed : Type 0 where
   pub entries : List Entry
   pub section_size : ℕ
@@ -29,19 +29,16 @@ pub record IsSymbolOf (entry : Entry) (symbol : SymbolData) : Type 0 where
 abbrev pub AreSymbolsOf : List Entry → List SymbolData → Type 0
 AreSymbolsOf entries symbols = AllZip IsSymbolOf entries symbols
 
-abbrev pub IsNotEmpty : List Entry → Type 0
-IsNotEmpty entries = (entry : Entry) × (others : List Entry) × (entries ≡ entry ∷ others)
-
--- the value is the symbols of these entries, and the size of their section
+-- the value is the symbols of these entries, and the size
 abbrev pub HoldsSymbols : Listed → Vec SymbolData × ℕ → Type 0
 HoldsSymbols listed answer = AreSymbolsOf listed.entries answer.0.items × (answer.1 ≡ listed.section_size)
 
 -- the answer is a list that isn't empty
 abbrev pub ListsSome : Result Listed Refusal → Type 0
-ListsSome (Ok listed) = IsNotEmpty listed.entries
+ListsSome (Ok listed) = listed.entries ≢ []
 ListsSome (Err refusal) = ⊥
 
--- what a call returns where the file's answer is this: a value that holds what is listed, or the refusal. In place of an answer that needs memory, and of no other, it may return that an allocation was refused
+-- what a call returns where the file's answer is this: a value that holds what is listed, or the refusal. In place of an answer that needs memory, and of no other, it may return that an allocation failed
 abbrev pub Answers : {X : Type 0} → (Listed → X → Type 0) → (Result Listed Refusal → Type 0) → Result Listed Refusal → Result X ParseError → Type 0
 Answers Holds NeedsMemory (Ok listed) (Ok value) = Holds listed value
 Answers Holds NeedsMemory (Ok listed) (Err e) = (refusal_of e ≡ out_of_memory) × NeedsMemory (Ok listed)

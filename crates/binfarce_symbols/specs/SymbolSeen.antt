@@ -8,6 +8,6 @@ use Rattle.binfarce_symbols.specs.Symbol.{Entry, Listed}
 abbrev pub function_seen : FunctionSymbol → Entry
 function_seen f = record { name = f.name.now; address = f.address; size = f.size }
 
--- the value is these entries as function symbols, and the size of their section
+-- the value is these entries as function symbols, and the size
 abbrev pub HoldsFunctions : Listed → Vec FunctionSymbol × ℕ → Type 0
 HoldsFunctions listed answer = (map function_seen answer.0.items ≡ listed.entries) × (answer.1 ≡ listed.section_size)

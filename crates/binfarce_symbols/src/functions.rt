@@ -1,7 +1,7 @@
 //! The function symbols that a file stores, and the symbols that they become.
 
-ghost use Rattle.std.specs.Prelude.{◌≡◌, ◌∷◌, List, Some, map, IfOk, OnErr};
-ghost use Rattle.std.specs.Iterator.{IsFinite, Drains, Yields};
+ghost use Rattle.std.specs.Prelude.{List, Some, map, IfOk, OnErr};
+ghost use Rattle.std.specs.Iterator.{IsFinite, Drains};
 ghost use Rattle.binfarce_symbols.specs.Symbol.{IsSymbolOf, AreSymbolsOf};
 ghost use Rattle.binfarce_symbols.specs.SymbolSeen.{function_seen};
 ghost use Rattle.binfarce_symbols.specs.declared.functions.FunctionSymbol.{FunctionSymbol};

@@ -3,7 +3,7 @@
 ghost use Rattle.std.specs.Prelude.{◌≡◌, length, map, IfOk, IsPermutation};
 ghost use Rattle.std.specs.List.Sorted.{IsNonDecreasingBy};
 ghost use Rattle.binfarce_symbols.specs.Sizes.{arranged, addresses_of, least_above};
-ghost use Rattle.binfarce_symbols.specs.machine.Rows.{rows_seen};
+ghost use Rattle.binfarce_symbols.specs.RowSeen.{rows_seen};
 
 use std::alloc::{AllocError, Global};
 

@@ -9,7 +9,8 @@ use Rattle.binfarce_tools.specs.declared.functions.Functions.{Functions}
 use Rattle.binfarce_tools.specs.declared.list.ListError.{ListError}
 use Rattle.binfarce_tools.specs.declared.list.ListError.TheVariants.{Unknown, Parse, OutOfMemory, Write}
 use Rattle.binfarce_tools.specs.Listing.{IsLineOf, IsListingOf, size_line}
-use Rattle.binfarce_tools.specs.Lists.{Takes}
+use Rattle.binfarce_tools.specs.ListWords.{outcome_of}
+use Rattle.binfarce_tools.specs.Writing as writing
 use Rattle.binfarce_tools.specs.machine.Lists.{HoldsLeft, Gets, Writes}
 
 -- all is the lines of these entries
@@ -45,6 +46,10 @@ is_listing all size lines text listed are is same sizes =
     let P : List Entry → Type 0 = λ x. AreLines x lines in
     let of_listed : AreLines listed.entries lines = subst P same are in
     (of_listed.0, of_listed.1, is ∙ ap (λ (x : List ℕ). x ++ size_line size) of_listed.2 ∙ ap (λ (n : ℕ). concat of_listed.0 ++ size_line n) sizes)
+
+-- what was taken, by what `list` answers
+abbrev pub Takes : Option (Result Listed Refusal) → Option (List ℕ) → Option (List ℕ) → Result (Unit {0}) ListError → Type 0
+Takes answer old new result = writing.Takes IsListingOf answer old new (outcome_of result)
 
 -- the listing of what a file holds was written, or a beginning of it
 pub takes : (memory : Result Listed Refusal → Type 0) (answer : Option (Result Listed Refusal)) (functions : Functions) (size : ℕ) (text : List ℕ) (old new : Option (List ℕ)) (result : Result (Unit {0}) ListError)

@@ -1,5 +1,5 @@
 -- What `report` answers and what was taken follows from the sums that it got and what its sink took.
-use Rattle.std.proofs.Common.{◌≡◌, ℕ, ◌<◌, ◌≤◌, ◌^◌, List, Option, Some, None, Result, Ok, Err, refl, sym, ap, subst, ◌∙◌, inl, inr, ◌⊎◌}
+use Rattle.std.proofs.Common.{◌≡◌, ℕ, ◌<◌, ◌≤◌, ◌^◌, List, Option, Some, None, Result, Ok, Err, refl, sym, ap, subst, ◌∙◌, inl, inr, ◌⊎◌, arith}
 use Rattle.std.specs.Result.{IsErrAnd}
 use Rattle.std.specs.List.{AllZip, sum_by}
 use Rattle.binfarce.specs.Refusal.{Refusal}
@@ -9,9 +9,9 @@ use Rattle.binfarce_tools.specs.declared.list.ListError.{ListError}
 use Rattle.binfarce_tools.specs.declared.list.ListError.TheVariants as errors
 use Rattle.binfarce_tools.specs.declared.report.ReportError.{ReportError}
 use Rattle.binfarce_tools.specs.declared.report.ReportError.TheVariants.{OutOfMemory, TooLarge, Write}
-use Rattle.binfarce_tools.specs.Report.{Share, IsShareOf, IsReportOf, IsReportOfShares, total}
-use Rattle.binfarce_tools.specs.Reports.{Tells, Takes}
-use Rattle.binfarce_tools.specs.ReportWords.{report_error_of}
+use Rattle.binfarce_tools.specs.Report.{Share, IsShareOf, IsReportOf, IsReportOfShares, ReportFits, total}
+use Rattle.binfarce_tools.specs.ReportWords.{report_error_of, outcome_of}
+use Rattle.binfarce_tools.specs.Writing as writing
 use Rattle.binfarce_tools.specs.machine.Lists.{functions_left, HoldsLeft, Gets, Writes}
 use Rattle.binfarce_tools.proofs.CrateSums.{total_is}
 use Rattle.binfarce_tools.proofs.Lines.{nothing}
@@ -21,7 +21,14 @@ size_of_all entries = sum_by (λ (e : Entry). e.size) entries
 
 -- why what was got isn't reported, or that it is
 abbrev pub TellsOf : ℕ → Result (Unit {0}) ReportError → Type 0
-TellsOf total result = (result ≡ Err OutOfMemory) ⊎ ((total < 2 ^ 64) × ((result ≡ Ok tt) ⊎ (result ≡ Err Write))) ⊎ ((2 ^ 64 ≤ total) × (result ≡ Err TooLarge))
+TellsOf total result = (outcome_of result ≡ writing.no_memory) ⊎ ((total < 2 ^ 64) × ((outcome_of result ≡ writing.written) ⊎ (outcome_of result ≡ writing.write_failed))) ⊎ ((¬ (total < 2 ^ 64)) × (outcome_of result ≡ writing.too_large))
+
+-- what `report` tells and what was taken, by its answer
+abbrev pub Tells : (Result Listed Refusal → Type 0) → Option (Result Listed Refusal) → Result (Unit {0}) ReportError → Type 0
+Tells memory answer result = writing.Tells ReportFits memory answer (outcome_of result)
+
+abbrev pub Takes : Option (Result Listed Refusal) → Option (List ℕ) → Option (List ℕ) → Result (Unit {0}) ReportError → Type 0
+Takes answer old new result = writing.Takes IsReportOf answer old new (outcome_of result)
 
 told : (memory : Result Listed Refusal → Type 0) (answer : Option (Result Listed Refusal)) (functions : Functions) (size : ℕ) (result : Result (Unit {0}) ReportError)
     → Gets memory answer (Ok (functions, size)) → TellsOf (size_of_all (functions_left functions)) result → Tells memory answer result
@@ -34,11 +41,17 @@ is_err : (result : Result (Unit {0}) ReportError) (e : ReportError) → IsErrAnd
 is_err (Ok x) e is = absurd is
 is_err (Err f) e is = ap Err is
 
+ended : (result : Result (Unit {0}) ReportError) (e : ReportError) → IsErrAnd result (λ f. f ≡ e) → outcome_of result ≡ outcome_of (Err e)
+ended result e is = ap outcome_of (is_err result e is)
+
+too_large : (n : ℕ) → 2 ^ 64 ≤ n → ¬ (n < 2 ^ 64)
+too_large n le lt = omega arith
+
 -- where no sums were made
 pub no_sums : (memory : Result Listed Refusal → Type 0) (answer : Option (Result Listed Refusal)) (functions : Functions) (size : ℕ) (e : ReportError) (result : Result (Unit {0}) ReportError)
     → Gets memory answer (Ok (functions, size)) → (e ≡ OutOfMemory) ⊎ ((e ≡ TooLarge) × (2 ^ 64 ≤ size_of_all (functions_left functions))) → IsErrAnd result (λ f. f ≡ e) → Tells memory answer result
-no_sums memory answer functions size e result gets (inl is) err = told memory answer functions size result gets (inl (is_err result e err ∙ ap Err is))
-no_sums memory answer functions size e result gets (inr is) err = told memory answer functions size result gets (inr (inr (is.1, is_err result e err ∙ ap Err is.0)))
+no_sums memory answer functions size e result gets (inl is) err = told memory answer functions size result gets (inl (ended result e err ∙ ap (λ (e : ReportError). outcome_of (Err e)) is))
+no_sums memory answer functions size e result gets (inr is) err = told memory answer functions size result gets (inr (inr (too_large (size_of_all (functions_left functions)) is.1, ended result e err ∙ ap (λ (e : ReportError). outcome_of (Err e)) is.0)))
 
 -- nothing was written then
 pub no_sums_takes : (answer : Option (Result Listed Refusal)) (functions : Functions) (old : Option (List ℕ)) (e : ReportError) (result : Result (Unit {0}) ReportError)
@@ -64,7 +77,7 @@ pub not_written : (memory : Result Listed Refusal → Type 0) (answer : Option (
     → Gets memory answer (Ok (functions, size)) → AllZip IsShareOf (functions_left functions) shares → total shares ≡ sum → sum < 2 ^ 64
     → e ≡ errors.Write → IsErrAnd result (λ f. f ≡ report_error_of e) → Tells memory answer result
 not_written memory answer functions size shares sum e result gets are is below write err =
-    told memory answer functions size result gets (inr (inl (fits functions shares sum are is below, inr (is_err result (report_error_of e) err ∙ ap (λ (e : ListError). Err (report_error_of e)) write))))
+    told memory answer functions size result gets (inr (inl (fits functions shares sum are is below, inr (ended result (report_error_of e) err ∙ ap (λ (e : ListError). outcome_of (Err (report_error_of e))) write))))
 
 -- the report of shares of what was got
 of_listed : (listed : Listed) (functions : Functions) (size : ℕ) (shares : List Share) (text : List ℕ) → HoldsLeft listed (functions, size) → AllZip IsShareOf (functions_left functions) shares → IsReportOfShares shares size text → IsReportOf listed text

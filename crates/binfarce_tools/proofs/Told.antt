@@ -5,9 +5,9 @@ use Rattle.binfarce.specs.declared.ByteOrder.{ByteOrder}
 use Rattle.binfarce.specs.declared.Format.{Format}
 use Rattle.binfarce.specs.declared.Format.TheVariants.{Elf32, Elf64, Macho, PE, Unknown}
 use Rattle.binfarce.specs.Refusal.{Refusal, ◌>>=◌, required, symbols_section_is_missing, section_is_missing, unexpected_section_type, malformed_input, unexpected_eof, out_of_memory}
-use Rattle.binfarce.specs.Walk.{Walk, found_or_end, first}
+use Rattle.binfarce.specs.Walk.{Walk, found_or_end, first, ended, ahead_of, and_then}
 use Rattle.binfarce.specs.Elf.{ElfClass, SectionTable, Section, elf32, elf64, walk, name_of, section_table, whole_headers}
-use Rattle.binfarce.specs.ElfSymbols.{sought, is_name, part_of, located, elf_answer}
+use Rattle.binfarce.specs.ElfSymbols.{sought, is_named, part_of, located, elf_answer}
 use Rattle.binfarce.specs.Symbol.{Listed}
 use Rattle.std.specs.Str.{bytes_eq}
 use Rattle.binfarce.specs.Number.{bytes_at}
@@ -17,7 +17,7 @@ use Rattle.binfarce.specs.Pe.{least_length, walk as pe_walk}
 use Rattle.binfarce.specs.PeSymbols as pe
 use Rattle.binfarce.specs.PeSymbols.{pe_answer}
 use Rattle.binfarce.specs.Macho as macho_file
-use Rattle.binfarce.specs.Macho.{Command, command_at, commands_from, commands, ended, ahead_of, body_of, header_at, segment, and_then, is_segment, sections_of, is_named, walk as macho_walk}
+use Rattle.binfarce.specs.Macho.{Command, command_at, commands_from, commands, body_of, header_of, segment, is_segment, sections_of, walk as macho_walk}
 use Rattle.binfarce.specs.MachoSymbols as macho
 use Rattle.binfarce.specs.MachoSymbols.{size_up_to, macho_size, whole_table, part_at, text_end_of, symbol_table_at, some_size, symbol_command, located_by, row_addresses, kept, answer_of, macho_answer}
 use Rattle.binfarce_tools.specs.Answer.{elf_file_answer, macho_file_answer, pe_file_answer, symbols_answer}
@@ -54,7 +54,7 @@ told_end (Some x) b = tt
 
 told_first : (class : ElfClass) (table : SectionTable) (accepts : Section → Bool) → Told (first accepts (walk class table))
 unfolding walk
-told_first class table accepts = told_end (find accepts (walk class table).sections) (ltb table.shoff (length table.file) && leb table.shnum (whole_headers class table))
+told_first class table accepts = told_end (find accepts (walk class table).items) (ltb table.shoff (length table.file) && leb table.shnum (whole_headers class table))
 
 told_sought : (class : ElfClass) (table : SectionTable) (refusal : Refusal) (accepts : Section → Bool) → is_told refusal ≡ true → Told (sought refusal accepts (walk class table))
 told_sought class table refusal accepts is = told_step (first accepts (walk class table)) (required refusal) (told_first class table accepts) (λ o. told_required refusal o is)
@@ -66,7 +66,7 @@ told_part file section = told_if (leb (2 ^ 64) (section.offset + section.size)) 
 told_located : (class : ElfClass) (table : SectionTable) (name : List ℕ) → Told (located class table name)
 unfolding located
 told_located class table name =
-    told_step _ _ (told_sought class table symbols_section_is_missing (λ section. is_name name (name_of class table section)) refl) (λ text.
+    told_step _ _ (told_sought class table symbols_section_is_missing (λ section. is_named name (name_of class table section)) refl) (λ text.
     told_step _ _ (told_sought class table (section_is_missing (codes ".symtab")) (λ section. nat_eq section.kind 2) refl) (λ symbols.
     told_step _ _ (told_sought class table (section_is_missing (codes ".strtab")) (λ section. nat_eq section.index symbols.link) refl) (λ linked.
     told_step _ _ (told_if (nat_eq linked.kind 3) (Ok linked) (Err (unexpected_section_type 3 linked.kind)) tt refl) (λ string_table.
@@ -114,7 +114,7 @@ told_pe file =
     (told_step (pe.located file) _
     (told_step (pe.text_section file) _
     (told_step (first accepts (pe_walk file)) (required symbols_section_is_missing)
-    (told_found (find accepts (pe_walk file).sections) (pe_walk file).refusal (told_end_if _ None (Some unexpected_eof) tt refl))
+    (told_found (find accepts (pe_walk file).items) (pe_walk file).refusal (told_end_if _ None (Some unexpected_eof) tt refl))
     (λ o. told_required symbols_section_is_missing o refl))
     (λ text. told_step (pe.symbol_table file) _ (told_symbol_table file) (λ table. tt)))
     (λ found. tt))
@@ -140,13 +140,13 @@ told_sections : (file : List ℕ) (commands : List Command) (end : Option Refusa
 unfolding sections_of
 told_sections file [] end t = t
 told_sections file (command ∷ others) end t =
-    told_walk_if (is_segment command) (and_then (segment file (body_of command)).sections (segment file (body_of command)).refusal (sections_of file others end)) (sections_of file others end)
-    (told_and_then (segment file (body_of command)).sections (segment file (body_of command)).refusal (sections_of file others end) (told_segment file (body_of command)) (told_sections file others end t))
+    told_walk_if (is_segment command) (and_then (segment file (body_of command)).items (segment file (body_of command)).refusal (sections_of file others end)) (sections_of file others end)
+    (told_and_then (segment file (body_of command)).items (segment file (body_of command)).refusal (sections_of file others end) (told_segment file (body_of command)) (told_sections file others end t))
     (told_sections file others end t)
 
 told_macho_walk : (file : List ℕ) → ToldEnd (macho_walk file).refusal
 unfolding macho_walk
-told_macho_walk file = told_sections file (commands file).sections (commands file).refusal (told_commands file (header_at file).ncmds 32)
+told_macho_walk file = told_sections file (commands file).items (commands file).refusal (told_commands file (header_of file).ncmds 32)
 
 told_whole_table : (file : List ℕ) (command : Command) → Told (whole_table file command)
 told_whole_table file command = told_if _ (Ok (symbol_table_at file (body_of command))) (Err unexpected_eof) tt refl
@@ -169,14 +169,14 @@ told_located_by file text (Some command) =
 told_macho_located : (file : List ℕ) → Told (macho.located file)
 unfolding macho.located
 told_macho_located file =
-    let accepts : macho_file.Section → Bool = λ section. is_named (codes "__TEXT") (codes "__text") section in
+    let accepts : macho_file.Section → Bool = λ section. macho_file.is_named (codes "__TEXT") (codes "__text") section in
     told_step (macho.text_section file) _
     (told_step (first accepts (macho_walk file)) (required symbols_section_is_missing)
-    (told_found (find accepts (macho_walk file).sections) (macho_walk file).refusal (told_macho_walk file))
+    (told_found (find accepts (macho_walk file).items) (macho_walk file).refusal (told_macho_walk file))
     (λ o. told_required symbols_section_is_missing o refl))
     (λ found. told_step (some_size found) _ (told_if (nat_eq found.size 0) (Err malformed_input) (Ok found) refl tt)
     (λ text. told_step (symbol_command file) _
-    (told_found (find (λ command. nat_eq command.kind 2) (commands file).sections) (commands file).refusal (told_commands file (header_at file).ncmds 32))
+    (told_found (find (λ command. nat_eq command.kind 2) (commands file).items) (commands file).refusal (told_commands file (header_of file).ncmds 32))
     (λ command. told_located_by file text command)))
 
 told_size : (members : List ℕ) (text_end address : ℕ) → Told (macho_size members text_end address)

@@ -1,10 +1,8 @@
 pub mod Answer
+pub mod Writing
+pub mod Sink
 pub mod Listing
-pub mod Lists
 pub mod ListWords
 pub mod Report
-pub mod Reports
 pub mod ReportWords
-pub mod Sink
-pub mod Writing
 pub mod machine

@@ -1,12 +1,13 @@
--- Which `ListError` a reader's error becomes, and its printed words.
-use Rattle.std.specs.Prelude.{ℕ, List, codes}
+-- Which `ListError` a reader's error becomes, its printed words, and how a listing ended.
+use Rattle.std.specs.Prelude.{ℕ, List, codes, Result, Ok, Err}
 use Rattle.binfarce.specs.Refusal.{refusal_of, words}
 use Rattle.binfarce.specs.declared.ParseError.{ParseError}
 use Rattle.binfarce.specs.declared.ParseError.TheVariants as errors
 use Rattle.binfarce_tools.specs.declared.list.ListError.{ListError}
 use Rattle.binfarce_tools.specs.declared.list.ListError.TheVariants.{Unknown, Parse, OutOfMemory, Write}
+use Rattle.binfarce_tools.specs.Writing.{Outcome, written, write_failed, unknown_format, refused, no_memory}
 
--- that an allocation was refused is reported as such, and any other error as the reader's
+-- that an allocation failed is reported as such, and any other error as the reader's
 abbrev pub list_error_of : ParseError → ListError
 list_error_of errors.OutOfMemory = OutOfMemory
 list_error_of e = Parse e
@@ -17,3 +18,11 @@ list_words Unknown = codes "unknown file format"
 list_words (Parse e) = words (refusal_of e)
 list_words OutOfMemory = codes "out of memory"
 list_words Write = codes "write failed"
+
+-- how a listing ended
+abbrev pub outcome_of : Result (Unit {0}) ListError → Outcome
+outcome_of (Ok _) = written
+outcome_of (Err Unknown) = unknown_format
+outcome_of (Err (Parse e)) = refused (refusal_of e)
+outcome_of (Err OutOfMemory) = no_memory
+outcome_of (Err Write) = write_failed

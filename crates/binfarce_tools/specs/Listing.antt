@@ -37,3 +37,7 @@ size_line size = codes "text " ++ (decimal size ++ 10 ∷ [])
 -- text is the listing of what a file holds: a line for each entry, in order, and then that of the section's size
 abbrev pub IsListingOf : Listed → List ℕ → Type 0
 IsListingOf listed text = (lines : List (List ℕ)) × AllZip IsLineOf listed.entries lines × (text ≡ concat lines ++ size_line listed.section_size)
+
+-- a listing can always be made
+abbrev pub ListingFits : Listed → Type 0
+ListingFits listed = Unit {0}

@@ -1,5 +1,5 @@
 -- The text of a report: a line for each crate, and two lines for the whole.
-use Rattle.std.specs.Prelude.{◌≡◌, ℕ, List, [], ◌∷◌, ◌++◌, map, filter, All, Contains, unwrap_or, codes}
+use Rattle.std.specs.Prelude.{◌≡◌, ◌<◌, ◌^◌, ℕ, List, [], ◌∷◌, ◌++◌, map, filter, All, Contains, unwrap_or, codes}
 use Rattle.std.specs.Cmp.Lexicographic.{slice_cmp}
 use Rattle.std.specs.Fmt.{decimal}
 use Rattle.std.specs.List.{AllZip, flat_map, sum_by}
@@ -65,3 +65,7 @@ IsReportOfShares shares size text = (names : List (List ℕ)) × AreCratesOf sha
 -- text is the report of what a file holds: each entry adds its share
 abbrev pub IsReportOf : Listed → List ℕ → Type 0
 IsReportOf listed text = (shares : List Share) × AllZip IsShareOf listed.entries shares × IsReportOfShares shares listed.section_size text
+
+-- a report can be made where the sum of all sizes is a number of 64 bits
+abbrev pub ReportFits : Listed → Type 0
+ReportFits listed = sum_by (λ entry. entry.size) listed.entries < 2 ^ 64

@@ -7,8 +7,9 @@ ghost use Rattle.binfarce.specs.Format.{format_of};
 ghost use Rattle.binfarce.specs.Symbol.{Listed};
 ghost use Rattle.binfarce.specs.SymbolSeen.{function_seen};
 ghost use Rattle.binfarce_tools.specs.Answer.{symbols_answer, NeedsMemory};
-ghost use Rattle.binfarce_tools.specs.Listing.{IsLineOf, IsListingOf};
-ghost use Rattle.binfarce_tools.specs.Lists.{Tells, Takes, Fails, Leaves};
+ghost use Rattle.binfarce_tools.specs.Listing.{IsLineOf, IsListingOf, ListingFits};
+ghost use Rattle.binfarce_tools.specs.ListWords.{outcome_of};
+ghost use Rattle.binfarce_tools.specs.Writing.{Tells, Takes, Fails, Leaves};
 ghost use Rattle.binfarce_tools.specs.machine.Lists.{HoldsLeft};
 
 use crate::functions::{Functions, functions_of_file};
@@ -165,10 +166,10 @@ pub fn list<S: Sink>(
     section: &str,
     out: &mut S,
 ) -> Result<(), ListError>
-    ensures tells { Tells (NeedsMemory (format_of data.now) data.now) (symbols_answer (format_of data.now) data.now section.now) result }
-    ensures takes { Takes (symbols_answer (format_of data.now) data.now section.now) (S.taken out.old) (S.taken out.new) result }
-    ensures fails { Fails (S.has_failed out.old) (S.has_failed out.new) result }
-    ensures leaves { Leaves out.old out.new result }
+    ensures tells { Tells ListingFits (NeedsMemory (format_of data.now) data.now) (symbols_answer (format_of data.now) data.now section.now) (outcome_of result) }
+    ensures takes { Takes IsListingOf (symbols_answer (format_of data.now) data.now section.now) (S.taken out.old) (S.taken out.new) (outcome_of result) }
+    ensures fails { Fails (S.has_failed out.old) (S.has_failed out.new) (outcome_of result) }
+    ensures leaves { Leaves out.old out.new (outcome_of result) }
 {
     let (functions, size) = functions_of_file(alloc, data, section)?;
     let text = listing(alloc, functions, size)?;

@@ -8,8 +8,9 @@ ghost use Rattle.binfarce.specs.Name.{Name};
 ghost use Rattle.binfarce.specs.Named.{IsNamed};
 ghost use Rattle.binfarce.specs.SymbolSeen.{function_seen};
 ghost use Rattle.binfarce_tools.specs.Answer.{symbols_answer, NeedsMemory};
-ghost use Rattle.binfarce_tools.specs.Report.{Share, IsShareOf, IsReportOfShares, crate_text, crate_line};
-ghost use Rattle.binfarce_tools.specs.Reports.{Tells, Takes, Fails, Leaves};
+ghost use Rattle.binfarce_tools.specs.Report.{Share, IsShareOf, IsReportOf, IsReportOfShares, ReportFits, crate_text, crate_line};
+ghost use Rattle.binfarce_tools.specs.ReportWords.{outcome_of};
+ghost use Rattle.binfarce_tools.specs.Writing.{Tells, Takes, Fails, Leaves};
 ghost use Rattle.binfarce_tools.specs.declared.report.ReportError.TheVariants.{OutOfMemory, TooLarge};
 ghost use Rattle.binfarce_tools.specs.machine.Lists.{functions_left};
 ghost use Rattle.binfarce_tools.specs.machine.Shares.{Adds, AreSumsOf, sum_at};
@@ -103,10 +104,10 @@ pub fn report<S: Sink>(
     section: &str,
     out: &mut S,
 ) -> Result<(), ReportError>
-    ensures tells { Tells (NeedsMemory (format_of data.now) data.now) (symbols_answer (format_of data.now) data.now section.now) result }
-    ensures takes { Takes (symbols_answer (format_of data.now) data.now section.now) (S.taken out.old) (S.taken out.new) result }
-    ensures fails { Fails (S.has_failed out.old) (S.has_failed out.new) result }
-    ensures leaves { Leaves out.old out.new result }
+    ensures tells { Tells ReportFits (NeedsMemory (format_of data.now) data.now) (symbols_answer (format_of data.now) data.now section.now) (outcome_of result) }
+    ensures takes { Takes IsReportOf (symbols_answer (format_of data.now) data.now section.now) (S.taken out.old) (S.taken out.new) (outcome_of result) }
+    ensures fails { Fails (S.has_failed out.old) (S.has_failed out.new) (outcome_of result) }
+    ensures leaves { Leaves out.old out.new (outcome_of result) }
 {
     let (functions, size) = functions_of_file(alloc, data, section)?;
     let sums = crate_sums(alloc, functions)?;

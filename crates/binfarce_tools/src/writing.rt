@@ -1,6 +1,7 @@
 //! How a text is written whole.
 
-ghost use Rattle.binfarce_tools.specs.Lists.{Fails};
+ghost use Rattle.binfarce_tools.specs.ListWords.{outcome_of};
+ghost use Rattle.binfarce_tools.specs.Writing.{Fails};
 ghost use Rattle.binfarce_tools.specs.machine.Lists.{Writes};
 
 use crate::list::{ListError, Sink};
@@ -8,7 +9,7 @@ use crate::list::{ListError, Sink};
 // Writes the bytes in as many calls as the sink needs.
 pub(crate) fn write_whole<S: Sink>(out: &mut S, bytes: &[u8]) -> Result<(), ListError>
     ensures takes { Writes (S.taken out.old) (S.taken out.new) bytes.now result }
-    ensures fails { Fails (S.has_failed out.old) (S.has_failed out.new) result }
+    ensures fails { Fails (S.has_failed out.old) (S.has_failed out.new) (outcome_of result) }
 {
     let mut at = 0;
     while at < bytes.len() {

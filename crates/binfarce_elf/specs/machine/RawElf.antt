@@ -11,8 +11,8 @@ use Rattle.binfarce_elf.specs.ElfSymbols.{Located}
 use Rattle.binfarce_elf.specs.ElfSeen.{section_seen}
 
 -- the file header's fields, where a word has w bytes
-abbrev pub header_of : ℕ → Header Field
-header_of w = record {
+abbrev pub fields_of_header : ℕ → Header Field
+fields_of_header w = record {
   elf_type = field 16 2;
   machine = field 18 2;
   version = field 20 4;
@@ -29,8 +29,8 @@ header_of w = record {
 }
 
 -- a section header's fields, where a word has w bytes
-abbrev pub section_of : ℕ → SectionHeader Field
-section_of w = record {
+abbrev pub fields_of_section : ℕ → SectionHeader Field
+fields_of_section w = record {
   name = field 0 4;
   kind = field 4 4;
   flags = field 8 w;

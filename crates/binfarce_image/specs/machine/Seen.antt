@@ -10,7 +10,7 @@ use Rattle.binfarce_image.specs.declared.image.tables.Header.{Header}
 use Rattle.binfarce_image.specs.declared.image.tables.SectionHeader.{SectionHeader}
 use Rattle.binfarce_image.specs.declared.image.tables.SymbolRow.{SymbolRow}
 use Rattle.binfarce_image.specs.declared.image.tables.Class.{Class}
-use Rattle.binfarce_image.specs.Image.{part_name, part_kind, part_link}
+use Rattle.binfarce_image.specs.Image.{name_offset, part_kind, part_link}
 use Rattle.binfarce_image.specs.ImageSymbols.{RowFits}
 
 abbrev pub field_seen : Field → field.Field
@@ -47,4 +47,4 @@ BodyFits (Table name link rows) = AllByRecursion RowFits rows.items
 
 -- the numbers of a part that stand in its section header fit their types
 abbrev pub HeaderFits : Part → Type 0
-HeaderFits part = (part_name part < 2 ^ 32) × (part_kind part < 2 ^ 32) × (part_link part < 2 ^ 32)
+HeaderFits part = (name_offset part < 2 ^ 32) × (part_kind part < 2 ^ 32) × (part_link part < 2 ^ 32)

@@ -2,7 +2,7 @@
 
 ghost use Rattle.std.specs.Prelude.{◌≡◌, ◌-◌, ◌^◌, is_some, min, count_by};
 ghost use Rattle.std.specs.List.{list_any};
-ghost use Rattle.binfarce_image.specs.Image.{bodies_end, body_length, entry_length, part_name, part_kind, part_link};
+ghost use Rattle.binfarce_image.specs.Image.{bodies_end, body_length, entry_length, name_offset, part_kind, part_link};
 ghost use Rattle.binfarce_image.specs.ImageRefusal.{has_one_table, is_table, claims_table, names_of};
 ghost use Rattle.binfarce_image.specs.machine.Seen.{class_seen};
 
@@ -90,7 +90,7 @@ pub(super) fn entry_length(part: &Part, class: Class) -> usize
 }
 
 pub(super) fn name(part: &Part) -> u32
-    ensures { result ≡ part_name part.now }
+    ensures { result ≡ name_offset part.now }
 {
     match part {
         Part::Bytes { name, .. } => *name,

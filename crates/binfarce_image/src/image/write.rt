@@ -2,7 +2,7 @@
 
 ghost use Rattle.std.specs.Prelude.{◌≡◌, ◌++◌, ◌∷◌, ◌<◌, ◌≤◌, ◌^◌, true, OnOk, IfOk, length, replicate, take};
 ghost use Rattle.std.specs.List.{AllByRecursion, flat_map};
-ghost use Rattle.binfarce_image.specs.Structure.{number_bytes, put, filled};
+ghost use Rattle.binfarce_image.specs.Structure.{put, filled};
 ghost use Rattle.binfarce_image.specs.Image.{bytes, class_of, order_of, identification, header_bytes, body, bodies_end, body_length, section_headers, section_bytes, symbol_bytes};
 ghost use Rattle.binfarce_image.specs.ImageSymbols.{PartFits, RowFits};
 ghost use Rattle.binfarce_image.specs.machine.Seen.{class_seen, field_seen, numbers_seen, fits, all_fit, BodyFits, HeaderFits};

@@ -8,7 +8,7 @@ use Rattle.binfarce_macho.specs.declared.macho.Found.{Found}
 use Rattle.binfarce_macho.specs.declared.macho.RawSymbol.{RawSymbol}
 use Rattle.binfarce_macho.specs.declared.macho.RawSymbolTable.{RawSymbolTable}
 use Rattle.binfarce_bytes.specs.Refusal.{Refusal, malformed_input, unexpected_eof}
-use Rattle.binfarce_bytes.specs.Walk.{Walk}
+use Rattle.binfarce_bytes.specs.Walk.{Walk, ended, ahead_of}
 use Rattle.binfarce_macho.specs.Macho as macho
 use Rattle.binfarce_macho.specs.MachoSymbols.{SymbolTable, SymbolRow, Located}
 
@@ -25,9 +25,9 @@ commands_left it = macho.commands_from it.bytes.now it.left it.offset
 
 -- what the command iterator gives of a walk, and what is left then: the first command, or the refusal, after which nothing is left
 abbrev pub Takes : Walk macho.Command → Option (Result Command Damage) → Walk macho.Command → Type 0
-Takes walk None left = (walk ≡ macho.ended None) × (left ≡ macho.ended None)
-Takes walk (Some (Ok command)) left = walk ≡ macho.ahead_of (command_seen command) left
-Takes walk (Some (Err damage)) left = (walk ≡ macho.ended (Some (damage_refusal damage))) × (left ≡ macho.ended None)
+Takes walk None left = (walk ≡ ended None) × (left ≡ ended None)
+Takes walk (Some (Ok command)) left = walk ≡ ahead_of (command_seen command) left
+Takes walk (Some (Err damage)) left = (walk ≡ ended (Some (damage_refusal damage))) × (left ≡ ended None)
 
 abbrev pub found_seen : Found → Located
 found_seen f = record { text_end = f.text_end; text_size = f.text_size; strings = f.strings.now; rows = f.rows.now }

@@ -7,6 +7,7 @@ use Rattle.binfarce_image.specs.declared.image.ElfLayout.{ElfLayout}
 use Rattle.binfarce_image.specs.declared.image.ImageError.{ImageError}
 use Rattle.binfarce_image.specs.declared.image.ImageError.TheVariants.{OutOfMemory}
 use Rattle.binfarce_image.specs.declared.image.Part.{Part}
+use Rattle.binfarce.specs.Format.{format_of}
 use Rattle.binfarce_image.specs.Image.{class_of, bodies_end}
 use Rattle.binfarce_image.specs.ImageRefusal.{has_one_table, names_of, refusal_due, Refuses}
 use Rattle.binfarce_image.specs.ImageSymbols.{ReadsBack}
@@ -14,6 +15,7 @@ use Rattle.binfarce_image.specs.machine.Seen.{class_seen}
 use Rattle.binfarce_image.proofs.Lengths.{lengths}
 use Rattle.binfarce_image.proofs.Refusing.{many_due, table_due, names_due, large_due, none_due, computes, long, short, ends}
 use Rattle.binfarce_image.proofs.ReadsBack.{reads_back}
+use Rattle.binfarce_image.proofs.Formats.{format_back}
 use Rattle.binfarce_image.proofs.image.lay_out.Goals as goal
 
 -- nothing but `OutOfMemory` is due where every test was passed
@@ -91,3 +93,6 @@ returns-clause-law c =
     let due = none image layout (class_seen c.class-class.result) c.as_slice-parts.result.now c.bodies_end-shoff.result c.saturating_add-length.result c.has_one_table.result c.has_names.result
     c.class-class.ensures c.as_slice-parts.ensures.value c.bodies_end-shoff.ensures c.saturating_add-length.ensures c.if-parts-gt-MAX_SECTIONS.false c.has_one_table.ensures c.if-not-has_one_table.false c.has_names.ensures c.if-not-has_names.false c.if-length-ge-TOO_LARGE.false in
     subst (λ (file : List ℕ). ReadsBack layout image file) (sym c.in_ok-file.ensures.file) (reads_back image layout c.in_ok-file.ensures.fits due)
+
+pub returns-clause-format : goal.returns-clause-format
+returns-clause-format c = ap format_of c.in_ok-file.ensures.file ∙ format_back c.args.image.now c.args.layout

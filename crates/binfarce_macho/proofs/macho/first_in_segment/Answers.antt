@@ -4,7 +4,7 @@ use Rattle.std.proofs.lemmas.List.Elements.{All-nil}
 use Rattle.binfarce_macho.specs.declared.macho.Section.{Section}
 use Rattle.binfarce_bytes.specs.Refusal.{unexpected_eof}
 use Rattle.binfarce_bytes.specs.Walk.{Answered}
-use Rattle.binfarce_macho.specs.Macho.{section_at, section_offset, whole_sections}
+use Rattle.binfarce_macho.specs.Macho.{section_at, section_offset, whole_headers}
 use Rattle.binfarce_macho.specs.MachoSeen.{section_seen}
 use Rattle.binfarce_macho.proofs.Sections.{is_whole, is_truncated, count_truncated, may_be_asked, accepted_at, truncated_at, none_left, passed_over, refused_more, refused_by}
 use Rattle.binfarce_macho.specs.Macho as spec
@@ -26,7 +26,7 @@ pub returns-in_err-found : goal.returns-in_err-found
 returns-in_err-found g c =
     let file = c.args.bytes.now in
     let inside : c.args.body + 60 ≤ length file = omega (arith, c.in_ok-count.ensures.0) in
-    let truncated : whole_sections file c.args.body ≤ c.loop-index.index = is_truncated file c.args.body c.loop-index.index c.in_err-found.ensures in
+    let truncated : whole_headers file c.args.body ≤ c.loop-index.index = is_truncated file c.args.body c.loop-index.index c.in_err-found.ensures in
     refused_by unexpected_eof section_seen _ _ c.from_residual-in_err-found.result c.from_residual-in_err-found.ensures.0
     (truncated_at section_seen file c.args.body c.in_ok-count.count inside c.in_ok-count.ensures.1 _ c.loop-index.index c.loop-index-test.true c.loop-index.invariant.0 truncated c.loop-index.invariant.1)
 
@@ -34,7 +34,7 @@ pub callback-requires : goal.callback-requires
 callback-requires g c =
     let file = c.args.bytes.now in
     let inside : c.args.body + 60 ≤ length file = omega (arith, c.in_ok-count.ensures.0) in
-    let room : c.loop-index.index < whole_sections file c.args.body = is_whole file c.args.body c.loop-index.index c.in_ok-found.ensures.0 in
+    let room : c.loop-index.index < whole_headers file c.args.body = is_whole file c.args.body c.loop-index.index c.in_ok-found.ensures.0 in
     let at : Some (section_seen c.in-Some.section) ≡ section_at file (section_offset c.args.body c.loop-index.index) = here {s = section_at file (section_offset c.args.body c.loop-index.index)} c.in_ok-found.found (Some c.in-Some.section) c.in-Some.is c.in_ok-found.ensures.1 in
     may_be_asked section_seen file c.args.body c.in_ok-count.count inside c.in_ok-count.ensures.1 _ c.loop-index.index c.in-Some.section c.requires.asked c.loop-index-test.true room at
 
@@ -42,14 +42,14 @@ pub returns-then-callback : goal.returns-then-callback
 returns-then-callback g c =
     let file = c.args.bytes.now in
     let inside : c.args.body + 60 ≤ length file = omega (arith, c.in_ok-count.ensures.0) in
-    let room : c.loop-index.index < whole_sections file c.args.body = is_whole file c.args.body c.loop-index.index c.in_ok-found.ensures.0 in
+    let room : c.loop-index.index < whole_headers file c.args.body = is_whole file c.args.body c.loop-index.index c.in_ok-found.ensures.0 in
     let at : Some (section_seen c.in-Some.section) ≡ section_at file (section_offset c.args.body c.loop-index.index) = here {s = section_at file (section_offset c.args.body c.loop-index.index)} c.in_ok-found.found (Some c.in-Some.section) c.in-Some.is c.in_ok-found.ensures.1 in
     accepted_at section_seen file c.args.body c.in_ok-count.count inside c.in_ok-count.ensures.1 _ c.loop-index.index c.in-Some.section c.loop-index-test.true room at c.if-callback.ensures c.loop-index.invariant.1
 
 pub loop-index-preserved : goal.loop-index-preserved
 loop-index-preserved g c =
     let file = c.args.bytes.now in
-    let room : c.loop-index.index < whole_sections file c.args.body = is_whole file c.args.body c.loop-index.index c.in_ok-found.ensures.0 in (
+    let room : c.loop-index.index < whole_headers file c.args.body = is_whole file c.args.body c.loop-index.index c.in_ok-found.ensures.0 in (
       omega arith,
       elim c.match-found.branch [
         | in-None w ↦ passed_over (Answered section_seen (goal.F-post g c.args.callback.now) false) file c.args.body c.loop-index.index

@@ -5,7 +5,7 @@ use Rattle.std.proofs.lemmas.List.Elements.{All-same}
 use Rattle.std.proofs.lemmas.List.Sorted.{All-permutation}
 use Rattle.binfarce_symbols.specs.declared.sizes.RowAddress.{RowAddress}
 use Rattle.binfarce_symbols.specs.Sizes.{arranged, addresses_of, least_above}
-use Rattle.binfarce_symbols.specs.machine.Rows.{row_seen, rows_seen}
+use Rattle.binfarce_symbols.specs.RowSeen.{row_seen, rows_seen}
 use Rattle.binfarce_symbols.specs.SymbolSeen.{HoldsFunctions}
 use Rattle.binfarce_symbols.proofs.Sweeping.{swept_is}
 use Rattle.binfarce_macho.specs.MachoSymbols.{answer_of, listed_of, row_addresses}

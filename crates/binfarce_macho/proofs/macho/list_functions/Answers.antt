@@ -3,7 +3,7 @@ use Rattle.std.proofs.lemmas.List.{append-nil, map-append, take_all}
 use Rattle.binfarce_bytes.specs.Refusal.{refusal_of}
 use Rattle.binfarce_symbols.specs.declared.functions.FunctionSymbol.{FunctionSymbol}
 use Rattle.binfarce_symbols.specs.declared.sizes.RowAddress.{RowAddress}
-use Rattle.binfarce_symbols.specs.machine.Rows.{row_seen, rows_seen}
+use Rattle.binfarce_symbols.specs.RowSeen.{row_seen, rows_seen}
 use Rattle.binfarce_symbols.specs.SymbolSeen.{function_seen, HoldsFunctions}
 use Rattle.binfarce_symbols.proofs.Sweeping.{past}
 use Rattle.binfarce_macho.specs.MachoSymbols.{entry_of, kept, listed_of}

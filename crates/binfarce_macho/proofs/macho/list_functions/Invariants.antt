@@ -1,6 +1,6 @@
 use Rattle.std.proofs.Common.{◌≡◌, ◌≤◌, length, map, take, Ok}
 use Rattle.binfarce_symbols.specs.SymbolSeen.{function_seen}
-use Rattle.binfarce_symbols.specs.machine.Rows.{row_seen}
+use Rattle.binfarce_symbols.specs.RowSeen.{row_seen}
 use Rattle.binfarce_macho.specs.MachoSymbols.{entry_of, kept}
 use Rattle.binfarce_macho.specs.machine.RawMacho.{found_seen}
 use Rattle.binfarce_macho.proofs.macho.list_functions.Given as goal

@@ -1,7 +1,7 @@
 use Rattle.std.proofs.Common.{◌≡◌, ◌∙◌, ap, sym, ◌/◌, length, List, ◌++◌, [], ◌∷◌}
 use Rattle.std.proofs.lemmas.List.{map-append}
 use Rattle.binfarce_symbols.specs.Sizes.{RowAddress}
-use Rattle.binfarce_symbols.specs.machine.Rows.{row_seen, rows_seen}
+use Rattle.binfarce_symbols.specs.RowSeen.{row_seen, rows_seen}
 use Rattle.binfarce_macho.specs.MachoSymbols.{address_of, symbol_of}
 use Rattle.binfarce_symbols.proofs.Rows.{match_ok, on_err}
 use Rattle.binfarce_macho.proofs.Kept.{some_kept, added_some, added_none, address_some, address_none}

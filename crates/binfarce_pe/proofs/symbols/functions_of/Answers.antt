@@ -4,7 +4,7 @@ use Rattle.std.proofs.lemmas.List.{length-map}
 use Rattle.binfarce_symbols.specs.Sizes.{arranged}
 use Rattle.binfarce_symbols.specs.Symbol.{Entry}
 use Rattle.binfarce_symbols.specs.SymbolSeen.{function_seen}
-use Rattle.binfarce_symbols.specs.machine.Rows.{rows_seen}
+use Rattle.binfarce_symbols.specs.RowSeen.{rows_seen}
 use Rattle.binfarce_pe.specs.PeSymbols.{kept_rows, entries_of, size_members}
 use Rattle.binfarce_pe.specs.machine.RawPe.{table_seen, function_at}
 use Rattle.binfarce_symbols.proofs.Rows.{on_err}

@@ -1,5 +1,5 @@
 use Rattle.std.proofs.Common.{◌-◌, map}
-use Rattle.binfarce_symbols.specs.machine.Rows.{rows_seen}
+use Rattle.binfarce_symbols.specs.RowSeen.{rows_seen}
 use Rattle.binfarce_pe.specs.machine.RawPe.{table_seen}
 use Rattle.binfarce_pe.proofs.PeRows.{HoldsUpTo}
 use Rattle.binfarce_pe.proofs.symbols.kept_rows.Given as goal

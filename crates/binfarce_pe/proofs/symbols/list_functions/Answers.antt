@@ -2,7 +2,7 @@ use Rattle.std.proofs.Common.{◌≡◌, get_or, map, [], None, sym, ◌∙◌}
 use Rattle.std.proofs.lemmas.List.{get_or-map}
 use Rattle.binfarce_symbols.specs.Sizes.{addresses_of, least_above}
 use Rattle.binfarce_symbols.specs.SymbolSeen.{function_seen}
-use Rattle.binfarce_symbols.specs.machine.Rows.{rows_seen}
+use Rattle.binfarce_symbols.specs.RowSeen.{rows_seen}
 use Rattle.binfarce_symbols.proofs.Sweeping.{past}
 use Rattle.binfarce_pe.specs.PeSymbols.{size_members, size_among}
 use Rattle.binfarce_pe.specs.machine.RawPe.{function_at}

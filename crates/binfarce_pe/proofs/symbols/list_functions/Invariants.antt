@@ -1,6 +1,6 @@
 use Rattle.std.proofs.Common.{◌≡◌, take, map}
 use Rattle.binfarce_symbols.specs.SymbolSeen.{function_seen}
-use Rattle.binfarce_symbols.specs.machine.Rows.{rows_seen}
+use Rattle.binfarce_symbols.specs.RowSeen.{rows_seen}
 use Rattle.binfarce_pe.specs.PeSymbols.{size_members}
 use Rattle.binfarce_pe.specs.machine.RawPe.{function_at}
 use Rattle.binfarce_pe.proofs.symbols.list_functions.Given as goal

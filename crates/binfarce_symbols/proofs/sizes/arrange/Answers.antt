@@ -1,6 +1,6 @@
 use Rattle.std.proofs.Common.{sym, ◌∙◌, get_or, ◌+◌}
 use Rattle.std.specs.List.Sorted.{IsSortedBy}
-use Rattle.binfarce_symbols.specs.machine.Rows.{row_seen}
+use Rattle.binfarce_symbols.specs.RowSeen.{row_seen}
 use Rattle.binfarce_symbols.proofs.Arranging.{lt_is}
 use Rattle.binfarce_symbols.proofs.Seen.{before, arrangement_seen, addresses_rise_seen}
 use Rattle.binfarce_symbols.proofs.sizes.arrange.Goals as goal

@@ -1,7 +1,7 @@
 use Rattle.std.proofs.Common.{◌≡◌, ◌+◌, ◌≤◌, length, sym, ap, subst, ◌∙◌, Some, None, ℕ, List, arith}
 use Rattle.binfarce_bytes.specs.Refusal.{unexpected_eof}
-use Rattle.binfarce_bytes.specs.Walk.{MayBeAsked}
-use Rattle.binfarce_macho.specs.Macho.{walk, segment, ended, ahead_of, and_then}
+use Rattle.binfarce_bytes.specs.Walk.{MayBeAsked, ended, ahead_of, and_then}
+use Rattle.binfarce_macho.specs.Macho.{walk, segment}
 use Rattle.binfarce_macho.specs.MachoSeen.{section_seen}
 use Rattle.binfarce_macho.specs.machine.RawMacho.{commands_left, command_seen, damage_refusal}
 use Rattle.binfarce_macho.specs.declared.macho.Damage.TheVariants.{Truncated}
@@ -51,13 +51,13 @@ first_in_segment-requires-clause-inside g c = rw c.self.view_is (head_inside g (
 -- the segment's sections stand first in what is left
 segment_first : (g : _) (c : Then-command-eq-LC_SEGMENT_64 g)
     → Reaches section_seen (goal.F-post g c.args.callback) (walk c.args.self.now)
-    (and_then (segment c.self.inside.data.now (c.in_ok-command.command.offset + 8)).sections (segment c.self.inside.data.now (c.in_ok-command.command.offset + 8)).refusal (sections_left c.args.self.now (commands_left c.next.new.self)))
+    (and_then (segment c.self.inside.data.now (c.in_ok-command.command.offset + 8)).items (segment c.self.inside.data.now (c.in_ok-command.command.offset + 8)).refusal (sections_left c.args.self.now (commands_left c.next.new.self)))
 segment_first g c = rw c.self.view_is
     (let file = c.args.self.now in
     let it = c.loop-item.item-iterator in
     let left : commands_left it ≡ ahead_of (command_seen c.in_ok-command.command) (commands_left c.next.new.self) = takes_ok (commands_left it) (commands_left c.next.new.self) c.in-Some.item c.in_ok-command.command c.in_ok-command.was c.in-Some.ensures.steps.1 in
     reaches_same section_seen _ (walk file) (sections_left file (commands_left it))
-    (and_then (segment file (c.in_ok-command.command.offset + 8)).sections (segment file (c.in_ok-command.command.offset + 8)).refusal (sections_left file (commands_left c.next.new.self)))
+    (and_then (segment file (c.in_ok-command.command.offset + 8)).items (segment file (c.in_ok-command.command.offset + 8)).refusal (sections_left file (commands_left c.next.new.self)))
     (ap (sections_left file) left ∙ segment_left file (command_seen c.in_ok-command.command) (commands_left c.next.new.self) c.if-command-eq-LC_SEGMENT_64.true) c.loop-item.invariant.1)
 
 pub first_in_segment-requires-clause-asked : goal.first_in_segment-requires-clause-asked

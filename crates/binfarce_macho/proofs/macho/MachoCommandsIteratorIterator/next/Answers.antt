@@ -1,5 +1,6 @@
 use Rattle.std.proofs.Common.{◌≡◌, ◌+◌, ◌-◌, ap, sym, ◌∙◌, refl, arith}
-use Rattle.binfarce_macho.specs.Macho.{Command, command_at, commands_from, ahead_of}
+use Rattle.binfarce_bytes.specs.Walk.{ahead_of}
+use Rattle.binfarce_macho.specs.Macho.{Command, command_at, commands_from}
 use Rattle.binfarce_macho.proofs.Commands.{none_left, truncated, bad, given}
 use Rattle.binfarce_macho.proofs.macho.MachoCommandsIteratorIterator.next.Goals as goal
 

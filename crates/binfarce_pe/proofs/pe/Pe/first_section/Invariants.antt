@@ -1,6 +1,6 @@
 use Rattle.std.proofs.Common.{◌≡◌, ◌+◌, ◌*◌, ◌≤◌, All, false}
 use Rattle.binfarce_bytes.specs.Walk.{Answered}
-use Rattle.binfarce_pe.specs.Pe.{sections_offset, section_of, readable_headers}
+use Rattle.binfarce_pe.specs.Pe.{sections_offset, section_of, whole_headers}
 use Rattle.binfarce_pe.specs.PeSeen.{section_seen}
 use Rattle.binfarce_pe.proofs.Numbered.{held_below}
 use Rattle.binfarce_pe.proofs.pe.Pe.first_section.Given as goal
@@ -9,5 +9,5 @@ use Rattle.binfarce_pe.proofs.pe.Pe.first_section.Given as goal
 abbrev pub invariant-loop-index : goal.invariant-loop-index
 invariant-loop-index g l =
     (l.start ≡ sections_offset l.self + l.index * 40)
-    × (l.index ≤ readable_headers l.self)
+    × (l.index ≤ whole_headers l.self)
     × All (Answered section_seen (goal.F-post g l.callback) false) (held_below (section_of l.self) l.index)

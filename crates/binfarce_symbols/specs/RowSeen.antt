@@ -1,4 +1,4 @@
--- What clauses see of the rows that are sorted.
+-- What clauses see of the rows that are arranged.
 use Rattle.std.specs.Prelude.{List, map}
 use Rattle.binfarce_symbols.specs.declared.sizes.RowAddress as code
 use Rattle.binfarce_symbols.specs.Sizes.{RowAddress}

@@ -1,7 +1,7 @@
 #!/bin/sh
-# Runs all tests: the sizes of crates; the gate; beside it `run`, the programs that must not compile, and each allocation
-# refused in turn; after it whether the wrong bodies are refused where their list says, and the programs where no stored run
-# can have them.
+# Runs all tests: the sizes of crates; definitions that no clause reaches; the gate; beside it `run`, the programs that must
+# not compile, and each allocation failing in turn; after it whether the wrong bodies are refused where their list says, and
+# the programs where no stored run can have them.
 #
 # crates/NAME/must-not-compile/*.txt: code that calls the crate NAME. WHAT_outlives_WHAT.txt begins with `// wants: ERROR`,
 # and must be refused with that error and no other. WHAT_within_WHAT.txt begins with `// compiles`, and must not be refused:
@@ -113,6 +113,7 @@ hand_over() {
 }
 
 bench/count.py >"$scratch/sizes" || { cat "$scratch/sizes" && exit 1; }
+tests/unreached
 made_of
 beside_the_gate >"$scratch/beside" 2>&1 &
 beside=$!

@@ -10,7 +10,8 @@ use Rattle.std.specs.List.{flat_map}
 use Rattle.std.specs.Str.{encode_utf8_all}
 use Rattle.std.specs.Str.Parse.{digits_value}
 use Rattle.binfarce_legacy.specs.Legacy.{Element, Reads, name_chars, legacy_chars}
-use Rattle.binfarce_legacy.specs.machine.Reading.{name_start, name_end, HasElement, joined_left, IsLeft}
+use Rattle.binfarce_legacy.specs.machine.Reading.{name_start, name_end, HasElement}
+use Rattle.binfarce_legacy.proofs.Left.{joined_left, IsLeft}
 use Rattle.binfarce_legacy.proofs.ElementLemmas.{not_digit, reads_fits, reads_name, reads_after}
 
 -- what is written before an element: nothing before the first, `::` before any other

@@ -12,7 +12,8 @@ use Rattle.std.specs.List.{list_any, prefix_len, starts_with}
 use Rattle.std.specs.Str.{IsAscii, NonePass, encode_utf8_all}
 use Rattle.std.specs.Str.Parse.{digits_value}
 use Rattle.binfarce_legacy.specs.Legacy.{Element, name_chars, legacy_chars, without_last_part}
-use Rattle.binfarce_legacy.specs.machine.Reading.{is_mark, is_plain, chars_left, name_start, name_end, HasElement, IsLeft}
+use Rattle.binfarce_legacy.specs.machine.Reading.{is_mark, is_plain, chars_left, name_start, name_end, HasElement}
+use Rattle.binfarce_legacy.proofs.Left.{IsLeft}
 use Rattle.binfarce_legacy.proofs.ElementLemmas.{not_digit}
 use Rattle.binfarce_legacy.proofs.JoinLemmas.{separator, separator-later, left_step, left_at_end}
 use Rattle.binfarce_legacy.proofs.LastPartLemmas.{without_last_part-split}

@@ -1,3 +1,4 @@
+pub mod Left
 pub mod LastPartLemmas
 pub mod ElementLemmas
 pub mod JoinLemmas

@@ -1,6 +1,6 @@
 //! What LLVM adds to a mangled name: the `.llvm.` suffix, and other words that begin with `.`.
 
-ghost use Rattle.std.specs.Prelude.{◌≡◌, ℕ, ◌+◌, ◌<◌, ◌≤◌, true, false, MatchBool, nat_eq, codes, length, take, drop, slice_index};
+ghost use Rattle.std.specs.Prelude.{◌≡◌, ℕ, ◌<◌, ◌≤◌, true, false, MatchBool, nat_eq, codes, length, take, drop, slice_index};
 ghost use Rattle.std.specs.List.{list_all, starts_with};
 ghost use Rattle.std.specs.Char.{is_ascii_graphic};
 ghost use Rattle.binfarce_text.specs.Suffixes.{is_llvm_digit, is_allowed_rest, without_llvm};

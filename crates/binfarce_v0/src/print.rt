@@ -4,12 +4,12 @@ mod consts;
 mod identifiers;
 mod types;
 
-ghost use Rattle.std.specs.Prelude.{◌≡◌, ◌+◌, ◌<◌, IfOk, IsTrue, OnOk, Some, None, suc};
+ghost use Rattle.std.specs.Prelude.{◌≡◌, ◌+◌, ◌<◌, IfOk, IsTrue, OnOk, Some, suc};
 ghost use Rattle.std.specs.Char.{is_ascii_alphabetic};
 ghost use Rattle.binfarce_v0_grammar.specs.Forms.{InherentImpl, TraitImpl, path_form};
 ghost use Rattle.binfarce_v0_grammar.specs.Tree.{parent_position, value_mark, closing, is_open_trait, is_left_open, Arguments};
 ghost use Rattle.binfarce_v0_grammar.specs.machine.Seen.{position_seen, listed_seen};
-ghost use Rattle.binfarce_v0.specs.machine.Printing.{WithinLevels, with_state, readers, path_rule, item_rule, items_from, items_count, qualified, bindings_rule, into, back_to, generic_rule, go, say, mute, unmute};
+ghost use Rattle.binfarce_v0.specs.machine.Printing.{WithinLevels, with_state, readers, path_rule, item_rule, items_from, items_count, qualified, bindings_rule, into, back_to, generic_rule, go, mute, unmute};
 
 use crate::kept::{Asked, Sort};
 use crate::state::Printer;

@@ -1,6 +1,6 @@
 //! The state of a printing: where it reads, what it has counted, and what it has written.
 
-ghost use Rattle.std.specs.Prelude.{◌≡◌, ◌+◌, ◌-◌, ◌≤◌, ◌^◌, ◌<◌, ◌↔◌, IfOk, OnOk, IsTrue, MatchOption, option_map, true, false, if◌then◌else◌, ◌&&◌, nat_le};
+ghost use Rattle.std.specs.Prelude.{◌≡◌, ◌+◌, ◌-◌, ◌≤◌, ◌^◌, ◌<◌, IfOk, OnOk, IsTrue, MatchOption, option_map, true, false, if◌then◌else◌, ◌&&◌, nat_le};
 ghost use Rattle.std.specs.Str.{IsAscii};
 ghost use Rattle.std.specs.String.{string_bytes};
 ghost use Rattle.binfarce_v0_grammar.specs.Identifiers.{identifier_text};

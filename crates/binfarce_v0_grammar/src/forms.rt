@@ -4,7 +4,7 @@
 mod consts;
 mod signature;
 
-ghost use Rattle.std.specs.Prelude.{◌≡◌, ◌+◌, ◌<◌, IfSome, Some, length};
+ghost use Rattle.std.specs.Prelude.{◌≡◌, ◌<◌, IfSome, length};
 ghost use Rattle.std.specs.Option.{ForSome, option_map};
 ghost use Rattle.std.specs.Str.{IsAscii};
 ghost use Rattle.binfarce_v0_grammar.specs.Forms.{

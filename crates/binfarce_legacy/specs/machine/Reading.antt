@@ -1,11 +1,10 @@
 -- What the private functions of `legacy` compute; no public contract cites this.
-use Rattle.std.specs.Prelude.{ℕ, zero, ◌+◌, ◌<◌, ◌≤◌, ◌≡◌, Bool, ◌&&◌, ◌||◌, not, List, [], ◌∷◌, ◌++◌, ◌==◌, length, take, drop, if◌then◌else◌, codes, Option}
+use Rattle.std.specs.Prelude.{ℕ, zero, ◌+◌, ◌<◌, ◌≤◌, ◌≡◌, Bool, ◌&&◌, ◌||◌, not, List, [], ◌∷◌, ◌++◌, ◌==◌, length, take, if◌then◌else◌, Option}
 use Rattle.std.specs.Option.{unwrap_or}
 use Rattle.std.specs.List.{prefix_len, flat_map}
 use Rattle.std.specs.Char.{is_ascii_digit}
-use Rattle.std.specs.Str.{encode_utf8_all}
 use Rattle.std.specs.Str.Parse.{digits_value}
-use Rattle.binfarce_legacy.specs.Legacy.{Element, Piece, Reads, pieces, name_chars, legacy_chars, without_last_part}
+use Rattle.binfarce_legacy.specs.Legacy.{Element, Piece, pieces, legacy_chars, without_last_part}
 
 -- a byte that stands for itself whatever follows it
 abbrev pub is_plain : ℕ → Bool
@@ -38,12 +37,6 @@ HasElement text = (0 < name_start text) × (name_end text ≤ length text)
 unfoldable pub chars_left : List ℕ → List ℕ
 chars_left name = flat_map (λ p. p.chars) (pieces zero name)
 
--- the characters of the elements that are left after the first `at` bytes
-unfoldable pub joined_left : ℕ → List Element → List ℕ
-joined_left at elements =
-    if at == 0 then legacy_chars elements
-    else flat_map (λ e. codes "::" ++ name_chars e.name) elements
-
 -- the characters of a mangling, where its last part is left out and where it isn't
 abbrev pub path_chars : Bool → List Element → List ℕ
 path_chars left_out elements = if left_out then without_last_part (legacy_chars elements) else legacy_chars elements
@@ -51,9 +44,3 @@ path_chars left_out elements = if left_out then without_last_part (legacy_chars 
 -- a text that grows: what stood there, and then more
 abbrev pub Grows : List ℕ → List ℕ → Type 0
 Grows old new = (more : List ℕ) × (new ≡ old ++ more)
-
--- after `at` bytes, `left` are the elements to print after what was printed since `before`
-pub record IsLeft (part : List ℕ) (at : ℕ) (before printed : List ℕ) (elements : List Element) (rest : List ℕ) (left : List Element) : Type 0 where
-  pub ahead : Reads (drop at part) left rest
-  pub printed_is : (chars : List ℕ) × (printed ≡ before ++ encode_utf8_all chars)
-  pub joined : printed ++ encode_utf8_all (joined_left at left) ≡ before ++ encode_utf8_all (legacy_chars elements)

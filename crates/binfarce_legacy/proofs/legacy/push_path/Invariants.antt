@@ -1,7 +1,8 @@
 use Rattle.std.proofs.Common.{ℕ, List, ◌-◌, ◌≤◌, length}
 use Rattle.std.specs.String.{string_bytes}
 use Rattle.binfarce_legacy.specs.Legacy.{Element, Reads}
-use Rattle.binfarce_legacy.specs.machine.Reading.{Grows, IsLeft}
+use Rattle.binfarce_legacy.specs.machine.Reading.{Grows}
+use Rattle.binfarce_legacy.proofs.Left.{IsLeft}
 use Rattle.binfarce_legacy.proofs.legacy.push_path.Given as goal
 
 abbrev pub invariant-loop-start : goal.invariant-loop-start

@@ -418,27 +418,24 @@ const CHANGED: [Row; 32] = [
     ),
 ];
 
-// Apart from the table, which is large in a proof.
+// What is wrong in a row; apart from the table, which is large in a proof.
 fn wrong_row(alloc: Global, row: &Row) -> Result<Option<String>, AllocError> {
-    let (_, layout, patches, ask, text) = row;
+    let (what, layout, patches, ask, text) = row;
     let question = Sections {
         layout: *layout,
         ask: *ask,
     };
-    wrong_with(alloc, &question, layout.bytes(), patches, text)
+    match wrong_with(alloc, &question, layout.bytes(), patches, text)? {
+        None => Ok(None),
+        Some(answer) => Ok(Some(format!(in alloc; "{what}, {ask:?}, {layout:?}: {answer}")?)),
+    }
 }
 
 #[test]
 fn changed_files(rt: HostRuntime) -> Result<(), Fail> {
     for row in &CHANGED {
         let wrong = wrong_row(rt.alloc(), row)?;
-        assert!(rt;
-            wrong.is_none(),
-            "{}, {:?}, {:?}: {wrong:?}",
-            row.0,
-            row.3,
-            row.1
-        );
+        assert!(rt; wrong.is_none(), "{wrong:?}");
     }
     Ok(())
 }

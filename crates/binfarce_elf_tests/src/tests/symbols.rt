@@ -287,21 +287,24 @@ const CHANGED: [Row; 24] = [
     ),
 ];
 
-// Apart from the table, which is large in a proof.
+// What is wrong in a row; apart from the table, which is large in a proof.
 fn wrong_row(alloc: Global, row: &Row) -> Result<Option<String>, AllocError> {
-    let (_, layout, patches, section, text) = row;
+    let (what, layout, patches, section, text) = row;
     let question = Listed {
         layout: *layout,
         section,
     };
-    wrong_with(alloc, &question, layout.bytes(), patches, text)
+    match wrong_with(alloc, &question, layout.bytes(), patches, text)? {
+        None => Ok(None),
+        Some(answer) => Ok(Some(format!(in alloc; "{what}, {layout:?}: {answer}")?)),
+    }
 }
 
 #[test]
 fn changed_files(rt: HostRuntime) -> Result<(), Fail> {
     for row in &CHANGED {
         let wrong = wrong_row(rt.alloc(), row)?;
-        assert!(rt; wrong.is_none(), "{}, {:?}: {wrong:?}", row.0, row.1);
+        assert!(rt; wrong.is_none(), "{wrong:?}");
     }
     Ok(())
 }

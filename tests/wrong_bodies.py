@@ -1,8 +1,8 @@
 #!/usr/bin/env python3
 """Checks the wrong bodies against their table (docs/WRONG_BODIES.md) and against where the prover refuses them (docs/refusals.txt).
 
-    tests/wrong_bodies.py [GATE]          checks; with GATE, what the gate printed, also that each edit is refused where the list says
-    tests/wrong_bodies.py --write GATE    writes the list from what the gate printed
+    tests/wrong_bodies.py [GATE]          checks; with GATE, what the gate printed, also that the list has each edit that it refused, and where
+    tests/wrong_bodies.py --write GATE    writes the list from what the gate, or `rt must-fail`, printed
 
 What is checked, for each crates/CRATE/must-fail/MODULE.FUNCTION.EDIT.edit:
 - its first text stands in that function (or constant, or struct) of that module; two functions of one name are told apart by
@@ -20,13 +20,13 @@ from collections import Counter
 TOP = os.path.dirname(os.path.dirname(os.path.abspath(__file__)))
 TABLE = "docs/WRONG_BODIES.md"
 LIST = "docs/refusals.txt"
-HEAD = f"""\
-# Where the prover refuses each wrong body: the crate and the edit, the function, and the goal that doesn't hold there.
-# Written by `tests/wrong_bodies.py --write` from what the gate prints; the gate's next run is compared with it.
+HEAD = """\
+# Where the prover refuses a wrong body: the crate and the edit, the function, and the goal that doesn't hold there.
+# Written by `tests/wrong_bodies.py --write` from what `rt must-fail` or the gate printed; a run of the gate can be compared with it.
 """
 
 # Goals that say what a function's clauses or a loop's invariant say.
-CLAUSE = re.compile(r"returns|loop-.*-(preserved|init)|invariant|decreases|from_gives|next_gives|output")
+CLAUSE = re.compile(r"returns|loop-.*-(preserved|init)|invariant|from_gives|next_gives|output")
 ITEM = re.compile(r"(?:pub(?:\([a-z]+\))? )?(?:const )?(fn|const|static|struct|enum|trait|impl)\b(?:<.*?>)? ?([A-Za-z_0-9]*)")
 
 

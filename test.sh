@@ -1,7 +1,7 @@
 #!/bin/sh
-# Runs all tests: the sizes of crates; definitions that no clause reaches; the gate; beside it `run`, the programs that must
-# not compile, and each allocation failing in turn; after it whether the wrong bodies are refused where their list says, and
-# the programs where no stored run can have them.
+# Runs all tests: the sizes of crates; definitions that no clause reaches; the documents; the gate; beside it `run`, the
+# programs that must not compile, and each allocation failing in turn; after it whether the wrong bodies are refused where
+# their list says, and the programs where no stored run can have them.
 #
 # crates/NAME/must-not-compile/*.txt: code that calls the crate NAME. WHAT_outlives_WHAT.txt begins with `// wants: ERROR`,
 # and must be refused with that error and no other. WHAT_within_WHAT.txt begins with `// compiles`, and must not be refused:
@@ -94,17 +94,18 @@ must_not_compile() {
 beside_the_gate() {
     tests/run.sh
     must_not_compile
-    crates/binfarce_memory_tests/refused.sh
+    crates/test_memory/refused.sh
 }
 
 # The programs that the gate builds are those that `run` would build: it is given them, with what they were made of.
+run_by_name="binfarce_list binfarce_size binfarce_filter"
 made_of() {
-    for name in binfarce_list binfarce_size; do
-        ./run --sources "$name" >"$scratch/$name"
+    for name in $run_by_name; do
+        tools/build-program --sources "$name" >"$scratch/$name"
     done
 }
 hand_over() {
-    for name in binfarce_list binfarce_size; do
+    for name in $run_by_name; do
         made="crates/$name/out/run"
         mkdir -p "$made"
         cp "crates/$name/out/$name" "$made/$name"
@@ -114,6 +115,7 @@ hand_over() {
 
 bench/count.py >"$scratch/sizes" || { cat "$scratch/sizes" && exit 1; }
 tests/unreached
+tests/documents
 made_of
 beside_the_gate >"$scratch/beside" 2>&1 &
 beside=$!
@@ -124,7 +126,7 @@ wait "$beside" || status=1
 beside=
 cat "$scratch/beside"
 [ "$status" -eq 0 ] || exit 1
-tests/wrong_bodies.py
+tests/wrong_bodies.py "$scratch/gate"
 last=$(tail -n 1 "$scratch/gate")
 case $last in
     *" passed, 0 failed")

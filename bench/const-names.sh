@@ -9,6 +9,7 @@
 #
 # Usage: ./const-names.sh FOLDER
 set -eu
+trap 'exit 130' HUP INT TERM
 out=${1:?a folder for the program}
 here=$(dirname "$0")
 mkdir -p "$out"

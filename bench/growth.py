@@ -8,7 +8,6 @@ as long it takes, `inf` where that is over ten seconds.
 """
 import argparse
 import math
-import os
 import struct
 import subprocess
 import tempfile
@@ -62,7 +61,7 @@ def main():
     parser.add_argument("--list", default=listing.PROGRAM, metavar="PROGRAM")
     parser.add_argument("--original", metavar="COMMAND")
     parser.add_argument("--rows", type=int, nargs="+", default=[62_500, 125_000, 250_000, 500_000, 1_000_000])
-    parser.add_argument("--runs", type=int, default=5)
+    parser.add_argument("--runs", type=int, default=3)
     args = parser.parse_args()
     print(f"{'table':20} {'rows':>9} {'ms':>9} {'ns / (n log2 n)':>16} {'original':>9}")
     for format in (macho, pe):

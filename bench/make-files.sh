@@ -5,6 +5,7 @@
 #
 # Usage: ./make-files.sh FOLDER
 set -u
+trap 'exit 130' HUP INT TERM
 out=${1:?a folder for the files}
 side=${SIDE:-160}
 mkdir -p "$out"

@@ -9,9 +9,11 @@
 #
 # Usage: ./measure.sh FILE..
 #
+# Names of files hold neither tabs nor line feeds; a command that ORIGINAL names, no blanks within its words.
+#
 # The runs of a round follow one another, so that a busy machine is as busy for all of them; the least wall time of
 # each command counts. The peak is the greatest resident set of one run.
-set -eu
+set -euf
 LIST=${LIST:-$(dirname "$0")/../crates/binfarce_list/out/run/binfarce_list}
 SIZE=${SIZE:-$(dirname "$0")/../crates/binfarce_size/out/run/binfarce_size}
 runs=${RUNS:-15}
@@ -19,16 +21,26 @@ scratch=$(mktemp -d)
 trap 'rm -rf "$scratch"' EXIT
 trap 'exit 130' HUP INT TERM
 
-# The commands that are there, one a line: its title, a tab, the command.
+tab=$(printf '\t')
+
+# A line of a command: its title, and its words, with a tab before each.
+line() {
+    printf '%s' "$1"
+    shift
+    printf '\t%s' "$@"
+    echo
+}
+
+# The commands that are there for a file, one a line.
 commands() {
-    printf 'program\t%s %s\n' "$LIST" "$1"
-    [ ! -x "$SIZE" ] || printf 'report\t%s %s\n' "$SIZE" "$1"
-    [ -z "${ORIGINAL:-}" ] || printf 'original\t%s %s\n' "$ORIGINAL" "$1"
-    printf 'nm -S\tnm -S --defined-only %s\n' "$1"
-    printf 'nm -SC\tnm -S -C --defined-only %s\n' "$1"
-    ! command -v llvm-nm >/dev/null || printf 'llvm-nm\tllvm-nm -S --defined-only --no-demangle %s\n' "$1"
-    ! command -v llvm-nm >/dev/null || printf 'llvm-nm -C\tllvm-nm -S -C --defined-only %s\n' "$1"
-    printf 'cat\tcat %s\n' "$1"
+    line program "$LIST" "$1"
+    [ ! -x "$SIZE" ] || line report "$SIZE" "$1"
+    [ -z "${ORIGINAL:-}" ] || line original $ORIGINAL "$1"
+    line 'nm -S' nm -S --defined-only "$1"
+    line 'nm -SC' nm -S -C --defined-only "$1"
+    ! command -v llvm-nm >/dev/null || line llvm-nm llvm-nm -S --defined-only --no-demangle "$1"
+    ! command -v llvm-nm >/dev/null || line 'llvm-nm -C' llvm-nm -S -C --defined-only "$1"
+    line cat cat "$1"
 }
 
 peak() {
@@ -50,26 +62,31 @@ import subprocess, sys, time
 commands = [line.rstrip("\n").split("\t") for line in open(sys.argv[2])]
 least = {}
 for _ in range(int(sys.argv[1])):
-    for title, command in commands:
+    for title, *command in commands:
         start = time.perf_counter()
-        done = subprocess.run(command.split(), stdout=subprocess.DEVNULL, stderr=subprocess.DEVNULL)
+        done = subprocess.run(command, stdout=subprocess.DEVNULL, stderr=subprocess.DEVNULL)
         spent = time.perf_counter() - start
         if done.returncode == 0:
             least[title] = min(spent, least.get(title, spent))
-for title, command in commands:
-    print(title, least.get(title, "-"), command, sep="\t")
+for title, *command in commands:
+    print(title, least.get(title, "-"), *command, sep="\t")
 PY
     echo
-    echo "$(basename "$file"): $(wc -c <"$file") bytes, $(($($LIST "$file" | wc -l) - 1)) lines"
+    echo "$(basename "$file"): $(wc -c <"$file") bytes, $(($("$LIST" "$file" | wc -l) - 1)) lines"
     printf '%-12s %9s %9s %7s %7s %14s\n' command ms peak_MB x_time x_peak instructions
     first_time='' first_peak=''
-    while IFS='	' read -r title least command; do
+    while read -r it; do
+        IFS=$tab
+        set -- $it
+        unset IFS
+        title=$1 least=$2
+        shift 2
         [ "$least" != - ] || { printf '%-12s refuses the file\n' "$title"; continue; }
-        kilobytes=$(peak $command)
+        kilobytes=$(peak "$@")
         counted=-
-        [ -z "${COUNT:-}" ] || counted=$(instructions $command)
+        [ -z "${COUNT:-}" ] || counted=$(instructions "$@")
         first_time=${first_time:-$least} first_peak=${first_peak:-$kilobytes}
-        echo "$title	$least	$kilobytes	$first_time	$first_peak	$counted" | awk -F '\t' '{
+        line "$title" "$least" "$kilobytes" "$first_time" "$first_peak" "$counted" | awk -F '\t' '{
             printf "%-12s %9.2f %9.1f %7.2f %7.2f %14s\n", $1, $2 * 1000, $3 / 1024, $4 / $2, $5 / $3, $6 }'
     done <"$scratch/times"
 done

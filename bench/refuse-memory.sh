@@ -1,9 +1,9 @@
 #!/bin/sh
-# Refuses each of a program's requests for memory in turn and says how it ends: it may print the usage (the arguments are
+# Lets each of a program's allocations fail in turn and says how it ends: it may print the usage (the arguments are
 # texts too), `out of memory`, or all that it prints of the file; anything else is shown as WRONG, and ends with status 1.
 #
 #   PROGRAM  (optional) the program: binfarce_list, or binfarce_size
-#   LAST     (optional) the last request that is refused, 30; from some number on no request is left to refuse
+#   LAST     (optional) the last allocation that fails, 30; from some number on there is none left
 #
 # Usage: ./refuse-memory.sh FILE
 set -eu
@@ -30,7 +30,7 @@ while [ "$request" -le "${LAST:-30}" ]; do
         "$(cat "$scratch/whole")") how="the whole" ;;
         *) how="WRONG: $(head -n 1 "$scratch/end")" wrong=1 ;;
     esac
-    echo "request $request refused: $how"
+    echo "allocation $request fails: $how"
     request=$((request + 1))
 done
 exit $wrong

@@ -1,7 +1,7 @@
 #!/bin/sh
-# Runs the programs that the repository has built where no stored run can: with a full device for standard output, on a
-# file of 4 MiB, on a folder, on a file that isn't there, and with a wrong call. Status 1 where one ends otherwise than it
-# must.
+# Runs the programs that the repository has built where no stored run can: with a full device or a closed pipe for standard
+# output, on a file of 4 MiB, on a folder, on a file that isn't there, and with a wrong call. Status 1 where one ends
+# otherwise than it must.
 set -eu
 cd "$(dirname "$0")/.."
 scratch=$(mktemp -d)
@@ -33,11 +33,19 @@ ends() {
     cmp "$output" "$scratch/output"
 }
 
+# The program, with its standard output where it is; its status goes to a file.
+run() {
+    ended=0
+    ./run "$@" 2>"$scratch/error" || ended=$?
+    echo "$ended" >"$scratch/ended"
+}
+
 for name in list size; do
     program=binfarce_$name shown=binfarce-$name
-    ended=0
-    ./run "$program" "$sample" >/dev/full 2>"$scratch/error" || ended=$?
-    told 1 "$ended" "$shown: write failed" "$program" "$sample"
+    run "$program" "$sample" >/dev/full
+    told 1 "$(cat "$scratch/ended")" "$shown: write failed" "$program" "$sample"
+    { sleep 0.5; run "$program" "$sample"; } | :
+    told 1 "$(cat "$scratch/ended")" "$shown: write failed" "$program" "$sample"
     ends 0 "crates/$program/stdout" "" "$program" "$sample"
     ends 0 "crates/$program/stdout" "" "$program" "$scratch/large" .text
     ends 1 /dev/null "$shown: symbols section is missing" "$program" "$scratch/large" .data
@@ -47,3 +55,21 @@ for name in list size; do
     ends 2 /dev/null "usage: $shown FILE [SECTION]" "$program"
     ends 2 /dev/null "usage: $shown FILE [SECTION]" "$program" "$sample" .text more
 done
+
+# The filter: a full device, a closed pipe, a folder for standard input, other arguments, and a line that has to be there
+# while its writer still waits.
+program=binfarce_filter shown=binfarce-filter names=crates/binfarce_filter/stdin
+run "$program" <"$names" >/dev/full
+told 1 "$(cat "$scratch/ended")" "$shown: write failed" "$program"
+{ sleep 0.5; run "$program" <"$names"; } | :
+told 1 "$(cat "$scratch/ended")" "$shown: write failed" "$program"
+ends 0 "crates/$program/stdout" "" "$program" <"$names"
+ends 1 /dev/null "$shown: read failed" "$program" <"$scratch"
+ends 2 /dev/null "usage: $shown [--full]" "$program" --half <"$names"
+ends 2 /dev/null "usage: $shown [--full]" "$program" --full --full <"$names"
+echo 'in a::b' >"$scratch/line"
+{ echo 'in _RNvC1a1b'; sleep 2; cmp "$scratch/output" "$scratch/line" >"$scratch/told" 2>&1 || true; } | ./run "$program" >"$scratch/output"
+if [ -s "$scratch/told" ]; then
+    echo "$program: a line isn't written before the next is waited for"
+    exit 1
+fi

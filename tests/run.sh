@@ -1,16 +1,19 @@
 #!/bin/sh
-# Tries `run` on a repository of two crates, with a toolchain that proves nothing: what it makes of a crate are the lines
-# `// says TEXT` of the crate and of those below it, and a program prints them. So this takes seconds, and shows when `run`
-# builds, what it builds again, and what it says. Status 1 where it does otherwise than it must.
+# Tries `run` and `tools/build-program` on a repository of two crates, with a toolchain that proves nothing: what it makes of
+# a crate are the lines `// says TEXT` of the crate and of those below it, and a program prints them. So this takes seconds,
+# and shows when a program is built, what is built again, and what is said. Status 1 where anything is otherwise than it must
+# be.
 set -eu
 cd "$(dirname "$0")/.."
 scratch=$(mktemp -d)
-trap 'rm -rf "$scratch"' EXIT
+started=
+trap '[ -z "$started" ] || kill "$started" 2>/dev/null || true; rm -rf "$scratch"' EXIT
 trap 'exit 130' HUP INT TERM
 
 kit="$scratch/kit" top="$scratch/top"
-mkdir -p "$kit/bin" "$kit/rlibs" "$top/crates/lower/src" "$top/crates/upper/src"
-echo "a toolchain" >"$kit/KIT-ID"
+mkdir -p "$kit/bin" "$kit/rlibs" "$top/crates/lower/src" "$top/crates/upper/src" "$top/tools"
+known=$(sed -n 's/^known="\(.*\)"$/\1/p' tools/build-program)
+echo "$known" >"$kit/KIT-ID"
 : >"$kit/rlibs/std.rlib"
 : >"$scratch/proved"
 cat >"$kit/bin/rattle" <<'END'
@@ -33,12 +36,23 @@ cat >"$kit/bin/rattle-link" <<'END'
 { echo '#!/bin/sh'; sed -n 's|^// says |echo |p' "$7"; echo 'echo "$@"'; } >"$6"
 chmod +x "$6"
 END
-: >"$kit/bin/rt"
+cat >"$kit/bin/rt" <<'END'
+#!/bin/sh
+crate=$(basename "$PWD")
+echo "$crate by rt $$" >>"$PROVED"
+[ ! -e "$PROVED.slow" ] || exec sleep 60
+! grep -h "is wrong" src/main.rt || exit 1
+mkdir -p out
+{ echo '#!/bin/sh'; sed -n 's|^// says |echo by rt: |p' src/main.rt; echo 'echo "$@"'; } >"out/$crate"
+chmod +x "out/$crate"
+exit 2
+END
 chmod +x "$kit/bin/"*
 printf 'lower:\nupper: lower\n' >"$top/crates.txt"
 echo '// says below' >"$top/crates/lower/src/lib.rt"
 echo '// says above' >"$top/crates/upper/src/main.rt"
 cp run "$top/run"
+cp tools/build-program "$top/tools"
 mkdir -m 1777 "$scratch/temporary"
 export PROVED="$scratch/proved" TMPDIR="$scratch/temporary"
 # All commands but `rt`, and the same with this one.
@@ -70,7 +84,7 @@ runs() {
 what="no argument"
 runs 2 "" "usage: run PROGRAM [ARGUMENT..]" "" "$top/run"
 what="no such program"
-runs 2 "" "run: there is no program lower" "" "$top/run" lower
+runs 2 "" "build-program: there is no program lower" "" "$top/run" lower
 what="a first run"
 runs 0 "below above 1 2 " "$building" "lower upper " "$top/run" upper 1 2
 what="a later run"
@@ -99,15 +113,32 @@ runs 0 "deepes other  " "$building" "lower upper " "$top/run" upper
 what="a file that no proof reads"
 : >"$top/crates/lower/src/.lib.rt.swp"
 runs 0 "deepes other  " "" "" "$top/run" upper
-what="another toolchain"
+what="a toolchain that isn't known"
 echo "another toolchain" >"$kit/KIT-ID"
-runs 0 "deepes other  " "$building" "lower upper " "$top/run" upper
+runs 0 "by rt: other  " "$building" "upper " "$top/run" upper
+what="the same again"
+runs 0 "by rt: other  " "" "" "$top/run" upper
+what="a proof that fails by a toolchain that isn't known"
+echo '// says nothing: this is wrong' >"$top/crates/upper/src/main.rt"
+runs 1 "" "$building
+// says nothing: this is wrong" "upper " "$top/run" upper
+echo '// says other' >"$top/crates/upper/src/main.rt"
+what="the known toolchain again"
+echo "$known" >"$kit/KIT-ID"
+runs 0 "deepes other  " "$building" "upper " "$top/run" upper
+what="a library of another toolchain"
+sed -i "1s/.*/another toolchain/" "$top/crates/lower/out/rlib/sources"
+echo '// says other again' >"$top/crates/upper/src/main.rt"
+runs 0 "deepes other again  " "$building" "lower upper " "$top/run" upper
+echo '// says other' >"$top/crates/upper/src/main.rt"
+what="the program alone again"
+runs 0 "deepes other  " "$building" "upper " "$top/run" upper
 what="no rt on the path"
 PATH=$without_kit
 runs 0 "deepes other  " "" "" "$top/run" upper
 what="no rt on the path after an edit"
 echo '// says last' >"$top/crates/upper/src/main.rt"
-runs 127 "" "run: rt is not on the path, and upper is to be built" "" "$top/run" upper
+runs 127 "" "build-program: rt is not on the path, and upper is to be built" "" "$top/run" upper
 PATH=$with_kit
 what="a proof that fails"
 echo '// says nothing: this is wrong' >"$top/crates/upper/src/main.rt"
@@ -132,15 +163,16 @@ runs 0 "deepes last  " "" "" $as "$top/run" upper
 what="such a folder after an edit"
 chmod u+w "$top/crates/upper/src/main.rt"
 echo '// says more' >"$top/crates/upper/src/main.rt"
-runs 1 "" "run: cannot write to $top/crates/lower/out, and upper is to be built" "" $as "$top/run" upper
+runs 1 "" "build-program: cannot write to $top/crates/lower/out, and upper is to be built" "" $as "$top/run" upper
 chmod -R u+w "$top"
 
 what="two runs at once"
 "$top/run" upper >"$scratch/first" 2>&1 &
-first=$!
+started=$!
 ended=0
 "$top/run" upper >"$scratch/second" 2>&1 || ended=$?
-wait "$first"
+wait "$started"
+started=
 if [ "$ended" -ne 0 ] || ! grep -qx more "$scratch/first" || ! grep -qx more "$scratch/second" || [ "$(wc -l <"$PROVED")" -ne 1 ]; then
     cat "$scratch/first" "$scratch/second" "$PROVED"
     echo "$what: the program is to be built once, and both are to run it"
@@ -148,31 +180,51 @@ if [ "$ended" -ne 0 ] || ! grep -qx more "$scratch/first" || ! grep -qx more "$s
 fi
 echo "$what: as it must be"
 
-what="a run that is interrupted"
-echo '// says most' >"$top/crates/lower/src/lib.rt"
-: >"$PROVED.slow"
-: >"$PROVED"
-# The signal of Ctrl-C, which a prover in the background doesn't heed.
-timeout -s INT 2 env --default-signal=INT "$top/run" upper >"$scratch/output" 2>&1 || true
-# What is left: provers and files. It may take a moment until they are gone.
+# What is left of a run: what it started, and files.
 left() {
-    for it in $(cut -d' ' -f2 "$PROVED"); do
-        ! kill -0 "$it" 2>/dev/null || echo "the prover $it"
+    for it in $(sed 's/.* //' "$PROVED"); do
+        ! kill -0 "$it" 2>/dev/null || echo "the process $it"
     done
     ls "$TMPDIR"
 }
-tries=100
-while [ -n "$(left)" ] && [ "$tries" -gt 0 ]; do
-    sleep 0.1
-    tries=$((tries - 1))
-done
-if [ ! -s "$PROVED" ] || [ -n "$(left)" ]; then
-    cat "$scratch/output"
-    left
-    echo "$what: it is to leave neither provers nor files"
-    exit 1
-fi
-echo "$what: as it must be"
+
+# Interrupts a run that builds, twice, which then must leave nothing. It may take a moment until all is gone.
+interrupt() {
+    : >"$PROVED"
+    env --default-signal=INT "$top/run" upper >"$scratch/output" 2>&1 &
+    started=$!
+    tries=600
+    while [ ! -s "$PROVED" ] && [ "$tries" -gt 0 ]; do
+        sleep 0.1
+        tries=$((tries - 1))
+    done
+    # The signal of Ctrl-C, which a prover in the background doesn't heed.
+    kill -INT "$started"
+    kill -INT "$started" 2>/dev/null || true
+    wait "$started" || true
+    started=
+    tries=100
+    while [ -n "$(left)" ] && [ "$tries" -gt 0 ]; do
+        sleep 0.1
+        tries=$((tries - 1))
+    done
+    if [ ! -s "$PROVED" ] || [ -n "$(left)" ]; then
+        cat "$scratch/output"
+        left
+        echo "$what: it is to leave neither processes nor files"
+        exit 1
+    fi
+    echo "$what: as it must be"
+}
+
+: >"$PROVED.slow"
+echo '// says most' >"$top/crates/lower/src/lib.rt"
+what="a run that is interrupted"
+interrupt
+echo "another toolchain" >"$kit/KIT-ID"
+what="a run that is interrupted, by a toolchain that isn't known"
+interrupt
+echo "$known" >"$kit/KIT-ID"
 rm "$PROVED.slow"
 what="after that"
 runs 0 "most more  " "$building" "lower upper " "$top/run" upper

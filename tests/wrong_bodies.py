@@ -1,8 +1,8 @@
 #!/usr/bin/env python3
 """Checks the wrong bodies against their table (docs/WRONG_BODIES.md) and against where the prover refuses them (docs/refusals.txt).
 
-    tests/wrong_bodies.py [GATE]          checks; with GATE, what the gate printed, also that the list has each edit that it refused, and where
-    tests/wrong_bodies.py --write GATE    writes the list from what the gate, or `rt must-fail`, printed
+    tests/wrong_bodies.py [GATE]          checks; with GATE, what the gate printed, also that it refused each edit; prints where it refused one elsewhere than the list says
+    tests/wrong_bodies.py --write GATE    writes the list from what the gate printed
 
 What is checked, for each crates/CRATE/must-fail/MODULE.FUNCTION.EDIT.edit:
 - its first text stands in that function (or constant, or struct) of that module; two functions of one name are told apart by
@@ -22,12 +22,12 @@ TABLE = "docs/WRONG_BODIES.md"
 LIST = "docs/refusals.txt"
 HEAD = """\
 # Where the prover refuses a wrong body: the crate and the edit, the function, and the goal that doesn't hold there.
-# Written by `tests/wrong_bodies.py --write` from what `rt must-fail` or the gate printed; a run of the gate can be compared with it.
+# Written by `tests/wrong_bodies.py --write` from what the gate printed.
 """
 
 # Goals that say what a function's clauses or a loop's invariant say.
 CLAUSE = re.compile(r"returns|loop-.*-(preserved|init)|invariant|from_gives|next_gives|output")
-ITEM = re.compile(r"(?:pub(?:\([a-z]+\))? )?(?:const )?(fn|const|static|struct|enum|trait|impl)\b(?:<.*?>)? ?([A-Za-z_0-9]*)")
+ITEM = re.compile(r"(?:pub(?:\([a-z]+\))? )?(?:const )?(?:extern .C. )?(fn|const|static|struct|enum|trait|impl)\b(?:<.*?>)? ?([A-Za-z_0-9]*)")
 
 
 def read(path):
@@ -111,10 +111,12 @@ def rows():
 
 
 def in_answer(folder, goal):
-    """The function and the goal of an answer. The functions of a cycle have one folder, whose name begins with `+`; their goals begin with theirs."""
-    if ".+" in folder:
+    """The function and the goal of an answer. The functions of a cycle have one folder, whose name begins with `+`; their goals begin with theirs, and
+    with their modules where they stand in several, as in `lists::print_items-returns`."""
+    cycle = re.fullmatch(r"(?:(.+)\.)?\+.*", folder)
+    if cycle:
         function, goal = goal.split("-", 1)
-        folder = f"{folder.rsplit('.+', 1)[0]}.{function}"
+        folder = ".".join([*filter(None, [cycle[1]]), *function.split("::")])
     return folder, goal
 
 
@@ -133,7 +135,7 @@ def refusals(text):
         elif source:
             name, _ = held_by(read(f"crates/{crate}/{source[1]}").split("\n"), int(source[2]) - 1)
             goal = re.search(r"\(`([^`]+)`?", source[3])
-            found[crate, edit] = (f"{module_of(source[1])}.{name}", goal[1].removeprefix(f"{name}-") if goal else "refused")
+            found[crate, edit] = (f"{module_of(source[1])}.{name}", re.sub(rf"^(?:\w+::)*{name}-", "", goal[1], count=1) if goal else "refused")
         else:
             found[crate, edit] = ("proofs", "refused")
     return found
@@ -186,12 +188,10 @@ def wrong_refusals(known, said, found):
             yield f"{LIST}: there is no edit {'/'.join(it)}"
 
 
-def differing(found, gate):
-    for it in sorted({*found, *gate}):
-        if it not in gate:
-            yield f"{'/'.join(it)}: the gate doesn't refuse it"
-        elif found.get(it) != gate[it]:
-            yield f"{'/'.join(it)}: refused at {' '.join(gate[it])}, and {LIST} has {' '.join(found.get(it, ['nothing']))}"
+def elsewhere(found, gate):
+    for it in sorted(gate):
+        if it in found and found[it] != gate[it]:
+            yield f"note: {'/'.join(it)}: refused at {' '.join(gate[it])}, and {LIST} has {' '.join(found[it])}"
 
 
 def main(words):
@@ -206,7 +206,9 @@ def main(words):
     wrong += [*wrong_places(known), *wrong_refusals(known, said, found)]
     if words:
         with open(words[0], encoding="utf-8", errors="replace") as file:
-            wrong += differing(found, refusals(file.read()))
+            gate = refusals(file.read())
+        wrong += [f"{'/'.join(it)}: the gate doesn't refuse it" for it in known if it not in gate]
+        print("".join(f"{it}\n" for it in elsewhere(found, gate)), end="")
     print("\n".join(wrong or [f"wrong bodies: {len(known)} edits, each in one row and in the function that it names; {LIST} has {len(found)}"]))
     return 1 if wrong else 0
 

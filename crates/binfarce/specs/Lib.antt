@@ -1,6 +1,7 @@
 pub use Rattle.binfarce_names.specs.Name
 pub use Rattle.binfarce_names.specs.Named
 pub use Rattle.binfarce_names.specs.Crates
+pub use Rattle.binfarce_names.specs.Laws
 pub use Rattle.binfarce_bytes.specs.Number
 pub use Rattle.binfarce_bytes.specs.Field
 pub use Rattle.binfarce_bytes.specs.Text
@@ -8,15 +9,15 @@ pub use Rattle.binfarce_bytes.specs.Steps
 pub use Rattle.binfarce_bytes.specs.Refusal
 pub use Rattle.binfarce_bytes.specs.Walk
 pub use Rattle.binfarce_symbols.specs.Symbol
-pub use Rattle.binfarce_symbols.specs.SymbolSeen
+pub use Rattle.binfarce_symbols.specs.SymbolViews
 pub use Rattle.binfarce_symbols.specs.Sizes
 pub use Rattle.binfarce_elf.specs.Elf
 pub use Rattle.binfarce_elf.specs.ElfSymbols
-pub use Rattle.binfarce_elf.specs.ElfSeen
+pub use Rattle.binfarce_elf.specs.ElfViews
 pub use Rattle.binfarce_macho.specs.Macho
 pub use Rattle.binfarce_macho.specs.MachoSymbols
-pub use Rattle.binfarce_macho.specs.MachoSeen
+pub use Rattle.binfarce_macho.specs.MachoViews
 pub use Rattle.binfarce_pe.specs.Pe
 pub use Rattle.binfarce_pe.specs.PeSymbols
-pub use Rattle.binfarce_pe.specs.PeSeen
+pub use Rattle.binfarce_pe.specs.PeViews
 pub mod Format

@@ -28,7 +28,7 @@ pub enum Format {
 
 /// Names the format of a file by its first 8 bytes: ELF's `7F 45 4C 46` with its class and byte order (gABI, "ELF
 /// Identification"), PE's `4D 5A`, the five magic numbers of Mach-O. A file of fewer than 8 bytes is `Unknown`, and so
-/// is an ELF file of another class or order. No memory is taken.
+/// is an ELF file of another class or order. Nothing is allocated.
 ///
 /// The readers themselves never look at a magic number.
 #[tactic(auto, unfolding(crate::specs::Format::format_of))]

@@ -21,7 +21,7 @@ pub enum ParseError {
     MalformedInput,
     /// The file ends before what it should hold.
     UnexpectedEof,
-    /// An allocation was refused.
+    /// An allocation failed.
     OutOfMemory,
 }
 

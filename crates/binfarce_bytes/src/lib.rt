@@ -4,6 +4,7 @@
 pub mod error;
 mod laws;
 pub mod parser;
+mod text;
 
 pub use crate::error::ParseError;
 pub use crate::parser::UnexpectedEof;

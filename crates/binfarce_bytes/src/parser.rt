@@ -1,13 +1,11 @@
-//! Numbers and texts at an offset.
+//! Numbers and bytes at an offset; and the texts of `text`.
 
-ghost use Rattle.std.specs.Prelude.{◌≡◌, ℕ, ◌+◌, ◌-◌, ◌<◌, ◌≤◌, ◌^◌, ◌↔◌, List, length, IsTrue, MatchOption, MatchResult, nat_eq, take, false};
+ghost use Rattle.std.specs.Prelude.{◌≡◌, ℕ, ◌+◌, ◌-◌, ◌<◌, ◌≤◌, ◌^◌, ◌↔◌, List, length, IsTrue, MatchOption, MatchResult};
 ghost use Rattle.binfarce_bytes.specs.declared.ByteOrder.{ByteOrder};
 ghost use Rattle.binfarce_bytes.specs.Number.{number, signed, bytes_at};
-ghost use Rattle.binfarce_bytes.specs.Text.{text_at, nul_at, up_to_nul, utf8_of, text_of, FindsText};
 ghost use Rattle.binfarce_bytes.specs.Refusal.{refusal_of, malformed_input};
-ghost use Rattle.std.specs.List.{list_any};
-ghost use Rattle.std.specs.Option.{option_map};
 
+pub use crate::text::{parse_null_string, up_to_nul, utf8_text};
 use crate::{ByteOrder, ParseError};
 use std::error::Error;
 use std::fmt;
@@ -314,121 +312,11 @@ pub fn range(offset: usize, size: usize) -> Result<Range<usize>, ParseError>
 
 /// The `size` bytes from `offset` on, a part of `bytes`; refused where their end passes `usize` or the length.
 #[inline]
-pub fn part(bytes: &[u8], offset: usize, size: usize) -> Result<&[u8], UnexpectedEof>
+pub fn slice_at(bytes: &[u8], offset: usize, size: usize) -> Result<&[u8], UnexpectedEof>
     ensures { MatchResult result
         (λ b. (offset + size ≤ length bytes.now) × (b.now ≡ bytes_at bytes.now offset size))
         (λ _. length bytes.now < offset + size) }
 {
     let end = offset.checked_add(size).ok_or(UnexpectedEof {})?;
     bytes.get(offset..end).ok_or(UnexpectedEof {})
-}
-
-/// The bytes up to the first NUL, or all where there is none; a part of `bytes`.
-pub fn up_to_nul(bytes: &[u8]) -> &[u8]
-    ensures { result.now ≡ up_to_nul bytes.now }
-{
-    match first_nul(bytes) {
-        None => bytes,
-        Some(len) => &bytes[..len],
-    }
-}
-
-/// The text from `start` to the first NUL, which is a part of `bytes`.
-///
-/// `None` where `start` is past the end, there is no NUL, the text is empty, or it isn't UTF-8.
-#[tactic(auto, using(crate::proofs::Texts::finds_text))]
-pub fn parse_null_string(bytes: &[u8], start: usize) -> Option<&str>
-    ensures text { option_map (λ t. t.now) result ≡ text_at bytes.now start }
-    ensures found { FindsText bytes.now start (option_map (λ t. t.now) result) }
-{
-    text_from(bytes, start)
-}
-
-#[tactic(auto, unfolding(crate::specs::Text::text_at))]
-fn text_from(bytes: &[u8], start: usize) -> Option<&str>
-    ensures { option_map (λ t. t.now) result ≡ text_at bytes.now start }
-{
-    match bytes.get(start..) {
-        None => None,
-        Some(rest) => match find_nul(rest) {
-            None => None,
-            Some(len) => first_text(rest, len),
-        },
-    }
-}
-
-// How many bytes are looked at together: first so many, and then fewer.
-const STRIDE: usize = 32;
-
-const LAST_STRIDE: usize = 8;
-
-fn find_nul(bytes: &[u8]) -> Option<usize>
-    ensures { result ≡ nul_at bytes.now }
-{
-    let far = past_strides(bytes, 0, STRIDE);
-    let at = past_strides(bytes, far, LAST_STRIDE);
-    match first_nul(&bytes[at..]) {
-        None => None,
-        Some(i) => Some(at + i),
-    }
-}
-
-// The offset after the strides from `start` on that have no NUL, where none stands before `start`.
-#[inline(always)]
-fn past_strides(bytes: &[u8], start: usize, stride: usize) -> usize
-    requires stride { 0 < stride }
-    requires within { start ≤ length bytes.now }
-    requires none { list_any (λ b. nat_eq b 0) (take start bytes.now) ≡ false }
-    ensures within { result ≤ length bytes.now }
-    ensures none { list_any (λ b. nat_eq b 0) (take result bytes.now) ≡ false }
-{
-    let mut at = start;
-    while bytes.len() - at >= stride {
-        if has_nul(&bytes[at..at + stride]) {
-            break;
-        }
-        at += stride;
-    }
-    at
-}
-
-fn first_nul(bytes: &[u8]) -> Option<usize>
-    ensures { result ≡ nul_at bytes.now }
-{
-    bytes.iter().position(|b| *b == 0)
-}
-
-// Without an early end, so that the bytes are compared side by side.
-#[inline(always)]
-fn has_nul(bytes: &[u8]) -> bool
-    ensures { result ≡ list_any (λ b. nat_eq b 0) bytes.now }
-{
-    let mut found = false;
-    for b in bytes {
-        found |= *b == 0;
-    }
-    found
-}
-
-// The first `len` bytes.
-#[tactic(auto, using(crate::proofs::Texts::text_of_is))]
-fn first_text(bytes: &[u8], len: usize) -> Option<&str>
-    requires { len ≤ length bytes.now }
-    ensures { option_map (λ t. t.now) result ≡ text_of (take len bytes.now) }
-{
-    if len == 0 {
-        return None;
-    }
-    utf8_text(&bytes[..len])
-}
-
-/// The bytes as a text, which is a part of them; `None` where they aren't UTF-8.
-#[tactic(auto, using(crate::proofs::Texts::utf8_is, crate::proofs::Texts::utf8_none))]
-pub fn utf8_text(bytes: &[u8]) -> Option<&str>
-    ensures { option_map (λ t. t.now) result ≡ utf8_of bytes.now }
-{
-    match std::str::from_utf8(bytes) {
-        Ok(text) => Some(text),
-        Err(_) => None,
-    }
 }

@@ -5,10 +5,10 @@ use Rattle.std.proofs.lemmas.List.{drop-take, drop-drop, length-take-le, take-ta
 use Rattle.std.proofs.lemmas.Result.{MatchResult-weaker}
 use Rattle.binfarce_bytes.specs.declared.ByteOrder.{ByteOrder}
 use Rattle.binfarce_bytes.specs.Number.{number, bytes_at}
-use Rattle.binfarce_elf.specs.declared.class.Row.{Row}
+use Rattle.binfarce_elf.specs.declared.class.SymbolRow.{SymbolRow}
 use Rattle.binfarce_elf.specs.Elf.{ElfClass, elf32, elf64}
 use Rattle.binfarce_elf.specs.ElfSymbols.{symbol_at}
-use Rattle.binfarce_elf.specs.machine.RawElf.{row_seen}
+use Rattle.binfarce_elf.specs.machine.RawElf.{symbol_view}
 
 -- the bytes of a field are those of the file
 field_in : (order : ByteOrder) (file : List ℕ) (start len offset width : ℕ) → offset + width ≤ len → number order (bytes_at (bytes_at file start len) (0 + offset) width) ≡ number order (bytes_at file (start + offset) width)
@@ -38,11 +38,11 @@ part_length : (file part : List ℕ) (start len : ℕ) → start + len ≤ lengt
 part_length file part start len h is = ap length is ∙ length-take-le len (drop start file) (omega (arith, length-drop start file))
 
 -- a row that is read from its bytes alone is the file's, and these bytes aren't too short
-pub row_in_file : {E : Type 0} (class : ElfClass) (order : ByteOrder) (file part : List ℕ) (start len : ℕ) (r : Result Row E)
+pub row_in_file : {E : Type 0} (class : ElfClass) (order : ByteOrder) (file part : List ℕ) (start len : ℕ) (r : Result SymbolRow E)
     → (start + len ≤ length file) × (part ≡ bytes_at file start len)
     → symbol_at class order (bytes_at file start len) 0 ≡ symbol_at class order file start
-    → MatchResult r (λ row. (0 + len ≤ length part) × (row_seen row ≡ symbol_at class order part 0)) (λ _. length part < 0 + len)
-    → MatchResult r (λ row. (start + len ≤ length file) × (row_seen row ≡ symbol_at class order file start)) (λ _. length file < start + len)
+    → MatchResult r (λ row. (len ≤ length part) × (symbol_view row ≡ symbol_at class order part 0)) (λ _. length part < len)
+    → MatchResult r (λ row. (start + len ≤ length file) × (symbol_view row ≡ symbol_at class order file start)) (λ _. length file < start + len)
 row_in_file class order file part start len r given same row =
     let whole : length part ≡ len = part_length file part start len given.0 given.1 in
     MatchResult-weaker r row

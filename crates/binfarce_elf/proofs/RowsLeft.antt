@@ -6,12 +6,12 @@ use Rattle.std.specs.Option.{option_map}
 use Rattle.binfarce_bytes.specs.declared.ByteOrder.{ByteOrder}
 use Rattle.binfarce_elf.specs.Elf.{ElfClass, SymbolRow}
 use Rattle.binfarce_elf.specs.ElfSymbols.{symbol_at, entry_of, function_name}
-use Rattle.binfarce_elf.specs.ElfSeen.{functions_left}
+use Rattle.binfarce_elf.specs.ElfViews.{functions_left}
 use Rattle.binfarce_elf.specs.declared.symbols.Functions.{Functions}
 use Rattle.binfarce_names.specs.declared.demangle.SymbolData.{SymbolData}
 use Rattle.binfarce_symbols.specs.declared.functions.FunctionSymbol.{FunctionSymbol}
 use Rattle.binfarce_symbols.specs.Symbol.{Entry, AreSymbolsOf}
-use Rattle.binfarce_symbols.specs.SymbolSeen.{function_seen}
+use Rattle.binfarce_symbols.specs.SymbolViews.{function_view}
 use Rattle.binfarce_symbols.proofs.Made.{drained}
 
 -- row k has none
@@ -38,6 +38,6 @@ entry_is strings index row read name same is =
     ap (entry_of strings index) same ∙ ap (option_map (λ (n : List ℕ). record { name = n; address = read.value; size = read.size })) is
 
 -- what the functions became are the symbols of what is listed
-pub symbols_are : {C : Type 0} (class : ElfClass) (functions : Functions C) (given : List FunctionSymbol) (symbols : List SymbolData) → Drains (YieldsFirstBy function_seen (functions_left class)) functions given
-    → AreSymbolsOf (map function_seen given) symbols → AreSymbolsOf (functions_left class functions) symbols
-symbols_are class functions given symbols drains are = subst (λ (entries : List Entry). AreSymbolsOf entries symbols) (drained function_seen (functions_left class) functions given drains) are
+pub symbols_are : {C : Type 0} (class : ElfClass) (functions : Functions C) (given : List FunctionSymbol) (symbols : List SymbolData) → Drains (YieldsFirstBy function_view (functions_left class)) functions given
+    → AreSymbolsOf (map function_view given) symbols → AreSymbolsOf (functions_left class functions) symbols
+symbols_are class functions given symbols drains are = subst (λ (entries : List Entry). AreSymbolsOf entries symbols) (drained function_view (functions_left class) functions given drains) are

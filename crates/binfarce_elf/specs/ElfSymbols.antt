@@ -50,8 +50,8 @@ abbrev pub sought : Refusal → (Section → Bool) → Walk Section → Result S
 sought refusal accepts sections = first accepts sections >>= required refusal
 
 -- the bytes of a section: its end is below 2^64, and lies in the file
-unfoldable pub part_of : List ℕ → Section → Result (List ℕ) Refusal
-part_of file section =
+unfoldable pub section_data : List ℕ → Section → Result (List ℕ) Refusal
+section_data file section =
     if nat_le (2 ^ 64) (section.offset + section.size) then Err malformed_input
     else if nat_lt (length file) (section.offset + section.size) then Err unexpected_eof
     else Ok (bytes_at file section.offset section.size)
@@ -66,24 +66,24 @@ whole_rows class rows = if nat_eq (length rows % class.symbol_length) 0 then Ok 
 
 -- the section that was asked for, the string table's bytes, and the symbol table's
 pub record Located : Type 0 where
-  pub text : Section
+  pub section : Section
   pub strings : List ℕ
   pub rows : List ℕ
 
 -- the refusals in order; else where the symbols are
 unfoldable pub located : ElfClass → SectionTable → List ℕ → Result Located Refusal
 located class table name = do
-  text ← sought symbols_section_is_missing (λ section. is_named name (name_of class table section)) (walk class table)
-  symbols ← sought (section_is_missing (codes ".symtab")) (λ section. nat_eq section.kind 2) (walk class table)
-  linked ← sought (section_is_missing (codes ".strtab")) (λ section. nat_eq section.index symbols.link) (walk class table)
+  section ← sought symbols_section_is_missing (λ s. is_named name (name_of class table s)) (walk class table)
+  symbols ← sought (section_is_missing (codes ".symtab")) (λ s. nat_eq s.kind 2) (walk class table)
+  linked ← sought (section_is_missing (codes ".strtab")) (λ s. nat_eq s.index symbols.link) (walk class table)
   string_table ← string_table_kind linked
-  strings ← part_of table.file string_table
-  part ← part_of table.file symbols
-  rows ← whole_rows class part
-  Ok (record { text = text; strings = strings; rows = rows })
+  strings ← section_data table.file string_table
+  table_bytes ← section_data table.file symbols
+  rows ← whole_rows class table_bytes
+  Ok (record { section = section; strings = strings; rows = rows })
 
 -- the entries of all rows, and the size of the section that was asked for
 unfoldable pub elf_answer : ElfClass → SectionTable → List ℕ → Result Listed Refusal
 elf_answer class table name = do
   found ← located class table name
-  Ok (record { entries = entries_from class table.order found.strings found.text.index found.rows 0; section_size = found.text.size })
+  Ok (record { entries = entries_from class table.order found.strings found.section.index found.rows 0; section_size = found.section.size })

@@ -1,4 +1,4 @@
 pub mod Elf
 pub mod ElfSymbols
-pub mod ElfSeen
+pub mod ElfViews
 pub mod machine

@@ -4,10 +4,10 @@ ghost use Rattle.std.specs.Prelude.{◌≡◌, ◌+◌, ◌*◌, ◌<◌, ◌≤
 ghost use Rattle.binfarce_bytes.specs.Number.{number};
 ghost use Rattle.binfarce_elf.specs.Elf.{elf32, elf64, entry_count};
 ghost use Rattle.binfarce_elf.specs.ElfSymbols.{symbol_at};
-ghost use Rattle.binfarce_elf.specs.machine.RawElf.{row_seen, fields_of_header, fields_of_section};
+ghost use Rattle.binfarce_elf.specs.machine.RawElf.{symbol_view, fields_of_header, fields_of_section};
 
 use binfarce_bytes::ByteOrder;
-use binfarce_bytes::parser::{RawNumber, Stream, UnexpectedEof, part};
+use binfarce_bytes::parser::{RawNumber, Stream, UnexpectedEof, slice_at};
 
 // The standard's data types (gABI, "Data Representation"); a word of the class stands for its addresses and offsets.
 pub type Half = u16;
@@ -18,7 +18,7 @@ pub type XWord = u64;
 
 /// A row of a symbol table, with values as wide as the wider class has them.
 #[derive(Clone, Copy)]
-pub struct Row {
+pub struct SymbolRow {
     pub name: Word,
     pub value: XWord,
     pub size: XWord,
@@ -61,9 +61,9 @@ pub trait Class: RawNumber + Copy + Drop {
         ensures { number_of result ≡ entry_count (number_of self) (number_of entry_size) };
 
     /// The row at `start`; refused where it is truncated.
-    fn symbol(bytes: &[u8], start: usize, byte_order: ByteOrder) -> Result<Row, UnexpectedEof>
+    fn symbol(bytes: &[u8], start: usize, byte_order: ByteOrder) -> Result<SymbolRow, UnexpectedEof>
         ensures { MatchResult result
-            (λ r. (start + table.symbol_length ≤ length bytes.now) × (row_seen r ≡ symbol_at table byte_order bytes.now start))
+            (λ r. (start + table.symbol_length ≤ length bytes.now) × (symbol_view r ≡ symbol_at table byte_order bytes.now start))
             (λ _. length bytes.now < start + table.symbol_length) };
 
     ghost word: { (order : ByteOrder) (bytes : List ℕ) → number_of (Self.value order bytes) ≡ number order bytes };
@@ -116,9 +116,13 @@ impl Class for u32 {
 
     #[inline]
     #[tactic(auto, unfolding(crate::specs::Elf::elf32))]
-    fn symbol(bytes: &[u8], start: usize, byte_order: ByteOrder) -> Result<Row, UnexpectedEof> {
-        let row = part(bytes, start, 16)?;
-        row_of_32(row, 0, byte_order)
+    fn symbol(
+        bytes: &[u8],
+        start: usize,
+        byte_order: ByteOrder,
+    ) -> Result<SymbolRow, UnexpectedEof> {
+        let row = slice_at(bytes, start, 16)?;
+        row_of_32(row, byte_order)
     }
 
     ghost word = { λ order bytes. refl };
@@ -171,9 +175,13 @@ impl Class for u64 {
 
     #[inline]
     #[tactic(auto, unfolding(crate::specs::Elf::elf64))]
-    fn symbol(bytes: &[u8], start: usize, byte_order: ByteOrder) -> Result<Row, UnexpectedEof> {
-        let row = part(bytes, start, 24)?;
-        row_of_64(row, 0, byte_order)
+    fn symbol(
+        bytes: &[u8],
+        start: usize,
+        byte_order: ByteOrder,
+    ) -> Result<SymbolRow, UnexpectedEof> {
+        let row = slice_at(bytes, start, 24)?;
+        row_of_64(row, byte_order)
     }
 
     ghost word = { λ order bytes. refl };
@@ -199,23 +207,23 @@ impl Class for u64 {
     ghost some_symbol = { lit< tt };
 }
 
-// The row of the class of 32 bits at `start`; refused where it is truncated. Of the bytes of one row, whose number is known
-// when this is compiled, no field's reading tests the length.
+// The row of the class of 32 bits that these bytes begin with; refused where it is truncated. Where they are those of one
+// row, whose number is known when this is compiled, no field's reading tests the length.
 #[inline(always)]
 #[tactic(auto, unfolding(crate::specs::Elf::elf32, crate::specs::ElfSymbols::symbol_at))]
-fn row_of_32(bytes: &[u8], start: usize, byte_order: ByteOrder) -> Result<Row, UnexpectedEof>
+fn row_of_32(bytes: &[u8], byte_order: ByteOrder) -> Result<SymbolRow, UnexpectedEof>
     ensures { MatchResult result
-        (λ r. (start + 16 ≤ length bytes.now) × (row_seen r ≡ symbol_at elf32 byte_order bytes.now start))
-        (λ _. length bytes.now < start + 16) }
+        (λ r. (16 ≤ length bytes.now) × (symbol_view r ≡ symbol_at elf32 byte_order bytes.now 0))
+        (λ _. length bytes.now < 16) }
 {
-    let mut s = Stream::new_at(bytes, start, byte_order)?;
+    let mut s = Stream::new(bytes, byte_order);
     let name = s.read()?;
     let value = s.read::<u32>()?;
     let size = s.read::<u32>()?;
     let info = s.read()?;
     let other = s.read()?;
     let section = s.read()?;
-    Ok(Row {
+    Ok(SymbolRow {
         name,
         value: u64::from(value),
         size: u64::from(size),
@@ -228,19 +236,19 @@ fn row_of_32(bytes: &[u8], start: usize, byte_order: ByteOrder) -> Result<Row, U
 // The same of the class of 64 bits.
 #[inline(always)]
 #[tactic(auto, unfolding(crate::specs::Elf::elf64, crate::specs::ElfSymbols::symbol_at))]
-fn row_of_64(bytes: &[u8], start: usize, byte_order: ByteOrder) -> Result<Row, UnexpectedEof>
+fn row_of_64(bytes: &[u8], byte_order: ByteOrder) -> Result<SymbolRow, UnexpectedEof>
     ensures { MatchResult result
-        (λ r. (start + 24 ≤ length bytes.now) × (row_seen r ≡ symbol_at elf64 byte_order bytes.now start))
-        (λ _. length bytes.now < start + 24) }
+        (λ r. (24 ≤ length bytes.now) × (symbol_view r ≡ symbol_at elf64 byte_order bytes.now 0))
+        (λ _. length bytes.now < 24) }
 {
-    let mut s = Stream::new_at(bytes, start, byte_order)?;
+    let mut s = Stream::new(bytes, byte_order);
     let name = s.read()?;
     let info = s.read()?;
     let other = s.read()?;
     let section = s.read()?;
     let value = s.read()?;
     let size = s.read()?;
-    Ok(Row {
+    Ok(SymbolRow {
         name,
         value,
         size,

@@ -3,7 +3,7 @@
 ghost use Rattle.std.specs.Prelude.{◌≡◌, ◌<◌, ◌≤◌, length, MatchResult};
 ghost use Rattle.binfarce_bytes.specs.Refusal.{refusal_of, unexpected_eof};
 
-use crate::{elf, symbols};
+use crate::{elf, header, sections, symbols};
 use binfarce_bytes::{ByteOrder, ParseError};
 
 // The standard's data types of this class (gABI, "Data Representation"): the word by which it is known.
@@ -15,10 +15,10 @@ type Offset = u64;
 pub type Elf64<'a> = elf::Elf<'a, Address>;
 
 /// The file header of a 64-bit file.
-pub type Elf64Header = elf::Header<Address>;
+pub type Elf64Header = header::Header<Address>;
 
 /// A section header's values in a 64-bit file, and the section's index.
-pub type Section = elf::Section<Offset>;
+pub type Section = sections::Section<Offset>;
 
 /// The function symbols of a section that are left: what [`Elf64::functions`](elf::Elf::functions) gives.
 pub type Functions<'a> = symbols::Functions<'a, Address>;

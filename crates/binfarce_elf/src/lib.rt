@@ -5,6 +5,7 @@ mod class;
 mod elf;
 pub mod elf32;
 pub mod elf64;
+mod header;
 mod laws;
 mod sections;
 mod symbols;

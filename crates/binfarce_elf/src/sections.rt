@@ -1,23 +1,69 @@
-//! The walk over the section headers of a file, and the names of sections.
+//! The sections of a file of either class: their headers, the walk over these, and the names (gABI, "Sections").
 
-ghost use Rattle.std.specs.Prelude.{◌≡◌, ◌+◌, ◌<◌, ◌≤◌, length, All, MatchResult};
+ghost use Rattle.std.specs.Prelude.{◌≡◌, ◌+◌, ◌<◌, ◌≤◌, ◌^◌, length, All, MatchResult, IfSome};
 ghost use Rattle.std.specs.Option.{option_map};
-ghost use Rattle.binfarce_bytes.specs.Refusal.{Gives, unexpected_eof};
+ghost use Rattle.binfarce_bytes.specs.Refusal.{Gives, refusal_of, malformed_input, unexpected_eof};
 ghost use Rattle.binfarce_bytes.specs.Walk.{MayBeAsked, FirstAccepted, first};
-ghost use Rattle.binfarce_elf.specs.Elf.{section_at, walk, names_section, name_of};
-ghost use Rattle.binfarce_elf.specs.ElfSymbols.{is_named};
-ghost use Rattle.binfarce_elf.specs.ElfSeen.{section_seen};
-ghost use Rattle.binfarce_elf.specs.machine.RawElf.{table_seen, names_bytes, name_among};
+ghost use Rattle.binfarce_elf.specs.Elf.{section_table, walk, name_of, entry_count, NameIsInFile, section_at, names_section};
+ghost use Rattle.binfarce_elf.specs.ElfSymbols.{is_named, section_data};
+ghost use Rattle.binfarce_elf.specs.ElfViews.{section_view};
+ghost use Rattle.binfarce_elf.specs.machine.RawElf.{table_view, names_bytes, name_among};
 
 use crate::class::{Class, Half, Word};
-use crate::elf::Section;
-use binfarce_bytes::ByteOrder;
-use binfarce_bytes::parser::{Stream, UnexpectedEof, parse_null_string, part};
+use crate::elf::Elf;
+use binfarce_bytes::parser::{Stream, UnexpectedEof, parse_null_string, range};
+use binfarce_bytes::{ByteOrder, ParseError};
+use std::ops::Range;
+
+/// A section header's values (gABI, "Section Header"), and the section's index. It borrows nothing.
+#[derive(Debug, Clone, Copy)]
+pub struct Section<C> {
+    pub(crate) index: Half,
+    pub(crate) name_offset: Word,
+    pub(crate) kind: Word,
+    pub(crate) link: Word,
+    pub(crate) offset: C,
+    pub(crate) size: C,
+    pub(crate) entry_size: C,
+}
+
+impl<C: Class> Section<C> {
+    /// The section's bytes as a range of the file (`sh_offset`, `sh_size`); `MalformedInput` where its end passes `usize`.
+    ///
+    /// The range isn't checked against the file's length.
+    pub fn range(&self) -> Result<Range<usize>, ParseError>
+        ensures { let s = section_view C.number_of self.now in MatchResult result
+            (λ r. (r.start ≡ s.offset) × (r.end ≡ s.offset + s.size))
+            (λ e. (2 ^ 64 ≤ s.offset + s.size) × (refusal_of e ≡ malformed_input)) }
+    {
+        range(self.offset.widened() as usize, self.size.widened() as usize)
+    }
+
+    /// How many entries of its entry size (`sh_entsize`) the section has; 0 where that size is 0.
+    pub fn entries(&self) -> C
+        ensures { let s = section_view C.number_of self.now in C.number_of result ≡ entry_count s.size s.entry_size }
+    {
+        self.size.entries_of(self.entry_size)
+    }
+
+    /// The section's name, a part of the file that `parent` reads; nothing is copied.
+    ///
+    /// `None` where the section of the section names, which the file header names by `shstrndx`, is truncated or
+    /// lies outside the file, or where no text begins at the name's offset: one that isn't empty, is UTF-8, and
+    /// ends with a NUL (gABI, "String Table").
+    #[tactic(auto, using(crate::proofs::Names::name_reported))]
+    pub fn name<'a>(&self, parent: &Elf<'a, C>) -> Option<&'a str>
+        ensures name { option_map (λ t. t.now) result ≡ name_of C.table (section_table C.table parent.now) (section_view C.number_of self.now) }
+        ensures part { IfSome (option_map (λ t. t.now) result) (NameIsInFile C.table (section_table C.table parent.now) (section_view C.number_of self.now)) }
+    {
+        section_name::<C>(parent.table(), *self)
+    }
+}
 
 /// Where a file's section headers begin, as its header says.
 #[derive(Clone, Copy)]
 pub(crate) struct Table<'a> {
-    pub(crate) bytes: &'a [u8],
+    pub(crate) data: &'a [u8],
     pub(crate) byte_order: ByteOrder,
     pub(crate) shoff: usize,
     pub(crate) shnum: Half,
@@ -32,7 +78,7 @@ fn section_at<C: Class>(
     index: Half,
 ) -> Result<Section<C>, UnexpectedEof>
     ensures { MatchResult result
-        (λ s. (start + C.table.section_length ≤ length bytes.now) × (section_seen C.number_of s ≡ section_at C.table byte_order bytes.now start index))
+        (λ s. (start + C.table.section_length ≤ length bytes.now) × (section_view C.number_of s ≡ section_at C.table byte_order bytes.now start index))
         (λ _. length bytes.now < start + C.table.section_length) }
 {
     let mut s = Stream::new_at(bytes, start, byte_order)?;
@@ -62,15 +108,15 @@ pub(crate) fn first_section<C: Class, F: Fn(Section<C>) -> bool>(
     table: Table<'_>,
     callback: F,
 ) -> Result<Option<Section<C>>, UnexpectedEof>
-    requires { All (MayBeAsked (section_seen C.number_of) (F.pre callback)) (walk C.table (table_seen table)).items }
-    ensures { FirstAccepted (λ _. unexpected_eof) (section_seen C.number_of) (F.post callback) (walk C.table (table_seen table.entry)) result }
+    requires { All (MayBeAsked (section_view C.number_of) (F.pre callback)) (walk C.table (table_view table)).items }
+    ensures { FirstAccepted (λ _. unexpected_eof) (section_view C.number_of) (F.post callback) (walk C.table (table_view table.entry)) result }
 {
     let mut start = table.shoff;
-    if start >= table.bytes.len() {
+    if start >= table.data.len() {
         return Err(UnexpectedEof {});
     }
     for index in 0..table.shnum {
-        let section = section_at(table.bytes, start, table.byte_order, index)?;
+        let section = section_at(table.data, start, table.byte_order, index)?;
         if callback(section) {
             return Ok(Some(section));
         }
@@ -84,8 +130,8 @@ pub(crate) fn section_with_name<C: Class>(
     table: Table<'_>,
     name: &str,
 ) -> Result<Option<Section<C>>, UnexpectedEof>
-    ensures { Gives (λ _. unexpected_eof) (option_map (section_seen C.number_of))
-        (first (λ s. is_named name.now (name_of C.table (table_seen table.entry) s)) (walk C.table (table_seen table.entry))) result }
+    ensures { Gives (λ _. unexpected_eof) (option_map (section_view C.number_of))
+        (first (λ s. is_named name.now (name_of C.table (table_view table.entry) s)) (walk C.table (table_view table.entry))) result }
 {
     let names = names_bytes::<C>(table);
     first_section::<C, _>(table, |section| {
@@ -105,7 +151,7 @@ fn is_named(found: Option<&str>, name: &str) -> bool
 /// A section's name, a part of the file.
 #[tactic(auto, unfolding(crate::specs::Elf::name_of))]
 pub(crate) fn section_name<'a, C: Class>(table: Table<'a>, section: Section<C>) -> Option<&'a str>
-    ensures { option_map (λ t. t.now) result ≡ name_of C.table (table_seen table.entry) (section_seen C.number_of section) }
+    ensures { option_map (λ t. t.now) result ≡ name_of C.table (table_view table.entry) (section_view C.number_of section) }
 {
     name_at(names_bytes::<C>(table), section.name_offset)
 }
@@ -117,23 +163,26 @@ fn name_at(names: Option<&[u8]>, offset: Word) -> Option<&str>
 }
 
 // The bytes of the section of the section names.
+#[tactic(auto, using(crate::proofs::Names::contents_read))]
 fn names_bytes<'a, C: Class>(table: Table<'a>) -> Option<&'a [u8]>
-    ensures { option_map (λ b. b.now) result ≡ names_bytes C.table (table_seen table.entry) }
+    ensures { option_map (λ b. b.now) result ≡ names_bytes C.table (table_view table.entry) }
 {
-    let names = names_section::<C>(table)?;
-    part(
-        table.bytes,
-        names.offset.widened() as usize,
-        names.size.widened() as usize,
-    )
-    .ok()
+    section_data(table.data, names_section::<C>(table)?).ok()
 }
 
 // The section of the section names, which isn't checked against the count.
 fn names_section<C: Class>(table: Table<'_>) -> Option<Section<C>>
-    ensures { option_map (section_seen C.number_of) result ≡ names_section C.table (table_seen table.entry) }
+    ensures { option_map (section_view C.number_of) result ≡ names_section C.table (table_view table.entry) }
 {
     let before = C::SECTION_LENGTH.checked_mul(table.shstrndx as usize)?;
     let start = table.shoff.checked_add(before)?;
-    section_at(table.bytes, start, table.byte_order, table.shstrndx).ok()
+    section_at(table.data, start, table.byte_order, table.shstrndx).ok()
+}
+
+/// The section's bytes, a part of the file; `MalformedInput` and `UnexpectedEof` where they end past `usize` and past the file.
+#[tactic(auto, unfolding(crate::specs::ElfSymbols::section_data))]
+pub(crate) fn section_data<C: Class>(data: &[u8], section: Section<C>) -> Result<&[u8], ParseError>
+    ensures { Gives refusal_of (λ b. b.now) (section_data data.now (section_view C.number_of section)) result }
+{
+    data.get(section.range()?).ok_or(ParseError::UnexpectedEof)
 }

@@ -4,15 +4,14 @@ ghost use Rattle.std.specs.Prelude.{◌≡◌, [], ◌∷◌, MatchOption, nat_e
 ghost use Rattle.std.specs.Option.{option_map};
 ghost use Rattle.binfarce_bytes.specs.Refusal.{Gives, refusal_of, unexpected_eof, symbols_section_is_missing, section_is_missing};
 ghost use Rattle.binfarce_bytes.specs.Walk.{first};
-ghost use Rattle.binfarce_symbols.specs.SymbolSeen.{function_seen};
+ghost use Rattle.binfarce_symbols.specs.SymbolViews.{function_view};
 ghost use Rattle.binfarce_elf.specs.Elf.{walk, name_of};
-ghost use Rattle.binfarce_elf.specs.ElfSymbols.{is_named, sought, string_table_kind, whole_rows, part_of, located, elf_answer, entries_from, function_name};
-ghost use Rattle.binfarce_elf.specs.ElfSeen.{section_seen, functions_left, functions_seen};
-ghost use Rattle.binfarce_elf.specs.machine.RawElf.{row_seen, table_seen, found_seen};
+ghost use Rattle.binfarce_elf.specs.ElfSymbols.{is_named, sought, string_table_kind, whole_rows, located, elf_answer, entries_from, function_name};
+ghost use Rattle.binfarce_elf.specs.ElfViews.{section_view, functions_left, functions_view};
+ghost use Rattle.binfarce_elf.specs.machine.RawElf.{symbol_view, table_view, located_view};
 
-use crate::class::{Class, Half, Row, Word};
-use crate::elf::Section;
-use crate::sections::{Table, first_section, section_with_name};
+use crate::class::{Class, Half, SymbolRow, Word};
+use crate::sections::{Section, Table, first_section, section_data, section_with_name};
 use binfarce_bytes::parser::{UnexpectedEof, parse_null_string};
 use binfarce_bytes::{ByteOrder, ParseError};
 use binfarce_symbols::functions::FunctionSymbol;
@@ -26,8 +25,8 @@ const STRING_TABLE: Word = 3;
 
 // Where the symbols of a section are in the file.
 #[derive(Clone, Copy)]
-struct Found<'a, C> {
-    text: Section<C>,
+struct Located<'a, C> {
+    section: Section<C>,
     strings: &'a [u8],
     rows: &'a [u8],
 }
@@ -38,46 +37,46 @@ pub(crate) fn section_functions<'a, C: Class>(
     table: Table<'a>,
     section_name: &str,
 ) -> Result<(Functions<'a, C>, u64), ParseError>
-    ensures { Gives refusal_of (functions_seen C.table) (elf_answer C.table (table_seen table.entry) section_name.now) result }
+    ensures { Gives refusal_of (functions_view C.table) (elf_answer C.table (table_view table.entry) section_name.now) result }
 {
-    let Found {
-        text,
+    let Located {
+        section,
         strings,
         rows,
     } = locate::<C>(table, section_name)?;
-    let functions = Functions::new(rows, strings, table.byte_order, text.index);
-    Ok((functions, text.size.widened()))
+    let functions = Functions::new(rows, strings, table.byte_order, section.index);
+    Ok((functions, section.size.widened()))
 }
 
 // The section with this name, and the rows and the strings of the symbol table.
 #[tactic(auto, unfolding(crate::specs::ElfSymbols::located))]
-fn locate<'a, C: Class>(table: Table<'a>, section_name: &str) -> Result<Found<'a, C>, ParseError>
-    ensures { Gives refusal_of (found_seen C.number_of) (located C.table (table_seen table.entry) section_name.now) result }
+fn locate<'a, C: Class>(table: Table<'a>, section_name: &str) -> Result<Located<'a, C>, ParseError>
+    ensures { Gives refusal_of (located_view C.number_of) (located C.table (table_view table.entry) section_name.now) result }
 {
-    let text = named_section::<C>(table, section_name)?;
+    let section = named_section::<C>(table, section_name)?;
     let symbols = symbol_table::<C>(table)?;
     let linked = linked_section::<C>(table, symbols.link)?;
     let string_table = string_table(linked)?;
-    let strings = part_of(table.bytes, string_table)?;
-    let part = part_of(table.bytes, symbols)?;
-    let rows = whole_rows::<C>(part)?;
-    Ok(Found {
-        text,
+    let strings = section_data(table.data, string_table)?;
+    let rows = section_data(table.data, symbols)?;
+    let rows = whole_rows::<C>(rows)?;
+    Ok(Located {
+        section,
         strings,
         rows,
     })
 }
 
 fn named_section<C: Class>(table: Table<'_>, name: &str) -> Result<Section<C>, ParseError>
-    ensures { Gives refusal_of (section_seen C.number_of)
-        (sought symbols_section_is_missing (λ s. is_named name.now (name_of C.table (table_seen table.entry) s)) (walk C.table (table_seen table.entry))) result }
+    ensures { Gives refusal_of (section_view C.number_of)
+        (sought symbols_section_is_missing (λ s. is_named name.now (name_of C.table (table_view table.entry) s)) (walk C.table (table_view table.entry))) result }
 {
     section_with_name::<C>(table, name)?.ok_or(ParseError::SymbolsSectionIsMissing)
 }
 
 fn symbol_table<C: Class>(table: Table<'_>) -> Result<Section<C>, ParseError>
-    ensures { Gives refusal_of (section_seen C.number_of)
-        (sought (section_is_missing (codes ".symtab")) (λ s. nat_eq s.kind 2) (walk C.table (table_seen table.entry))) result }
+    ensures { Gives refusal_of (section_view C.number_of)
+        (sought (section_is_missing (codes ".symtab")) (λ s. nat_eq s.kind 2) (walk C.table (table_view table.entry))) result }
 {
     section_of_kind::<C>(table, SYMBOL_TABLE)?.ok_or(ParseError::SectionIsMissing(".symtab"))
 }
@@ -86,15 +85,15 @@ fn section_of_kind<C: Class>(
     table: Table<'_>,
     kind: Word,
 ) -> Result<Option<Section<C>>, UnexpectedEof>
-    ensures { Gives (λ _. unexpected_eof) (option_map (section_seen C.number_of))
-        (first (λ s. nat_eq s.kind kind) (walk C.table (table_seen table.entry))) result }
+    ensures { Gives (λ _. unexpected_eof) (option_map (section_view C.number_of))
+        (first (λ s. nat_eq s.kind kind) (walk C.table (table_view table.entry))) result }
 {
     first_section::<C, _>(table, |section| section.kind == kind)
 }
 
 fn linked_section<C: Class>(table: Table<'_>, link: Word) -> Result<Section<C>, ParseError>
-    ensures { Gives refusal_of (section_seen C.number_of)
-        (sought (section_is_missing (codes ".strtab")) (λ s. nat_eq s.index link) (walk C.table (table_seen table.entry))) result }
+    ensures { Gives refusal_of (section_view C.number_of)
+        (sought (section_is_missing (codes ".strtab")) (λ s. nat_eq s.index link) (walk C.table (table_view table.entry))) result }
 {
     section_of_index::<C>(table, link)?.ok_or(ParseError::SectionIsMissing(".strtab"))
 }
@@ -103,14 +102,14 @@ fn section_of_index<C: Class>(
     table: Table<'_>,
     index: Word,
 ) -> Result<Option<Section<C>>, UnexpectedEof>
-    ensures { Gives (λ _. unexpected_eof) (option_map (section_seen C.number_of))
-        (first (λ s. nat_eq s.index index) (walk C.table (table_seen table.entry))) result }
+    ensures { Gives (λ _. unexpected_eof) (option_map (section_view C.number_of))
+        (first (λ s. nat_eq s.index index) (walk C.table (table_view table.entry))) result }
 {
     first_section::<C, _>(table, |section| u32::from(section.index) == index)
 }
 
 fn string_table<C: Class>(section: Section<C>) -> Result<Section<C>, ParseError>
-    ensures { Gives refusal_of (section_seen C.number_of) (string_table_kind (section_seen C.number_of section)) result }
+    ensures { Gives refusal_of (section_view C.number_of) (string_table_kind (section_view C.number_of section)) result }
 {
     if section.kind == STRING_TABLE {
         Ok(section)
@@ -120,14 +119,6 @@ fn string_table<C: Class>(section: Section<C>) -> Result<Section<C>, ParseError>
             actual: section.kind,
         })
     }
-}
-
-// The section's bytes, which have to lie in the file.
-#[tactic(auto, unfolding(crate::specs::ElfSymbols::part_of))]
-fn part_of<C: Class>(bytes: &[u8], section: Section<C>) -> Result<&[u8], ParseError>
-    ensures { Gives refusal_of (λ b. b.now) (part_of bytes.now (section_seen C.number_of section)) result }
-{
-    bytes.get(section.range()?).ok_or(ParseError::UnexpectedEof)
 }
 
 fn whole_rows<C: Class>(rows: &[u8]) -> Result<&[u8], ParseError>
@@ -173,7 +164,7 @@ impl<'a, C: Class> Functions<'a, C> {
     #[tactic(auto, using(crate::proofs::RowsLeft::passed, crate::proofs::RowsLeft::kept, crate::proofs::RowsLeft::ended))]
     fn first_left(&self) -> Option<(FunctionSymbol<'a>, usize)>
         ensures { MatchOption result (functions_left C.table self.now ≡ [])
-            (λ r. functions_left C.table self.now ≡ function_seen r.0 ∷ functions_left C.table (record self.now { next = r.1 })) }
+            (λ r. functions_left C.table self.now ≡ function_view r.0 ∷ functions_left C.table (record self.now { next = r.1 })) }
     {
         for k in self.next..self.rows.len() / C::SYMBOL_LENGTH {
             let row = C::symbol(self.rows, k * C::SYMBOL_LENGTH, self.byte_order).unwrap();
@@ -195,12 +186,12 @@ impl<'a, C: Class> Functions<'a, C> {
 
 impl<'a, C: Class> Iterator for Functions<'a, C> {
     ghost use Rattle.std.specs.Iterator.{YieldsFirstBy, item_count};
-    ghost use Rattle.binfarce_symbols.specs.SymbolSeen.{function_seen};
-    ghost use Rattle.binfarce_elf.specs.ElfSeen.{functions_left};
+    ghost use Rattle.binfarce_symbols.specs.SymbolViews.{function_view};
+    ghost use Rattle.binfarce_elf.specs.ElfViews.{functions_left};
 
     type Item = FunctionSymbol<'a>;
 
-    ghost next_gives = { YieldsFirstBy function_seen (functions_left C.table) };
+    ghost next_gives = { YieldsFirstBy function_view (functions_left C.table) };
 
     ghost remaining = { item_count (functions_left C.table) };
 
@@ -214,8 +205,8 @@ impl<'a, C: Class> Iterator for Functions<'a, C> {
 
 // The name of a function of the section `index`, with a size and a name offset.
 #[tactic(auto, unfolding(crate::specs::ElfSymbols::function_name))]
-fn function_name(strings: &[u8], index: Half, row: Row) -> Option<&str>
-    ensures { option_map (λ t. t.now) result ≡ function_name strings.now index (row_seen row) }
+fn function_name(strings: &[u8], index: Half, row: SymbolRow) -> Option<&str>
+    ensures { option_map (λ t. t.now) result ≡ function_name strings.now index (symbol_view row) }
 {
     const STT_FUNC: u8 = 2;
     if row.section == index && row.size != 0 && row.name != 0 && row.info & 0xf == STT_FUNC {

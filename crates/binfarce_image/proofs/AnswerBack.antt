@@ -6,7 +6,7 @@ use Rattle.std.proofs.lemmas.Bool.{eq-eqb}
 use Rattle.std.proofs.lemmas.Nat.{div-mul-add, mod-mul-add}
 use Rattle.binfarce.specs.Refusal.{Refusal, ◌>>=◌, unexpected_section_type, unexpected_eof}
 use Rattle.binfarce.specs.Elf.{ElfClass, Section, SectionTable}
-use Rattle.binfarce.specs.ElfSymbols.{Located, part_of, string_table_kind, whole_rows, symbol_at, entry_of, entries_from}
+use Rattle.binfarce.specs.ElfSymbols.{Located, section_data, string_table_kind, whole_rows, symbol_at, entry_of, entries_from}
 use Rattle.binfarce.specs.Symbol.{Entry, Listed}
 use Rattle.binfarce_image.specs.declared.image.ElfLayout.{ElfLayout}
 use Rattle.binfarce_image.specs.declared.image.Image.{Image}
@@ -25,18 +25,18 @@ use Rattle.binfarce_image.proofs.PartsBack.{Holds, part_back}
 -- the answer, where it is known what was located
 abbrev pub answer_of : ElfClass → SectionTable → Result Located Refusal → Result Listed Refusal
 answer_of class table r = r >>= λ (found : Located). Ok (record {
-  entries = entries_from class table.order found.strings found.text.index found.rows 0;
-  section_size = found.text.size;
+  entries = entries_from class table.order found.strings found.section.index found.rows 0;
+  section_size = found.section.size;
 })
 
 -- what is located with these sections
 abbrev pub located_with : ElfClass → SectionTable → Section → Section → Section → Result Located Refusal
 located_with class table text symbols linked = do
   string_table ← string_table_kind linked
-  strings ← part_of table.file string_table
-  part ← part_of table.file symbols
+  strings ← section_data table.file string_table
+  part ← section_data table.file symbols
   rows ← whole_rows class part
-  Ok (record { text = text; strings = strings; rows = rows })
+  Ok (record { section = text; strings = strings; rows = rows })
 
 -- what the image answers with these parts
 abbrev pub answer_with : ℕ × Part → Part → Part → Result Listed Refusal
@@ -78,12 +78,12 @@ size_back class (Table name link rows) other = absurd cc
 same_listed : (a b : List Entry) (m n : ℕ) → a ≡ b → m ≡ n → Path (Result Listed Refusal) (Ok (record { entries = a; section_size = m })) (Ok (record { entries = b; section_size = n }))
 same_listed a b m n p q = cc
 
-located_is : (class : ElfClass) (table : SectionTable) (text symbols linked : Section) (strings rows : List ℕ) → string_table_kind linked ≡ Ok linked → part_of table.file linked ≡ Ok strings
-    → part_of table.file symbols ≡ Ok rows → whole_rows class rows ≡ Ok rows → located_with class table text symbols linked ≡ Ok (record { text = text; strings = strings; rows = rows })
+located_is : (class : ElfClass) (table : SectionTable) (text symbols linked : Section) (strings rows : List ℕ) → string_table_kind linked ≡ Ok linked → section_data table.file linked ≡ Ok strings
+    → section_data table.file symbols ≡ Ok rows → whole_rows class rows ≡ Ok rows → located_with class table text symbols linked ≡ Ok (record { section = text; strings = strings; rows = rows })
 located_is class table text symbols linked strings rows kind first second whole =
-    let end : List ℕ → List ℕ → Result Located Refusal = λ s r. Ok (record { text = text; strings = s; rows = r }) in
-    ap (λ (r : Result Section Refusal). r >>= λ (t : Section). part_of table.file t >>= λ (s : List ℕ). part_of table.file symbols >>= λ (p : List ℕ). whole_rows class p >>= λ (q : List ℕ). end s q) kind
-    ∙ ap (λ (r : Result (List ℕ) Refusal). r >>= λ (s : List ℕ). part_of table.file symbols >>= λ (p : List ℕ). whole_rows class p >>= λ (q : List ℕ). end s q) first
+    let end : List ℕ → List ℕ → Result Located Refusal = λ s r. Ok (record { section = text; strings = s; rows = r }) in
+    ap (λ (r : Result Section Refusal). r >>= λ (t : Section). section_data table.file t >>= λ (s : List ℕ). section_data table.file symbols >>= λ (p : List ℕ). whole_rows class p >>= λ (q : List ℕ). end s q) kind
+    ∙ ap (λ (r : Result (List ℕ) Refusal). r >>= λ (s : List ℕ). section_data table.file symbols >>= λ (p : List ℕ). whole_rows class p >>= λ (q : List ℕ). end s q) first
     ∙ ap (λ (r : Result (List ℕ) Refusal). r >>= λ (p : List ℕ). whole_rows class p >>= λ (q : List ℕ). end strings q) second
     ∙ ap (λ (r : Result (List ℕ) Refusal). r >>= λ (q : List ℕ). end strings q) whole
 
@@ -91,7 +91,7 @@ kind_refused : (class : ElfClass) (table : SectionTable) (text symbols linked : 
 kind_refused class table text symbols linked kind is other =
     let refused : string_table_kind linked ≡ Err (unexpected_section_type 3 kind) =
     ap (λ (k : ℕ). cond (eqb k 3) (Ok linked) (Err (unexpected_section_type 3 k))) is ∙ ap (λ (b : Bool). cond b (Ok linked) (Err (unexpected_section_type 3 kind))) other in
-    ap (λ (r : Result Section Refusal). r >>= λ (t : Section). part_of table.file t >>= λ (s : List ℕ). part_of table.file symbols >>= λ (p : List ℕ). whole_rows class p >>= λ (q : List ℕ). Ok (record { text = text; strings = s; rows = q })) refused
+    ap (λ (r : Result Section Refusal). r >>= λ (t : Section). section_data table.file t >>= λ (s : List ℕ). section_data table.file symbols >>= λ (p : List ℕ). whole_rows class p >>= λ (q : List ℕ). Ok (record { section = text; strings = s; rows = q })) refused
 
 kind_passes : (linked : Section) (kind : ℕ) → linked.kind ≡ kind → eqb kind 3 ≡ true → string_table_kind linked ≡ Ok linked
 kind_passes linked kind is same = ap (λ (b : Bool). cond b (Ok linked) (Err (unexpected_section_type 3 linked.kind))) (ap (λ (k : ℕ). eqb k 3) is ∙ same)
@@ -105,8 +105,8 @@ module _ (image : Image) (layout : ElfLayout) (small : length (bytes image layou
       let order = order_of layout in
       let table = table_of image layout in
       let written = flat_map (symbol_bytes class order) rows.items in
-      let first : part_of (bytes image layout) linked ≡ Ok strings.items = part_back class order (bytes image layout) linked (k, Bytes n kind l strings) r small in
-      let second : part_of (bytes image layout) symbols ≡ Ok written = part_back class order (bytes image layout) symbols (j, Table name link rows) s small in
+      let first : section_data (bytes image layout) linked ≡ Ok strings.items = part_back class order (bytes image layout) linked (k, Bytes n kind l strings) r small in
+      let second : section_data (bytes image layout) symbols ≡ Ok written = part_back class order (bytes image layout) symbols (j, Table name link rows) s small in
       let long : length written ≡ length rows.items * class.symbol_length = length_rows layout name link rows in
       let whole : whole_rows class written ≡ Ok written = whole_is class written (length rows.items) (is_class layout).symbol_some long in
       let located = located_is class table text symbols linked strings.items written (kind_passes linked kind (ap (λ (x : Section). x.kind) r.is) is) first second whole in

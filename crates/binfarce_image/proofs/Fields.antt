@@ -6,7 +6,7 @@ use Rattle.std.proofs.lemmas.List.{length-append, length-take-le, length-drop, t
 use Rattle.binfarce.specs.declared.ByteOrder.{ByteOrder}
 use Rattle.binfarce.specs.Field.{Field, value_at}
 use Rattle.binfarce.specs.Number.{number, bytes_at}
-use Rattle.binfarce_image.specs.machine.Seen.{fits, all_fit}
+use Rattle.binfarce_image.specs.machine.Views.{fits, all_fit}
 use Rattle.binfarce_image.specs.Structure.{number_bytes, written_at, put, filled}
 use Rattle.binfarce_image.proofs.Bytes.{length-number_bytes}
 use Rattle.binfarce_image.proofs.Lengths.{length-put, length-filled}

@@ -4,7 +4,7 @@ use Rattle.std.specs.List.{AllByRecursion}
 use Rattle.binfarce_image.specs.declared.image.Part.{Part}
 use Rattle.binfarce_image.specs.declared.image.Part.TheVariants.{Bytes, Table}
 use Rattle.binfarce_image.specs.ImageSymbols.{PartFits}
-use Rattle.binfarce_image.specs.machine.Seen.{BodyFits, HeaderFits}
+use Rattle.binfarce_image.specs.machine.Views.{BodyFits, HeaderFits}
 
 part_fits : (part : Part) → BodyFits part → HeaderFits part → PartFits part
 part_fits (Bytes name kind link body) b h = h

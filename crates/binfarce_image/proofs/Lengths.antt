@@ -15,7 +15,7 @@ use Rattle.binfarce_image.specs.declared.image.Part.TheVariants.{Bytes, Table}
 use Rattle.binfarce_image.specs.declared.image.Row.{Row}
 use Rattle.binfarce_image.specs.Structure.{number_bytes, put, filled}
 use Rattle.binfarce_image.specs.Image.{class_of, order_of, body_length, bodies_end, symbol_numbers, section_numbers, header_numbers, identification, symbol_bytes, body, section_bytes, section_headers, header_bytes, bytes}
-use Rattle.binfarce_image.specs.machine.Seen.{fits, all_fit}
+use Rattle.binfarce_image.specs.machine.Views.{fits, all_fit}
 use Rattle.binfarce_image.proofs.Bytes.{length-number_bytes}
 
 pub both : (a b : Bool) → a && b ≡ true → (a ≡ true) × (b ≡ true)

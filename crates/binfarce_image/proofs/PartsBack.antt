@@ -9,7 +9,7 @@ use Rattle.binfarce.specs.declared.ByteOrder.{ByteOrder}
 use Rattle.binfarce.specs.Steps.{◌>>=◌}
 use Rattle.binfarce.specs.Text.{text_at}
 use Rattle.binfarce.specs.Elf.{ElfClass, Section, SectionTable, section_of, whole_headers, contents, names_section, name_of}
-use Rattle.binfarce.specs.ElfSymbols.{part_of}
+use Rattle.binfarce.specs.ElfSymbols.{section_data}
 use Rattle.binfarce_image.specs.declared.image.ElfLayout.{ElfLayout}
 use Rattle.binfarce_image.specs.declared.image.Image.{Image}
 use Rattle.binfarce_image.specs.declared.image.Part.{Part}
@@ -32,12 +32,12 @@ contents_back class order file section found r =
 
 -- the part of the file that a section is, is the body
 pub part_back : (class : ElfClass) (order : ByteOrder) (file : List ℕ) (section : Section) (found : ℕ × Part) → IsSectionOf class order file section found → length file < 2 ^ 32
-    → part_of file section ≡ Ok (body class order found.1)
-unfolding part_of
+    → section_data file section ≡ Ok (body class order found.1)
+unfolding section_data
 part_back class order file section found r small =
     let inside = r.inside in
     let low : r.place + body_length class found.1 < 2 ^ 64 = omega arith in
-    ap (part_of file) r.is
+    ap (section_data file) r.is
     ∙ rw (lt-leb (2 ^ 64) (r.place + body_length class found.1) low, le-ltb (length file) (r.place + body_length class found.1) inside) (ap (λ (xs : List ℕ). Ok xs) r.stands)
 
 -- where the section names are

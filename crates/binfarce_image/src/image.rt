@@ -93,7 +93,7 @@ pub enum ImageError {
     NamesPlace,
     /// The file would have 2^32 bytes or more in the layout that was asked for.
     TooLarge,
-    /// An allocation was refused.
+    /// An allocation failed.
     OutOfMemory,
 }
 
@@ -134,7 +134,7 @@ impl From<AllocError> for ImageError {
 ///
 /// Refused, in this order: `TooManySections` for more than 65,535 parts; `TableCount` where there isn't exactly one
 /// `Table`, or a `Bytes` part has kind 2; `NamesPlace` where `names_at` isn't the index of a `Bytes` part; `TooLarge`
-/// where the file would have 2^32 bytes or more; `OutOfMemory` where an allocation was refused, of which the first comes
+/// where the file would have 2^32 bytes or more; `OutOfMemory` where an allocation failed, of which the first comes
 /// after the other refusals.
 pub fn lay_out(alloc: Global, image: &Image, layout: ElfLayout) -> Result<Vec<u8>, ImageError>
     ensures file { IfOk result (λ v. v.items ≡ bytes image.now layout) }

@@ -12,6 +12,7 @@ ghost use Rattle.binfarce_legacy.specs.Legacy.{Element, Reads, IsLegacy, part_af
 ghost use Rattle.binfarce_legacy.specs.machine.Reading.{is_mark, is_plain, path_chars, piece_of, piece_or_all, chars_left, name_start, name_end, HasElement, Grows};
 
 use binfarce_text::digits::hex_value;
+use binfarce_text::prefixes::after_prefix;
 use binfarce_text::suffixes::is_allowed_rest;
 use std::alloc::{AllocError, Global};
 
@@ -20,16 +21,7 @@ use std::alloc::{AllocError, Global};
 fn part_after_prefix(text: &str) -> Option<&str>
     ensures { option_copied result ≡ part_after_prefix text.now }
 {
-    let bytes = text.as_bytes();
-    if bytes.starts_with(b"_ZN") {
-        Some(&text[3..])
-    } else if bytes.starts_with(b"ZN") {
-        Some(&text[2..])
-    } else if bytes.starts_with(b"__ZN") {
-        Some(&text[4..])
-    } else {
-        None
-    }
+    after_prefix(text, "_ZN", "ZN", "__ZN")
 }
 
 // How long the run of digits is that `text` begins with, and the number that they write, where it
@@ -401,7 +393,7 @@ fn without_last_part(complete: &str) -> &str
     }
 }
 
-/// A copy of `complete` without its last part. The only refusal is that an allocation was refused.
+/// A copy of `complete` without its last part. The only refusal is that an allocation failed.
 pub fn trimmed(alloc: Global, complete: &str) -> Result<String, AllocError>
     ensures { IfOk result (λ text. (chars : List ℕ)
         → complete.now ≡ encode_utf8_all chars → string_bytes text ≡ encode_utf8_all (without_last_part chars)) }

@@ -5,31 +5,21 @@ mod program;
 #[cfg(test)]
 mod tests;
 
-use crate::program::{Fault, run, status, words};
-use binfarce_program::arguments;
-use binfarce_tools::list::{ListError, Out};
-use std::fs::File;
-use std::io::{self, Write};
+use crate::program::{Fault, run, words};
+use binfarce_program::{arguments, exit, finish, open};
+use binfarce_tools::list::Out;
+use std::io;
 use std::process::ExitCode;
 
 fn main(rt: HostRuntime) -> ExitCode {
-    match list_file(&rt) {
-        Ok(()) => ExitCode::SUCCESS,
-        Err(fault) => {
-            let _ = eprintln!(&rt; "{fault}");
-            ExitCode::from(status(&fault))
-        }
-    }
+    exit(&rt, list_file(&rt))
 }
 
-// The first fault is the one reported.
 fn list_file(rt: &HostRuntime) -> Result<(), Fault> {
-    let arguments = arguments(rt).map_err(|_| Fault::Usage)?;
+    let arguments = arguments(rt)?;
     let (path, section) = words(arguments.as_slice())?;
-    let mut file = File::open(rt, path).map_err(|_| Fault::File)?;
+    let mut file = open(rt, path)?;
     let mut out = Out::new(io::writer(rt));
     let listed = run(rt.alloc(), &mut file, section, &mut out);
-    let flushed = out.into_inner().flush();
-    listed?;
-    flushed.map_err(|_| Fault::List(ListError::Write))
+    finish(out.into_inner(), listed)
 }

@@ -7,9 +7,9 @@ use Rattle.binfarce_bytes.specs.Refusal.{◌>>=◌, Refusal}
 use Rattle.binfarce_macho.specs.MachoSymbols.{kept, symbol_of, address_of, row_addresses}
 use Rattle.binfarce_symbols.specs.Sizes.{RowAddress}
 use Rattle.binfarce_symbols.specs.declared.sizes.RowAddress as code
-use Rattle.binfarce_symbols.specs.RowSeen.{row_seen, rows_seen}
+use Rattle.binfarce_symbols.specs.RowViews.{row_view, rows_view}
 use Rattle.std.proofs.lemmas.List.Elements.{All-nil, All-cons, All-head, All-tail, All-append, All-same}
-use Rattle.binfarce_macho.proofs.Sections.{kept_after}
+use Rattle.binfarce_macho.proofs.Walks.{kept_after}
 use Rattle.binfarce_symbols.proofs.Rows.{one_more}
 
 -- some row below n is kept
@@ -60,14 +60,14 @@ pub rows_inside : (rows : List ℕ) → All (λ r. r.row * 16 + 16 ≤ length ro
 rows_inside rows = all_kept (λ r. r.row * 16 + 16 ≤ length rows) (address_of rows) (length rows / 16) (λ k x lt e. let at : x.row ≡ k = address_row rows k x e in omega arith)
 
 -- the same of rows that are seen as these
-pub rows_seen_inside : (rows : List ℕ) (addresses : List code.RowAddress) → rows_seen addresses ≡ row_addresses rows → All (λ r. r.row * 16 + 16 ≤ length rows) addresses
-rows_seen_inside rows addresses is = each addresses (All-same (λ r. r.row * 16 + 16 ≤ length rows) (rows_seen addresses) (row_addresses rows) is (rows_inside rows))
+pub rows_view_inside : (rows : List ℕ) (addresses : List code.RowAddress) → rows_view addresses ≡ row_addresses rows → All (λ r. r.index * 16 + 16 ≤ length rows) addresses
+rows_view_inside rows addresses is = each addresses (All-same (λ r. r.row * 16 + 16 ≤ length rows) (rows_view addresses) (row_addresses rows) is (rows_inside rows))
   where
-    each : (xs : List code.RowAddress) → All (λ r. r.row * 16 + 16 ≤ length rows) (rows_seen xs) → All (λ r. r.row * 16 + 16 ≤ length rows) xs
+    each : (xs : List code.RowAddress) → All (λ r. r.row * 16 + 16 ≤ length rows) (rows_view xs) → All (λ r. r.index * 16 + 16 ≤ length rows) xs
     each [] all = All-nil _
     each (x ∷ xs) all =
         let P = λ (r : RowAddress). r.row * 16 + 16 ≤ length rows in
-        All-cons (λ r. r.row * 16 + 16 ≤ length rows) x xs (All-head P (row_seen x) (rows_seen xs) all) (each xs (All-tail P (row_seen x) (rows_seen xs) all))
+        All-cons (λ r. r.index * 16 + 16 ≤ length rows) x xs (All-head P (row_view x) (rows_view xs) all) (each xs (All-tail P (row_view x) (rows_view xs) all))
 
 pub empty : {X : Type 0} (xs : List X) → length xs ≡ 0 → xs ≡ []
 empty [] e = refl
@@ -126,7 +126,7 @@ module _ {X Y : Type 0} (f : X → Result (Option Y) Refusal) where
       ap (kept f) (sym (take-append-drop k xs)) ∙ kept_stopped (take k xs) (drop k xs) us why e (ap (kept f) rest ∙ refused_first (get_or xs k d) (drop (suc k) xs) why here)
 
 -- what is kept of things as they are seen
-pub kept_seen : {X Y Z : Type 0} (f : Y → Result (Option Z) Refusal) (seen : X → Y) (xs : List X) → kept f (map seen xs) ≡ kept (λ x. f (seen x)) xs
+pub kept_view : {X Y Z : Type 0} (f : Y → Result (Option Z) Refusal) (seen : X → Y) (xs : List X) → kept f (map seen xs) ≡ kept (λ x. f (seen x)) xs
 unfolding kept
-kept_seen f seen [] = refl
-kept_seen f seen (x ∷ xs) = rw (kept_seen f seen xs) refl
+kept_view f seen [] = refl
+kept_view f seen (x ∷ xs) = rw (kept_view f seen xs) refl

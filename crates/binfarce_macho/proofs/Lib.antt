@@ -1,5 +1,5 @@
-pub mod Commands
-pub mod Sections
+pub mod CommandWalks
+pub mod Walks
 pub mod Kept
 pub mod MachoAnswers
 pub mod MachoLaws

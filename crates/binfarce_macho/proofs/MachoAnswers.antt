@@ -15,12 +15,12 @@ use Rattle.binfarce_bytes.specs.declared.error.ParseError.TheVariants.{OutOfMemo
 use Rattle.binfarce_bytes.specs.Refusal.{◌>>=◌, Refusal, refusal_of}
 use Rattle.binfarce_symbols.specs.declared.functions.FunctionSymbol.{FunctionSymbol}
 use Rattle.binfarce_symbols.specs.Symbol.{Entry, Listed, Answers}
-use Rattle.binfarce_symbols.specs.SymbolSeen.{function_seen, HoldsFunctions}
+use Rattle.binfarce_symbols.specs.SymbolViews.{function_view, HoldsFunctions}
 use Rattle.binfarce_symbols.specs.Sizes.{RowAddress, arranged}
 use Rattle.binfarce_macho.specs.MachoSymbols.{Located, located, answer_of, listed_of, macho_answer, entry_of, kept, row_addresses, HasAddress}
 
 module _ {X : Type 0} (Holds : Listed → X → Type 0) where
-  -- an allocation was refused where the answer needs one
+  -- an allocation failed where the answer needs one
   pub out_of_memory_answers : (Needs : Result Listed Refusal → Type 0) (answer : Result Listed Refusal) (result : Result X ParseError) → Needs answer → IsErrAnd result (λ e. e ≡ OutOfMemory) → Answers Holds Needs answer result
   out_of_memory_answers Needs answer (Ok value) needs is = absurd is
   out_of_memory_answers Needs (Ok listed) (Err e) needs is = (ap refusal_of is, needs)
@@ -49,7 +49,7 @@ unfolding answer_of kept arranged
 nothing_listed Needs found functions none empty = rw (none, empty) (refl, refl)
 
 -- the rows list what was kept of them
-pub rows_listed : (Needs : Result Listed Refusal → Type 0) (found : Located) (rows : List RowAddress) (functions : Vec FunctionSymbol) → kept (entry_of found) rows ≡ Ok (map function_seen functions.items)
+pub rows_listed : (Needs : Result Listed Refusal → Type 0) (found : Located) (rows : List RowAddress) (functions : Vec FunctionSymbol) → kept (entry_of found) rows ≡ Ok (map function_view functions.items)
     → Answers HoldsFunctions Needs (listed_of found rows) (Ok (functions, found.text_size))
 rows_listed Needs found rows functions is = rw is (refl, refl)
 
@@ -112,5 +112,5 @@ pub functions_need_address : (file : List ℕ) (functions : Vec FunctionSymbol) 
 functions_need_address file functions size first others holds some = by_case (macho_answer file) refl holds
   where
     by_case : (answer : Result Listed Refusal) → macho_answer file ≡ answer → Answers HoldsFunctions (λ _. HasAddress file) answer (Ok (functions, size)) → HasAddress file
-    by_case (Ok listed) is h = needs_address file listed (function_seen first) (map function_seen others) is (sym h.0 ∙ ap (map function_seen) some)
+    by_case (Ok listed) is h = needs_address file listed (function_view first) (map function_view others) is (sym h.0 ∙ ap (map function_view) some)
     by_case (Err why) is h = absurd h

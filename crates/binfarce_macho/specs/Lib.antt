@@ -1,4 +1,4 @@
 pub mod Macho
 pub mod MachoSymbols
-pub mod MachoSeen
+pub mod MachoViews
 pub mod machine

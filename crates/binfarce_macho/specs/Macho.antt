@@ -76,14 +76,14 @@ abbrev pub commands : List ℕ → Walk Command
 commands file = commands_from file (header_of file).ncmds header_length
 
 -- section_64: one A for each field that is read
-pub record SectionFields (A : Type 0) : Type 0 where
+pub record SectionHeader (A : Type 0) : Type 0 where
   pub section_name : A
   pub segment_name : A
   pub address : A
   pub size : A
   pub offset : A
 
-unfoldable pub section_fields : SectionFields Field
+unfoldable pub section_fields : SectionHeader Field
 section_fields = record {
   section_name = field 0 16;
   segment_name = field 16 16;

@@ -68,8 +68,8 @@ abbrev pub symbol_of : List ℕ → ℕ → SymbolRow ℕ
 symbol_of rows k = symbol_at rows (k * symbol_length)
 
 -- bytes that lie in the file
-abbrev pub part_at : List ℕ → ℕ → ℕ → Result (List ℕ) Refusal
-part_at file offset size = if nat_le (offset + size) (length file) then Ok (bytes_at file offset size) else Err unexpected_eof
+abbrev pub slice_at : List ℕ → ℕ → ℕ → Result (List ℕ) Refusal
+slice_at file offset size = if nat_le (offset + size) (length file) then Ok (bytes_at file offset size) else Err unexpected_eof
 
 -- the text: the first section `__text` of `__TEXT`
 abbrev pub text_section : List ℕ → Result Section Refusal
@@ -103,8 +103,8 @@ unfoldable pub located_by : List ℕ → Section → Option Command → Result (
 located_by file text None = Ok None
 located_by file text (Some command) = do
   table ← whole_table file command
-  strings ← part_at file table.strings_offset table.strings_size
-  rows ← part_at file table.symbol_offset (symbol_length * table.row_count)
+  strings ← slice_at file table.strings_offset table.strings_size
+  rows ← slice_at file table.symbol_offset (symbol_length * table.row_count)
   text_end ← text_end_of text
   Ok (Some (record { text_end = text_end; text_size = text.size; strings = strings; rows = rows }))
 

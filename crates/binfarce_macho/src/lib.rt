@@ -1,5 +1,9 @@
 //! 64-bit Mach-O files (Apple's `<mach-o/loader.h>` and `<mach-o/nlist.h>`).
 #![tactic(auto)]
 
+mod commands;
+mod header;
 mod laws;
 pub mod macho;
+mod sections;
+mod symbols;

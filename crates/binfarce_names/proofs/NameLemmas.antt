@@ -118,12 +118,12 @@ unfolding IsMangled IsNamed
 has_answer text m is = elim is [
   | inl a ↦ (legacy a.elements, inl (record { part = m.part; elements = a.elements; rest = a.rest; mangling = a.mangling; name_is = refl }))
   | inr a ↦ elim a [
-    | inl v ↦ by v (printed m.part true).1.over refl
+    | inl v ↦ by v (printed m.part true).1.limit_exceeded refl
     | inr v ↦ (unknown text, inr (inr (record { not_legacy = v.not_legacy; no_tree = λ part tree w u. v.not_v0 part w; name_is = refl })))
   ]
 ]
   where
-    by : IsV0Mangled text m → (over : Bool) → (printed m.part true).1.over ≡ over → HasAnAnswer text
+    by : IsV0Mangled text m → (limit_exceeded : Bool) → (printed m.part true).1.limit_exceeded ≡ limit_exceeded → HasAnAnswer text
     by v true o =
         (unknown text, named_past_limits text m (unknown text) is v.kind_is (λ tree u. printed_over m.part true o tree u) refl)
     by v false o =

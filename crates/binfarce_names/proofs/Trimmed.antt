@@ -7,7 +7,8 @@ use Rattle.binfarce_text.specs.Suffixes.{without_llvm}
 use Rattle.binfarce_legacy.specs.Legacy.{Element, Reads, IsLegacy, legacy_chars, without_last_part}
 use Rattle.binfarce_v0_grammar.specs.Tree.{PathTree}
 use Rattle.binfarce_v0.specs.Mangling.{IsV0, HasNoTree}
-use Rattle.binfarce_v0.specs.machine.Outcome.{Outcome, HasTree, IsOutcome, IsCrateName, AreTexts}
+use Rattle.binfarce_v0_state.specs.machine.Outcome.{Outcome}
+use Rattle.binfarce_v0.specs.machine.Outcome.{HasTree, IsOutcome, IsCrateName, AreTexts}
 use Rattle.binfarce_names.specs.Crates.{crate_of, path_crate}
 use Rattle.binfarce_names.specs.Name.{Name}
 use Rattle.binfarce_names.specs.Named.{IsNotLegacy, IsNamed, legacy, unknown, v0}

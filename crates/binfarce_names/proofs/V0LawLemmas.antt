@@ -2,17 +2,18 @@
 use Rattle.std.proofs.Common.{◌≡◌, ℕ, ◌+◌, ◌<◌, Bool, true, false, List, [], Option, Some, None, cond, nat_lt, max, refl, ap, sym, ◌∙◌, arith}
 use Rattle.std.proofs.lemmas.Bool.Decides.{nat_tests}
 use Rattle.binfarce_text.specs.Steps.{◌>>=◌}
-use Rattle.binfarce_v0_grammar.specs.Base62.{number, back_reference}
-use Rattle.binfarce_v0_grammar.specs.Tree.{path_height, path_steps, name_text, path_root, InValue}
+use Rattle.binfarce_v0_grammar.specs.Base62.{base_62_number, back_reference}
+use Rattle.binfarce_v0_grammar.specs.Tree.{path_height, path_steps, path_root}
+use Rattle.binfarce_v0_text.specs.TreeTexts.{name_text, InValue}
 use Rattle.binfarce_names.specs.Laws.{UnfoldsOneWay, ReadsOneWay, NamesAnEarlierPosition, KnowsNoLimit}
-use Rattle.binfarce_v0.specs.machine.Printing.{State}
-use Rattle.binfarce_v0.proofs.Complete.{path_complete}
+use Rattle.binfarce_v0_state.specs.machine.Printing.{State}
+use Rattle.binfarce_v0_state.proofs.Complete.{path_complete}
 use Rattle.binfarce_v0_grammar.proofs.ReadingTrees.{reads_one_tree}
 
 -- a printing from a position with some steps
 abbrev from : Option ℕ → ℕ → State
-from at room =
-    record { at = at; room = room; least = 0; over = false; text = []; muted = false; full = true; outside = true; root = None }
+from at steps_left =
+    record { at = at; steps_left = steps_left; least_levels_left = 0; limit_exceeded = false; text = []; muted = false; full = true; in_back_reference = false; root = None }
 
 pub unfolds_one : (name : List ℕ) → UnfoldsOneWay name
 unfolds_one name t u at depth a b p q =
@@ -27,7 +28,7 @@ reads_one name t u at a b p q = reads_one_tree name t u at a b p q
 
 pub earlier_position : (name : List ℕ) → NamesAnEarlierPosition name
 unfolding back_reference
-earlier_position name at target after e = by (number name (at + 1)) e
+earlier_position name at target after e = by (base_62_number name (at + 1)) e
   where
     kept : (r : ℕ × ℕ) (b : Bool) → nat_lt r.0 at ≡ b → cond b (Some r) None ≡ Some (target, after) → target < at
     kept r true t h =

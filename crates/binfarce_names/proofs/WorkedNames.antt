@@ -7,30 +7,33 @@ use Rattle.std.specs.Str.{IsAscii}
 use Rattle.std.proofs.lemmas.Bool.Decides.{nat_tests}
 use Rattle.std.specs.Fmt.{digits}
 use Rattle.binfarce_names.specs.declared.demangle.Kind.TheVariants.{V0}
-use Rattle.binfarce_v0_grammar.specs.Base62.{digit_62, number, tagged, back_reference, hex_digits, hex_number}
+use Rattle.binfarce_v0_grammar.specs.Base62.{digit_62, base_62_number, optional_base_62_number, back_reference, hex_digits, hex_number}
 use Rattle.binfarce_text.specs.Suffixes.{without_llvm, is_allowed_rest}
 use Rattle.binfarce_v0_grammar.specs.Forms.{path_form, lifetime, basic_type, abi, type_form_by, type_form, const_type, has_sign, value_of, const_value, const_form}
-use Rattle.binfarce_v0_grammar.specs.Identifiers.{length_at, identifier_of, identifier_bytes, undisambiguated_identifier, identifier, identifier_text}
+use Rattle.binfarce_v0_grammar.specs.Identifiers.{length_at, identifier_of, identifier_bytes, undisambiguated_identifier, identifier}
+use Rattle.binfarce_v0_text.specs.LeafTexts.{identifier_text}
 use Rattle.binfarce_legacy.specs.Legacy as legacy_names
 use Rattle.binfarce_v0.specs.Mangling.{part_after_prefix, is_upper_at, IsMangling, IsV0}
 use Rattle.binfarce_names.specs.Name.{Name}
 use Rattle.binfarce_names.specs.Named.{IsNotLegacy, IsNamed, unknown}
-use Rattle.binfarce_v0_grammar.specs.Tree.{path_height, path_steps, lifetime_text, binder_text, nested_text, signature_text, number_text, character_text, value_text, InValue}
+use Rattle.binfarce_v0_grammar.specs.Tree.{path_height, path_steps}
+use Rattle.binfarce_v0_text.specs.LeafTexts.{lifetime_text, binder_text, nested_text, signature_text, number_text, character_text, value_text}
+use Rattle.binfarce_v0_text.specs.TreeTexts.{InValue}
 use Rattle.binfarce_v0_grammar.specs.Unfolding.{UnfoldsTo, bound_end}
-use Rattle.binfarce_v0_grammar.specs.Punycode.{digit_of, weight, integer, scaled_bias, adapted_bias, decoder_after, text_of, punycode_decoded}
+use Rattle.binfarce_punycode.specs.Punycode.{digit_of, weight, integer, scaled_bias, adapted_bias, decoder_after, text_of, punycode_decoded}
 use Rattle.binfarce_names.specs.Laws.{Counts}
 use Rattle.binfarce_v0_grammar.specs.machine.Ends.{const_end, bindings_end, item_end, items_end, type_end, path_end, ends}
 use Rattle.binfarce_v0_grammar.specs.declared.limits.TheConstants.{MAX_LEVELS, MAX_STEPS}
 use Rattle.binfarce_v0.specs.machine.Mangling.{paths_end}
-use Rattle.binfarce_v0.specs.machine.Outcome.{outcome_of}
-use Rattle.binfarce_v0.specs.machine.Printing.{first_state, const_rule, bindings_rule, item_rule, items_rule, type_rule, path_rule, readers}
+use Rattle.binfarce_v0_state.specs.machine.Outcome.{outcome_of}
+use Rattle.binfarce_v0_state.specs.machine.Printing.{first_state, const_rule, bindings_rule, item_rule, items_rule, type_rule, path_rule, readers}
 use Rattle.binfarce_v0.proofs.Manglings.{printed, printed_is_outcome, printed_over, paths_read, not_mangling, are_texts}
-use Rattle.binfarce_v0.proofs.SoundForms.{readers_sound}
+use Rattle.binfarce_v0_state.proofs.SoundForms.{readers_sound}
 use Rattle.binfarce_text.proofs.TextLemmas.{some_same}
 
 -- all that a worked name computes with
 unfoldable pub computing : ℕ
-unfolding digits digit_62 number tagged back_reference hex_digits hex_number without_llvm is_allowed_rest path_form lifetime basic_type abi type_form_by type_form const_type has_sign value_of const_value const_form length_at identifier_of identifier_bytes undisambiguated_identifier identifier identifier_text digit_of weight integer scaled_bias adapted_bias decoder_after text_of punycode_decoded legacy_names.part_after_prefix part_after_prefix path_height path_steps lifetime_text binder_text nested_text signature_text number_text character_text value_text bound_end const_end bindings_end item_end items_end type_end path_end ends const_rule bindings_rule item_rule items_rule type_rule path_rule readers lib.Utf8.encode
+unfolding digits digit_62 base_62_number optional_base_62_number back_reference hex_digits hex_number without_llvm is_allowed_rest path_form lifetime basic_type abi type_form_by type_form const_type has_sign value_of const_value const_form length_at identifier_of identifier_bytes undisambiguated_identifier identifier identifier_text digit_of weight integer scaled_bias adapted_bias decoder_after text_of punycode_decoded legacy_names.part_after_prefix part_after_prefix path_height path_steps lifetime_text binder_text nested_text signature_text number_text character_text value_text bound_end const_end bindings_end item_end items_end type_end path_end ends const_rule bindings_rule item_rule items_rule type_rule path_rule readers lib.Utf8.encode
 computing = 0
 
 both : (a b : Bool) → (a && b) ≡ true → (a ≡ true) × (b ≡ true)
@@ -52,7 +55,7 @@ pub means : (text part : List ℕ) (name : Name)
     → part_after_prefix (without_llvm text) ≡ Some part
     → paths_end part ≡ Some (length part)
     → (is_upper_at part 0 && (list_all (λ c. nat_lt c 128) part && is_allowed_rest (drop (length part) part))) ≡ true
-    → (printed part true).1.over ≡ false → (printed part false).1.over ≡ false
+    → (printed part true).1.limit_exceeded ≡ false → (printed part false).1.limit_exceeded ≡ false
     → name ≡ record { complete = (printed part true).1.text; trimmed = (printed part false).1.text; crate_name = option_map identifier_text (printed part true).1.root; kind = V0 }
     → IsNamed text name
 unfolding IsNamed
@@ -66,7 +69,7 @@ means text part name b p w o s e =
 
 -- a text whose part after the prefix passes a limit
 pub means_nothing : (text part : List ℕ) → legacy_names.part_after_prefix (without_llvm text) ≡ None
-    → part_after_prefix (without_llvm text) ≡ Some part → (printed part true).1.over ≡ true
+    → part_after_prefix (without_llvm text) ≡ Some part → (printed part true).1.limit_exceeded ≡ true
     → IsNamed text (unknown text)
 unfolding IsNamed
 means_nothing text part l b o =
@@ -81,7 +84,7 @@ means_unread text part l b p =
     inr (inr (record { not_legacy = not_legacy text l; no_tree = λ other tree v u. not_mangling (without_llvm text) part b p other v.after v.mangling; name_is = refl }))
 
 -- levels and steps of what stands after a prefix
-pub counts : (part : List ℕ) (levels steps : ℕ) → (printed part true).1.over ≡ false
+pub counts : (part : List ℕ) (levels steps : ℕ) → (printed part true).1.limit_exceeded ≡ false
     → path_height (printed part true).0 ≡ levels → path_steps (printed part true).0 ≡ steps
     → Counts part levels steps
 counts part levels steps o h n =

@@ -14,8 +14,8 @@ pub record Name : Type 0 where
   pub kind : Kind
 
 -- a `SymbolName`, its texts as their bytes
-abbrev pub name_seen : (s : SymbolName) → Name
-name_seen s = record { complete = string_bytes s.complete; trimmed = string_bytes s.trimmed; crate_name = option_map string_bytes s.crate_name; kind = s.kind }
+abbrev pub name_view : (s : SymbolName) → Name
+name_view s = record { complete = string_bytes s.complete; trimmed = string_bytes s.trimmed; crate_name = option_map string_bytes s.crate_name; kind = s.kind }
 
 -- which mangling a text is, and the part of it that is kept
 pub record Mangled : Type 0 where
@@ -23,5 +23,5 @@ pub record Mangled : Type 0 where
   pub kind : Kind
 
 -- a `Demangled`, the text that it holds as its bytes
-abbrev pub mangled_seen : (d : Demangled) → Mangled
-mangled_seen d = record { part = d.part.now; kind = d.kind }
+abbrev pub mangled_view : (d : Demangled) → Mangled
+mangled_view d = record { part = d.part.now; kind = d.kind }

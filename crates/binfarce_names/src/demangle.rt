@@ -5,7 +5,7 @@ ghost use Rattle.std.specs.Str.{IsAscii};
 ghost use Rattle.std.specs.String.{string_bytes};
 ghost use Rattle.binfarce_legacy.specs.Legacy.{Element, Reads, legacy_chars};
 ghost use Rattle.binfarce_names.specs.Crates.{crate_of, first_part, path_crate};
-ghost use Rattle.binfarce_names.specs.Name.{Name, mangled_seen, name_seen};
+ghost use Rattle.binfarce_names.specs.Name.{Name, mangled_view, name_view};
 ghost use Rattle.binfarce_names.specs.Named.{IsNamed, IsMangled, legacy, unknown};
 
 use binfarce_legacy::legacy;
@@ -62,15 +62,15 @@ pub struct Demangled<'a> {
 }
 
 impl SymbolName {
-    ghost use Rattle.binfarce_names.specs.Name.{name_seen};
+    ghost use Rattle.binfarce_names.specs.Name.{name_view};
     ghost use Rattle.binfarce_names.specs.Named.{IsNamed};
 
     /// The readable form of `name`. A name that isn't mangled stands unchanged in both texts, with kind `Unknown`; so
     /// does a v0 name that nests deeper than `MAX_LEVELS` levels or takes more than `MAX_STEPS` steps.
     ///
-    /// The texts are copies in memory of `alloc`. The only refusal: an allocation was refused.
+    /// The texts are copies in memory of `alloc`. The only refusal: an allocation failed.
     pub fn demangle(alloc: Global, name: &str) -> Result<SymbolName, AllocError>
-        ensures named { IfOk result (λ n. IsNamed name.now (name_seen n)) }
+        ensures named { IfOk result (λ n. IsNamed name.now (name_view n)) }
     {
         let stripped = without_llvm(name);
         if let Some(part) = legacy::mangling(stripped) {
@@ -97,7 +97,7 @@ impl SymbolName {
 
 /// Writes the trimmed text of `name`, the one that `SymbolName::demangle` gives, after `text`.
 ///
-/// The only refusal: an allocation was refused. `text` is then as it was.
+/// The only refusal: an allocation failed. `text` is then as it was.
 pub fn push_trimmed(alloc: Global, text: &mut String, name: &str) -> Result<(), AllocError>
     ensures trimmed { OnOk result ((n : Name) × IsNamed name.now n × (string_bytes text.new ≡ string_bytes text.old ++ n.trimmed)) }
     ensures unchanged { OnErr result (string_bytes text.new ≡ string_bytes text.old) }
@@ -115,7 +115,7 @@ pub fn push_trimmed(alloc: Global, text: &mut String, name: &str) -> Result<(), 
 /// The crate that `name` tells: of a v0 name its `crate_name`, and of a legacy name the first part of its path, unless
 /// that begins with `<`. None where no crate is told, and of other names.
 ///
-/// The only refusal: an allocation was refused.
+/// The only refusal: an allocation failed.
 pub fn crate_of(alloc: Global, name: &str) -> Result<Option<String>, AllocError>
     ensures told { IfOk result (λ c. (n : Name) × IsNamed name.now n × (option_map string_bytes c ≡ crate_of n)) }
 {
@@ -152,7 +152,7 @@ fn first_part(path: &str) -> &str
 // The name of a legacy mangling, of which `part` stands after the prefix.
 fn legacy_name(alloc: Global, part: &str) -> Result<SymbolName, AllocError>
     requires { IsAscii part.now }
-    ensures { IfOk result (λ n. (elements : List Element) (rest : List ℕ) → Reads part.now elements rest → name_seen n ≡ legacy elements) }
+    ensures { IfOk result (λ n. (elements : List Element) (rest : List ℕ) → Reads part.now elements rest → name_view n ≡ legacy elements) }
 {
     let complete = legacy::complete(alloc, part)?;
     let trimmed = legacy::trimmed(alloc, complete.as_str())?;
@@ -166,7 +166,7 @@ fn legacy_name(alloc: Global, part: &str) -> Result<SymbolName, AllocError>
 
 // A name that stands unchanged.
 fn unknown(alloc: Global, name: &str) -> Result<SymbolName, AllocError>
-    ensures { IfOk result (λ n. name_seen n ≡ unknown name.now) }
+    ensures { IfOk result (λ n. name_view n ≡ unknown name.now) }
 {
     Ok(SymbolName {
         complete: String::from_str(alloc, name)?,
@@ -180,7 +180,7 @@ fn unknown(alloc: Global, name: &str) -> Result<SymbolName, AllocError>
 /// the `.llvm.` suffix that LLVM may have added; of a name that isn't mangled, all of it.
 #[tactic(auto, unfolding(crate::specs::Named::IsMangled))]
 pub fn demangle(name: &str) -> Demangled<'_>
-    ensures mangled { IsMangled name.now (mangled_seen result) }
+    ensures mangled { IsMangled name.now (mangled_view result) }
 {
     let text = without_llvm(name);
     if let Some(part) = legacy::mangling(text) {

@@ -72,8 +72,8 @@ pub fn worked_names()
     ensures bindings { Means (codes "_RMC0DNtC1a1tp1xhp1ymEL_") (codes "<dyn a[0]::t<x = u8, y = u32>>") (codes "<dyn a::t<x = u8, y = u32>>") (Some []) }
     ensures below_a_trait { Means (codes "_RMC0DNtINvC1a1fhE1tp1xmEL_") (codes "<dyn a[0]::f<u8>::t<x = u32>>") (codes "<dyn a::f<u8>::t<x = u32>>") (Some []) }
     ensures back_reference { Means (codes "_RINvINvC1a1fhE1gB2_E") (codes "a[0]::f::<u8>::g::<a[0]::f<u8>>") (codes "a::f::<u8>::g::<a::f<u8>>") (Some (codes "a")) }
-    ensures fault_in_a_target { Means (codes "_RINvC1a1bB3_hE") (codes "a[0]::b::<?, u8>") (codes "a::b::<?, u8>") (Some (codes "a")) }
-    ensures fault { Means (codes "_RYRL0_hC1a") (codes "<&'? ? as ?>") (codes "<&'? ? as ?>") None }
+    ensures invalid_target { Means (codes "_RINvC1a1bB3_hE") (codes "a[0]::b::<?, u8>") (codes "a::b::<?, u8>") (Some (codes "a")) }
+    ensures invalid_syntax { Means (codes "_RYRL0_hC1a") (codes "<&'? ? as ?>") (codes "<&'? ? as ?>") None }
     ensures shared { Counts (codes "MC0TTTTTTpB8_EB7_EB6_EB5_EB4_EB3_E") 14 192 }
     ensures lifetimes { Counts (codes "MC0FG_TRL0_hB6_EEu") 6 12 }
     ensures cycle { IsNamed (codes "_RNvB_1a") (unknown (codes "_RNvB_1a")) }
@@ -88,7 +88,7 @@ pub fn worked_consts()
     ensures untyped_size { Means (codes "_RMC0Ahp") (codes "<[u8; _]>") (codes "<[u8; _]>") (Some []) }
     ensures booleans { Means (codes "_RIC1aKb0_Kb1_E") (codes "a[0]::<false: bool, true: bool>") (codes "a::<false: bool, true: bool>") (Some (codes "a")) }
     ensures characters { Means (codes "_RIC1aKc41_Kc27_Kc3b1_E") (codes "a[0]::<'A': char, '\\u{27}': char, '\\u{3b1}': char>") (codes "a::<'A': char, '\\u{27}': char, '\\u{3b1}': char>") (Some (codes "a")) }
-    ensures fault { Means (codes "_RINvC1a3b2_KB6_E") (codes "a[0]::b2_::<?: bool>") (codes "a::b2_::<?: bool>") (Some (codes "a")) }
+    ensures invalid_syntax { Means (codes "_RINvC1a3b2_KB6_E") (codes "a[0]::b2_::<?: bool>") (codes "a::b2_::<?: bool>") (Some (codes "a")) }
     ensures boolean_of_2 { IsNamed (codes "_RIC1aKb2_E") (unknown (codes "_RIC1aKb2_E")) }
     ensures surrogate { IsNamed (codes "_RIC1aKcd800_E") (unknown (codes "_RIC1aKcd800_E")) }
     ensures sign_of_a_placeholder { IsNamed (codes "_RIC1aKanpE") (unknown (codes "_RIC1aKanpE")) }

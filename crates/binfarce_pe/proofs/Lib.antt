@@ -1,6 +1,6 @@
 pub mod Numbered
-pub mod PeWalks
-pub mod PeRows
+pub mod Walks
+pub mod Rows
 pub mod Strictly
 pub mod Listing
 pub mod Answered

@@ -11,8 +11,8 @@ use Rattle.binfarce_names.specs.declared.demangle.SymbolData.{SymbolData}
 use Rattle.binfarce_symbols.specs.declared.sizes.RowAddress as code
 use Rattle.binfarce_symbols.specs.Sizes.{RowAddress, comes_before, put_in, arranged, addresses_of, least, least_of, least_above}
 use Rattle.binfarce_symbols.specs.Symbol.{Entry, AreSymbolsOf}
-use Rattle.binfarce_symbols.specs.RowSeen.{row_seen, rows_seen}
-use Rattle.binfarce_pe.specs.PeSymbols.{SymbolTable, record_of, name_of, kept_rows, size_among, size_members, entry_of, entries_of, EqualAddressesEqualSizes}
+use Rattle.binfarce_symbols.specs.RowViews.{row_view, rows_view}
+use Rattle.binfarce_pe.specs.PeSymbols.{SymbolTable, symbol_of, name_of, kept_rows, size_among, size_members, entry_of, entries_of, EqualAddressesEqualSizes}
 use Rattle.binfarce_pe.specs.machine.RawPe.{numbered, IsNameOf, HoldsKept, function_at}
 use Rattle.binfarce_symbols.proofs.Above.{LeastAbove, arranged_above, least_above_is}
 use Rattle.binfarce_symbols.proofs.Arrangement.{Rising}
@@ -103,11 +103,11 @@ numbers_below kept (x ∷ xs) (q ∷ ys) all = All-cons (λ r. r.row < length ke
 
 -- the numbers of the arranged rows are those of names
 pub all_have_names : (table : SymbolTable) (index : ℕ) (held : List RowAddress) (names : List (List ℕ)) (rows : List code.RowAddress) (n : ℕ)
-    → HoldsKept table (kept_rows table index) held names → rows_seen rows ≡ arranged held → n ≡ length names → All (λ r. r.row < n) rows
+    → HoldsKept table (kept_rows table index) held names → rows_view rows ≡ arranged held → n ≡ length names → All (λ r. r.index < n) rows
 all_have_names table index held names rows n h are long k d lt =
     let kept = kept_rows table index in
-    let all : All (λ r. r.row < length kept) (rows_seen rows) = subst (λ (rs : List RowAddress). All (λ r. r.row < length kept) rs) (sym (are ∙ ap arranged h.rows_are)) (numbers_below kept (arranged_numbers kept) (arranged kept) (arranged_alike table index)) in
-    let below : (get_or rows k d).row < length kept = rw (get_or-map row_seen rows k d (row_seen d) lt) at (all k (row_seen d) (omega (arith, length-map rows row_seen))) in
+    let all : All (λ r. r.row < length kept) (rows_view rows) = subst (λ (rs : List RowAddress). All (λ r. r.row < length kept) rs) (sym (are ∙ ap arranged h.rows_are)) (numbers_below kept (arranged_numbers kept) (arranged kept) (arranged_alike table index)) in
+    let below : (get_or rows k d).index < length kept = rw (get_or-map row_view rows k d (row_view d) lt) at (all k (row_view d) (omega (arith, length-map rows row_view))) in
     omega (arith, AllZip-long (IsNameOf table) kept names h.names_are)
 
 name_at : (table : SymbolTable) (kept : List RowAddress) (names : List (List ℕ)) (k : ℕ) → AllZip (IsNameOf table) kept names → k < length kept → IsNameOf table (get_or kept k none) (get_or names k [])
@@ -157,7 +157,7 @@ entries_same : (table : SymbolTable) (members others : List ℕ) → ((a : ℕ) 
 entries_same table members others same [] = refl
 entries_same table members others same (r ∷ rows) =
     let first : entry_of table members r ≡ entry_of table others r =
-    ap (λ (o : Option ℕ). option_map (λ (name : List ℕ). record { name = name; address = r.address; size = unwrap_or (option_map (λ above. above - r.address) o) 0 }) (name_of table r.row (record_of table r.row))) (same r.address) in
+    ap (λ (o : Option ℕ). option_map (λ (name : List ℕ). record { name = name; address = r.address; size = unwrap_or (option_map (λ above. above - r.address) o) 0 }) (name_of table r.row (symbol_of table r.row))) (same r.address) in
     ap (λ (o : Option Entry). cons_option o (filter_map (entry_of table members) rows)) first ∙ ap (cons_option (entry_of table others r)) (entries_same table members others same rows)
 
 -- what is listed of the arranged rows is the entries
@@ -192,28 +192,28 @@ above_at rows members above i d within is =
     ap (λ (xs : List (Option ℕ)). get_or xs i None) is ∙ get_or-map (λ (r : code.RowAddress). least_above members r.address) rows i d None within
 
 -- a function of this name and size is the row's
-pub function_is : (names : List (List ℕ)) (members : List ℕ) (row : code.RowAddress) (name : List ℕ) (size : ℕ) → name ≡ get_or names row.row [] → size ≡ size_among members row.address
-    → record { name = name; address = row.address; size = size } ≡ function_at names members (row_seen row)
+pub function_is : (names : List (List ℕ)) (members : List ℕ) (row : code.RowAddress) (name : List ℕ) (size : ℕ) → name ≡ get_or names row.index [] → size ≡ size_among members row.address
+    → record { name = name; address = row.address; size = size } ≡ function_at names members (row_view row)
 function_is names members row name size is sized =
-    ap (λ (n : List ℕ). record { name = n; address = row.address; size = size }) is ∙ ap (λ (s : ℕ). record { name = get_or names row.row []; address = row.address; size = s }) sized
+    ap (λ (n : List ℕ). record { name = n; address = row.address; size = size }) is ∙ ap (λ (s : ℕ). record { name = get_or names row.index []; address = row.address; size = s }) sized
 
 -- one more is listed
 pub one_more_listed : {F : Type 0} (seen : F → Entry) (entry : RowAddress → Entry) (rows : List code.RowAddress) (i : ℕ) (d : code.RowAddress) (functions : List F) (f : F) → i < length rows
-    → map seen functions ≡ map entry (take i (rows_seen rows)) → seen f ≡ entry (row_seen (get_or rows i d)) → map seen (functions ++ f ∷ []) ≡ map entry (take (i + 1) (rows_seen rows))
+    → map seen functions ≡ map entry (take i (rows_view rows)) → seen f ≡ entry (row_view (get_or rows i d)) → map seen (functions ++ f ∷ []) ≡ map entry (take (i + 1) (rows_view rows))
 one_more_listed seen entry rows i d functions f within so_far is =
-    let here : get_or (rows_seen rows) i (row_seen d) ≡ row_seen (get_or rows i d) = get_or-map row_seen rows i d (row_seen d) within in
+    let here : get_or (rows_view rows) i (row_view d) ≡ row_view (get_or rows i d) = get_or-map row_view rows i d (row_view d) within in
     map-append seen functions (f ∷ [])
     ∙ ap (λ (es : List Entry). es ++ seen f ∷ []) so_far
-    ∙ ap (λ (e : Entry). map entry (take i (rows_seen rows)) ++ e ∷ []) (is ∙ ap entry (sym here))
-    ∙ sym (map-append entry (take i (rows_seen rows)) (get_or (rows_seen rows) i (row_seen d) ∷ []))
-    ∙ ap (map entry) (sym (take_more (rows_seen rows) i (row_seen d) (omega (arith, length-map rows row_seen))))
+    ∙ ap (λ (e : Entry). map entry (take i (rows_view rows)) ++ e ∷ []) (is ∙ ap entry (sym here))
+    ∙ sym (map-append entry (take i (rows_view rows)) (get_or (rows_view rows) i (row_view d) ∷ []))
+    ∙ ap (map entry) (sym (take_more (rows_view rows) i (row_view d) (omega (arith, length-map rows row_view))))
 
 -- each symbol's size is what its own address gives
 sizes_are : (table : SymbolTable) (members : List ℕ) (rows : List RowAddress) (symbols : List SymbolData) → AreSymbolsOf (filter_map (entry_of table members) rows) symbols
     → All (λ s. s.size ≡ size_among members s.address) symbols
 sizes_are table members [] [] all = All-nil (λ s. s.size ≡ size_among members s.address)
 sizes_are table members [] (y ∷ ys) all = absurd all
-sizes_are table members (r ∷ rows) symbols all = by_name (name_of table r.row (record_of table r.row)) symbols (λ ys rest. sizes_are table members rows ys rest) all
+sizes_are table members (r ∷ rows) symbols all = by_name (name_of table r.row (symbol_of table r.row)) symbols (λ ys rest. sizes_are table members rows ys rest) all
   where
     by_name : (o : Option (List ℕ)) (ys : List SymbolData)
         → ((zs : List SymbolData) → AreSymbolsOf (filter_map (entry_of table members) rows) zs → All (λ s. s.size ≡ size_among members s.address) zs)

@@ -6,16 +6,16 @@ use Rattle.std.proofs.lemmas.List.Elements.{All-nil, All-cons, All-weaker}
 use Rattle.binfarce_bytes.specs.Refusal.{◌>>=◌, Refusal}
 use Rattle.binfarce_symbols.specs.Sizes.{RowAddress, arranged}
 use Rattle.binfarce_symbols.specs.Symbol.{Listed}
-use Rattle.binfarce_pe.specs.PeSymbols.{SymbolTable, Located, record_count, record_of, rows_from, kept_row, kept_rows, function_name, entries_of, pe_answer, ArrangesRows}
+use Rattle.binfarce_pe.specs.PeSymbols.{SymbolTable, Located, record_count, symbol_of, rows_from, kept_row, kept_rows, function_name, entries_of, pe_answer, ArrangesRows}
 use Rattle.binfarce_symbols.proofs.Arrangement.{Rising, arrangement_of}
-use Rattle.binfarce_pe.proofs.PeRows.{after}
+use Rattle.binfarce_pe.proofs.Rows.{after}
 
 row_number : (table : SymbolTable) (index k : ℕ) (r : RowAddress) → kept_row table index k ≡ Some r → r.row ≡ k
-row_number table index k r e = by_name (function_name table index k (record_of table k)) e
+row_number table index k r e = by_name (function_name table index k (symbol_of table k)) e
   where
-    by_name : (o : Option (List ℕ)) → option_map (λ _. record { address = (record_of table k).value; row = k }) o ≡ Some r → r.row ≡ k
+    by_name : (o : Option (List ℕ)) → option_map (λ _. record { address = (symbol_of table k).value; row = k }) o ≡ Some r → r.row ≡ k
     by_name None e = absurd cc
-    by_name (Some name) e = let same : record { address = (record_of table k).value; row = k } ≡ r = cc in sym (ap (λ (s : RowAddress). s.row) same)
+    by_name (Some name) e = let same : record { address = (symbol_of table k).value; row = k } ≡ r = cc in sym (ap (λ (s : RowAddress). s.row) same)
 
 -- what is kept from row k on, by n steps
 abbrev kept_by : SymbolTable → ℕ → ℕ → ℕ → List RowAddress

@@ -1,4 +1,4 @@
 pub mod Pe
 pub mod PeSymbols
-pub mod PeSeen
+pub mod PeViews
 pub mod machine

@@ -11,7 +11,7 @@ use Rattle.binfarce_bytes.specs.Refusal.{unexpected_eof}
 use Rattle.binfarce_bytes.specs.Walk.{Walk}
 
 -- COFF File Header: one A for each field
-pub record FileHeader (A : Type 0) : Type 0 where
+pub record Header (A : Type 0) : Type 0 where
   pub machine : A
   pub number_of_sections : A
   pub time_date_stamp : A
@@ -28,7 +28,7 @@ pub record SectionHeader (A : Type 0) : Type 0 where
   pub pointer_to_raw_data : A
 
 -- counted from the end of the signature
-unfoldable pub header_fields : FileHeader Field
+unfoldable pub header_fields : Header Field
 header_fields = record {
   machine = field 0 2;
   number_of_sections = field 2 2;
@@ -67,7 +67,7 @@ abbrev pub least_length : List ℕ → ℕ
 least_length file = max 64 (signature_offset file + headers_length)
 
 -- the file header, after a signature at this offset
-unfoldable pub header_after : List ℕ → ℕ → FileHeader ℕ
+unfoldable pub header_after : List ℕ → ℕ → Header ℕ
 header_after file signature = record {
   machine = number_in file (signature + 4) header_fields.machine;
   number_of_sections = number_in file (signature + 4) header_fields.number_of_sections;
@@ -78,7 +78,7 @@ header_after file signature = record {
   characteristics = number_in file (signature + 4) header_fields.characteristics;
 }
 
-abbrev pub header_of : List ℕ → FileHeader ℕ
+abbrev pub header_of : List ℕ → Header ℕ
 header_of file = header_after file (signature_offset file)
 
 -- where the section table begins: after the file header and the optional header

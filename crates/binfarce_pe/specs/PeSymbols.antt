@@ -13,7 +13,7 @@ use Rattle.binfarce_symbols.specs.Sizes.{RowAddress, arranged, addresses_of, lea
 use Rattle.binfarce_symbols.specs.Symbol.{Entry, Listed}
 
 -- Standard Symbol Definition: one A for each number. The first 8 bytes are the short name or, where the first four are zeroes, the other four an offset in the string table
-pub record SymbolRecord (A : Type 0) : Type 0 where
+pub record SymbolRow (A : Type 0) : Type 0 where
   pub zeroes : A
   pub offset : A
   pub value : A
@@ -22,7 +22,7 @@ pub record SymbolRecord (A : Type 0) : Type 0 where
   pub storage_class : A
   pub number_of_aux_symbols : A
 
-unfoldable pub symbol_fields : SymbolRecord Field
+unfoldable pub symbol_fields : SymbolRow Field
 symbol_fields = record {
   zeroes = field 0 4;
   offset = field 4 4;
@@ -34,8 +34,8 @@ symbol_fields = record {
 }
 
 -- the numbers of the record that begins at start
-unfoldable pub record_at : List ℕ → ℕ → SymbolRecord ℕ
-record_at file start = record {
+unfoldable pub symbol_at : List ℕ → ℕ → SymbolRow ℕ
+symbol_at file start = record {
   zeroes = number_in file start symbol_fields.zeroes;
   offset = number_in file start symbol_fields.offset;
   value = number_in file start symbol_fields.value;
@@ -58,36 +58,36 @@ abbrev pub record_count : SymbolTable → ℕ
 record_count table = length table.rows / symbol_length
 
 -- record k of the table
-abbrev pub record_of : SymbolTable → ℕ → SymbolRecord ℕ
-record_of table k = record_at table.rows (k * symbol_length)
+abbrev pub symbol_of : SymbolTable → ℕ → SymbolRow ℕ
+symbol_of table k = symbol_at table.rows (k * symbol_length)
 
 -- the rows' numbers from k on, in at most n steps: after a row stand its auxiliary records, and then the next row
 unfoldable pub rows_from : SymbolTable → ℕ → ℕ → List ℕ
 rows_from table zero k = []
 rows_from table (suc n) k =
-    if nat_lt k (record_count table) then k ∷ rows_from table n (k + 1 + (record_of table k).number_of_aux_symbols) else []
+    if nat_lt k (record_count table) then k ∷ rows_from table n (k + 1 + (symbol_of table k).number_of_aux_symbols) else []
 
 -- the numbers of the rows: the first record is one, and no more steps are needed than there are records
 abbrev pub row_numbers : SymbolTable → List ℕ
 row_numbers table = rows_from table (record_count table) 0
 
 -- the name of row k, which is this record, where it can be read: that in its own 8 bytes, or the text in the string table at its offset
-unfoldable pub name_of : SymbolTable → ℕ → SymbolRecord ℕ → Option (List ℕ)
+unfoldable pub name_of : SymbolTable → ℕ → SymbolRow ℕ → Option (List ℕ)
 name_of table k row =
     if nat_eq row.zeroes 0 then text_at table.strings row.offset
     else padded_text (bytes_at table.rows (k * symbol_length) 8)
 
 -- a function (the complex type, from bit 4 of the type on, is 2) that is external (class 2), in the section of this index, which the file numbers from 1 on
-abbrev pub is_function_of : ℕ → SymbolRecord ℕ → Bool
+abbrev pub is_function_of : ℕ → SymbolRow ℕ → Bool
 is_function_of index row = nat_eq (row.kind / 16) 2 && nat_eq row.storage_class 2 && nat_eq row.section_number (index + 1)
 
 -- the name of such a function
-unfoldable pub function_name : SymbolTable → ℕ → ℕ → SymbolRecord ℕ → Option (List ℕ)
+unfoldable pub function_name : SymbolTable → ℕ → ℕ → SymbolRow ℕ → Option (List ℕ)
 function_name table index k row = if is_function_of index row then name_of table k row else None
 
 -- the address and the number of a row that is kept: a function of the section whose name can be read
 abbrev pub kept_row : SymbolTable → ℕ → ℕ → Option RowAddress
-kept_row table index k = option_map (λ _. record { address = (record_of table k).value; row = k }) (function_name table index k (record_of table k))
+kept_row table index k = option_map (λ _. record { address = (symbol_of table k).value; row = k }) (function_name table index k (symbol_of table k))
 
 -- the rows that are kept, in table order
 unfoldable pub kept_rows : SymbolTable → ℕ → List RowAddress
@@ -103,7 +103,7 @@ size_members text_size rows = text_size ∷ addresses_of rows
 
 -- the entry of a kept row
 abbrev pub entry_of : SymbolTable → List ℕ → RowAddress → Option Entry
-entry_of table members at = option_map (λ name. record { name = name; address = at.address; size = size_among members at.address }) (name_of table at.row (record_of table at.row))
+entry_of table members at = option_map (λ name. record { name = name; address = at.address; size = size_among members at.address }) (name_of table at.row (symbol_of table at.row))
 
 -- the entries of kept rows in this order; each has a name, so that none is left out
 abbrev pub entries_in : SymbolTable → ℕ → ℕ → List RowAddress → List Entry

@@ -2,7 +2,7 @@
 
 ghost use Rattle.std.specs.Prelude.{◌≡◌, [], ◌∷◌, ◌++◌, replicate, codes, Some};
 ghost use Rattle.binfarce_pe.specs.Pe.{section_at};
-ghost use Rattle.binfarce_pe.specs.PeSymbols.{record_at, row_numbers, size_among};
+ghost use Rattle.binfarce_pe.specs.PeSymbols.{symbol_at, row_numbers, size_among};
 
 /// The section `.text`, of 0x1F bytes in memory and 0x200 in the file, from 0x400 on.
 #[tactic(auto, unfolding(crate::specs::Pe::section_at, crate::specs::Pe::section_fields, binfarce_bytes::proofs::Computing::computing))]
@@ -12,14 +12,14 @@ fn worked_section()
 {}
 
 /// A record of the string table's name at 4: an external function of section 1 at 0x10, with an auxiliary record.
-#[tactic(auto, unfolding(crate::specs::PeSymbols::record_at, crate::specs::PeSymbols::symbol_fields, binfarce_bytes::proofs::Computing::computing))]
-fn worked_record()
-    ensures { record_at (0 ∷ 0 ∷ 0 ∷ 0 ∷ 4 ∷ 0 ∷ 0 ∷ 0 ∷ 0x10 ∷ 0 ∷ 0 ∷ 0 ∷ 1 ∷ 0 ∷ 0x20 ∷ 0 ∷ 2 ∷ 1 ∷ []) 0
+#[tactic(auto, unfolding(crate::specs::PeSymbols::symbol_at, crate::specs::PeSymbols::symbol_fields, binfarce_bytes::proofs::Computing::computing))]
+fn worked_symbol()
+    ensures { symbol_at (0 ∷ 0 ∷ 0 ∷ 0 ∷ 4 ∷ 0 ∷ 0 ∷ 0 ∷ 0x10 ∷ 0 ∷ 0 ∷ 0 ∷ 1 ∷ 0 ∷ 0x20 ∷ 0 ∷ 2 ∷ 1 ∷ []) 0
         ≡ record { zeroes = 0; offset = 4; value = 0x10; section_number = 1; kind = 0x20; storage_class = 2; number_of_aux_symbols = 1 } }
 {}
 
 /// Three records, of which the first has one auxiliary record.
-#[tactic(auto, unfolding(crate::specs::PeSymbols::rows_from, crate::specs::PeSymbols::record_at, crate::specs::PeSymbols::symbol_fields, binfarce_bytes::proofs::Computing::computing))]
+#[tactic(auto, unfolding(crate::specs::PeSymbols::rows_from, crate::specs::PeSymbols::symbol_at, crate::specs::PeSymbols::symbol_fields, binfarce_bytes::proofs::Computing::computing))]
 fn worked_rows()
     ensures { row_numbers (record { rows = replicate 17 0 ++ (1 ∷ replicate 36 0); strings = [] }) ≡ 0 ∷ 2 ∷ [] }
 {}

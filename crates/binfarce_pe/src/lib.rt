@@ -1,6 +1,8 @@
 //! PE files with COFF symbols (Microsoft PE Format).
 #![tactic(auto)]
 
+mod header;
 mod laws;
 pub mod pe;
+mod sections;
 mod symbols;

@@ -1,21 +1,24 @@
 //! The symbol table ("COFF Symbol Table") and the functions of one section in it.
 
-ghost use Rattle.std.specs.Prelude.{◌≡◌, ◌≢◌, [], ◌+◌, ◌-◌, ◌<◌, ◌≤◌, length, map, All, MatchResult, IfOk, OnErr, IfSome, unwrap_or, nat_lt, if◌then◌else◌};
+ghost use Rattle.std.specs.Prelude.{◌≡◌, ◌+◌, ◌<◌, ◌≤◌, length, All, MatchResult, IfOk, ◌≢◌, [], ◌-◌, map, OnErr, IfSome, unwrap_or, nat_lt, if◌then◌else◌};
 ghost use Rattle.std.specs.Option.{option_map};
+ghost use Rattle.binfarce_bytes.specs.Refusal.{Gives, refusal_of};
+ghost use Rattle.binfarce_symbols.specs.SymbolViews.{function_view};
+ghost use Rattle.binfarce_pe.specs.PeSymbols.{text_section, symbol_table, located, symbol_at, record_count, symbol_of, name_of, function_name, kept_rows, size_members, entries_of};
+ghost use Rattle.binfarce_pe.specs.PeViews.{section_view};
+ghost use Rattle.binfarce_pe.specs.machine.RawPe.{table_view, located_view, symbol_view, HoldsKept, function_at};
 ghost use Rattle.binfarce_symbols.specs.Sizes.{addresses_of, least_above, least_of};
-ghost use Rattle.binfarce_symbols.specs.SymbolSeen.{function_seen};
-ghost use Rattle.binfarce_symbols.specs.RowSeen.{rows_seen};
-ghost use Rattle.binfarce_pe.specs.PeSymbols.{record_at, record_count, record_of, name_of, function_name, kept_rows, size_members, entries_of};
-ghost use Rattle.binfarce_pe.specs.machine.RawPe.{record_seen, table_seen, HoldsKept, function_at};
+ghost use Rattle.binfarce_symbols.specs.RowViews.{rows_view};
 
-use crate::pe::{Section, short_name};
-use binfarce_bytes::ByteOrder;
-use binfarce_bytes::parser::{Stream, UnexpectedEof, parse_null_string};
+use crate::pe::Pe;
+use crate::sections::{Section, section_with_name, short_name};
+use binfarce_bytes::parser::{Stream, UnexpectedEof, parse_null_string, slice_at};
+use binfarce_bytes::{ByteOrder, ParseError};
 use binfarce_symbols::functions::FunctionSymbol;
-use binfarce_symbols::sizes::{self, RowAddress};
+use binfarce_symbols::sizes::{RowAddress, arrange};
 use std::alloc::{AllocError, Global};
 
-pub(crate) const COFF_SYMBOL_SIZE: usize = 18;
+const SYMBOL_LENGTH: usize = 18;
 
 const IMAGE_SYM_CLASS_EXTERNAL: u8 = 2;
 
@@ -25,7 +28,7 @@ const IMAGE_SYM_DTYPE_FUNCTION: u16 = 2;
 
 /// Where the symbols of a file are.
 #[derive(Clone, Copy)]
-pub(crate) struct Found<'a> {
+pub(crate) struct Located<'a> {
     pub(crate) text: Section<'a>,
     pub(crate) table: SymbolTable<'a>,
 }
@@ -39,7 +42,7 @@ pub(crate) struct SymbolTable<'a> {
 
 /// The numbers of a symbol record. A short name has its bytes where the first two are.
 #[derive(Clone, Copy)]
-struct SymbolRecord {
+struct SymbolRow {
     zeroes: u32,
     offset: u32,
     value: u32,
@@ -49,11 +52,41 @@ struct SymbolRecord {
     number_of_aux_symbols: u8,
 }
 
-/// The rows that are kept, in table order: the address of each and its number among them, and its name.
+/// The rows that are kept, in table order: the address of each and its index among them, and its name.
 #[derive(Drop)]
 struct Kept<'a> {
     rows: Vec<RowAddress>,
     names: Vec<&'a str>,
+}
+
+// Where the symbols are, or the first refusal.
+#[tactic(auto, unfolding(crate::specs::PeSymbols::located))]
+pub(crate) fn locate<'a>(file: &Pe<'a>) -> Result<Located<'a>, ParseError>
+    ensures { Gives refusal_of located_view (located file.now) result }
+{
+    let text = text_section(file)?;
+    let table = symbol_table(file)?;
+    Ok(Located { text, table })
+}
+
+fn text_section<'a>(file: &Pe<'a>) -> Result<Section<'a>, ParseError>
+    ensures { Gives refusal_of section_view (text_section file.now) result }
+{
+    section_with_name(file, ".text")?.ok_or(ParseError::SymbolsSectionIsMissing)
+}
+
+#[tactic(auto, unfolding(crate::specs::PeSymbols::symbol_table))]
+fn symbol_table<'a>(file: &Pe<'a>) -> Result<SymbolTable<'a>, ParseError>
+    ensures { Gives refusal_of table_view (symbol_table file.now) result }
+{
+    let offset = file.header.pointer_to_symbol_table as usize;
+    if offset >= file.data.len() {
+        return Err(ParseError::UnexpectedEof);
+    }
+    let size = file.header.number_of_symbols as usize * SYMBOL_LENGTH;
+    let rows = slice_at(file.data, offset, size)?;
+    let strings = &file.data[offset + size..];
+    Ok(SymbolTable { rows, strings })
 }
 
 /// The function symbols of the section with this index and size, in bytes.
@@ -63,37 +96,35 @@ pub(crate) fn functions_of<'a>(
     index: u16,
     text_size: u32,
 ) -> Result<Vec<FunctionSymbol<'a>>, AllocError>
-    ensures functions { IfOk result (λ v. map function_seen v.items ≡ entries_of (table_seen table.entry) index text_size) }
-    ensures memory { OnErr result (entries_of (table_seen table.entry) index text_size ≢ []) }
+    ensures functions { IfOk result (λ v. map function_view v.items ≡ entries_of (table_view table.entry) index text_size) }
+    ensures memory { OnErr result (entries_of (table_view table.entry) index text_size ≢ []) }
 {
     let kept = kept_rows(alloc, table, index)?;
-    let mut rows = kept.rows;
-    if rows.is_empty() {
+    if kept.rows.is_empty() {
         return Ok(Vec::new(alloc));
     }
-    sizes::arrange(&mut rows);
-    let swept = sizes::sweep(alloc, &rows)?;
+    let arranged = arrange(alloc, kept.rows)?;
     list_functions(
         alloc,
-        &rows,
+        &arranged.rows,
         &kept.names,
-        &swept.above,
+        &arranged.above,
         u64::from(text_size),
     )
 }
 
 // The rows that are kept, in table order.
 fn kept_rows<'a>(alloc: Global, table: SymbolTable<'a>, index: u16) -> Result<Kept<'a>, AllocError>
-    ensures kept { IfOk result (λ k. HoldsKept (table_seen table.entry) (kept_rows (table_seen table.entry) index) (rows_seen k.rows.items) (map (λ t. t.now) k.names.items)) }
-    ensures memory { OnErr result (kept_rows (table_seen table.entry) index ≢ []) }
+    ensures kept { IfOk result (λ k. HoldsKept (table_view table.entry) (kept_rows (table_view table.entry) index) (rows_view k.rows.items) (map (λ t. t.now) k.names.items)) }
+    ensures memory { OnErr result (kept_rows (table_view table.entry) index ≢ []) }
 {
-    let count = table.rows.len() / COFF_SYMBOL_SIZE;
+    let count = table.rows.len() / SYMBOL_LENGTH;
     let mut rows = Vec::new(alloc);
     let mut names = Vec::new(alloc);
     let mut next = 0;
     while next < count {
         let number = next;
-        let row = record_of(table, number);
+        let row = symbol_of(table, number);
         next += 1 + row.number_of_aux_symbols as usize;
         let name = match function_name(table, index, number, row) {
             None => continue,
@@ -101,7 +132,7 @@ fn kept_rows<'a>(alloc: Global, table: SymbolTable<'a>, index: u16) -> Result<Ke
         };
         rows.push(RowAddress {
             address: u64::from(row.value),
-            row: names.len(),
+            index: names.len(),
         })?;
         names.push(name)?;
     }
@@ -116,16 +147,16 @@ fn list_functions<'a>(
     above: &[Option<u64>],
     text_size: u64,
 ) -> Result<Vec<FunctionSymbol<'a>>, AllocError>
-    requires named { All (λ r. r.row < length names.now) rows.now }
-    requires above { above.now ≡ map (λ r. least_above (addresses_of (rows_seen rows.now)) r.address) rows.now }
-    ensures { IfOk result (λ v. map function_seen v.items
-        ≡ map (function_at (map (λ t. t.now) names.now) (size_members text_size (rows_seen rows.now))) (rows_seen rows.now)) }
+    requires named { All (λ r. r.index < length names.now) rows.now }
+    requires above { above.now ≡ map (λ r. least_above (addresses_of (rows_view rows.now)) r.address) rows.now }
+    ensures { IfOk result (λ v. map function_view v.items
+        ≡ map (function_at (map (λ t. t.now) names.now) (size_members text_size (rows_view rows.now))) (rows_view rows.now)) }
 {
     let mut functions = Vec::with_capacity(alloc, rows.len())?;
     for at in 0..rows.len() {
         let row = rows[at];
         functions.push(FunctionSymbol {
-            name: names[row.row],
+            name: names[row.index],
             address: row.address,
             size: size_up_to(row.address, above[at], text_size),
         })?;
@@ -152,10 +183,10 @@ fn function_name<'a>(
     table: SymbolTable<'a>,
     index: u16,
     number: usize,
-    row: SymbolRecord,
+    row: SymbolRow,
 ) -> Option<&'a str>
-    requires { number < record_count (table_seen table) }
-    ensures { option_map (λ t. t.now) result ≡ function_name (table_seen table.entry) index number (record_seen row) }
+    requires { number < record_count (table_view table) }
+    ensures { option_map (λ t. t.now) result ≡ function_name (table_view table.entry) index number (symbol_view row) }
 {
     if row.kind >> IMAGE_SYM_DTYPE_SHIFT == IMAGE_SYM_DTYPE_FUNCTION
         && row.storage_class == IMAGE_SYM_CLASS_EXTERNAL
@@ -169,35 +200,35 @@ fn function_name<'a>(
 
 // A row's name: its own 8 bytes, or the text in the string table.
 #[tactic(auto, unfolding(crate::specs::PeSymbols::name_of))]
-fn name_of<'a>(table: SymbolTable<'a>, number: usize, row: SymbolRecord) -> Option<&'a str>
-    requires { number < record_count (table_seen table) }
-    ensures { option_map (λ t. t.now) result ≡ name_of (table_seen table.entry) number (record_seen row) }
+fn name_of<'a>(table: SymbolTable<'a>, number: usize, row: SymbolRow) -> Option<&'a str>
+    requires { number < record_count (table_view table) }
+    ensures { option_map (λ t. t.now) result ≡ name_of (table_view table.entry) number (symbol_view row) }
 {
     if row.zeroes == 0 {
         parse_null_string(table.strings, row.offset as usize)
     } else {
-        let start = number * COFF_SYMBOL_SIZE;
+        let start = number * SYMBOL_LENGTH;
         short_name(&table.rows[start..start + 8])
     }
 }
 
-fn record_of(table: SymbolTable<'_>, number: usize) -> SymbolRecord
-    requires { number < record_count (table_seen table) }
-    ensures { record_seen result ≡ record_of (table_seen table.entry) number }
+fn symbol_of(table: SymbolTable<'_>, number: usize) -> SymbolRow
+    requires { number < record_count (table_view table) }
+    ensures { symbol_view result ≡ symbol_of (table_view table.entry) number }
 {
-    record_at(table.rows, number * COFF_SYMBOL_SIZE).unwrap()
+    symbol_at(table.rows, number * SYMBOL_LENGTH).unwrap()
 }
 
 // The record that begins at `start`; refused where it is truncated.
 #[inline]
-#[tactic(auto, unfolding(crate::specs::PeSymbols::symbol_fields, crate::specs::PeSymbols::record_at))]
-fn record_at(rows: &[u8], start: usize) -> Result<SymbolRecord, UnexpectedEof>
+#[tactic(auto, unfolding(crate::specs::PeSymbols::symbol_fields, crate::specs::PeSymbols::symbol_at))]
+fn symbol_at(rows: &[u8], start: usize) -> Result<SymbolRow, UnexpectedEof>
     ensures { MatchResult result
-        (λ r. (start + 18 ≤ length rows.now) × (record_seen r ≡ record_at rows.now start))
+        (λ r. (start + 18 ≤ length rows.now) × (symbol_view r ≡ symbol_at rows.now start))
         (λ _. length rows.now < start + 18) }
 {
     let mut s = Stream::new_at(rows, start, ByteOrder::LittleEndian)?;
-    Ok(SymbolRecord {
+    Ok(SymbolRow {
         zeroes: s.read()?,
         offset: s.read()?,
         value: s.read()?,

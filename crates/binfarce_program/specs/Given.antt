@@ -2,8 +2,8 @@
 use Rattle.std.specs.Prelude.{ℕ, List, [], ◌∷◌, codes, Option, Some, None}
 use Rattle.std.specs.declared.io.ErrorKind.{ErrorKind}
 use Rattle.std.specs.declared.io.ErrorKind.TheVariants as kinds
-use Rattle.binfarce_program.specs.declared.ReadError.{ReadError}
-use Rattle.binfarce_program.specs.declared.ReadError.TheVariants.{File, OutOfMemory}
+use Rattle.binfarce_program.specs.declared.Failure.{Failure}
+use Rattle.binfarce_program.specs.declared.Failure.TheVariants.{File, OutOfMemory}
 
 -- the file and the section that arguments give, if there are one or two
 abbrev pub words_of : List (List ℕ) → Option (List ℕ × List ℕ)
@@ -13,6 +13,6 @@ words_of (file ∷ section ∷ []) = Some (file, section)
 words_of (file ∷ section ∷ more ∷ others) = None
 
 -- why a file wasn't read, where an error of this kind came: a failed allocation is reported as such
-abbrev pub read_error_of : ErrorKind → ReadError
-read_error_of kinds.OutOfMemory = OutOfMemory
-read_error_of kind = File
+abbrev pub failure_of : ErrorKind → Failure
+failure_of kinds.OutOfMemory = OutOfMemory
+failure_of kind = File

@@ -1,62 +1,122 @@
-//! What the programs share: their arguments, and the file that they read.
+//! What the programs share: their arguments, the file that they read, and how they end.
 #![tactic(auto)]
 
-ghost use Rattle.std.specs.Prelude.{◌≡◌, map, Some, None, MatchOption, IfSome, IfOk};
+ghost use Rattle.std.specs.Prelude.{◌≡◌, ◌⊎◌, Bool, map, Err, Some, MatchResult, IfSome, IfOk, IfErr, OnOk};
+ghost use Rattle.std.specs.IoError.{error_kind};
+ghost use Rattle.std.specs.Process.{exit_status};
 ghost use Rattle.std.specs.String.{string_bytes};
-ghost use Rattle.binfarce_program.specs.Given.{words_of};
+ghost use Rattle.binfarce_program.specs.Given.{words_of, failure_of};
+ghost use Rattle.binfarce_program.specs.Status.{status_of};
+ghost use Rattle.binfarce_program.specs.declared.Failure.TheVariants.{Usage, File as Unreadable, OutOfMemory, Write as Unwritten};
 
 use std::alloc::Global;
-use std::env;
-use std::io::{self, ErrorKind, Read};
+use std::fs::File;
+use std::io::{self, ErrorKind, Read, Write};
+use std::process::ExitCode;
+use std::{env, fmt};
 
-/// The arguments after the program's own name.
-pub fn arguments(rt: &HostRuntime) -> io::Result<Vec<String>> {
-    let words = env::args(rt)?.skip(1).collect(rt.alloc())?;
-    Ok(words)
+/// What can go wrong in every program. A program's own fault is made of it.
+#[derive(Debug, Clone, Copy, PartialEq)]
+pub enum Failure {
+    /// The arguments aren't those that the program takes.
+    Usage,
+    /// The file can't be opened, or not read to its end.
+    File,
+    /// An allocation failed.
+    OutOfMemory,
+    /// A write failed.
+    Write,
 }
 
-/// The file and the section that the arguments after the program's own name give, if there are one or two. The section
-/// is by default `.text`.
-pub fn file_and_section(arguments: &[String]) -> Option<(&str, &str)>
-    ensures { let given = words_of (map string_bytes arguments.now) in MatchOption result
-        (given ≡ None) (λ w. given ≡ Some (w.0.now, w.1.now)) }
+/// Why a program ended early. Its text is the line that is printed.
+pub trait Fault: fmt::Display + From<Failure> {
+    // The arguments aren't those that the program takes.
+    ghost is_usage: { Self → Bool };
+
+    /// Whether it is `Failure::Usage`.
+    fn is_usage(&self) -> bool
+        ensures { result ≡ is_usage self.now };
+}
+
+/// The arguments after the program's own name. `Usage` where they can't be taken.
+pub fn arguments(rt: &HostRuntime) -> Result<Vec<String>, Failure>
+    ensures { IfErr result (λ e. e ≡ Usage) }
+{
+    let words = env::args(rt).map_err(|_| Failure::Usage)?.skip(1);
+    words.collect(rt.alloc()).map_err(|_| Failure::Usage)
+}
+
+/// The file and the section that the arguments after the program's own name give. The section is by default `.text`.
+///
+/// `Usage` for none, and for more than two.
+pub fn file_and_section(arguments: &[String]) -> Result<(&str, &str), Failure>
+    ensures { let given = words_of (map string_bytes arguments.now) in MatchResult result
+        (λ w. given ≡ Some (w.0.now, w.1.now)) (λ e. (given ≡ None) × (e ≡ Usage)) }
 {
     match arguments {
-        [file] => Some((file.as_str(), ".text")),
-        [file, section] => Some((file.as_str(), section.as_str())),
-        _ => None,
+        [file] => Ok((file.as_str(), ".text")),
+        [file, section] => Ok((file.as_str(), section.as_str())),
+        _ => Err(Failure::Usage),
     }
 }
 
-/// Why a file was not read to its end.
-#[derive(Debug, Clone, Copy, PartialEq)]
-pub enum ReadError {
-    /// The reader failed.
-    File,
-    /// An allocation was refused.
-    OutOfMemory,
+/// The file at this path, to be read. `File` where it can't be opened.
+pub fn open(rt: &HostRuntime, path: &str) -> Result<File, Failure>
+    ensures { IfErr result (λ e. e ≡ Unreadable) }
+{
+    File::open(rt, path).map_err(|_| Failure::File)
 }
 
-impl From<io::Error> for ReadError {
-    ghost use Rattle.std.specs.IoError.{error_kind};
-    ghost use Rattle.binfarce_program.specs.Given.{read_error_of};
-
-    ghost from_gives = { λ e r. r ≡ read_error_of (error_kind e) };
-
-    /// A refused allocation is reported as such.
-    fn from(e: io::Error) -> Self {
-        match e.kind() {
-            ErrorKind::OutOfMemory => ReadError::OutOfMemory,
-            _ => ReadError::File,
-        }
+/// What a reader's error is told as: a failed allocation as such, and any other as `File`.
+pub fn read_failure(e: io::Error) -> Failure
+    ensures { result ≡ failure_of (error_kind e) }
+{
+    match e.kind() {
+        ErrorKind::OutOfMemory => Failure::OutOfMemory,
+        _ => Failure::File,
     }
 }
 
 /// The bytes up to the reader's end.
-pub fn read_whole<R: Read>(alloc: Global, file: &mut R) -> Result<Vec<u8>, ReadError>
-    ensures { IfOk result (λ v. IfSome (R.remaining file.old) (λ bytes. v.items ≡ bytes)) }
+///
+/// `File` where the reader fails; `OutOfMemory` where an allocation fails, or the reader says that one did.
+pub fn read_whole<R: Read>(alloc: Global, file: &mut R) -> Result<Vec<u8>, Failure>
+    ensures read { IfOk result (λ v. IfSome (R.remaining file.old) (λ bytes. v.items ≡ bytes)) }
+    ensures refused { IfErr result (λ e. (e ≡ Unreadable) ⊎ (e ≡ OutOfMemory)) }
 {
     let mut bytes = Vec::new(alloc);
-    file.read_to_end(&mut bytes)?;
+    file.read_to_end(&mut bytes).map_err(read_failure)?;
     Ok(bytes)
+}
+
+/// How a program's work ended, once what it wrote is flushed: with its own fault, if it has one, and else with `Write`
+/// where the flush fails.
+pub fn finish<W: Write + Drop, F: From<Failure>>(mut out: W, ended: Result<(), F>) -> Result<(), F>
+    ensures first { IfErr ended (λ f. result ≡ Err f) }
+    ensures flush { OnOk ended (IfErr result (λ f. F.from_gives Unwritten f)) }
+{
+    let flushed = out.flush();
+    ended?;
+    flushed.map_err(|_| Failure::Write)?;
+    Ok(())
+}
+
+/// The status that a program ends with: 2 for wrong arguments, and 1 for any other fault.
+pub fn status<F: Fault>(fault: &F) -> u8
+    ensures { result ≡ status_of (F.is_usage fault.now) }
+{
+    if fault.is_usage() { 2 } else { 1 }
+}
+
+/// Prints a program's fault to standard error, if it has one, and gives the status that it ends with.
+pub fn exit<F: Fault + Drop>(rt: &HostRuntime, ended: Result<(), F>) -> ExitCode
+    ensures { MatchResult ended (λ _. exit_status result ≡ 0) (λ f. exit_status result ≡ status_of (F.is_usage f)) }
+{
+    match ended {
+        Ok(()) => ExitCode::SUCCESS,
+        Err(fault) => {
+            let _ = eprintln!(rt; "{fault}");
+            ExitCode::from(status(&fault))
+        }
+    }
 }

@@ -1,23 +1,25 @@
 -- What the program's functions answer.
-use Rattle.std.specs.Prelude.{ℕ, Result, Ok, Err}
+use Rattle.std.specs.Prelude.{Bool, true, false, Result, Ok, Err}
 use Rattle.binfarce_tools.specs.ReportWords as call
 use Rattle.binfarce_tools.specs.Writing as writing
-use Rattle.binfarce_program.specs.declared.ReadError.{ReadError}
-use Rattle.binfarce_program.specs.declared.ReadError.TheVariants as reading
+use Rattle.binfarce_program.specs.declared.Failure.{Failure}
+use Rattle.binfarce_program.specs.declared.Failure.TheVariants as failures
 use Rattle.binfarce_tools.specs.declared.report.ReportError.TheVariants as errors
 use Rattle.binfarce_size.specs.declared.program.Fault.{Fault}
 use Rattle.binfarce_size.specs.declared.program.Fault.TheVariants.{Usage, File, Report}
 
--- the fault of a file that wasn't read
-abbrev pub fault_of : ReadError → Fault
-fault_of reading.File = File
-fault_of reading.OutOfMemory = Report errors.OutOfMemory
+-- the fault that each failure is
+abbrev pub fault_of : Failure → Fault
+fault_of failures.Usage = Usage
+fault_of failures.File = File
+fault_of failures.OutOfMemory = Report errors.OutOfMemory
+fault_of failures.Write = Report errors.Write
 
--- the status that a fault ends the program with
-abbrev pub status_of : Fault → ℕ
-status_of Usage = 2
-status_of File = 1
-status_of (Report e) = 1
+-- whether a fault is that the arguments are wrong
+abbrev pub is_usage : Fault → Bool
+is_usage Usage = true
+is_usage File = false
+is_usage (Report e) = false
 
 -- how a program ended
 abbrev pub outcome_of : Result (Unit {0}) Fault → writing.Outcome

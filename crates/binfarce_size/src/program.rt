@@ -8,10 +8,10 @@ ghost use Rattle.binfarce_tools.specs.Report.{IsReportOf, ReportFits};
 ghost use Rattle.binfarce_tools.specs.Sink.{writer_of, has_failed};
 ghost use Rattle.binfarce_tools.specs.Writing.{ProgramTells, Takes, Fails, Leaves};
 ghost use Rattle.binfarce_program.specs.Given.{words_of};
-ghost use Rattle.binfarce_size.specs.Program.{status_of, outcome_of};
+ghost use Rattle.binfarce_size.specs.Program.{outcome_of};
 ghost use Rattle.binfarce_size.specs.declared.program.Fault.TheVariants.{Usage};
 
-use binfarce_program::{ReadError, file_and_section, read_whole};
+use binfarce_program::{Failure, file_and_section, read_whole};
 use binfarce_tools::list::Out;
 use binfarce_tools::report::{ReportError, report};
 use std::alloc::Global;
@@ -32,16 +32,28 @@ pub enum Fault {
     Report(ReportError),
 }
 
-impl From<ReadError> for Fault {
+impl From<Failure> for Fault {
     ghost use Rattle.binfarce_size.specs.Program.{fault_of};
 
     ghost from_gives = { λ e f. f ≡ fault_of e };
 
-    fn from(e: ReadError) -> Self {
+    fn from(e: Failure) -> Self {
         match e {
-            ReadError::File => Fault::File,
-            ReadError::OutOfMemory => Fault::Report(ReportError::OutOfMemory),
+            Failure::Usage => Fault::Usage,
+            Failure::File => Fault::File,
+            Failure::OutOfMemory => Fault::Report(ReportError::OutOfMemory),
+            Failure::Write => Fault::Report(ReportError::Write),
         }
+    }
+}
+
+impl binfarce_program::Fault for Fault {
+    ghost use Rattle.binfarce_size.specs.Program.{is_usage};
+
+    ghost is_usage = { is_usage };
+
+    fn is_usage(&self) -> bool {
+        matches!(self, Fault::Usage)
     }
 }
 
@@ -52,12 +64,12 @@ pub fn words(arguments: &[String]) -> Result<(&str, &str), Fault>
     ensures { let given = words_of (map string_bytes arguments.now) in MatchResult result
         (λ w. given ≡ Some (w.0.now, w.1.now)) (λ e. (given ≡ None) × (e ≡ Usage)) }
 {
-    file_and_section(arguments).ok_or(Fault::Usage)
+    Ok(file_and_section(arguments)?)
 }
 
 /// Reads the file to its end, and reports how much of its section each crate takes.
 ///
-/// `File` where the reader fails; `Report` where an allocation was refused while it is read, and as `report` refuses.
+/// `File` where the reader fails; `Report` where an allocation fails while it is read, and as `report` refuses.
 pub fn run<R: Read, W: Write>(
     alloc: Global,
     file: &mut R,
@@ -72,14 +84,4 @@ pub fn run<R: Read, W: Write>(
 {
     let bytes = read_whole(alloc, file)?;
     report(alloc, bytes.as_slice(), section, out).map_err(Fault::Report)
-}
-
-/// The status that the program ends with: 2 for the usage, and else 1.
-pub fn status(fault: &Fault) -> u8
-    ensures { result ≡ status_of fault.now }
-{
-    match fault {
-        Fault::Usage => 2,
-        _ => 1,
-    }
 }

@@ -4,4 +4,4 @@ pub mod Arranging
 pub mod Arrangement
 pub mod Above
 pub mod Sweeping
-pub mod Seen
+pub mod Views

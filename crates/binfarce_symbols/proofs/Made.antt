@@ -6,12 +6,12 @@ use Rattle.binfarce_names.specs.declared.demangle.SymbolData.{SymbolData}
 use Rattle.binfarce_symbols.specs.declared.functions.FunctionSymbol.{FunctionSymbol}
 use Rattle.binfarce_bytes.specs.Refusal.{Refusal}
 use Rattle.binfarce_symbols.specs.Symbol.{Entry, Listed, IsSymbolOf, AreSymbolsOf, Answers, HoldsSymbols}
-use Rattle.binfarce_symbols.specs.SymbolSeen.{function_seen, HoldsFunctions}
+use Rattle.binfarce_symbols.specs.SymbolViews.{function_view, HoldsFunctions}
 
 -- the symbol of one more function symbol
 pub one_more_symbol : (given : List FunctionSymbol) (symbols : List SymbolData) (function : FunctionSymbol) (symbol : SymbolData)
-    → AreSymbolsOf (map function_seen given) symbols → IsSymbolOf (function_seen function) symbol
-    → AreSymbolsOf (map function_seen (given ++ function ∷ [])) (symbols ++ symbol ∷ [])
+    → AreSymbolsOf (map function_view given) symbols → IsSymbolOf (function_view function) symbol
+    → AreSymbolsOf (map function_view (given ++ function ∷ [])) (symbols ++ symbol ∷ [])
 one_more_symbol [] [] function symbol are is = (is, tt)
 one_more_symbol [] (s ∷ symbols) function symbol are is = absurd are
 one_more_symbol (f ∷ given) [] function symbol are is = absurd are
@@ -31,8 +31,8 @@ drained {B = B} view rest s (x ∷ given) d =
 
 -- where function symbols are an answer, the symbols of all of them are that answer
 pub symbols_held : (Needs : Result Listed Refusal → Type 0) (answer : Result Listed Refusal) (functions : Vec FunctionSymbol) (size : ℕ) (given : List FunctionSymbol) (symbols : Vec SymbolData)
-    → Answers HoldsFunctions Needs answer (Ok (functions, size)) → given ≡ functions.items → AreSymbolsOf (map function_seen given) symbols.items
+    → Answers HoldsFunctions Needs answer (Ok (functions, size)) → given ≡ functions.items → AreSymbolsOf (map function_view given) symbols.items
     → Answers HoldsSymbols Needs answer (Ok (symbols, size))
 symbols_held Needs (Ok listed) functions size given symbols holds same are =
-    (subst (λ (es : List Entry). AreSymbolsOf es symbols.items) (ap (map function_seen) same ∙ holds.0) are, holds.1)
+    (subst (λ (es : List Entry). AreSymbolsOf es symbols.items) (ap (map function_view) same ∙ holds.0) are, holds.1)
 symbols_held Needs (Err refusal) functions size given symbols holds same are = absurd holds

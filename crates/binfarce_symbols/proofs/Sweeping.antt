@@ -7,19 +7,19 @@ use Rattle.std.proofs.lemmas.List.Elements.{All-map, All-from_get_or, Contains-g
 use Rattle.binfarce_symbols.specs.declared.sizes.RowAddress.{RowAddress}
 use Rattle.binfarce_symbols.specs.Sizes
 use Rattle.binfarce_symbols.specs.Sizes.{addresses_of, least_above}
-use Rattle.binfarce_symbols.specs.RowSeen.{rows_seen}
+use Rattle.binfarce_symbols.specs.RowViews.{rows_view}
 use Rattle.binfarce_symbols.proofs.Above.{above_is, arranged_above}
 
 abbrev pub addresses : List RowAddress → List ℕ
 addresses rows = map (λ r. r.address) rows
 
-pub addresses_seen : (rows : List RowAddress) → addresses_of (rows_seen rows) ≡ addresses rows
-addresses_seen [] = refl
-addresses_seen (r ∷ rows) = ap (λ (xs : List ℕ). r.address ∷ xs) (addresses_seen rows)
+pub addresses_view : (rows : List RowAddress) → addresses_of (rows_view rows) ≡ addresses rows
+addresses_view [] = refl
+addresses_view (r ∷ rows) = ap (λ (xs : List ℕ). r.address ∷ xs) (addresses_view rows)
 
 -- what is read past the end
 abbrev pub past : RowAddress
-past = record { address = 0; row = 0 }
+past = record { address = 0; index = 0 }
 
 -- a list is known by what it has at each place
 pub filled_whole : (rows : List RowAddress) (f : RowAddress → Option ℕ) (xs : List (Option ℕ)) → length xs ≡ length rows
@@ -64,9 +64,9 @@ map_same f g [] same = refl
 map_same f g (x ∷ xs) same = rw (same x, map_same f g xs same) refl
 
 -- what one walk over the arranged rows finds is what is above in the table
-pub swept_is : (rows : List Sizes.RowAddress) (in_order : List RowAddress) (found : List (Option ℕ)) → rows_seen in_order ≡ Sizes.arranged rows
-    → found ≡ map (λ r. least_above (addresses_of (rows_seen in_order)) r.address) in_order
+pub swept_is : (rows : List Sizes.RowAddress) (in_order : List RowAddress) (found : List (Option ℕ)) → rows_view in_order ≡ Sizes.arranged rows
+    → found ≡ map (λ r. least_above (addresses_of (rows_view in_order)) r.address) in_order
     → found ≡ map (λ r. least_above (addresses_of rows) r.address) in_order
 swept_is rows in_order found is swept =
-    swept ∙ map_same (λ r. least_above (addresses_of (rows_seen in_order)) r.address) (λ r. least_above (addresses_of rows) r.address) in_order
+    swept ∙ map_same (λ r. least_above (addresses_of (rows_view in_order)) r.address) (λ r. least_above (addresses_of rows) r.address) in_order
     (λ r. ap (λ (xs : List Sizes.RowAddress). least_above (addresses_of xs) r.address) is ∙ arranged_above rows r.address)

@@ -1,4 +1,4 @@
 pub mod Symbol
-pub mod SymbolSeen
+pub mod SymbolViews
 pub mod Sizes
-pub mod RowSeen
+pub mod RowViews

@@ -3,7 +3,7 @@ use Rattle.std.specs.Prelude.{◌≡◌, ◌≢◌, ◌⊎◌, ℕ, List, [], Re
 use Rattle.std.specs.Global.{Vec}
 use Rattle.std.specs.List.{AllZip}
 use Rattle.binfarce_names.specs.declared.demangle.SymbolData.{SymbolData}
-use Rattle.binfarce_names.specs.Name.{name_seen}
+use Rattle.binfarce_names.specs.Name.{name_view}
 use Rattle.binfarce_names.specs.Named.{IsNamed}
 use Rattle.binfarce_bytes.specs.declared.error.ParseError.{ParseError}
 use Rattle.binfarce_bytes.specs.Refusal.{Refusal, refusal_of, out_of_memory}
@@ -21,7 +21,7 @@ pub record Listed : Type 0 where
 
 -- the symbol has the entry's address and size, and its name is the answer of the entry's name
 pub record IsSymbolOf (entry : Entry) (symbol : SymbolData) : Type 0 where
-  pub name : IsNamed entry.name (name_seen symbol.name)
+  pub name : IsNamed entry.name (name_view symbol.name)
   pub address : symbol.address ≡ entry.address
   pub size : symbol.size ≡ entry.size
 

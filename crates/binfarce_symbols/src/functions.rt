@@ -3,7 +3,7 @@
 ghost use Rattle.std.specs.Prelude.{List, Some, map, IfOk, OnErr};
 ghost use Rattle.std.specs.Iterator.{IsFinite, Drains};
 ghost use Rattle.binfarce_symbols.specs.Symbol.{IsSymbolOf, AreSymbolsOf};
-ghost use Rattle.binfarce_symbols.specs.SymbolSeen.{function_seen};
+ghost use Rattle.binfarce_symbols.specs.SymbolViews.{function_view};
 ghost use Rattle.binfarce_symbols.specs.declared.functions.FunctionSymbol.{FunctionSymbol};
 
 use binfarce_names::demangle::{SymbolData, SymbolName};
@@ -22,14 +22,14 @@ pub struct FunctionSymbol<'a> {
 
 /// One symbol for each function symbol that comes, in order, with its name in readable form.
 ///
-/// The only error is that an allocation was refused. An iterator that gives nothing makes none.
+/// The only error is that an allocation failed. An iterator that gives nothing makes none.
 pub fn symbols_of<'a, I: Iterator<Item = FunctionSymbol<'a>> + Drop>(
     alloc: Global,
     functions: I,
 ) -> Result<Vec<SymbolData>, AllocError>
     requires can { I.can_next functions }
     requires ends { IsFinite (I.remaining functions) }
-    ensures symbols { IfOk result (λ v. (given : List FunctionSymbol) × Drains I.next_gives functions given × AreSymbolsOf (map function_seen given) v.items) }
+    ensures symbols { IfOk result (λ v. (given : List FunctionSymbol) × Drains I.next_gives functions given × AreSymbolsOf (map function_view given) v.items) }
     ensures memory { OnErr result ((first : FunctionSymbol) × (after : I) × I.next_gives functions (Some first) after) }
 {
     let mut symbols = Vec::new(alloc);
@@ -41,7 +41,7 @@ pub fn symbols_of<'a, I: Iterator<Item = FunctionSymbol<'a>> + Drop>(
 
 #[inline(always)]
 fn symbol_of(alloc: Global, function: FunctionSymbol<'_>) -> Result<SymbolData, AllocError>
-    ensures { IfOk result (IsSymbolOf (function_seen function.entry)) }
+    ensures { IfOk result (IsSymbolOf (function_view function.entry)) }
 {
     Ok(SymbolData {
         name: SymbolName::demangle(alloc, function.name)?,

@@ -1,2 +1,3 @@
 pub mod TextLemmas
 pub mod LlvmLemmas
+pub mod PrefixLemmas

@@ -7,8 +7,6 @@ use Rattle.std.proofs.lemmas.List.Folds.{list_all_at}
 use Rattle.std.proofs.lemmas.Slice.Eq.{starts_is}
 use Rattle.std.specs.List.{starts_with, list_all}
 use Rattle.std.specs.Char.{is_ascii_graphic}
-use Rattle.std.specs.Str.{IsUtf8, IsCharBoundary}
-use Rattle.std.proofs.lemmas.Str.{IsCharBoundary-after_ascii}
 use Rattle.binfarce_text.specs.Suffixes.{is_allowed_rest}
 
 -- a text that begins with p is p and then the rest
@@ -41,11 +39,6 @@ list_all-from p (x ∷ xs) h =
 -- a text that begins with another byte does not begin with p
 pub begins-not : (t p : List ℕ) → (get_or t 0 0 ≡ get_or p 0 0 → ⊥) → 0 < length p → starts_with nat_eq t p ≡ false
 begins-not t p ne l = false_from_ne_true (starts_with nat_eq t p) (λ h. ne (begins-at t p 0 h l))
-
--- after an ASCII byte of p, a text that begins with p may be split
-pub boundary_after : (t p : List ℕ) (n : ℕ) → IsUtf8 t → starts_with nat_eq t p ≡ true → n < length p → get_or p n 0 < 128 → IsCharBoundary t (n + 1)
-boundary_after t p n u h l a =
-    IsCharBoundary-after_ascii t n u (omega (arith, begins-length t p h, l)) (omega (arith, begins-at t p n h l, a))
 
 -- what may stand after a mangling
 pub is_allowed_rest-empty : (rest : List ℕ) → length rest ≡ 0 → true ≡ is_allowed_rest rest

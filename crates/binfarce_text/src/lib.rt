@@ -2,4 +2,5 @@
 #![tactic(auto)]
 
 pub mod digits;
+pub mod prefixes;
 pub mod suffixes;

@@ -66,7 +66,7 @@ pub nothing : (old : Option (List ℕ)) → Appends old old []
 nothing None = tt
 nothing (Some taken) = sym (append-nil taken)
 
--- nothing was written where an allocation was refused
+-- nothing was written where an allocation failed
 pub takes_nothing : (answer : Option (Result Listed Refusal)) (old : Option (List ℕ)) (result : Result (Unit {0}) ListError) → IsErrAnd result (λ e. e ≡ OutOfMemory) → Takes answer old old result
 takes_nothing answer old (Ok x) is = absurd is
 takes_nothing answer old (Err e) is =

@@ -1,22 +1,24 @@
 -- What `list` reports and what was taken follows from what its reader returned and its sink took.
 use Rattle.std.proofs.Common.{◌≡◌, ℕ, ◌+◌, ◌-◌, true, List, ◌++◌, length, take, drop, Option, Some, None, Result, Ok, Err, refl, sym, ap, subst, ◌∙◌, inl, inr, append_assoc, arith}
-use Rattle.std.specs.Result.{IsErrAnd, result_ok}
+use Rattle.std.specs.Result.{IsErrAnd}
 use Rattle.std.specs.Io.KnownBytes.{Appends, Keeps}
 use Rattle.std.proofs.lemmas.List.{take-append-drop, take_all, length-drop}
 use Rattle.std.proofs.Math.Seq.{take-add}
 use Rattle.binfarce.specs.declared.ParseError.{ParseError}
 use Rattle.binfarce.specs.declared.ParseError.TheVariants as errors
 use Rattle.binfarce.specs.Refusal.{Refusal, refusal_of, out_of_memory}
-use Rattle.binfarce.specs.Symbol.{Listed}
+use Rattle.binfarce.specs.Symbol.{Listed, Answers}
 use Rattle.binfarce_tools.specs.declared.functions.Functions.{Functions}
 use Rattle.binfarce_tools.specs.declared.list.ListError.{ListError}
 use Rattle.binfarce_tools.specs.declared.list.ListError.TheVariants.{Parse, OutOfMemory}
 use Rattle.binfarce_tools.specs.Writing.{AppendsBeginning}
+use Rattle.binfarce.specs.declared.Format.{Format}
+use Rattle.binfarce_tools.specs.Answer.{symbols_answer, NeedsMemory}
 use Rattle.binfarce_tools.specs.ListWords.{list_error_of}
-use Rattle.binfarce_tools.specs.machine.Lists.{Reads, Gets}
-use Rattle.binfarce_tools.proofs.Told.{is_told, ToldAnswer}
+use Rattle.binfarce_tools.specs.machine.Lists.{HoldsLeft, Gets}
+use Rattle.binfarce_tools.proofs.Told.{is_told, Told}
 
--- a refused allocation is reported as such
+-- a failed allocation is reported as such
 as_memory : (e : ParseError) → refusal_of e ≡ out_of_memory → list_error_of e ≡ OutOfMemory
 as_memory errors.SymbolsSectionIsMissing is = absurd cc
 as_memory (errors.SectionIsMissing name) is = absurd cc
@@ -34,25 +36,24 @@ parse errors.MalformedInput told = refl
 parse errors.UnexpectedEof told = refl
 parse errors.OutOfMemory told = absurd cc
 
-gets_refusal : (memory : Result Listed Refusal → Type 0) (answer : Option (Result Listed Refusal)) (e : ParseError) → ToldAnswer answer → Reads memory answer (Some (Err e)) → Gets memory answer (Err (list_error_of e))
-gets_refusal memory None e told reads = absurd reads
-gets_refusal memory (Some (Ok listed)) e told reads = as_memory e reads.0
-gets_refusal memory (Some (Err refusal)) e told (inl is) = inl (e, is, parse e (ap is_told is ∙ told))
-gets_refusal memory (Some (Err refusal)) e told (inr h) = inr (h.1, as_memory e h.0)
+gets_refusal : (memory : Result Listed Refusal → Type 0) (answer : Result Listed Refusal) (e : ParseError) → Told answer → Answers HoldsLeft memory answer (Err e) → Gets memory (Some answer) (Err (list_error_of e))
+gets_refusal memory (Ok listed) e told answers = as_memory e answers.0
+gets_refusal memory (Err refusal) e told (inl is) = inl (e, is, parse e (ap is_told is ∙ told))
+gets_refusal memory (Err refusal) e told (inr h) = inr (h.1, as_memory e h.0)
 
--- what a reader returned, where it came through a refusal of the format
-pub returned : (memory : Result Listed Refusal → Type 0) (answer : Option (Result Listed Refusal)) (from : Option (Result (Functions × ℕ) ParseError)) (through : Result (Result (Functions × ℕ) ParseError) ListError)
-    (inner value : Result (Functions × ℕ) ParseError)
-    → Reads memory answer from → from ≡ result_ok through → through ≡ Ok inner → inner ≡ value → Reads memory answer (Some value)
-returned memory answer from through inner value reads a b c =
-    let P : Option (Result (Functions × ℕ) ParseError) → Type 0 = λ r. Reads memory answer r in subst P (a ∙ ap result_ok b ∙ ap Some c) reads
+told_refusal : (memory : Result Listed Refusal → Type 0) (answer : Result Listed Refusal) (e : ParseError) (result : Result (Functions × ℕ) ListError)
+    → Told answer → Answers HoldsLeft memory answer (Err e) → IsErrAnd result (λ f. f ≡ list_error_of e) → Gets memory (Some answer) result
+told_refusal memory answer e (Ok x) told answers is = absurd is
+told_refusal memory answer e (Err f) told answers is =
+    let P : ListError → Type 0 = λ f. Gets memory (Some answer) (Err f) in subst P (sym is) (gets_refusal memory answer e told answers)
 
--- a reader's refusal is what is got
-pub refused : (memory : Result Listed Refusal → Type 0) (answer : Option (Result Listed Refusal)) (e : ParseError) (result : Result (Functions × ℕ) ListError)
-    → ToldAnswer answer → Reads memory answer (Some (Err e)) → IsErrAnd result (λ f. f ≡ list_error_of e) → Gets memory answer result
-refused memory answer e (Ok x) told reads is = absurd is
-refused memory answer e (Err f) told reads is =
-    let P : ListError → Type 0 = λ f. Gets memory answer (Err f) in subst P (sym is) (gets_refusal memory answer e told reads)
+-- what the reader of a format refuses is what is got of a file of that format
+pub refused : (format found : Format) (file section : List ℕ) (answer : Result Listed Refusal) (e : ParseError) (result : Result (Functions × ℕ) ListError)
+    → format ≡ found → Some answer ≡ symbols_answer format file section → Told answer → Answers HoldsLeft (NeedsMemory format file) answer (Err e)
+    → IsErrAnd result (λ f. f ≡ list_error_of e) → Gets (NeedsMemory found file) (symbols_answer found file section) result
+refused format found file section answer e result same is told answers err =
+    subst (λ (f : Format). Gets (NeedsMemory f file) (symbols_answer f file section) result) same
+    (subst (λ (o : Option (Result Listed Refusal)). Gets (NeedsMemory format file) o result) is (told_refusal (NeedsMemory format file) answer e result told answers err))
 
 -- bytes that stay as they were have grown by nothing more
 kept : (old mid new : Option (List ℕ)) (xs : List ℕ) → Appends old mid xs → Keeps mid new → Appends old new xs

@@ -1,14 +1,12 @@
--- No file's answer is that an allocation was refused.
+-- No file's answer is that an allocation failed.
 use Rattle.std.proofs.Common.{◌≡◌, ℕ, zero, suc, ◌*◌, ◌-◌, [], ◌∷◌, Bool, true, false, ◌&&◌, List, Option, Some, None, Result, Ok, Err, refl, ltb, leb, length}
 use Rattle.std.specs.Prelude.{if◌then◌else◌, find, nat_eq, codes, ◌+◌, ◌%◌, ◌^◌, drop}
 use Rattle.binfarce.specs.declared.ByteOrder.{ByteOrder}
-use Rattle.binfarce.specs.declared.Format.{Format}
-use Rattle.binfarce.specs.declared.Format.TheVariants.{Elf32, Elf64, Macho, PE, Unknown}
+use Rattle.binfarce.specs.declared.Format.TheVariants.{Macho}
 use Rattle.binfarce.specs.Refusal.{Refusal, ◌>>=◌, required, symbols_section_is_missing, section_is_missing, unexpected_section_type, malformed_input, unexpected_eof, out_of_memory}
 use Rattle.binfarce.specs.Walk.{Walk, found_or_end, first, ended, ahead_of, and_then}
-use Rattle.binfarce.specs.Elf.{ElfClass, SectionTable, Section, elf32, elf64, walk, name_of, section_table, whole_headers}
-use Rattle.binfarce.specs.ElfSymbols.{sought, is_named, part_of, located, elf_answer}
-use Rattle.binfarce.specs.Symbol.{Listed}
+use Rattle.binfarce.specs.Elf.{ElfClass, SectionTable, Section, walk, name_of, section_table, whole_headers}
+use Rattle.binfarce.specs.ElfSymbols.{sought, is_named, section_data, located, elf_answer}
 use Rattle.std.specs.Str.{bytes_eq}
 use Rattle.binfarce.specs.Number.{bytes_at}
 use Rattle.binfarce.specs.Sizes.{arranged, least_above}
@@ -19,10 +17,10 @@ use Rattle.binfarce.specs.PeSymbols.{pe_answer}
 use Rattle.binfarce.specs.Macho as macho_file
 use Rattle.binfarce.specs.Macho.{Command, command_at, commands_from, commands, body_of, header_of, segment, is_segment, sections_of, walk as macho_walk}
 use Rattle.binfarce.specs.MachoSymbols as macho
-use Rattle.binfarce.specs.MachoSymbols.{size_up_to, macho_size, whole_table, part_at, text_end_of, symbol_table_at, some_size, symbol_command, located_by, row_addresses, kept, answer_of, macho_answer}
-use Rattle.binfarce_tools.specs.Answer.{elf_file_answer, macho_file_answer, pe_file_answer, symbols_answer}
+use Rattle.binfarce.specs.MachoSymbols.{size_up_to, macho_size, whole_table, slice_at, text_end_of, symbol_table_at, some_size, symbol_command, located_by, row_addresses, kept, answer_of, macho_answer}
+use Rattle.binfarce_tools.specs.Answer.{elf_file_answer, macho_file_answer, pe_file_answer}
 
--- a refusal that isn't that an allocation was refused
+-- a refusal that isn't that an allocation failed
 abbrev pub is_told : Refusal → Bool
 is_told symbols_section_is_missing = true
 is_told (section_is_missing name) = true
@@ -59,9 +57,9 @@ told_first class table accepts = told_end (find accepts (walk class table).items
 told_sought : (class : ElfClass) (table : SectionTable) (refusal : Refusal) (accepts : Section → Bool) → is_told refusal ≡ true → Told (sought refusal accepts (walk class table))
 told_sought class table refusal accepts is = told_step (first accepts (walk class table)) (required refusal) (told_first class table accepts) (λ o. told_required refusal o is)
 
-told_part : (file : List ℕ) (section : Section) → Told (part_of file section)
-unfolding part_of
-told_part file section = told_if (leb (2 ^ 64) (section.offset + section.size)) _ _ refl (told_if (ltb (length file) (section.offset + section.size)) _ _ refl tt)
+told_section_data : (file : List ℕ) (section : Section) → Told (section_data file section)
+unfolding section_data
+told_section_data file section = told_if (leb (2 ^ 64) (section.offset + section.size)) _ _ refl (told_if (ltb (length file) (section.offset + section.size)) _ _ refl tt)
 
 told_located : (class : ElfClass) (table : SectionTable) (name : List ℕ) → Told (located class table name)
 unfolding located
@@ -70,17 +68,17 @@ told_located class table name =
     told_step _ _ (told_sought class table (section_is_missing (codes ".symtab")) (λ section. nat_eq section.kind 2) refl) (λ symbols.
     told_step _ _ (told_sought class table (section_is_missing (codes ".strtab")) (λ section. nat_eq section.index symbols.link) refl) (λ linked.
     told_step _ _ (told_if (nat_eq linked.kind 3) (Ok linked) (Err (unexpected_section_type 3 linked.kind)) tt refl) (λ string_table.
-    told_step _ _ (told_part table.file string_table) (λ strings.
-    told_step _ _ (told_part table.file symbols) (λ part.
+    told_step _ _ (told_section_data table.file string_table) (λ strings.
+    told_step _ _ (told_section_data table.file symbols) (λ part.
     told_step _ _ (told_if (nat_eq (length part % class.symbol_length) 0) (Ok part) (Err unexpected_eof) tt refl) (λ rows. tt)))))))
 
-told_elf : (class : ElfClass) (order : ByteOrder) (file section : List ℕ) → Told (elf_file_answer class order file section)
+pub told_elf : (class : ElfClass) (order : ByteOrder) (file section : List ℕ) → Told (elf_file_answer class order file section)
 unfolding elf_answer
 told_elf class order file section =
     let table = section_table class (record { order = order; bytes = file }) in
     told_if (ltb (length file) class.header_length) (Err unexpected_eof) _ refl (told_step (located class table section) _ (told_located class table section) (λ found. tt))
 
--- a walk doesn't end with a refused allocation
+-- a walk doesn't end with a failed allocation
 abbrev ToldEnd : Option Refusal → Type 0
 ToldEnd None = Unit {0}
 ToldEnd (Some refusal) = is_told refusal ≡ true
@@ -106,7 +104,7 @@ told_symbol_table file =
     let whole : Result pe.SymbolTable Refusal = Ok (record { rows = bytes_at file (pe.table_offset file) (pe.table_size file); strings = drop end file }) in
     told_if (leb (length file) (pe.table_offset file)) (Err unexpected_eof) _ refl (told_if (ltb (length file) end) (Err unexpected_eof) whole refl tt)
 
-told_pe : (file : List ℕ) → Told (pe_file_answer file)
+pub told_pe : (file : List ℕ) → Told (pe_file_answer file)
 unfolding pe_answer pe.located pe_walk
 told_pe file =
     let accepts : pe_file.Section → Bool = λ section. bytes_eq section.name (codes ".text") in
@@ -151,8 +149,8 @@ told_macho_walk file = told_sections file (commands file).items (commands file).
 told_whole_table : (file : List ℕ) (command : Command) → Told (whole_table file command)
 told_whole_table file command = told_if _ (Ok (symbol_table_at file (body_of command))) (Err unexpected_eof) tt refl
 
-told_part_at : (file : List ℕ) (offset size : ℕ) → Told (part_at file offset size)
-told_part_at file offset size = told_if _ (Ok (bytes_at file offset size)) (Err unexpected_eof) tt refl
+told_slice_at : (file : List ℕ) (offset size : ℕ) → Told (slice_at file offset size)
+told_slice_at file offset size = told_if _ (Ok (bytes_at file offset size)) (Err unexpected_eof) tt refl
 
 told_text_end : (text : macho_file.Section) → Told (text_end_of text)
 told_text_end text = told_if _ (Ok (text.address + text.size)) (Err malformed_input) tt refl
@@ -162,8 +160,8 @@ unfolding located_by
 told_located_by file text None = tt
 told_located_by file text (Some command) =
     told_step (whole_table file command) _ (told_whole_table file command) (λ table.
-    told_step (part_at file table.strings_offset table.strings_size) _ (told_part_at file table.strings_offset table.strings_size) (λ strings.
-    told_step (part_at file table.symbol_offset (16 * table.row_count)) _ (told_part_at file table.symbol_offset (16 * table.row_count)) (λ rows.
+    told_step (slice_at file table.strings_offset table.strings_size) _ (told_slice_at file table.strings_offset table.strings_size) (λ strings.
+    told_step (slice_at file table.symbol_offset (16 * table.row_count)) _ (told_slice_at file table.symbol_offset (16 * table.row_count)) (λ rows.
     told_step (text_end_of text) _ (told_text_end text) (λ text_end. tt))))
 
 told_macho_located : (file : List ℕ) → Told (macho.located file)
@@ -197,19 +195,6 @@ unfolding answer_of macho.entry_of
 told_answer_of None = tt
 told_answer_of (Some found) = told_step (kept (macho.entry_of found) (arranged (row_addresses found.rows))) _ (told_kept (macho.entry_of found) (arranged (row_addresses found.rows)) (λ at. told_if _ _ (Ok None) (told_step _ _ (told_size _ found.text_end at.address) (λ size. tt)) tt)) (λ entries. tt)
 
-told_macho : (file : List ℕ) → Told (macho_file_answer file)
+pub told_macho : (file : List ℕ) → Told (macho_file_answer file)
 unfolding macho_answer
 told_macho file = told_if (ltb (length file) 28) (Err unexpected_eof) _ refl (told_step (macho.located file) answer_of (told_macho_located file) told_answer_of)
-
--- the answer, where there is one, isn't that an allocation was refused
-abbrev pub ToldAnswer : Option (Result Listed Refusal) → Type 0
-ToldAnswer None = Unit {0}
-ToldAnswer (Some answer) = Told answer
-
-pub told_answer : (format : Format) (file section : List ℕ) → ToldAnswer (symbols_answer format file section)
-unfolding symbols_answer
-told_answer (Elf32 order) file section = told_elf elf32 order file section
-told_answer (Elf64 order) file section = told_elf elf64 order file section
-told_answer Macho file section = told_macho file
-told_answer PE file section = told_pe file
-told_answer Unknown file section = tt

@@ -5,9 +5,9 @@ ghost use Rattle.binfarce.specs.Format.{format_of};
 ghost use Rattle.binfarce.specs.Elf.{elf32, elf64};
 ghost use Rattle.binfarce.specs.MachoSymbols.{HasAddress};
 ghost use Rattle.binfarce.specs.Symbol.{ListsSome, Answers};
-ghost use Rattle.binfarce.specs.SymbolSeen.{function_seen};
+ghost use Rattle.binfarce.specs.SymbolViews.{function_view};
 ghost use Rattle.binfarce_tools.specs.Answer.{elf_file_answer, macho_file_answer, pe_file_answer, symbols_answer, NeedsMemory};
-ghost use Rattle.binfarce_tools.specs.machine.Lists.{arranged_left, HoldsLeft, Reads, Gets};
+ghost use Rattle.binfarce_tools.specs.machine.Lists.{arranged_left, HoldsLeft, Gets};
 
 use crate::list::ListError;
 use binfarce::{
@@ -32,12 +32,12 @@ pub(crate) struct Arranged<'a> {
 
 impl<'a> Iterator for Functions<'a> {
     ghost use Rattle.std.specs.Iterator.{YieldsFirstBy, item_count};
-    ghost use Rattle.binfarce.specs.SymbolSeen.{function_seen};
+    ghost use Rattle.binfarce.specs.SymbolViews.{function_view};
     ghost use Rattle.binfarce_tools.specs.machine.Lists.{functions_left};
 
     type Item = FunctionSymbol<'a>;
 
-    ghost next_gives = { YieldsFirstBy function_seen functions_left };
+    ghost next_gives = { YieldsFirstBy function_view functions_left };
 
     ghost remaining = { item_count functions_left };
 
@@ -53,7 +53,7 @@ impl<'a> Iterator for Functions<'a> {
 impl<'a> Arranged<'a> {
     // The first of those that are left, which the others follow.
     fn next(&mut self) -> Option<FunctionSymbol<'a>>
-        ensures { YieldsFirstBy function_seen arranged_left self.old result self.new }
+        ensures { YieldsFirstBy function_view arranged_left self.old result self.new }
     {
         let function = *self.functions.get(self.next)?;
         self.next += 1;
@@ -62,6 +62,7 @@ impl<'a> Arranged<'a> {
 }
 
 // The function symbols of a file and the size of their section, or why a listing or a report of them can't be had.
+#[tactic(auto, unfolding(crate::specs::Answer::symbols_answer, crate::specs::Answer::NeedsMemory))]
 pub(crate) fn functions_of_file<'a>(
     alloc: Global,
     data: &'a [u8],
@@ -69,25 +70,12 @@ pub(crate) fn functions_of_file<'a>(
 ) -> Result<(Functions<'a>, u64), ListError>
     ensures { Gets (NeedsMemory (format_of data.entry.now) data.entry.now) (symbols_answer (format_of data.entry.now) data.entry.now section.now) result }
 {
-    let found = read_functions(alloc, data, section).ok_or(ListError::Unknown)??;
-    Ok(found)
-}
-
-// What the reader of the file's format returns; `None` where no reader reads it.
-#[tactic(auto, unfolding(crate::specs::Answer::symbols_answer, crate::specs::Answer::NeedsMemory))]
-fn read_functions<'a>(
-    alloc: Global,
-    data: &'a [u8],
-    section: &str,
-) -> Option<Result<(Functions<'a>, u64), ParseError>>
-    ensures { Reads (NeedsMemory (format_of data.entry.now) data.entry.now) (symbols_answer (format_of data.entry.now) data.entry.now section.now) result }
-{
     match detect_format(data) {
-        Format::Elf32 { byte_order } => Some(read_elf32(data, byte_order, section)),
-        Format::Elf64 { byte_order } => Some(read_elf64(data, byte_order, section)),
-        Format::Macho => Some(read_macho(alloc, data)),
-        Format::PE => Some(read_pe(alloc, data)),
-        Format::Unknown => None,
+        Format::Elf32 { byte_order } => Ok(read_elf32(data, byte_order, section)?),
+        Format::Elf64 { byte_order } => Ok(read_elf64(data, byte_order, section)?),
+        Format::Macho => Ok(read_macho(alloc, data)?),
+        Format::PE => Ok(read_pe(alloc, data)?),
+        Format::Unknown => Err(ListError::Unknown),
     }
 }
 

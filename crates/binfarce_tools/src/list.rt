@@ -5,7 +5,7 @@ ghost use Rattle.std.specs.String.{string_bytes};
 ghost use Rattle.std.specs.Io.KnownBytes.{Keeps, Appends};
 ghost use Rattle.binfarce.specs.Format.{format_of};
 ghost use Rattle.binfarce.specs.Symbol.{Listed};
-ghost use Rattle.binfarce.specs.SymbolSeen.{function_seen};
+ghost use Rattle.binfarce.specs.SymbolViews.{function_view};
 ghost use Rattle.binfarce_tools.specs.Answer.{symbols_answer, NeedsMemory};
 ghost use Rattle.binfarce_tools.specs.Listing.{IsLineOf, IsListingOf, ListingFits};
 ghost use Rattle.binfarce_tools.specs.ListWords.{outcome_of};
@@ -106,7 +106,7 @@ pub enum ListError {
     Unknown,
     /// The reader of the file's format refused it.
     Parse(ParseError),
-    /// An allocation was refused.
+    /// An allocation failed.
     OutOfMemory,
     /// A write of the sink failed. What it took before is a beginning of the listing.
     Write,
@@ -144,7 +144,7 @@ impl From<ParseError> for ListError {
 
     ghost from_gives = { λ e l. l ≡ list_error_of e };
 
-    /// A refused allocation is reported as such, whichever call it comes from.
+    /// A failed allocation is reported as such, whichever call it comes from.
     fn from(e: ParseError) -> Self {
         match e {
             ParseError::OutOfMemory => ListError::OutOfMemory,
@@ -158,7 +158,7 @@ impl From<ParseError> for ListError {
 /// The format is the one that the file's first bytes name; the section is that of an ELF file, and of a Mach-O or PE file
 /// it is the text. A line is `{address:016x} {size:>10} {trimmed}`, the last one `text {size}`. Refused: `Unknown` where
 /// the format isn't one that is read; `Parse` where its reader refuses, other than for memory; `OutOfMemory` where an
-/// allocation was refused; `Write` where a write failed. The listing is made before its first byte is written, so only
+/// allocation failed; `Write` where a write failed. The listing is made before its first byte is written, so only
 /// `Write` can leave a beginning of it written.
 pub fn list<S: Sink>(
     alloc: Global,
@@ -194,7 +194,7 @@ fn push_line(
     text: &mut String,
     function: FunctionSymbol<'_>,
 ) -> Result<(), AllocError>
-    ensures { OnOk result ((line : List ℕ) × IsLineOf (function_seen function.entry) line × (string_bytes text.new ≡ string_bytes text.old ++ line)) }
+    ensures { OnOk result ((line : List ℕ) × IsLineOf (function_view function.entry) line × (string_bytes text.new ≡ string_bytes text.old ++ line)) }
 {
     push_head(text, function.address, function.size)?;
     push_trimmed(alloc, text, function.name)?;

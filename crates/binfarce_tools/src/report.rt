@@ -6,7 +6,7 @@ ghost use Rattle.std.specs.String.{string_bytes};
 ghost use Rattle.binfarce.specs.Format.{format_of};
 ghost use Rattle.binfarce.specs.Name.{Name};
 ghost use Rattle.binfarce.specs.Named.{IsNamed};
-ghost use Rattle.binfarce.specs.SymbolSeen.{function_seen};
+ghost use Rattle.binfarce.specs.SymbolViews.{function_view};
 ghost use Rattle.binfarce_tools.specs.Answer.{symbols_answer, NeedsMemory};
 ghost use Rattle.binfarce_tools.specs.Report.{Share, IsShareOf, IsReportOf, IsReportOfShares, ReportFits, crate_text, crate_line};
 ghost use Rattle.binfarce_tools.specs.ReportWords.{outcome_of};
@@ -35,7 +35,7 @@ pub enum ReportError {
     Unknown,
     /// The reader of the file's format refused it.
     Parse(ParseError),
-    /// An allocation was refused.
+    /// An allocation failed.
     OutOfMemory,
     /// The sum of all sizes is 2^64 or more.
     TooLarge,
@@ -147,7 +147,7 @@ fn add_function(
     function: FunctionSymbol<'_>,
 ) -> Result<(), AllocError>
     requires { (name : List ℕ) → sum_at crates.old name + function.size < 2 ^ 64 }
-    ensures { OnOk result ((share : Share) × IsShareOf (function_seen function.entry) share × Adds crates.old share crates.new) }
+    ensures { OnOk result ((share : Share) × IsShareOf (function_view function.entry) share × Adds crates.old share crates.new) }
 {
     let name = crate_text(alloc, function.name)?;
     add_size(crates, name, function.size)

@@ -1,14 +1,4 @@
-pub mod Complete
 pub mod Folding
-pub mod KeptLemmas
-pub mod Levels
-pub mod Lists
-pub mod Lowered
 pub mod Manglings
-pub mod Says
-pub mod Shown
-pub mod Sound
-pub mod SoundForms
-pub mod States
-pub mod Validating
 pub mod RestLemmas
+pub mod Validating

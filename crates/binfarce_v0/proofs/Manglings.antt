@@ -1,18 +1,20 @@
 -- What the reading and the printer do with a whole name.
 use Rattle.std.proofs.Common.{◌≡◌, ℕ, ◌≤◌, ◌-◌, min, inl, inr, Bool, true, false, List, Option, Some, None, cond, refl, ap, sym, ◌∙◌, subst, arith}
 use Rattle.std.specs.Option.{option_map}
-use Rattle.binfarce_v0_grammar.specs.Identifiers.{identifier_text}
-use Rattle.binfarce_v0_grammar.specs.Tree.{PathTree, path_height, path_steps, name_text, InValue}
+use Rattle.binfarce_v0_text.specs.LeafTexts.{identifier_text}
+use Rattle.binfarce_v0_grammar.specs.Tree.{PathTree, path_height, path_steps}
+use Rattle.binfarce_v0_text.specs.TreeTexts.{name_text, InValue}
 use Rattle.binfarce_v0_grammar.specs.Unfolding.{IsPath, UnfoldsTo}
 use Rattle.binfarce_v0_grammar.specs.declared.limits.TheConstants.{MAX_LEVELS, MAX_STEPS}
 use Rattle.binfarce_v0.specs.Mangling.{is_upper_at, PathStands, SecondPath, ReadsPaths, IsMangling, IsV0, HasNoTree, part_after_prefix}
 use Rattle.binfarce_v0.specs.machine.Mangling.{paths_end}
-use Rattle.binfarce_v0.specs.machine.Outcome.{Outcome, outcome_of, ReadsUpTo, IsOutcome, IsCrateName, AreTexts}
-use Rattle.binfarce_v0.specs.machine.Printing.{State, readers, first_state}
+use Rattle.binfarce_v0_state.specs.machine.Outcome.{Outcome, outcome_of}
+use Rattle.binfarce_v0.specs.machine.Outcome.{ReadsUpTo, IsOutcome, IsCrateName, AreTexts}
+use Rattle.binfarce_v0_state.specs.machine.Printing.{State, readers, first_state}
 use Rattle.binfarce_v0_grammar.specs.machine.Ends.{ends}
 use Rattle.std.specs.Prelude.{MatchOption}
-use Rattle.binfarce_v0.proofs.SoundForms.{readers_sound}
-use Rattle.binfarce_v0.proofs.Complete.{path_complete}
+use Rattle.binfarce_v0_state.proofs.SoundForms.{readers_sound}
+use Rattle.binfarce_v0_state.proofs.Complete.{path_complete}
 use Rattle.binfarce_v0.proofs.Folding.{path_folds}
 use Rattle.binfarce_v0_grammar.proofs.ReadingSound.{ends_read, between}
 use Rattle.binfarce_v0_grammar.proofs.ReadingComplete.{path_ends}
@@ -35,7 +37,7 @@ reads_up_to name tree (Some q) is h =
     let f = path_folds tree name 0 0 q is in record { tree = f.tree; reads = f.reads; levels = omega (arith, f.levels, h) }
 
 -- a printing that passed no limit is that of the tree that the name unfolds to
-pub printed_is_outcome : (name : List ℕ) (full : Bool) → (printed name full).1.over ≡ false → IsOutcome name full (outcome_of (printed name full).1)
+pub printed_is_outcome : (name : List ℕ) (full : Bool) → (printed name full).1.limit_exceeded ≡ false → IsOutcome name full (outcome_of (printed name full).1)
 printed_is_outcome name full o =
     let H = readers_sound name MAX_LEVELS in
     let f = H.path InValue 0 (first_state full) o in
@@ -46,15 +48,15 @@ printed_is_outcome name full o =
       unfolds = record { after = (printed name full).1.at; is_path = f.is; levels = f.height; steps = within };
       text_is = ap (λ r. r.1.text) same;
       root_is = ap (λ r. r.1.root) same;
-      levels_are = ap (λ r. MAX_LEVELS - r.1.least) same ∙ levels_taken (path_height (printed name full).0) f.height;
-      steps_are = ap (λ r. MAX_STEPS - r.1.room) same ∙ steps_taken (path_steps (printed name full).0) within;
+      levels_are = ap (λ r. MAX_LEVELS - r.1.least_levels_left) same ∙ levels_taken (path_height (printed name full).0) f.height;
+      steps_are = ap (λ r. MAX_STEPS - r.1.steps_left) same ∙ steps_taken (path_steps (printed name full).0) within;
       reads = reads_up_to name (printed name full).0 (printed name full).1.at f.is f.height;
     }
 
-pub printed_over : (name : List ℕ) (full : Bool) → (printed name full).1.over ≡ true → (tree : PathTree) → UnfoldsTo name tree → ⊥
+pub printed_over : (name : List ℕ) (full : Bool) → (printed name full).1.limit_exceeded ≡ true → (tree : PathTree) → UnfoldsTo name tree → ⊥
 printed_over name full o tree u =
     let same = path_complete tree name MAX_LEVELS InValue 0 (first_state full) u.after refl u.is_path u.levels u.steps in
-    let not_over : (printed name full).1.over ≡ false = ap (λ r. r.1.over) same in
+    let not_over : (printed name full).1.limit_exceeded ≡ false = ap (λ r. r.1.limit_exceeded) same in
     let both : true ≡ false = sym o ∙ not_over in cc
 
 -- a path that the reading reads
@@ -99,11 +101,11 @@ not_mangling text read b e name after m =
     let paths = subst (λ n. ReadsPaths n after) (sym same) m.paths in
     let found = read_paths_at read after paths in cc
 
-pub print_gives_outcome : {P : Type 0} (seen : P → Outcome) (name : List ℕ) (full : Bool) (s : State) (r : Option P) → s ≡ (printed name full).1 → MatchOption r (s.over ≡ true) (λ p. (s.over ≡ false) × (seen p ≡ outcome_of s)) → MatchOption r ((tree : PathTree) → UnfoldsTo name tree → ⊥) (λ p. IsOutcome name full (seen p))
+pub print_gives_outcome : {P : Type 0} (seen : P → Outcome) (name : List ℕ) (full : Bool) (s : State) (r : Option P) → s ≡ (printed name full).1 → MatchOption r (s.limit_exceeded ≡ true) (λ p. (s.limit_exceeded ≡ false) × (seen p ≡ outcome_of s)) → MatchOption r ((tree : PathTree) → UnfoldsTo name tree → ⊥) (λ p. IsOutcome name full (seen p))
 print_gives_outcome seen name full s None e h =
-    let over : (printed name full).1.over ≡ true = ap (λ (v : State). v.over) (sym e) ∙ h in printed_over name full over
+    let limit_exceeded : (printed name full).1.limit_exceeded ≡ true = ap (λ (v : State). v.limit_exceeded) (sym e) ∙ h in printed_over name full limit_exceeded
 print_gives_outcome seen name full s (Some p) e h =
-    let on : (printed name full).1.over ≡ false = ap (λ (v : State). v.over) (sym e) ∙ h.0 in
+    let on : (printed name full).1.limit_exceeded ≡ false = ap (λ (v : State). v.limit_exceeded) (sym e) ∙ h.0 in
     subst (IsOutcome name full) (sym (h.1 ∙ ap outcome_of e)) (printed_is_outcome name full on)
 
 -- a name unfolds to one tree

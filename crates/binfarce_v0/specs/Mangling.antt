@@ -1,11 +1,16 @@
 -- Rust's v0 manglings (RFC 2603, "Symbol name": <symbol-name> = "_R" <path> [<instantiating-crate>]).
 use Rattle.std.specs.Prelude.{◌≡◌, ℕ, ◌≤◌, List, [], ◌∷◌, Option, Some, Bool, true, false, slice_index, drop, codes}
-use Rattle.std.proofs.Common.{refl}
+use Rattle.std.proofs.Common.{refl, arith}
+use Rattle.std.proofs.lemmas.Str.Ascii.{IsAscii-cons, IsAscii-nil}
 use Rattle.std.specs.Str.{IsAscii}
 use Rattle.std.specs.Char.{is_ascii_uppercase}
 use Rattle.binfarce_text.specs.Suffixes.{is_allowed_rest}
+use Rattle.binfarce_text.specs.Letters.{'C', 'a'}
 use Rattle.binfarce_text.specs.Prefixes.{after_prefix}
-use Rattle.binfarce_v0_grammar.specs.Tree.{PathTree, path_height}
+use Rattle.binfarce_v0_grammar.specs.Base62.{digit_62, base_62_number, optional_base_62_number}
+use Rattle.binfarce_v0_grammar.specs.Identifiers.{length_at, identifier_of, identifier_bytes, undisambiguated_identifier, identifier}
+use Rattle.binfarce_v0_grammar.specs.Forms.{path_form}
+use Rattle.binfarce_v0_grammar.specs.Tree.{PathTree, Crate, path_height}
 use Rattle.binfarce_v0_grammar.specs.Reading.{ReadsPath}
 use Rattle.binfarce_v0_grammar.specs.Unfolding.{UnfoldsTo}
 use Rattle.binfarce_v0_grammar.specs.declared.limits.TheConstants.{MAX_LEVELS}
@@ -56,3 +61,25 @@ HasNoTree text = (part : List ℕ) (tree : PathTree) → IsV0 text part → ¬ (
 worked_prefix : part_after_prefix (codes "__RNvC1a1b") ≡ Some (codes "NvC1a1b")
 unfolding part_after_prefix
 worked_prefix = refl
+
+-- the whole name reads: its one path ends at position 3 of what follows the prefix, where nothing is left
+worked_mangling : IsV0 (codes "_RC1a") (codes "C1a")
+unfolding part_after_prefix is_allowed_rest ReadsPath path_height path_form base_62_number digit_62 optional_base_62_number length_at identifier_of identifier_bytes undisambiguated_identifier identifier
+worked_mangling = record {
+  after = 3;
+  mangling = record {
+    prefix = refl;
+    begins = refl;
+    ascii = IsAscii-cons 'C' (codes "1a") (omega arith) (IsAscii-cons 49 (codes "a") (omega arith) (IsAscii-cons 'a' [] (omega arith) IsAscii-nil));
+    paths = record {
+      mid = 3;
+      path = record {
+        tree = Crate (record { disambiguator = 0; name = record { ascii = codes "a"; punycode = [] } });
+        reads = refl;
+        levels = omega arith;
+      };
+      instantiating_crate = refl;
+    };
+  };
+  rest = refl;
+}

@@ -4,28 +4,25 @@ ghost use Rattle.std.specs.Prelude.{◌≡◌, ℕ, List, IfOk, MatchOption, Som
 ghost use Rattle.std.specs.Option.{option_copied};
 ghost use Rattle.std.specs.Str.{IsAscii};
 ghost use Rattle.std.specs.String.{string_bytes};
-ghost use Rattle.binfarce_v0_grammar.specs.Identifiers.{identifier_text};
+ghost use Rattle.binfarce_v0_text.specs.LeafTexts.{identifier_text};
 ghost use Rattle.binfarce_v0_grammar.specs.Tree.{PathTree};
 ghost use Rattle.binfarce_v0_grammar.specs.Unfolding.{UnfoldsTo};
-ghost use Rattle.binfarce_v0_grammar.specs.machine.Seen.{undisambiguated_seen};
+ghost use Rattle.binfarce_v0_grammar.specs.machine.View.{undisambiguated_view};
 ghost use Rattle.binfarce_v0.specs.Mangling.{part_after_prefix, is_upper_at, IsMangling, IsV0, HasNoTree};
 ghost use Rattle.binfarce_v0.specs.machine.Mangling.{paths_end};
-ghost use Rattle.binfarce_v0.specs.machine.Outcome.{
-  ReadsUpTo,
-  IsOutcome,
-  IsCrateName,
-  AreTexts,
-  printed_seen,
-};
+ghost use Rattle.binfarce_v0.specs.machine.Outcome.{ReadsUpTo, IsOutcome, IsCrateName, AreTexts};
+ghost use Rattle.binfarce_v0_state.specs.machine.Outcome.{printed_view};
 
-use crate::state::{Printed, Printer};
+use binfarce_text::prefixes::after_prefix;
 use binfarce_text::suffixes::is_allowed_rest;
-use binfarce_v0_grammar::forms::Position;
 use binfarce_v0_grammar::identifiers::UndisambiguatedIdentifier;
 use binfarce_v0_grammar::limits::MAX_LEVELS;
 use binfarce_v0_grammar::numbers::byte_at;
 use binfarce_v0_grammar::reading::read_path;
-use binfarce_v0_grammar::text::push_identifier;
+use binfarce_v0_print::paths::print_path;
+use binfarce_v0_state::state::{Printed, Printer};
+use binfarce_v0_text::position::Position;
+use binfarce_v0_text::text::Leaf;
 use std::alloc::{AllocError, Global};
 
 // What stands after the prefix of a v0 mangling.
@@ -33,16 +30,7 @@ use std::alloc::{AllocError, Global};
 fn part_after_prefix(text: &str) -> Option<&str>
     ensures { option_copied result ≡ part_after_prefix text.now }
 {
-    let bytes = text.as_bytes();
-    if bytes.starts_with(b"_R") {
-        Some(&text[2..])
-    } else if bytes.starts_with(b"R") {
-        Some(&text[1..])
-    } else if bytes.starts_with(b"__R") {
-        Some(&text[3..])
-    } else {
-        None
-    }
+    after_prefix(text, "_R", "R", "__R")
 }
 
 // Whether a path may begin at a position.
@@ -101,10 +89,10 @@ pub fn print<'a>(
     full: bool,
 ) -> Result<Option<Printed<'a>>, AllocError>
     requires { IsAscii name.now }
-    ensures { IfOk result (λ p. MatchOption p ((tree : PathTree) → UnfoldsTo name.entry.now tree → ⊥) (λ p. IsOutcome name.entry.now full (printed_seen p))) }
+    ensures { IfOk result (λ p. MatchOption p ((tree : PathTree) → UnfoldsTo name.entry.now tree → ⊥) (λ p. IsOutcome name.entry.now full (printed_view p))) }
 {
     let mut printer = Printer::new(alloc, name, full)?;
-    printer.print_path(MAX_LEVELS, 0, Position::InValue)?;
+    print_path(&mut printer, MAX_LEVELS, 0, Position::InValue)?;
     Ok(printer.finish())
 }
 
@@ -132,13 +120,13 @@ fn rest_from(name: &[u8], at: usize) -> &[u8]
 /// disambiguators of crates. None where `text` is no v0 mangling whose reading has at most `MAX_LEVELS` levels, and where it unfolds to no tree of
 /// at most `MAX_LEVELS` levels and `MAX_STEPS` steps.
 ///
-/// What was printed without a fault outside back references was read: only a second path is then still to be read.
+/// What was printed without invalid syntax outside back references was read: only a second path is then still to be read.
 pub fn print_mangling<'a>(
     alloc: Global,
     text: &'a str,
     full: bool,
 ) -> Result<Option<(&'a str, Printed<'a>)>, AllocError>
-    ensures { IfOk result (λ p. MatchOption p (HasNoTree text.entry.now) (λ p. IsV0 text.entry.now p.0.now × IsOutcome p.0.now full (printed_seen p.1))) }
+    ensures { IfOk result (λ p. MatchOption p (HasNoTree text.entry.now) (λ p. IsV0 text.entry.now p.0.now × IsOutcome p.0.now full (printed_view p.1))) }
 {
     let Some(name) = candidate(text) else {
         return Ok(None);
@@ -169,13 +157,13 @@ fn root_text(
     alloc: Global,
     root: Option<UndisambiguatedIdentifier<'_>>,
 ) -> Result<Option<String>, AllocError>
-    ensures { IfOk result (λ t. option_map string_bytes t ≡ option_map identifier_text (option_map undisambiguated_seen root.entry)) }
+    ensures { IfOk result (λ t. option_map string_bytes t ≡ option_map identifier_text (option_map undisambiguated_view root.entry)) }
 {
     let Some(name) = root else {
         return Ok(None);
     };
     let mut text = String::new(alloc);
-    push_identifier(&mut text, name)?;
+    name.push(&mut text)?;
     Ok(Some(text))
 }
 

@@ -1,11 +1,8 @@
-pub mod HexDigits
 pub mod SkipLemmas
 pub mod TextLemmas
 pub mod NumberLemmas
-pub mod PunycodeLemmas
 pub mod ReadingComplete
 pub mod ReadingForward
 pub mod ReadingLists
 pub mod ReadingSound
 pub mod ReadingTrees
-pub mod Texts

@@ -15,22 +15,22 @@ use Rattle.std.proofs.Math.Nat.{pow-le-pow_right}
 use Rattle.std.proofs.lemmas.Grind.{pow_more}
 use Rattle.binfarce_text.specs.Letters.{is_hex_digit}
 use Rattle.binfarce_text.specs.Steps.{◌>>=◌}
-use Rattle.binfarce_v0_grammar.specs.Base62.{digit_62, limited, number, hex_digits}
+use Rattle.binfarce_v0_grammar.specs.Base62.{digit_62, limited, base_62_number, hex_digits}
 use Rattle.binfarce_v0_grammar.specs.Identifiers.{length_at}
 use Rattle.binfarce_v0_grammar.specs.machine.Numbers.{number_from, decimal_from, length_from, hex_length}
 
 -- One more byte
 
-pub number_from_step : (s : List ℕ) (at worth : ℕ) → at < length s → number_from (drop at s) worth at ≡ (if get_or s at 0 == 95 then limited (worth + 1) (at + 1) else (if is_ascii_alphanumeric (get_or s at 0) then number_from (drop (at + 1) s) (worth * 62 + digit_62 (get_or s at 0)) (at + 1) else None))
-number_from_step s at worth h = at_drop_more (λ l. number_from l worth at) s at 0 h
+pub number_from_step : (s : List ℕ) (at value : ℕ) → at < length s → number_from (drop at s) value at ≡ (if get_or s at 0 == 95 then limited (value + 1) (at + 1) else (if is_ascii_alphanumeric (get_or s at 0) then number_from (drop (at + 1) s) (value * 62 + digit_62 (get_or s at 0)) (at + 1) else None))
+number_from_step s at value h = at_drop_more (λ l. number_from l value at) s at 0 h
 
-pub length_from_step : (s : List ℕ) (at worth : ℕ) → at < length s → length_from (drop at s) worth at ≡ (if is_ascii_digit (get_or s at 0) then length_from (drop (at + 1) s) (worth * 10 + (get_or s at 0 - 48)) (at + 1) else limited worth at)
-length_from_step s at worth h = at_drop_more (λ l. length_from l worth at) s at 0 h ∙ split (is_ascii_digit (get_or s at 0))
+pub length_from_step : (s : List ℕ) (at value : ℕ) → at < length s → length_from (drop at s) value at ≡ (if is_ascii_digit (get_or s at 0) then length_from (drop (at + 1) s) (value * 10 + (get_or s at 0 - 48)) (at + 1) else limited value at)
+length_from_step s at value h = at_drop_more (λ l. length_from l value at) s at 0 h ∙ split (is_ascii_digit (get_or s at 0))
   where
     rest : ℕ × ℕ
-    rest = decimal_from (drop (at + 1) s) (worth * 10 + (get_or s at 0 - 48)) (at + 1)
+    rest = decimal_from (drop (at + 1) s) (value * 10 + (get_or s at 0 - 48)) (at + 1)
 
-    split : (b : Bool) → limited (cond b rest (worth, at)).0 (cond b rest (worth, at)).1 ≡ cond b (limited rest.0 rest.1) (limited worth at)
+    split : (b : Bool) → limited (cond b rest (value, at)).0 (cond b rest (value, at)).1 ≡ cond b (limited rest.0 rest.1) (limited value at)
     split true = refl
     split false = refl
 
@@ -49,28 +49,28 @@ limited_large v after h = grind (arith, nat_tests)
 limited_small : (v after : ℕ) → v < 2 ^ 64 → limited v after ≡ Some (v, after)
 limited_small v after h = grind (arith, nat_tests)
 
-pub number_from_large : (s : List ℕ) (worth at : ℕ) → 2 ^ 64 ≤ worth → number_from s worth at ≡ None
-number_from_large [] worth at h = refl
-number_from_large (c ∷ s) worth at h =
-    both_none (eqb c 95) _ _ (limited_large (worth + 1) (at + 1) (omega arith)) (both_none (is_ascii_alphanumeric c) _ None (number_from_large s (worth * 62 + digit_62 c) (at + 1) (omega arith)) refl)
+pub number_from_large : (s : List ℕ) (value at : ℕ) → 2 ^ 64 ≤ value → number_from s value at ≡ None
+number_from_large [] value at h = refl
+number_from_large (c ∷ s) value at h =
+    both_none (eqb c 95) _ _ (limited_large (value + 1) (at + 1) (omega arith)) (both_none (is_ascii_alphanumeric c) _ None (number_from_large s (value * 62 + digit_62 c) (at + 1) (omega arith)) refl)
 
-pub number_from_over : (s : List ℕ) (at worth : ℕ) → at < length s → (get_or s at 0 ≡ 95 → ⊥) → 2 ^ 64 ≤ worth * 62 + digit_62 (get_or s at 0) → number_from (drop at s) worth at ≡ None
-number_from_over s at worth h ne large =
-    let over = number_from_large (drop (at + 1) s) (worth * 62 + digit_62 (get_or s at 0)) (at + 1) large in
-    number_from_step s at worth h ∙ cond-false (eqb (get_or s at 0) 95) _ _ (ne_eqb (get_or s at 0) 95 ne) ∙ both_none (is_ascii_alphanumeric (get_or s at 0)) _ None over refl
+pub number_from_over : (s : List ℕ) (at value : ℕ) → at < length s → (get_or s at 0 ≡ 95 → ⊥) → 2 ^ 64 ≤ value * 62 + digit_62 (get_or s at 0) → number_from (drop at s) value at ≡ None
+number_from_over s at value h ne large =
+    let over = number_from_large (drop (at + 1) s) (value * 62 + digit_62 (get_or s at 0)) (at + 1) large in
+    number_from_step s at value h ∙ cond-false (eqb (get_or s at 0) 95) _ _ (ne_eqb (get_or s at 0) 95 ne) ∙ both_none (is_ascii_alphanumeric (get_or s at 0)) _ None over refl
 
-decimal_from_split : (b : Bool) (worth : ℕ) (x y : ℕ × ℕ) → worth ≤ x.0 → worth ≤ y.0 → worth ≤ (cond b x y).0
-decimal_from_split true worth x y h k = h
-decimal_from_split false worth x y h k = k
+decimal_from_split : (b : Bool) (value : ℕ) (x y : ℕ × ℕ) → value ≤ x.0 → value ≤ y.0 → value ≤ (cond b x y).0
+decimal_from_split true value x y h k = h
+decimal_from_split false value x y h k = k
 
-decimal_from_grows : (s : List ℕ) (worth at : ℕ) → worth ≤ (decimal_from s worth at).0
-decimal_from_grows [] worth at = omega arith
-decimal_from_grows (c ∷ s) worth at =
-    decimal_from_split (is_ascii_digit c) worth _ _ (omega (arith, decimal_from_grows s (worth * 10 + (c - 48)) (at + 1))) (omega arith)
+decimal_from_grows : (s : List ℕ) (value at : ℕ) → value ≤ (decimal_from s value at).0
+decimal_from_grows [] value at = omega arith
+decimal_from_grows (c ∷ s) value at =
+    decimal_from_split (is_ascii_digit c) value _ _ (omega (arith, decimal_from_grows s (value * 10 + (c - 48)) (at + 1))) (omega arith)
 
-pub length_from_large : (s : List ℕ) (worth at : ℕ) → 2 ^ 64 ≤ worth → length_from s worth at ≡ None
-length_from_large s worth at h =
-    limited_large (decimal_from s worth at).0 (decimal_from s worth at).1 (omega (arith, decimal_from_grows s worth at))
+pub length_from_large : (s : List ℕ) (value at : ℕ) → 2 ^ 64 ≤ value → length_from s value at ≡ None
+length_from_large s value at h =
+    limited_large (decimal_from s value at).0 (decimal_from s value at).1 (omega (arith, decimal_from_grows s value at))
 
 -- Runs
 
@@ -96,33 +96,33 @@ next_62 n c = n * 62 + digit_62 c
 
 -- what n digits write, which stand after others, where a "_" stands after them
 abbrev ends_62 : List ℕ → ℕ → ℕ → ℕ → Option (ℕ × ℕ)
-ends_62 s worth at n =
-    cond (eqb (get_or s n 0) 95) (limited (fold next_62 worth (take n s) + 1) (at + n + 1)) None
+ends_62 s value at n =
+    cond (eqb (get_or s n 0) 95) (limited (fold next_62 value (take n s) + 1) (at + n + 1)) None
 
-number_from_run : (s : List ℕ) (worth at : ℕ) → number_from s worth at ≡ ends_62 s worth at (prefix_len is_ascii_alphanumeric s)
-number_from_run [] worth at = refl
-number_from_run (c ∷ s) worth at = elim (cases_eq c 95) [
+number_from_run : (s : List ℕ) (value at : ℕ) → number_from s value at ≡ ends_62 s value at (prefix_len is_ascii_alphanumeric s)
+number_from_run [] value at = refl
+number_from_run (c ∷ s) value at = elim (cases_eq c 95) [
   | inl e ↦
       let run : prefix_len is_ascii_alphanumeric (c ∷ s) ≡ 0 = cond-false (is_ascii_alphanumeric c) _ 0 (ap is_ascii_alphanumeric e) in
       cond-true (eqb c 95) _ _ (eq-eqb c 95 e)
-      ∙ ap (limited (worth + 1)) (let here : at + 1 ≡ at + 0 + 1 = omega arith in here)
-      ∙ sym (cond-true (eqb c 95) (limited (worth + 1) (at + 0 + 1)) None (eq-eqb c 95 e))
-      ∙ sym (ap (ends_62 (c ∷ s) worth at) run)
+      ∙ ap (limited (value + 1)) (let here : at + 1 ≡ at + 0 + 1 = omega arith in here)
+      ∙ sym (cond-true (eqb c 95) (limited (value + 1) (at + 0 + 1)) None (eq-eqb c 95 e))
+      ∙ sym (ap (ends_62 (c ∷ s) value at) run)
   | inr ne ↦ elim (cases_Bool (is_ascii_alphanumeric c)) [
     | inl digit ↦
         let n : ℕ = prefix_len is_ascii_alphanumeric s in
         let run : prefix_len is_ascii_alphanumeric (c ∷ s) ≡ suc n = cond-true (is_ascii_alphanumeric c) (1 + n) 0 digit ∙ omega arith in
         cond-false (eqb c 95) _ _ (ne_eqb c 95 ne)
         ∙ cond-true (is_ascii_alphanumeric c) _ None digit
-        ∙ number_from_run s (worth * 62 + digit_62 c) (at + 1)
-        ∙ ap (λ p. cond (eqb (get_or s n 0) 95) (limited (fold next_62 (worth * 62 + digit_62 c) (take n s) + 1) p) None) (let on : at + 1 + n + 1 ≡ at + suc n + 1 = omega arith in on)
-        ∙ sym (ap (ends_62 (c ∷ s) worth at) run)
+        ∙ number_from_run s (value * 62 + digit_62 c) (at + 1)
+        ∙ ap (λ p. cond (eqb (get_or s n 0) 95) (limited (fold next_62 (value * 62 + digit_62 c) (take n s) + 1) p) None) (let on : at + 1 + n + 1 ≡ at + suc n + 1 = omega arith in on)
+        ∙ sym (ap (ends_62 (c ∷ s) value at) run)
     | inr other ↦
         let run : prefix_len is_ascii_alphanumeric (c ∷ s) ≡ 0 = cond-false (is_ascii_alphanumeric c) _ 0 other in
         cond-false (eqb c 95) _ _ (ne_eqb c 95 ne)
         ∙ cond-false (is_ascii_alphanumeric c) _ None other
-        ∙ sym (cond-false (eqb c 95) (limited (worth + 1) (at + 0 + 1)) None (ne_eqb c 95 ne))
-        ∙ sym (ap (ends_62 (c ∷ s) worth at) run)
+        ∙ sym (cond-false (eqb c 95) (limited (value + 1) (at + 0 + 1)) None (ne_eqb c 95 ne))
+        ∙ sym (ap (ends_62 (c ∷ s) value at) run)
   ]
 ]
 
@@ -148,11 +148,11 @@ counted_more s at n ne = elim (cases_eq n 0) [
       ∙ ap (λ x. cond (eqb x 95) (limited (fold next_62 0 (take n (drop at s)) + 1) (at + n + 1)) None) (sym (get_or-drop at s n 0))
 ]
 
-pub number_step : (s : List ℕ) (at : ℕ) → number s at ≡ (if get_or s at 0 == 95 then Some (0, at + 1) else number_from (drop at s) 0 at)
-unfolding number
+pub number_step : (s : List ℕ) (at : ℕ) → base_62_number s at ≡ (if get_or s at 0 == 95 then Some (0, at + 1) else number_from (drop at s) 0 at)
+unfolding base_62_number
 number_step s at =
     let n : ℕ = prefix_len is_ascii_alphanumeric (drop at s) in
-    let counted : number s at ≡ counted_62 s at n n = ap (counted_62 s at n) (run_length is_ascii_alphanumeric (drop at s)) in
+    let counted : base_62_number s at ≡ counted_62 s at n n = ap (counted_62 s at n) (run_length is_ascii_alphanumeric (drop at s)) in
     elim (cases_eq (get_or s at 0) 95) [
       | inl e ↦
           let none : n ≡ 0 = run_none is_ascii_alphanumeric (drop at s) refl (ap is_ascii_alphanumeric (first_at s at ∙ e)) in
@@ -166,22 +166,22 @@ number_step s at =
 digit_is : (c : ℕ) → is_ascii_digit c ≡ true → digit_value c ≡ c - 48
 digit_is c h = grind (arith, nat_tests)
 
-decimal_from_run : (s : List ℕ) (worth at : ℕ) → decimal_from s worth at ≡ (digits_value_after 10 worth (take (prefix_len is_ascii_digit s) s), at + prefix_len is_ascii_digit s)
-decimal_from_run [] worth at = ap (λ k. let r : ℕ × ℕ = (worth, k) in r) (let here : at ≡ at + 0 = omega arith in here)
-decimal_from_run (c ∷ s) worth at = elim (cases_Bool (is_ascii_digit c)) [
+decimal_from_run : (s : List ℕ) (value at : ℕ) → decimal_from s value at ≡ (digits_value_after 10 value (take (prefix_len is_ascii_digit s) s), at + prefix_len is_ascii_digit s)
+decimal_from_run [] value at = ap (λ k. let r : ℕ × ℕ = (value, k) in r) (let here : at ≡ at + 0 = omega arith in here)
+decimal_from_run (c ∷ s) value at = elim (cases_Bool (is_ascii_digit c)) [
   | inl digit ↦
       let n : ℕ = prefix_len is_ascii_digit s in
       let run : prefix_len is_ascii_digit (c ∷ s) ≡ suc n = cond-true (is_ascii_digit c) (1 + n) 0 digit ∙ omega arith in
       cond-true (is_ascii_digit c) _ _ digit
-      ∙ decimal_from_run s (worth * 10 + (c - 48)) (at + 1)
-      ∙ ap (λ d. let r : ℕ × ℕ = (digits_value_after 10 (worth * 10 + d) (take n s), at + 1 + n) in r) (sym (digit_is c digit))
-      ∙ ap (λ k. let r : ℕ × ℕ = (digits_value_after 10 worth (c ∷ take n s), k) in r) (let on : at + 1 + n ≡ at + suc n = omega arith in on)
-      ∙ sym (ap (λ k. let r : ℕ × ℕ = (digits_value_after 10 worth (take k (c ∷ s)), at + k) in r) run)
+      ∙ decimal_from_run s (value * 10 + (c - 48)) (at + 1)
+      ∙ ap (λ d. let r : ℕ × ℕ = (digits_value_after 10 (value * 10 + d) (take n s), at + 1 + n) in r) (sym (digit_is c digit))
+      ∙ ap (λ k. let r : ℕ × ℕ = (digits_value_after 10 value (c ∷ take n s), k) in r) (let on : at + 1 + n ≡ at + suc n = omega arith in on)
+      ∙ sym (ap (λ k. let r : ℕ × ℕ = (digits_value_after 10 value (take k (c ∷ s)), at + k) in r) run)
   | inr other ↦
       let run : prefix_len is_ascii_digit (c ∷ s) ≡ 0 = cond-false (is_ascii_digit c) _ 0 other in
       cond-false (is_ascii_digit c) _ _ other
-      ∙ ap (λ k. let r : ℕ × ℕ = (worth, k) in r) (let here : at ≡ at + 0 = omega arith in here)
-      ∙ sym (ap (λ k. let r : ℕ × ℕ = (digits_value_after 10 worth (take k (c ∷ s)), at + k) in r) run)
+      ∙ ap (λ k. let r : ℕ × ℕ = (value, k) in r) (let here : at ≡ at + 0 = omega arith in here)
+      ∙ sym (ap (λ k. let r : ℕ × ℕ = (digits_value_after 10 value (take k (c ∷ s)), at + k) in r) run)
 ]
 
 not_nine : (c : ℕ) → (c ≡ 48 → ⊥) → is_in_range 49 57 c ≡ false → is_ascii_digit c ≡ false
@@ -196,17 +196,17 @@ length_more : (s : List ℕ) (at : ℕ) → (get_or s at 0 ≡ 48 → ⊥)
     ≡ cond (is_in_range 49 57 (get_or s at 0)) (length_from (drop at s) 0 at) None
 length_more s at ne =
     let n : ℕ = prefix_len is_ascii_digit (drop at s) in
-    let number : Option (ℕ × ℕ) = limited (digits_value_after 10 0 (take n (drop at s))) (at + n) in
+    let base_62_number : Option (ℕ × ℕ) = limited (digits_value_after 10 0 (take n (drop at s))) (at + n) in
     let from : Option (ℕ × ℕ) = length_from (drop at s) 0 at in
     elim (cases_Bool (is_in_range 49 57 (get_or s at 0))) [
       | inl digit ↦
           let some : 0 < n = run_some is_ascii_digit (drop at s) refl (ap is_ascii_digit (first_at s at) ∙ is_nine (get_or s at 0) digit) in
-          let run : from ≡ number = ap (λ (r : ℕ × ℕ). limited r.0 r.1) (decimal_from_run (drop at s) 0 at) in
-          cond-false (eqb n 0) None number (ne_eqb n 0 (λ z. absurd (omega (arith, z, some))))
+          let run : from ≡ base_62_number = ap (λ (r : ℕ × ℕ). limited r.0 r.1) (decimal_from_run (drop at s) 0 at) in
+          cond-false (eqb n 0) None base_62_number (ne_eqb n 0 (λ z. absurd (omega (arith, z, some))))
           ∙ sym run ∙ sym (cond-true (is_in_range 49 57 (get_or s at 0)) from None digit)
       | inr other ↦
           let none : n ≡ 0 = run_none is_ascii_digit (drop at s) refl (ap is_ascii_digit (first_at s at) ∙ not_nine (get_or s at 0) ne other) in
-          cond-true (eqb n 0) None number (eq-eqb n 0 none) ∙ sym (cond-false (is_in_range 49 57 (get_or s at 0)) from None other)
+          cond-true (eqb n 0) None base_62_number (eq-eqb n 0 none) ∙ sym (cond-false (is_in_range 49 57 (get_or s at 0)) from None other)
     ]
 
 pub length_step : (s : List ℕ) (at : ℕ) → length_at s at ≡ (if get_or s at 0 == 48 then Some (0, at + 1) else (if is_in_range 49 57 (get_or s at 0) then length_from (drop at s) 0 at else None))
@@ -214,13 +214,13 @@ unfolding length_at
 length_step s at =
     let n : ℕ = prefix_len is_ascii_digit (drop at s) in
     let one : Option (ℕ × ℕ) = Some (0, at + 1) in
-    let number : Option (ℕ × ℕ) = cond (eqb n 0) None (limited (digits_value_after 10 0 (take n (drop at s))) (at + n)) in
+    let base_62_number : Option (ℕ × ℕ) = cond (eqb n 0) None (limited (digits_value_after 10 0 (take n (drop at s))) (at + n)) in
     let from : Option (ℕ × ℕ) = cond (is_in_range 49 57 (get_or s at 0)) (length_from (drop at s) 0 at) None in
-    let counted : length_at s at ≡ cond (eqb (get_or s at 0) 48) one number =
+    let counted : length_at s at ≡ cond (eqb (get_or s at 0) 48) one base_62_number =
     ap (λ k. cond (eqb (get_or s at 0) 48) one (cond (eqb k 0) None (limited (digits_value_after 10 0 (take n (drop at s))) (at + k)))) (run_length is_ascii_digit (drop at s)) in
     elim (cases_eq (get_or s at 0) 48) [
-      | inl e ↦ counted ∙ cond-true (eqb (get_or s at 0) 48) one number (eq-eqb (get_or s at 0) 48 e) ∙ sym (cond-true (eqb (get_or s at 0) 48) one from (eq-eqb (get_or s at 0) 48 e))
-      | inr ne ↦ counted ∙ cond-false (eqb (get_or s at 0) 48) one number (ne_eqb (get_or s at 0) 48 ne) ∙ length_more s at ne ∙ sym (cond-false (eqb (get_or s at 0) 48) one from (ne_eqb (get_or s at 0) 48 ne))
+      | inl e ↦ counted ∙ cond-true (eqb (get_or s at 0) 48) one base_62_number (eq-eqb (get_or s at 0) 48 e) ∙ sym (cond-true (eqb (get_or s at 0) 48) one from (eq-eqb (get_or s at 0) 48 e))
+      | inr ne ↦ counted ∙ cond-false (eqb (get_or s at 0) 48) one base_62_number (ne_eqb (get_or s at 0) 48 ne) ∙ length_more s at ne ∙ sym (cond-false (eqb (get_or s at 0) 48) one from (ne_eqb (get_or s at 0) 48 ne))
     ]
 
 -- Hexadecimal digits
@@ -272,8 +272,8 @@ hex_fits i value digit h small d =
     let top : 16 ^ (i + 1) ≤ 16 ^ 16 = pow-le-pow_right {n = 16} (omega arith) {i = i + 1} {j = 16} (omega arith) in
     (below, omega arith)
 
-pub number_from_past : (s : List ℕ) (worth at : ℕ) → length s ≤ at → number_from (drop at s) worth at ≡ None
-number_from_past s worth at h = ap (λ (l : List ℕ). number_from l worth at) (drop_of_length-le s {i = at} h)
+pub number_from_past : (s : List ℕ) (value at : ℕ) → length s ≤ at → number_from (drop at s) value at ≡ None
+number_from_past s value at h = ap (λ (l : List ℕ). number_from l value at) (drop_of_length-le s {i = at} h)
 
 -- ten base-62 digits write a number below 2^64
 pub digits_fit : (i value digit : ℕ) → i < 10 → value < 62 ^ i → digit < 62 → (value * 62 + digit < 62 ^ (i + 1)) × (value * 62 + digit + 1 < 2 ^ 64)
@@ -286,12 +286,12 @@ pub digit_below : (c : ℕ) → is_ascii_alphanumeric c ≡ true → digit_62 c 
 unfolding digit_62
 digit_below c h = grind (arith, nat_tests)
 
-pub number_from_ends : (s : List ℕ) (at worth : ℕ) → at < length s → get_or s at 0 ≡ 95 → worth + 1 < 2 ^ 64 → number_from (drop at s) worth at ≡ Some (worth + 1, at + 1)
-number_from_ends s at worth h e small =
-    number_from_step s at worth h ∙ cond-true (eqb (get_or s at 0) 95) _ _ (eq-eqb (get_or s at 0) 95 e) ∙ limited_small (worth + 1) (at + 1) small
+pub number_from_ends : (s : List ℕ) (at value : ℕ) → at < length s → get_or s at 0 ≡ 95 → value + 1 < 2 ^ 64 → number_from (drop at s) value at ≡ Some (value + 1, at + 1)
+number_from_ends s at value h e small =
+    number_from_step s at value h ∙ cond-true (eqb (get_or s at 0) 95) _ _ (eq-eqb (get_or s at 0) 95 e) ∙ limited_small (value + 1) (at + 1) small
 
-pub number_from_digit : (s : List ℕ) (at worth digit : ℕ) → at < length s → (get_or s at 0 ≡ 95 → ⊥) → is_ascii_alphanumeric (get_or s at 0) ≡ true → digit ≡ digit_62 (get_or s at 0)
-    → number_from (drop at s) worth at ≡ number_from (drop (at + 1) s) (worth * 62 + digit) (at + 1)
-number_from_digit s at worth digit h ne is e =
-    number_from_step s at worth h ∙ cond-false (eqb (get_or s at 0) 95) _ _ (ne_eqb (get_or s at 0) 95 ne) ∙ cond-true (is_ascii_alphanumeric (get_or s at 0)) _ None is
-    ∙ ap (λ d. number_from (drop (at + 1) s) (worth * 62 + d) (at + 1)) (sym e)
+pub number_from_digit : (s : List ℕ) (at value digit : ℕ) → at < length s → (get_or s at 0 ≡ 95 → ⊥) → is_ascii_alphanumeric (get_or s at 0) ≡ true → digit ≡ digit_62 (get_or s at 0)
+    → number_from (drop at s) value at ≡ number_from (drop (at + 1) s) (value * 62 + digit) (at + 1)
+number_from_digit s at value digit h ne is e =
+    number_from_step s at value h ∙ cond-false (eqb (get_or s at 0) 95) _ _ (ne_eqb (get_or s at 0) 95 ne) ∙ cond-true (is_ascii_alphanumeric (get_or s at 0)) _ None is
+    ∙ ap (λ d. number_from (drop (at + 1) s) (value * 62 + d) (at + 1)) (sym e)

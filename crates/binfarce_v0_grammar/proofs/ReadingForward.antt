@@ -8,7 +8,7 @@ use Rattle.std.specs.Str.Parse.{digits_value}
 use Rattle.std.proofs.lemmas.Bool.{cond_both}
 use Rattle.binfarce_text.specs.Letters.{is_hex_digit}
 use Rattle.binfarce_text.specs.Steps.{◌>>=◌}
-use Rattle.binfarce_v0_grammar.specs.Base62.{limited, value_62, number, tagged, back_reference, hex_digits}
+use Rattle.binfarce_v0_grammar.specs.Base62.{limited, value_62, base_62_number, optional_base_62_number, back_reference, hex_digits}
 use Rattle.binfarce_v0_grammar.specs.Identifiers.{is_empty, UndisambiguatedIdentifier, Identifier, length_at, past, identifier_of, identifier_bytes, undisambiguated_identifier, identifier}
 use Rattle.binfarce_v0_grammar.specs.Forms.{Lifetime, NoLifetime, stands, InvalidLifetime, IndexedLifetime, lifetime, basic_type, const_type, has_sign, value_of, const_value, abi, path_form, type_form_by, type_form, reference_form, function_form, const_form, typed_form, PathForm, NoPathForm, CrateRoot, NestedIn, InherentImpl, TraitImpl, TraitDefinition, WithArguments, BackToPath, TypeForm, NoTypeForm, BasicType, ReferenceTo, InvalidReference, PointerTo, SliceOf, ArrayOf, TupleOf, FunctionOf, InvalidAbi, DynOf, InvalidDyn, BackToType, PathType, ConstValue, ConstForm, NoConstForm, UntypedPlaceholderConst, PlaceholderConst, ValueConst, InvalidConst, BackToConst}
 use Rattle.binfarce_v0_grammar.specs.Tree.{PathTree, TypeTree, ConstTree, Item, Items, Bindings, NoConst, UntypedPlaceholder, Placeholder, Value, InvalidValue, BackConst, ConstTarget, NoPath, Crate, Nested, InvalidNested, OfType, OfImpl, OfTrait, Generic, BackPath, PathTarget, NoType, Basic, Reference, InvalidReferenceType, Pointer, Slice, Array, Tuple, Function, FunctionTo, InvalidFunction, Dyn, InvalidDynType, Named, BackType, TypeTarget, LifetimeItem, TypeItem, ConstItem, TraitItem, NoItems, ItemThen, NoBindings, Binding, InvalidBinding, Listed, Arguments, Types, Traits}
@@ -44,23 +44,23 @@ each P b x y h k = cond_both b x y P (λ e. h) (λ e. k)
 limited_after : (value at : ℕ) → After at (limited value at)
 limited_after value at = each (After at) (nat_lt value (2 ^ 64)) (Some (value, at)) None (omega arith) tt
 
-number_after : (name : List ℕ) (at : ℕ) → After (at + 1) (number name at)
-unfolding number
+number_after : (name : List ℕ) (at : ℕ) → After (at + 1) (base_62_number name at)
+unfolding base_62_number
 number_after name at =
     let digits : List ℕ = take_while is_ascii_alphanumeric (drop at name) in
     let end : ℕ = at + length digits in
     let value : ℕ = cond (eqb (length digits) 0) 0 (value_62 digits + 1) in
     each (After (at + 1)) (eqb (get_or name end 0) 95) (limited value (end + 1)) None (after_less (at + 1) (end + 1) (limited value (end + 1)) (omega arith) (limited_after value (end + 1))) tt
 
-tagged_after : (name : List ℕ) (tag at : ℕ) → After at (tagged name tag at)
-unfolding tagged
+tagged_after : (name : List ℕ) (tag at : ℕ) → After at (optional_base_62_number name tag at)
+unfolding optional_base_62_number
 tagged_after name tag at =
-    each (After at) (eqb (get_or name at 0) tag) _ (Some (0, at)) (after_then at (number name (at + 1)) _ (λ r e. after_less at r.1 (limited (r.0 + 1) r.1) (omega (arith, after_is (at + 1 + 1) _ r (number_after name (at + 1)) e)) (limited_after (r.0 + 1) r.1))) (omega arith)
+    each (After at) (eqb (get_or name at 0) tag) _ (Some (0, at)) (after_then at (base_62_number name (at + 1)) _ (λ r e. after_less at r.1 (limited (r.0 + 1) r.1) (omega (arith, after_is (at + 1 + 1) _ r (number_after name (at + 1)) e)) (limited_after (r.0 + 1) r.1))) (omega arith)
 
 back_reference_after : (name : List ℕ) (at : ℕ) → After (at + 1) (back_reference name at)
 unfolding back_reference
 back_reference_after name at =
-    after_then (at + 1) (number name (at + 1)) _ (λ r e. each (After (at + 1)) (nat_lt r.0 at) (Some r) None (omega (arith, after_is (at + 1 + 1) _ r (number_after name (at + 1)) e)) tt)
+    after_then (at + 1) (base_62_number name (at + 1)) _ (λ r e. each (After (at + 1)) (nat_lt r.0 at) (Some r) None (omega (arith, after_is (at + 1 + 1) _ r (number_after name (at + 1)) e)) tt)
 
 hex_digits_after : (name : List ℕ) (at : ℕ) → After (at + 1) (hex_digits name at)
 unfolding hex_digits
@@ -98,7 +98,7 @@ undisambiguated_forward name at after i e = after_is at (undisambiguated_identif
 identifier_after : (name : List ℕ) (at : ℕ) → After at (identifier name at)
 unfolding identifier
 identifier_after name at =
-    after_then at (tagged name 115 at) _ (λ d e. after_then at (undisambiguated_identifier name d.1) _ (λ i f. omega (arith, after_is at _ d (tagged_after name 115 at) e, after_is d.1 _ i (undisambiguated_after name d.1) f)))
+    after_then at (optional_base_62_number name 115 at) _ (λ d e. after_then at (undisambiguated_identifier name d.1) _ (λ i f. omega (arith, after_is at _ d (tagged_after name 115 at) e, after_is d.1 _ i (undisambiguated_after name d.1) f)))
 
 -- Forms
 
@@ -117,13 +117,13 @@ indexed_after at (Some n) h = h
 lifetime_after : (name : List ℕ) (at : ℕ) → PositionAfter at (lifetime name (Some at)).1
 unfolding lifetime
 lifetime_after name at =
-    each (λ (l : Lifetime × Option ℕ). PositionAfter at l.1) (eqb (get_or name at 0) 76) (indexed_lifetime (number name (at + 1))) (NoLifetime, Some at) (indexed_after at (number name (at + 1)) (after_less at (at + 1 + 1) _ (omega arith) (number_after name (at + 1)))) (omega arith)
+    each (λ (l : Lifetime × Option ℕ). PositionAfter at l.1) (eqb (get_or name at 0) 76) (indexed_lifetime (base_62_number name (at + 1))) (NoLifetime, Some at) (indexed_after at (base_62_number name (at + 1)) (after_less at (at + 1 + 1) _ (omega arith) (number_after name (at + 1)))) (omega arith)
 
 -- an "L" that is read
 lifetime_forward : (name : List ℕ) (at after : ℕ) (life : Lifetime) → stands name 76 (Some at) ≡ true → lifetime name (Some at) ≡ (life, Some after) → at < after
 unfolding lifetime
 lifetime_forward name at after life e r =
-    let past : PositionAfter (at + 1) (lifetime name (Some at)).1 = rw e (indexed_after (at + 1) (number name (at + 1)) (after_less (at + 1) (at + 1 + 1) _ (omega arith) (number_after name (at + 1)))) in
+    let past : PositionAfter (at + 1) (lifetime name (Some at)).1 = rw e (indexed_after (at + 1) (base_62_number name (at + 1)) (after_less (at + 1) (at + 1 + 1) _ (omega arith) (number_after name (at + 1)))) in
     let here : at + 1 ≤ after = subst (λ (l : Lifetime × Option ℕ). PositionAfter (at + 1) l.1) r past in omega arith
 
 abbrev PathAfter : ℕ → PathForm → Type 0
@@ -143,8 +143,8 @@ path_form_after name at =
     let tag = get_or name at 0 in
     each P (eqb tag 67) _ _ (mapped_after P (at + 1) (λ (i : Identifier × ℕ). CrateRoot i.0 i.1) (identifier name (at + 1)) NoPathForm (λ r h. omega arith) tt (identifier_after name (at + 1))) (
     each P (eqb tag 78) _ _ (each P (is_ascii_alphabetic (get_or name (at + 1) 0)) (NestedIn (get_or name (at + 1) 0) (at + 2)) NoPathForm (omega arith) tt) (
-    each P (eqb tag 77) _ _ (mapped_after P (at + 1) (λ (d : ℕ × ℕ). InherentImpl d.1) (tagged name 115 (at + 1)) NoPathForm (λ r h. omega arith) tt (tagged_after name 115 (at + 1))) (
-    each P (eqb tag 88) _ _ (mapped_after P (at + 1) (λ (d : ℕ × ℕ). TraitImpl d.1) (tagged name 115 (at + 1)) NoPathForm (λ r h. omega arith) tt (tagged_after name 115 (at + 1))) (
+    each P (eqb tag 77) _ _ (mapped_after P (at + 1) (λ (d : ℕ × ℕ). InherentImpl d.1) (optional_base_62_number name 115 (at + 1)) NoPathForm (λ r h. omega arith) tt (tagged_after name 115 (at + 1))) (
+    each P (eqb tag 88) _ _ (mapped_after P (at + 1) (λ (d : ℕ × ℕ). TraitImpl d.1) (optional_base_62_number name 115 (at + 1)) NoPathForm (λ r h. omega arith) tt (tagged_after name 115 (at + 1))) (
     each P (eqb tag 89) (TraitDefinition (at + 1)) _ (omega arith) (
     each P (eqb tag 73) (WithArguments (at + 1)) _ (omega arith) (
     each P (eqb tag 66) _ NoPathForm (mapped_after P (at + 1) (λ (b : ℕ × ℕ). BackToPath b.0 b.1) (back_reference name at) NoPathForm (λ r h. omega arith) tt (back_reference_after name at)) tt))))))
@@ -194,8 +194,8 @@ type_form_by_after name at tag =
     each T (eqb tag 83) (SliceOf (at + 1)) _ (omega arith) (
     each T (eqb tag 65) (ArrayOf (at + 1)) _ (omega arith) (
     each T (eqb tag 84) (TupleOf (at + 1)) _ (omega arith) (
-    each T (eqb tag 70) _ _ (function_after name at (tagged name 71 (at + 1)) (tagged_after name 71 (at + 1))) (
-    each T (eqb tag 68) _ _ (mapped_after T (at + 1) (λ (b : ℕ × ℕ). DynOf b.0 b.1) (tagged name 71 (at + 1)) InvalidDyn (λ r h. omega arith) tt (tagged_after name 71 (at + 1))) (
+    each T (eqb tag 70) _ _ (function_after name at (optional_base_62_number name 71 (at + 1)) (tagged_after name 71 (at + 1))) (
+    each T (eqb tag 68) _ _ (mapped_after T (at + 1) (λ (b : ℕ × ℕ). DynOf b.0 b.1) (optional_base_62_number name 71 (at + 1)) InvalidDyn (λ r h. omega arith) tt (tagged_after name 71 (at + 1))) (
     each T (eqb tag 66) _ PathType (mapped_after T (at + 1) (λ (b : ℕ × ℕ). BackToType b.0 b.1) (back_reference name at) NoTypeForm (λ r h. omega arith) tt (back_reference_after name at)) tt)))))))))
 
 basic_after : (at : ℕ) (text : Option (List ℕ)) (other : TypeForm) → TypeAfter at other → TypeAfter at (option_map_or (λ (name : List ℕ). BasicType name (at + 1)) text other)

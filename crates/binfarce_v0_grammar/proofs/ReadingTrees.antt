@@ -75,8 +75,8 @@ path_tree name R (BackToPath target q) = Some (PathTarget target, q)
 
 trees : List ℕ → ℕ → Trees
 trees name zero = record { path = λ at. None; ty = λ at. None; constant = λ at. None }
-trees name (suc left) =
-    record { path = λ at. path_tree name (trees name left) (path_form name (Some at)); ty = λ at. type_tree name (trees name left) at (type_form name (Some at)); constant = λ at. const_tree (const_form name (Some at)) }
+trees name (suc levels_left) =
+    record { path = λ at. path_tree name (trees name levels_left) (path_form name (Some at)); ty = λ at. type_tree name (trees name levels_left) at (type_form name (Some at)); constant = λ at. const_tree (const_form name (Some at)) }
 
 path_at : (name : List ℕ) (l at : ℕ) → 1 ≤ l → (trees name l).path at ≡ path_tree name (trees name (l - 1)) (path_form name (Some at))
 unfolding trees

@@ -10,9 +10,9 @@ use Rattle.std.proofs.lemmas.List.{get_or-drop}
 use Rattle.std.proofs.lemmas.Bool.{cases_Bool, cond-true, cond-false, eq-eqb, ne_eqb}
 use Rattle.std.proofs.lemmas.Bool.Decides.{nat_tests}
 use Rattle.binfarce_text.specs.Steps.{◌>>=◌}
-use Rattle.binfarce_v0_grammar.specs.Base62.{digit_62, value_62, limited, number, tagged}
+use Rattle.binfarce_v0_grammar.specs.Base62.{digit_62, value_62, limited, base_62_number, optional_base_62_number}
 use Rattle.binfarce_v0_grammar.specs.Identifiers.{UndisambiguatedIdentifier, undisambiguated_identifier, identifier}
-use Rattle.binfarce_v0_grammar.specs.machine.Seen.{without_disambiguator}
+use Rattle.binfarce_v0_grammar.specs.machine.View.{without_disambiguator}
 use Rattle.binfarce_v0_grammar.proofs.NumberLemmas.{digit_below, run_length}
 
 abbrev next_62 : ℕ → ℕ → ℕ
@@ -23,22 +23,22 @@ abbrev run : List ℕ → ℕ
 run s = prefix_len is_ascii_alphanumeric s
 
 -- n digits after a number write less than 62 to their count for each that the number counts up to
-run_below : (s : List ℕ) (worth : ℕ) → fold next_62 worth (take (run s) s) < (worth + 1) * 62 ^ run s
-run_below [] worth = omega arith
-run_below (c ∷ s) worth = elim (cases_Bool (is_ascii_alphanumeric c)) [
+run_below : (s : List ℕ) (so_far : ℕ) → fold next_62 so_far (take (run s) s) < (so_far + 1) * 62 ^ run s
+run_below [] so_far = omega arith
+run_below (c ∷ s) so_far = elim (cases_Bool (is_ascii_alphanumeric c)) [
   | inl digit ↦
       let n : ℕ = run s in
       let more : run (c ∷ s) ≡ suc n = cond-true (is_ascii_alphanumeric c) (1 + n) 0 digit ∙ omega arith in
-      rw more (grown (fold next_62 (worth * 62 + digit_62 c) (take n s)) (62 ^ n) (62 ^ suc n) (ap (λ k. 62 ^ k) (let next : suc n ≡ n + 1 = omega arith in next) ∙ pow_more 62 n) (digit_below c digit) (run_below s (worth * 62 + digit_62 c)))
+      rw more (grown (fold next_62 (so_far * 62 + digit_62 c) (take n s)) (62 ^ n) (62 ^ suc n) (ap (λ k. 62 ^ k) (let next : suc n ≡ n + 1 = omega arith in next) ∙ pow_more 62 n) (digit_below c digit) (run_below s (so_far * 62 + digit_62 c)))
   | inr other ↦
       let none : run (c ∷ s) ≡ 0 = cond-false (is_ascii_alphanumeric c) _ 0 other in
       rw none (omega arith)
 ]
   where
-    grown : (value p q : ℕ) → q ≡ p * 62 → digit_62 c < 62 → value < (worth * 62 + digit_62 c + 1) * p → value < (worth + 1) * q
+    grown : (value p q : ℕ) → q ≡ p * 62 → digit_62 c < 62 → value < (so_far * 62 + digit_62 c + 1) * p → value < (so_far + 1) * q
     grown value p q e small h =
-        let top : (worth * 62 + digit_62 c + 1) * p ≤ (worth + 1) * 62 * p = mul-le-mul (omega (arith, small)) (omega arith) in
-        let same : (worth + 1) * 62 * p ≡ (worth + 1) * q = mul_assoc (worth + 1) 62 p ∙ ap (λ x. (worth + 1) * x) (let by : 62 * p ≡ q = omega (arith, e) in by) in
+        let top : (so_far * 62 + digit_62 c + 1) * p ≤ (so_far + 1) * 62 * p = mul-le-mul (omega (arith, small)) (omega arith) in
+        let same : (so_far + 1) * 62 * p ≡ (so_far + 1) * q = mul_assoc (so_far + 1) 62 p ∙ ap (λ x. (so_far + 1) * x) (let by : 62 * p ≡ q = omega (arith, e) in by) in
         omega (arith, h, top, same)
 
 ten_digits : (s : List ℕ) → run s ≤ 10 → value_62 (take (run s) s) < 2 ^ 64 - 2
@@ -96,8 +96,8 @@ place_of o = option_map (λ r. r.1) o
 limited_small : (v after : ℕ) → v < 2 ^ 64 → limited v after ≡ Some (v, after)
 limited_small v after h = grind (arith, nat_tests)
 
-pub skips_nothing : (name : List ℕ) (tag at : ℕ) → (get_or name at 0 ≡ tag → ⊥) → place_of (tagged name tag at) ≡ Some at
-unfolding tagged
+pub skips_nothing : (name : List ℕ) (tag at : ℕ) → (get_or name at 0 ≡ tag → ⊥) → place_of (optional_base_62_number name tag at) ≡ Some at
+unfolding optional_base_62_number
 skips_nothing name tag at ne = ap place_of (cond-false (eqb (get_or name at 0) tag) _ _ (ne_eqb (get_or name at 0) tag ne))
 
 -- the number that n digits from a position on write, where a "_" stands after them
@@ -120,20 +120,20 @@ ends_small true value after small =
 
 pub skips_small : (name : List ℕ) (tag at : ℕ) → get_or name at 0 ≡ tag
     → value_62 (take (run (drop (at + 1) name)) (drop (at + 1) name)) < 2 ^ 64 - 2
-    → place_of (tagged name tag at) ≡ (if get_or name (at + 1 + run (drop (at + 1) name)) 0 == 95 then Some (at + 1 + run (drop (at + 1) name) + 1) else None)
-unfolding tagged number
+    → place_of (optional_base_62_number name tag at) ≡ (if get_or name (at + 1 + run (drop (at + 1) name)) 0 == 95 then Some (at + 1 + run (drop (at + 1) name) + 1) else None)
+unfolding optional_base_62_number base_62_number
 skips_small name tag at here small =
     let n : ℕ = run (drop (at + 1) name) in
-    let counted : number name (at + 1) ≡ number_of name (at + 1) n n = ap (number_of name (at + 1) n) (run_length is_ascii_alphanumeric (drop (at + 1) name)) in
+    let counted : base_62_number name (at + 1) ≡ number_of name (at + 1) n n = ap (number_of name (at + 1) n) (run_length is_ascii_alphanumeric (drop (at + 1) name)) in
     ap place_of (cond-true (eqb (get_or name at 0) tag) _ _ (eq-eqb (get_or name at 0) tag here))
     ∙ ap (λ o. place_of (o >>= λ r. limited (r.0 + 1) r.1)) counted
     ∙ ends_small (eqb (get_or name (at + 1 + n) 0) 95) _ (at + 1 + n + 1) (worth_below n _ small)
 
 -- Identifiers
 
-pub identifier_name : (name : List ℕ) (at : ℕ) → without_disambiguator (identifier name at) ≡ (place_of (tagged name 115 at) >>= λ start. undisambiguated_identifier name start)
+pub identifier_name : (name : List ℕ) (at : ℕ) → without_disambiguator (identifier name at) ≡ (place_of (optional_base_62_number name 115 at) >>= λ start. undisambiguated_identifier name start)
 unfolding identifier
-identifier_name name at = by (tagged name 115 at)
+identifier_name name at = by (optional_base_62_number name 115 at)
   where
     named : (d : ℕ) (o : Option (UndisambiguatedIdentifier × ℕ)) → without_disambiguator (o >>= λ i. Some (record { disambiguator = d; name = i.0 }, i.1)) ≡ o
     named d None = refl

@@ -21,8 +21,8 @@ abbrev pub limited : (value after : ℕ) → Option (ℕ × ℕ)
 limited value after = if nat_lt value (2 ^ 64) then Some (value, after) else None
 
 -- <base-62-number> = {<0-9a-zA-Z>} "_": the longest run of digits, and a "_" after it. No digits are 0, and others one more than what they write
-unfoldable pub number : (part : List ℕ) (at : ℕ) → Option (ℕ × ℕ)
-number part at =
+unfoldable pub base_62_number : (part : List ℕ) (at : ℕ) → Option (ℕ × ℕ)
+base_62_number part at =
     let digits = take_while is_ascii_alphanumeric (drop at part) in
     let end = at + length digits in
     let value = if length digits == 0 then 0 else value_62 digits + 1 in
@@ -30,14 +30,14 @@ number part at =
 
 -- a number after a tag, as in <disambiguator> = "s" <base-62-number> and <binder> = "G" <base-62-number>: 0 without the
 -- tag, and else one more than the number
-unfoldable pub tagged : (part : List ℕ) (tag at : ℕ) → Option (ℕ × ℕ)
-tagged part tag at =
-    if slice_index part at == tag then (number part (at + 1) >>= λ r. limited (r.0 + 1) r.1) else Some (0, at)
+unfoldable pub optional_base_62_number : (part : List ℕ) (tag at : ℕ) → Option (ℕ × ℕ)
+optional_base_62_number part tag at =
+    if slice_index part at == tag then (base_62_number part (at + 1) >>= λ r. limited (r.0 + 1) r.1) else Some (0, at)
 
 -- <backref> = "B" <base-62-number>, with its "B" at this position: the position that it names, which is an earlier one
 unfoldable pub back_reference : (part : List ℕ) (at : ℕ) → Option (ℕ × ℕ)
 back_reference part at =
-    number part (at + 1) >>= λ r. (if nat_lt r.0 at then Some r else None)
+    base_62_number part (at + 1) >>= λ r. (if nat_lt r.0 at then Some r else None)
 
 -- {<0-9a-f>} "_": the longest run of digits, and a "_" after it
 unfoldable pub hex_digits : (part : List ℕ) (at : ℕ) → Option (List ℕ × ℕ)
@@ -56,10 +56,10 @@ hex_number digits =
     if nat_le (length digits) 16 then Some (fold (λ value byte. value * 16 + hex_digit byte) 0 digits) else None
 
 -- "_" is 0, "0_" is 1 and "10_" is 63; with a tag it is one more
-worked_number : number (codes "10_") 0 ≡ Some (63, 3)
-unfolding number digit_62
+worked_number : base_62_number (codes "10_") 0 ≡ Some (63, 3)
+unfolding base_62_number digit_62
 worked_number = refl
 
-worked_tag : tagged (codes "s_C1a") 's' 0 ≡ Some (1, 2)
-unfolding tagged number digit_62
+worked_tag : optional_base_62_number (codes "s_C1a") 's' 0 ≡ Some (1, 2)
+unfolding optional_base_62_number base_62_number digit_62
 worked_tag = refl

@@ -7,7 +7,7 @@ use Rattle.std.specs.Char.{is_ascii_alphabetic}
 use Rattle.binfarce_text.specs.Letters.{'A', 'B', 'C', 'D', 'F', 'G', 'I', 'K', 'L', 'M', 'N', 'O', 'P', 'Q', 'R', 'S', 'T', 'U', 'X', 'Y', 'a', 'b', 'c', 'd', 'e', 'f', 'h', 'i', 'j', 'l', 'm', 'n', 'o', 'p', 's', 't', 'u', 'v', 'x', 'y', 'z'}
 use Rattle.binfarce_text.specs.Characters.{is_scalar}
 use Rattle.binfarce_text.specs.Steps.{◌>>=◌}
-use Rattle.binfarce_v0_grammar.specs.Base62.{digit_62, number, tagged, back_reference, hex_digits, hex_number}
+use Rattle.binfarce_v0_grammar.specs.Base62.{digit_62, base_62_number, optional_base_62_number, back_reference, hex_digits, hex_number}
 use Rattle.binfarce_v0_grammar.specs.Identifiers.{is_empty, UndisambiguatedIdentifier, undisambiguated_identifier, Identifier, identifier, past}
 
 -- a byte stands at a position
@@ -56,8 +56,8 @@ path_form part (Some at) =
     let tag = slice_index part at in
     if tag == 'C' then option_map_or (λ i. CrateRoot i.0 i.1) (identifier part (at + 1)) NoPathForm else (
     if tag == 'N' then nested_form (slice_index part (at + 1)) (at + 2) else (
-    if tag == 'M' then option_map_or (λ d. InherentImpl d.1) (tagged part 's' (at + 1)) NoPathForm else (
-    if tag == 'X' then option_map_or (λ d. TraitImpl d.1) (tagged part 's' (at + 1)) NoPathForm else (
+    if tag == 'M' then option_map_or (λ d. InherentImpl d.1) (optional_base_62_number part 's' (at + 1)) NoPathForm else (
+    if tag == 'X' then option_map_or (λ d. TraitImpl d.1) (optional_base_62_number part 's' (at + 1)) NoPathForm else (
     if tag == 'Y' then TraitDefinition (at + 1) else (
     if tag == 'I' then WithArguments (at + 1) else (
     if tag == 'B' then option_map_or (λ b. BackToPath b.0 b.1) (back_reference part at) NoPathForm else NoPathForm))))))
@@ -76,7 +76,7 @@ unfoldable pub lifetime : (part : List ℕ) (at : Option ℕ) → Lifetime × Op
 lifetime part None = (NoLifetime, None)
 lifetime part (Some at) =
     if slice_index part at == 'L'
-    then option_map_or (λ n. (IndexedLifetime n.0, Some n.1)) (number part (at + 1)) (InvalidLifetime, None)
+    then option_map_or (λ n. (IndexedLifetime n.0, Some n.1)) (base_62_number part (at + 1)) (InvalidLifetime, None)
     else (NoLifetime, Some at)
 
 -- <basic-type>
@@ -168,8 +168,8 @@ type_form_by part at tag =
     if tag == 'S' then SliceOf (at + 1) else (
     if tag == 'A' then ArrayOf (at + 1) else (
     if tag == 'T' then TupleOf (at + 1) else (
-    if tag == 'F' then function_form part (tagged part 'G' (at + 1)) else (
-    if tag == 'D' then option_map_or (λ b. DynOf b.0 b.1) (tagged part 'G' (at + 1)) InvalidDyn else (
+    if tag == 'F' then function_form part (optional_base_62_number part 'G' (at + 1)) else (
+    if tag == 'D' then option_map_or (λ b. DynOf b.0 b.1) (optional_base_62_number part 'G' (at + 1)) InvalidDyn else (
     if tag == 'B' then option_map_or (λ b. BackToType b.0 b.1) (back_reference part at) NoTypeForm else PathType)))))))))
 
 unfoldable pub type_form : (part : List ℕ) (at : Option ℕ) → TypeForm
@@ -256,7 +256,7 @@ unfolding path_form
 worked_path = refl
 
 worked_type : type_form (codes "RL0_h") (Some 0) ≡ ReferenceTo false (IndexedLifetime 1) 4
-unfolding type_form type_form_by basic_type lifetime number digit_62
+unfolding type_form type_form_by basic_type lifetime base_62_number digit_62
 worked_type = refl
 
 worked_const : const_form (codes "an80_") (Some 0) ≡ ValueConst (codes "i8") (Integer true (codes "80")) 5

@@ -1,14 +1,12 @@
 -- Identifiers of a v0 mangling (RFC 2603, "Identifiers" and "Punycode identifiers").
-use Rattle.std.specs.Prelude.{◌≡◌, ℕ, ◌+◌, List, [], ◌++◌, Option, Some, None, Bool, true, false, ◌&&◌, if◌then◌else◌, ◌==◌, nat_le, slice_index, slice_range, drop, length, codes, encode_utf8_all}
+use Rattle.std.specs.Prelude.{◌≡◌, ℕ, ◌+◌, List, [], Option, Some, None, Bool, true, false, if◌then◌else◌, ◌==◌, nat_le, slice_index, slice_range, drop, length, codes}
 use Rattle.std.proofs.Common.{refl}
-use Rattle.std.specs.Option.{option_map_or}
 use Rattle.std.specs.List.{before_last, after_last, take_while}
 use Rattle.std.specs.Char.{is_ascii_digit}
 use Rattle.std.specs.Str.Parse.{digits_value}
 use Rattle.binfarce_text.specs.Letters.{'0', 's', 'u', '_'}
 use Rattle.binfarce_text.specs.Steps.{◌>>=◌}
-use Rattle.binfarce_v0_grammar.specs.Base62.{digit_62, limited, number, tagged}
-use Rattle.binfarce_v0_grammar.specs.Punycode.{digit_of, weight, integer, scaled_bias, adapted_bias, decoder_after, text_of, punycode_decoded}
+use Rattle.binfarce_v0_grammar.specs.Base62.{digit_62, limited, base_62_number, optional_base_62_number}
 
 abbrev pub is_empty : (text : List ℕ) → Bool
 is_empty text = length text == 0
@@ -22,8 +20,8 @@ pub record UndisambiguatedIdentifier : Type 0 where
 unfoldable pub length_at : (part : List ℕ) (at : ℕ) → Option (ℕ × ℕ)
 length_at part at =
     let digits = take_while is_ascii_digit (drop at part) in
-    let number = if is_empty digits then None else limited (digits_value 10 digits) (at + length digits) in
-    if slice_index part at == '0' then Some (0, at + 1) else number
+    let base_62_number = if is_empty digits then None else limited (digits_value 10 digits) (at + length digits) in
+    if slice_index part at == '0' then Some (0, at + 1) else base_62_number
 
 -- the position after a byte that may stand here
 abbrev pub past : (part : List ℕ) (byte at : ℕ) → ℕ
@@ -57,28 +55,10 @@ pub record Identifier : Type 0 where
 -- <identifier> = [<disambiguator>] <undisambiguated-identifier>
 unfoldable pub identifier : (part : List ℕ) (at : ℕ) → Option (Identifier × ℕ)
 identifier part at =
-    tagged part 's' at >>= λ d. (undisambiguated_identifier part d.1 >>= λ i. Some (record { disambiguator = d.0; name = i.0 }, i.1))
+    optional_base_62_number part 's' at >>= λ d. (undisambiguated_identifier part d.1 >>= λ i. Some (record { disambiguator = d.0; name = i.0 }, i.1))
 
--- an identifier without a character
-abbrev pub is_unnamed : (i : UndisambiguatedIdentifier) → Bool
-is_unnamed i = is_empty i.ascii && is_empty i.punycode
-
--- Punycode that can't be decoded is shown as it stands
-abbrev pub undecoded : (ascii punycode : List ℕ) → List ℕ
-undecoded ascii punycode =
-    codes "punycode{" ++ ((if is_empty ascii then [] else ascii ++ codes "-") ++ (punycode ++ codes "}"))
-
--- the text of an identifier: its ASCII part, or the decoded text of both parts
-unfoldable pub identifier_text : (i : UndisambiguatedIdentifier) → List ℕ
-identifier_text i =
-    if is_empty i.punycode then i.ascii else option_map_or encode_utf8_all (punycode_decoded i.ascii i.punycode) (undecoded i.ascii i.punycode)
-
--- `s_u9bcher_kva` has the disambiguator 1, and is `bücher`
+-- `s_u9bcher_kva` has the disambiguator 1; the last `_` parts its ASCII from its Punycode
 worked_identifier : identifier (codes "s_u9bcher_kva") 0
     ≡ Some (record { disambiguator = 1; name = record { ascii = codes "bcher"; punycode = codes "kva" } }, 13)
-unfolding identifier undisambiguated_identifier identifier_bytes identifier_of length_at tagged number digit_62
+unfolding identifier undisambiguated_identifier identifier_bytes identifier_of length_at optional_base_62_number base_62_number digit_62
 worked_identifier = refl
-
-worked_text : identifier_text (record { ascii = codes "bcher"; punycode = codes "kva" }) ≡ encode_utf8_all (codes "bücher")
-unfolding identifier_text punycode_decoded text_of decoder_after adapted_bias scaled_bias integer weight digit_of
-worked_text = refl

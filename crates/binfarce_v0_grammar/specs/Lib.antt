@@ -1,5 +1,4 @@
 pub mod Base62
-pub mod Punycode
 pub mod Identifiers
 pub mod Forms
 pub mod Tree

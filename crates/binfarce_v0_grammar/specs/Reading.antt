@@ -6,7 +6,7 @@
 use Rattle.std.specs.Prelude.{◌≡◌, ℕ, ◌+◌, List, [], Some, true, false, codes}
 use Rattle.std.proofs.Common.{refl}
 use Rattle.binfarce_text.specs.Letters.{'E', 'K', 'L', 'p', 'u'}
-use Rattle.binfarce_v0_grammar.specs.Base62.{digit_62, number, tagged, back_reference}
+use Rattle.binfarce_v0_grammar.specs.Base62.{digit_62, base_62_number, optional_base_62_number, back_reference}
 use Rattle.binfarce_v0_grammar.specs.Identifiers.{length_at, identifier_of, identifier_bytes, identifier, undisambiguated_identifier}
 use Rattle.binfarce_v0_grammar.specs.Forms.{NoLifetime, stands, lifetime, basic_type, path_form, type_form_by, type_form, const_form, CrateRoot, NestedIn, InherentImpl, TraitImpl, TraitDefinition, WithArguments, BackToPath, BasicType, ReferenceTo, PointerTo, SliceOf, ArrayOf, TupleOf, FunctionOf, DynOf, BackToType, PathType, UntypedPlaceholderConst, PlaceholderConst, ValueConst, BackToConst}
 use Rattle.binfarce_v0_grammar.specs.Tree.{PathTree, TypeTree, ConstTree, Item, Items, Bindings, UntypedPlaceholder, Placeholder, Value, ConstTarget, Crate, Nested, OfType, OfImpl, OfTrait, Generic, PathTarget, Basic, Reference, Pointer, Slice, Array, Tuple, Function, FunctionTo, Dyn, Named, TypeTarget, LifetimeItem, TypeItem, ConstItem, TraitItem, NoItems, ItemThen, NoBindings, Binding, InvalidBinding, Listed, Arguments, Types, Traits}
@@ -85,5 +85,5 @@ unfoldable mutual
 
 -- `a::<&u8, &u8>`, of which the second type is a back reference to position 4
 worked_reading : ReadsPath (codes "IC1aRhB3_E") (Generic (Crate (record { disambiguator = 0; name = record { ascii = codes "a"; punycode = [] } })) (ItemThen (TypeItem (Reference false NoLifetime (Basic (codes "u8")))) (ItemThen (TypeItem (TypeTarget 4)) NoItems))) 0 10
-unfolding ReadsPath path_form type_form type_form_by basic_type lifetime back_reference number digit_62 tagged length_at identifier_of identifier_bytes undisambiguated_identifier identifier
+unfolding ReadsPath path_form type_form type_form_by basic_type lifetime back_reference base_62_number digit_62 optional_base_62_number length_at identifier_of identifier_bytes undisambiguated_identifier identifier
 worked_reading = (1, 4, refl, refl, (6, refl, (refl, refl, (5, refl, refl)), (9, refl, (refl, refl, refl), (refl, refl))))

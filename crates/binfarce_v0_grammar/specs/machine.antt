@@ -1,5 +1,4 @@
 -- Definitions that only private contracts cite.
 pub mod Numbers
-pub mod Decoded
-pub mod Seen
+pub mod View
 pub mod Ends

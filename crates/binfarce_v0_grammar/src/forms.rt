@@ -7,25 +7,11 @@ mod signature;
 ghost use Rattle.std.specs.Prelude.{◌≡◌, ◌<◌, IfSome, length};
 ghost use Rattle.std.specs.Option.{ForSome, option_map};
 ghost use Rattle.std.specs.Str.{IsAscii};
-ghost use Rattle.binfarce_v0_grammar.specs.Forms.{
-  nested_form,
-  path_form,
-  lifetime,
-  basic_type,
-  abi,
-  function_form,
-  reference_form,
-  type_form_by,
-  type_form,
-};
-ghost use Rattle.binfarce_v0_grammar.specs.machine.Seen.{
-  path_seen,
-  lifetime_seen,
-  type_seen,
-};
+ghost use Rattle.binfarce_v0_grammar.specs.Forms.{nested_form, path_form, lifetime, basic_type, abi, function_form, reference_form, type_form_by, type_form};
+ghost use Rattle.binfarce_v0_grammar.specs.machine.View.{path_view, lifetime_view, type_view};
 
 use crate::identifiers::{Identifier, identifier_at, undisambiguated_at};
-use crate::numbers::{back_reference, byte_at, number, past, tagged};
+use crate::numbers::{back_reference, base_62_number, byte_at, optional_base_62_number, past};
 pub use consts::{ConstForm, ConstValue, const_form};
 pub use signature::Signature;
 
@@ -94,14 +80,6 @@ pub enum TypeForm<'a> {
     Path,
 }
 
-/// Where a tree is shown: a path as a value, a path as a type, and a trait, whose `<..>` its bindings may go on with.
-#[derive(Clone, Copy, PartialEq, Eq, PartialOrd, Ord)]
-pub enum Position {
-    InValue,
-    InType,
-    OpenTrait,
-}
-
 /// What the items of a list are.
 #[derive(Clone, Copy)]
 pub enum Listed {
@@ -115,7 +93,7 @@ pub enum Listed {
 
 // A nested path's namespace.
 fn nested_form<'a>(namespace: u8, after: usize) -> PathForm<'a>
-    ensures { path_seen result ≡ nested_form namespace after }
+    ensures { path_view result ≡ nested_form namespace after }
 {
     match namespace {
         b'A'..=b'Z' | b'a'..=b'z' => PathForm::NestedIn(namespace, after),
@@ -127,7 +105,7 @@ fn nested_form<'a>(namespace: u8, after: usize) -> PathForm<'a>
 #[tactic(auto, unfolding(crate::specs::Forms::path_form))]
 pub fn path_form<'a>(name: &'a str, at: Option<usize>) -> PathForm<'a>
     requires ascii { IsAscii name.now }
-    ensures { path_seen result ≡ path_form name.now at }
+    ensures { path_view result ≡ path_form name.now at }
 {
     let Some(at) = at else {
         return PathForm::Nothing;
@@ -146,11 +124,11 @@ pub fn path_form<'a>(name: &'a str, at: Option<usize>) -> PathForm<'a>
                 nested_form(namespace, at + 2)
             }
         }
-        b'M' => match tagged(bytes, b's', at + 1) {
+        b'M' => match optional_base_62_number(bytes, b's', at + 1) {
             Some((_, after)) => PathForm::InherentImpl(after),
             None => PathForm::Nothing,
         },
-        b'X' => match tagged(bytes, b's', at + 1) {
+        b'X' => match optional_base_62_number(bytes, b's', at + 1) {
             Some((_, after)) => PathForm::TraitImpl(after),
             None => PathForm::Nothing,
         },
@@ -168,7 +146,7 @@ pub fn path_form<'a>(name: &'a str, at: Option<usize>) -> PathForm<'a>
 #[inline(always)]
 #[tactic(auto, unfolding(crate::specs::Forms::lifetime))]
 pub fn lifetime_form(name: &[u8], at: Option<usize>) -> (Lifetime, Option<usize>)
-    ensures { (lifetime_seen result.0, result.1) ≡ lifetime name.now at }
+    ensures { (lifetime_view result.0, result.1) ≡ lifetime name.now at }
 {
     let Some(at) = at else {
         return (Lifetime::Nothing, None);
@@ -176,7 +154,7 @@ pub fn lifetime_form(name: &[u8], at: Option<usize>) -> (Lifetime, Option<usize>
     if byte_at(name, at) != b'L' {
         return (Lifetime::Nothing, Some(at));
     }
-    match number(name, at + 1) {
+    match base_62_number(name, at + 1) {
         Some((index, after)) => (Lifetime::Indexed(index), Some(after)),
         None => (Lifetime::Invalid, None),
     }
@@ -238,7 +216,7 @@ fn abi<'a>(name: &'a str, at: usize) -> Option<(Option<&'a str>, usize)>
 /// `"F"` and the front of a `<fn-sig>`, after its binder.
 pub fn function_form<'a>(name: &'a str, binder: Option<(u64, usize)>) -> TypeForm<'a>
     requires ascii { IsAscii name.now }
-    ensures { type_seen result ≡ function_form name.now binder }
+    ensures { type_view result ≡ function_form name.now binder }
 {
     let Some((binder, at)) = binder else {
         return TypeForm::Nothing;
@@ -260,7 +238,7 @@ pub fn function_form<'a>(name: &'a str, binder: Option<(u64, usize)>) -> TypeFor
 
 // `"R"` or `"Q"` with the lifetime after it.
 fn reference_form<'a>(mutable: bool, life: (Lifetime, Option<usize>)) -> TypeForm<'a>
-    ensures { type_seen result ≡ reference_form mutable (lifetime_seen life.0, life.1) }
+    ensures { type_view result ≡ reference_form mutable (lifetime_view life.0, life.1) }
 {
     let (life, after) = life;
     match after {
@@ -274,7 +252,7 @@ fn reference_form<'a>(mutable: bool, life: (Lifetime, Option<usize>)) -> TypeFor
 fn type_form_by<'a>(name: &'a str, at: usize, tag: u8) -> TypeForm<'a>
     requires ascii { IsAscii name.now }
     requires within { at < length name.now }
-    ensures { type_seen result ≡ type_form_by name.now at tag }
+    ensures { type_view result ≡ type_form_by name.now at tag }
 {
     let bytes = name.as_bytes();
     match tag {
@@ -285,8 +263,8 @@ fn type_form_by<'a>(name: &'a str, at: usize, tag: u8) -> TypeForm<'a>
         b'S' => TypeForm::SliceOf(at + 1),
         b'A' => TypeForm::ArrayOf(at + 1),
         b'T' => TypeForm::TupleOf(at + 1),
-        b'F' => function_form(name, tagged(bytes, b'G', at + 1)),
-        b'D' => match tagged(bytes, b'G', at + 1) {
+        b'F' => function_form(name, optional_base_62_number(bytes, b'G', at + 1)),
+        b'D' => match optional_base_62_number(bytes, b'G', at + 1) {
             Some((binder, after)) => TypeForm::DynOf(binder, after),
             None => TypeForm::InvalidDyn,
         },
@@ -302,7 +280,7 @@ fn type_form_by<'a>(name: &'a str, at: usize, tag: u8) -> TypeForm<'a>
 #[tactic(auto, unfolding(crate::specs::Forms::type_form))]
 pub fn type_form<'a>(name: &'a str, at: Option<usize>) -> TypeForm<'a>
     requires ascii { IsAscii name.now }
-    ensures { type_seen result ≡ type_form name.now at }
+    ensures { type_view result ≡ type_form name.now at }
 {
     let Some(at) = at else {
         return TypeForm::Nothing;

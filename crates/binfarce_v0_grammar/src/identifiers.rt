@@ -4,19 +4,12 @@ ghost use Rattle.std.specs.Prelude.{◌≡◌, ◌-◌, ◌≤◌, ◌==◌, IfS
 ghost use Rattle.std.specs.Option.{option_map};
 ghost use Rattle.std.specs.Str.{IsAscii};
 ghost use Rattle.std.specs.List.{suffix_len};
-ghost use Rattle.binfarce_v0_grammar.specs.Identifiers.{
-  identifier_of,
-  identifier_bytes,
-  undisambiguated_identifier,
-  identifier,
-};
-ghost use Rattle.binfarce_v0_grammar.specs.machine.Seen.{
-  undisambiguated_seen,
-  identifier_seen,
-  without_disambiguator,
-};
+ghost use Rattle.binfarce_v0_grammar.specs.Identifiers.{identifier_of, identifier_bytes, undisambiguated_identifier, identifier};
+ghost use Rattle.binfarce_v0_grammar.specs.machine.View.{undisambiguated_view, identifier_view, without_disambiguator};
 
-use crate::numbers::{byte_at, length_at, past, skip_tagged, tagged};
+use crate::numbers::{
+    byte_at, length_at, optional_base_62_number, past, skip_optional_base_62_number,
+};
 
 /// `<undisambiguated-identifier>`: its ASCII part, and its Punycode part. Both are parts of the name: nothing is copied.
 #[derive(Clone, Copy)]
@@ -64,7 +57,7 @@ pub fn part(text: &str, start: usize, end: usize) -> &str
 #[tactic(auto, using(crate::proofs::TextLemmas::identifier_split, crate::proofs::TextLemmas::identifier_unsplit), unfolding(crate::specs::Identifiers::identifier_of))]
 fn identifier_of<'a>(is_punycode: bool, text: &'a str) -> Option<UndisambiguatedIdentifier<'a>>
     requires { IsAscii text.now }
-    ensures value { option_map undisambiguated_seen result ≡ identifier_of is_punycode text.now }
+    ensures value { option_map undisambiguated_view result ≡ identifier_of is_punycode text.now }
     ensures ascii { IfSome result (λ i. IsAscii i.ascii.now) }
 {
     if !is_punycode {
@@ -92,7 +85,7 @@ fn identifier_bytes<'a>(
     size: u64,
 ) -> Option<(UndisambiguatedIdentifier<'a>, usize)>
     requires ascii { IsAscii name.now }
-    ensures value { option_map (λ i. (undisambiguated_seen i.0, i.1)) result ≡ identifier_bytes name.now is_punycode start size }
+    ensures value { option_map (λ i. (undisambiguated_view i.0, i.1)) result ≡ identifier_bytes name.now is_punycode start size }
     ensures ascii { IfSome result (λ i. IsAscii i.0.ascii.now) }
 {
     let end = start.checked_add(size as usize)?;
@@ -114,7 +107,7 @@ pub fn undisambiguated_at<'a>(
     at: usize,
 ) -> Option<(UndisambiguatedIdentifier<'a>, usize)>
     requires ascii { IsAscii name.now }
-    ensures value { option_map (λ i. (undisambiguated_seen i.0, i.1)) result ≡ undisambiguated_identifier name.now at }
+    ensures value { option_map (λ i. (undisambiguated_view i.0, i.1)) result ≡ undisambiguated_identifier name.now at }
     ensures ascii { IfSome result (λ i. IsAscii i.0.ascii.now) }
 {
     let bytes = name.as_bytes();
@@ -128,9 +121,9 @@ pub fn undisambiguated_at<'a>(
 #[tactic(auto, unfolding(crate::specs::Identifiers::identifier))]
 pub fn identifier_at<'a>(name: &'a str, at: usize) -> Option<(Identifier<'a>, usize)>
     requires ascii { IsAscii name.now }
-    ensures { option_map (λ l. (identifier_seen l.0, l.1)) result ≡ identifier name.now at }
+    ensures { option_map (λ l. (identifier_view l.0, l.1)) result ≡ identifier name.now at }
 {
-    let (disambiguator, start) = tagged(name.as_bytes(), b's', at)?;
+    let (disambiguator, start) = optional_base_62_number(name.as_bytes(), b's', at)?;
     let (undisambiguated, after) = undisambiguated_at(name, start)?;
     let identifier = Identifier {
         disambiguator,
@@ -148,8 +141,8 @@ pub fn identifier_name_at<'a>(
     at: usize,
 ) -> Option<(UndisambiguatedIdentifier<'a>, usize)>
     requires ascii { IsAscii name.now }
-    ensures { option_map (λ i. (undisambiguated_seen i.0, i.1)) result ≡ without_disambiguator (identifier name.now at) }
+    ensures { option_map (λ i. (undisambiguated_view i.0, i.1)) result ≡ without_disambiguator (identifier name.now at) }
 {
-    let start = skip_tagged(name.as_bytes(), b's', at)?;
+    let start = skip_optional_base_62_number(name.as_bytes(), b's', at)?;
     undisambiguated_at(name, start)
 }

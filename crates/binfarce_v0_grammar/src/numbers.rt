@@ -5,7 +5,7 @@ ghost use Rattle.std.specs.Prelude.{◌≡◌, ◌+◌, ◌-◌, ◌*◌, ◌^�
 ghost use Rattle.std.specs.Char.{is_ascii_alphanumeric, is_ascii_digit};
 ghost use Rattle.std.specs.List.{prefix_len};
 ghost use Rattle.std.specs.Option.{option_map};
-ghost use Rattle.binfarce_v0_grammar.specs.Base62.{digit_62, value_62, number, tagged, back_reference, hex_digit, hex_number};
+ghost use Rattle.binfarce_v0_grammar.specs.Base62.{digit_62, value_62, base_62_number, optional_base_62_number, back_reference, hex_digit, hex_number};
 ghost use Rattle.binfarce_v0_grammar.specs.Identifiers.{length_at, past};
 ghost use Rattle.binfarce_v0_grammar.specs.machine.Numbers.{number_from, length_from, hex_length};
 
@@ -49,10 +49,10 @@ fn digit_62(c: u8) -> Option<u8>
 
 // A number with one more digit after it, where it is below 2^64.
 #[inline(always)]
-fn with_digit(worth: u64, base: u64, digit: u8) -> Option<u64>
-    ensures { MatchOption result (2 ^ 64 ≤ worth * base + digit) (λ v. v ≡ worth * base + digit) }
+fn with_digit(value: u64, base: u64, digit: u8) -> Option<u64>
+    ensures { MatchOption result (2 ^ 64 ≤ value * base + digit) (λ v. v ≡ value * base + digit) }
 {
-    worth.checked_mul(base)?.checked_add(u64::from(digit))
+    value.checked_mul(base)?.checked_add(u64::from(digit))
 }
 
 // How many base-62 digits always write a number below 2^64.
@@ -65,16 +65,16 @@ fn digits_62(name: &[u8], start: usize) -> Option<(u64, usize)>
     ensures { result ≡ number_from (drop start name.now) 0 start }
 {
     let end = name.len().min(start.saturating_add(FEW_DIGITS));
-    let mut worth: u64 = 0;
+    let mut value: u64 = 0;
     for at in start..end {
         let c = name[at];
         if c == b'_' {
-            return Some((worth + 1, at + 1));
+            return Some((value + 1, at + 1));
         }
         let digit = digit_62(c)?;
-        worth = worth * 62 + u64::from(digit);
+        value = value * 62 + u64::from(digit);
     }
-    more_digits_62(name, worth, end)
+    more_digits_62(name, value, end)
 }
 
 // The same after digits that are worth `worth`.
@@ -83,14 +83,14 @@ fn digits_62(name: &[u8], start: usize) -> Option<(u64, usize)>
 fn more_digits_62(name: &[u8], before: u64, start: usize) -> Option<(u64, usize)>
     ensures { result ≡ number_from (drop start name.now) before start }
 {
-    let mut worth = before;
+    let mut value = before;
     for at in start..name.len() {
         let c = name[at];
         if c == b'_' {
-            return Some((worth.checked_add(1)?, at + 1));
+            return Some((value.checked_add(1)?, at + 1));
         }
         let digit = digit_62(c)?;
-        worth = with_digit(worth, 62, digit)?;
+        value = with_digit(value, 62, digit)?;
     }
     None
 }
@@ -98,8 +98,8 @@ fn more_digits_62(name: &[u8], before: u64, start: usize) -> Option<(u64, usize)
 /// `<base-62-number>` at a position. None where it is invalid.
 #[inline(always)]
 #[tactic(auto, using(crate::proofs::NumberLemmas::number_step))]
-pub fn number(name: &[u8], at: usize) -> Option<(u64, usize)>
-    ensures { result ≡ number name.now at }
+pub fn base_62_number(name: &[u8], at: usize) -> Option<(u64, usize)>
+    ensures { result ≡ base_62_number name.now at }
 {
     if byte_at(name, at) == b'_' {
         Some((0, at + 1))
@@ -111,13 +111,13 @@ pub fn number(name: &[u8], at: usize) -> Option<(u64, usize)>
 /// A number after a tag, as a disambiguator after `s` or a binder after `G`: 0 where the tag doesn't stand there, and else
 /// one more than the number. None where the number is invalid.
 #[inline(always)]
-#[tactic(auto, unfolding(crate::specs::Base62::tagged))]
-pub fn tagged(name: &[u8], tag: u8, at: usize) -> Option<(u64, usize)>
+#[tactic(auto, unfolding(crate::specs::Base62::optional_base_62_number))]
+pub fn optional_base_62_number(name: &[u8], tag: u8, at: usize) -> Option<(u64, usize)>
     requires { 0 < tag }
-    ensures { result ≡ tagged name.now tag at }
+    ensures { result ≡ optional_base_62_number name.now tag at }
 {
     if byte_at(name, at) == tag {
-        let (value, after) = number(name, at + 1)?;
+        let (value, after) = base_62_number(name, at + 1)?;
         Some((value.checked_add(1)?, after))
     } else {
         Some((0, at))
@@ -163,16 +163,16 @@ fn write_small(name: &[u8], start: usize, end: usize) -> bool
 /// The position after what `tagged` reads, whose digits are checked and decoded only where they may write too much.
 #[inline(always)]
 #[tactic(auto, using(crate::proofs::SkipLemmas::skips_nothing, crate::proofs::SkipLemmas::skips_small))]
-pub fn skip_tagged(name: &[u8], tag: u8, at: usize) -> Option<usize>
+pub fn skip_optional_base_62_number(name: &[u8], tag: u8, at: usize) -> Option<usize>
     requires { 0 < tag }
-    ensures { result ≡ option_map (λ r. r.1) (tagged name.now tag at) }
+    ensures { result ≡ option_map (λ r. r.1) (optional_base_62_number name.now tag at) }
 {
     if byte_at(name, at) != tag {
         return Some(at);
     }
     let end = digits_end(name, at + 1);
     if !write_small(name, at + 1, end) {
-        let (_, after) = tagged(name, tag, at)?;
+        let (_, after) = optional_base_62_number(name, tag, at)?;
         return Some(after);
     }
     if byte_at(name, end) == b'_' {
@@ -190,7 +190,7 @@ pub fn back_reference(name: &[u8], at: usize) -> Option<(usize, usize)>
     requires { at < length name.now }
     ensures { result ≡ back_reference name.now at }
 {
-    let (target, after) = number(name, at + 1)?;
+    let (target, after) = base_62_number(name, at + 1)?;
     let target = target as usize;
     if target < at {
         Some((target, after))
@@ -216,16 +216,16 @@ fn decimal_digit(c: u8) -> Option<u8>
 fn digits_10(name: &[u8], start: usize) -> Option<(u64, usize)>
     ensures { result ≡ length_from (drop start name.now) 0 start }
 {
-    let mut worth: u64 = 0;
+    let mut value: u64 = 0;
     let mut after = start;
     for at in start..name.len() {
         let Some(digit) = decimal_digit(name[at]) else {
-            return Some((worth, at));
+            return Some((value, at));
         };
-        worth = with_digit(worth, 10, digit)?;
+        value = with_digit(value, 10, digit)?;
         after = at + 1;
     }
-    Some((worth, after))
+    Some((value, after))
 }
 
 /// `<decimal-number>` at a position: a `0` alone, or the longest run of digits. None where it is invalid.

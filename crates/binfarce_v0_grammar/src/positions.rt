@@ -4,7 +4,7 @@ ghost use Rattle.std.specs.Prelude.{◌≡◌, ◌<◌, Some, true, false, Match
 ghost use Rattle.binfarce_v0_grammar.specs.Forms.{stands, after_byte};
 ghost use Rattle.binfarce_v0_grammar.specs.Tree.{lifetime_steps};
 ghost use Rattle.binfarce_v0_grammar.specs.Unfolding.{list_goes_on, bound_end, required_end};
-ghost use Rattle.binfarce_v0_grammar.specs.machine.Seen.{lifetime_seen};
+ghost use Rattle.binfarce_v0_grammar.specs.machine.View.{lifetime_view};
 
 use crate::forms::Lifetime;
 use crate::numbers::byte_at;
@@ -23,7 +23,7 @@ pub fn eat(name: &[u8], byte: u8, at: Option<usize>) -> Option<usize>
     }
 }
 
-/// The position after a list, where the list ends there: at an `E`, and after a fault.
+/// The position after a list, where the list ends there: at an `E`, and after invalid syntax.
 #[inline(always)]
 pub fn list_end(name: &[u8], at: Option<usize>) -> Option<Option<usize>>
     ensures { MatchOption result (list_goes_on name.now at ≡ true) (λ after. (list_goes_on name.now at ≡ false) × (after_byte at ≡ after)) }
@@ -41,7 +41,7 @@ pub fn list_end(name: &[u8], at: Option<usize>) -> Option<Option<usize>>
 /// How many steps a lifetime is: 1 for an `L` that stands there.
 #[inline(always)]
 pub fn lifetime_steps(life: Lifetime) -> u64
-    ensures { result ≡ lifetime_steps (lifetime_seen life) }
+    ensures { result ≡ lifetime_steps (lifetime_view life) }
 {
     match life {
         Lifetime::Nothing => 0,
@@ -53,23 +53,29 @@ pub fn lifetime_steps(life: Lifetime) -> u64
 /// announce.
 #[inline(always)]
 #[tactic(auto, unfolding(crate::specs::Unfolding::bound_end))]
-pub fn bound_end(depth: usize, life: Lifetime, after: Option<usize>) -> Option<usize>
-    ensures { result ≡ bound_end depth (lifetime_seen life) after }
+pub fn bound_end(binder_depth: usize, life: Lifetime, after: Option<usize>) -> Option<usize>
+    ensures { result ≡ bound_end binder_depth (lifetime_view life) after }
 {
     match life {
         Lifetime::Nothing => after,
         Lifetime::Invalid => None,
-        Lifetime::Indexed(index) => { if index > depth as u64 { None } else { after } }
+        Lifetime::Indexed(index) => {
+            if index > binder_depth as u64 {
+                None
+            } else {
+                after
+            }
+        }
     }
 }
 
 /// The position after a lifetime that has to stand there: None for one that isn't there either.
 #[inline(always)]
-pub fn required_end(depth: usize, life: Lifetime, after: Option<usize>) -> Option<usize>
-    ensures { result ≡ required_end depth (lifetime_seen life) after }
+pub fn required_end(binder_depth: usize, life: Lifetime, after: Option<usize>) -> Option<usize>
+    ensures { result ≡ required_end binder_depth (lifetime_view life) after }
 {
     match life {
         Lifetime::Nothing | Lifetime::Invalid => None,
-        Lifetime::Indexed(_) => bound_end(depth, life, after),
+        Lifetime::Indexed(_) => bound_end(binder_depth, life, after),
     }
 }

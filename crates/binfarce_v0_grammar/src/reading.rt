@@ -3,16 +3,8 @@
 ghost use Rattle.std.specs.Prelude.{◌≡◌, ◌≤◌, length, suc};
 ghost use Rattle.std.specs.Str.{IsAscii};
 ghost use Rattle.binfarce_v0_grammar.specs.declared.limits.TheConstants.{MAX_LEVELS};
-ghost use Rattle.binfarce_v0_grammar.specs.machine.Seen.{listed_seen};
-ghost use Rattle.binfarce_v0_grammar.specs.machine.Ends.{
-  ends,
-  bindings_end,
-  item_end,
-  list_end,
-  return_end,
-  lifetime_end,
-  argument_end,
-};
+ghost use Rattle.binfarce_v0_grammar.specs.machine.View.{listed_view};
+ghost use Rattle.binfarce_v0_grammar.specs.machine.Ends.{ends, bindings_end, item_end, list_end, return_end, lifetime_end, argument_end};
 
 use crate::forms::{
     ConstForm, Listed, PathForm, TypeForm, const_form, lifetime_form, path_form, type_form,
@@ -22,12 +14,12 @@ use crate::positions::eat;
 
 // `<const>`
 #[tactic(auto, using(crate::proofs::ReadingComplete::const_end_at, crate::proofs::ReadingComplete::const_end_none), unfolding(crate::specs::machine::Ends::const_end))]
-fn read_const(name: &str, left: usize, at: usize) -> Option<usize>
+fn read_const(name: &str, levels_left: usize, at: usize) -> Option<usize>
     requires ascii { IsAscii name.now }
-    requires levels { left ≤ MAX_LEVELS }
-    ensures { result ≡ (ends name.now left).constant at }
+    requires levels { levels_left ≤ MAX_LEVELS }
+    ensures { result ≡ (ends name.now levels_left).constant at }
 {
-    if left == 0 {
+    if levels_left == 0 {
         return None;
     }
     match const_form(name, Some(at)) {
@@ -49,18 +41,18 @@ fn read_lifetime(name: &str, at: usize) -> Option<usize>
 }
 
 /// The position after the `<path>` that stands at a position. None where no path stands there, and where it has more than
-/// `left` levels. What a back reference names isn't looked at, nor what a lifetime's index means.
+/// `levels_left` levels. What a back reference names isn't looked at, nor what a lifetime's index means.
 #[cycle(reading)]
 #[tactic(auto, using(crate::proofs::ReadingComplete::path_end_at, crate::proofs::ReadingComplete::path_end_none), unfolding(crate::specs::machine::Ends::path_end))]
-pub fn read_path(name: &str, left: usize, at: usize) -> Option<usize>
+pub fn read_path(name: &str, levels_left: usize, at: usize) -> Option<usize>
     requires ascii { IsAscii name.now }
-    requires levels { left ≤ MAX_LEVELS }
-    ensures { result ≡ (ends name.now left).path at }
+    requires levels { levels_left ≤ MAX_LEVELS }
+    ensures { result ≡ (ends name.now levels_left).path at }
 {
-    if left == 0 {
+    if levels_left == 0 {
         return None;
     }
-    let inner = left - 1;
+    let inner = levels_left - 1;
     match path_form(name, Some(at)) {
         PathForm::Nothing => None,
         PathForm::CrateRoot(_, after) => Some(after),
@@ -93,15 +85,15 @@ pub fn read_path(name: &str, left: usize, at: usize) -> Option<usize>
 // `<type>`
 #[cycle(reading)]
 #[tactic(auto, using(crate::proofs::ReadingComplete::type_end_at, crate::proofs::ReadingComplete::type_end_none), unfolding(crate::specs::machine::Ends::type_end))]
-fn read_type(name: &str, left: usize, at: usize) -> Option<usize>
+fn read_type(name: &str, levels_left: usize, at: usize) -> Option<usize>
     requires ascii { IsAscii name.now }
-    requires levels { left ≤ MAX_LEVELS }
-    ensures { result ≡ (ends name.now left).ty at }
+    requires levels { levels_left ≤ MAX_LEVELS }
+    ensures { result ≡ (ends name.now levels_left).ty at }
 {
-    if left == 0 {
+    if levels_left == 0 {
         return None;
     }
-    let inner = left - 1;
+    let inner = levels_left - 1;
     match type_form(name, Some(at)) {
         TypeForm::Nothing | TypeForm::InvalidReference | TypeForm::InvalidDyn => None,
         TypeForm::InvalidAbi(_) => None,
@@ -129,24 +121,24 @@ fn read_type(name: &str, left: usize, at: usize) -> Option<usize>
 
 // The return of a function type.
 #[cycle(reading)]
-fn read_return(name: &str, left: usize, at: usize) -> Option<usize>
+fn read_return(name: &str, levels_left: usize, at: usize) -> Option<usize>
     requires ascii { IsAscii name.now }
-    requires levels { left ≤ MAX_LEVELS }
-    ensures { result ≡ return_end name.now (ends name.now left) at }
+    requires levels { levels_left ≤ MAX_LEVELS }
+    ensures { result ≡ return_end name.now (ends name.now levels_left) at }
 {
     match eat(name.as_bytes(), b'u', Some(at)) {
         Some(after) => Some(after),
-        None => read_type(name, left, at),
+        None => read_type(name, levels_left, at),
     }
 }
 
 // A list up to its `E`.
 #[cycle(reading)]
 #[tactic(auto, using(crate::proofs::ReadingLists::items_end_step, crate::proofs::ReadingLists::items_end_none, crate::proofs::ReadingLists::items_end_more))]
-fn read_items(name: &str, left: usize, listed: Listed, start: usize) -> Option<usize>
+fn read_items(name: &str, levels_left: usize, listed: Listed, start: usize) -> Option<usize>
     requires ascii { IsAscii name.now }
-    requires levels { left ≤ MAX_LEVELS }
-    ensures { result ≡ list_end name.now (ends name.now left) (listed_seen listed) start }
+    requires levels { levels_left ≤ MAX_LEVELS }
+    ensures { result ≡ list_end name.now (ends name.now levels_left) (listed_view listed) start }
 {
     let bytes = name.as_bytes();
     let mut at = start;
@@ -154,7 +146,7 @@ fn read_items(name: &str, left: usize, listed: Listed, start: usize) -> Option<u
         if let Some(after) = eat(bytes, b'E', Some(at)) {
             return Some(after);
         }
-        at = read_item(name, left, listed, at)?;
+        at = read_item(name, levels_left, listed, at)?;
     }
     None
 }
@@ -162,27 +154,27 @@ fn read_items(name: &str, left: usize, listed: Listed, start: usize) -> Option<u
 // An item of a list.
 #[cycle(reading)]
 #[tactic(auto, unfolding(crate::specs::machine::Ends::item_end))]
-fn read_item(name: &str, left: usize, listed: Listed, at: usize) -> Option<usize>
+fn read_item(name: &str, levels_left: usize, listed: Listed, at: usize) -> Option<usize>
     requires ascii { IsAscii name.now }
-    requires levels { left ≤ MAX_LEVELS }
-    ensures { result ≡ item_end name.now (ends name.now left) (listed_seen listed) at }
+    requires levels { levels_left ≤ MAX_LEVELS }
+    ensures { result ≡ item_end name.now (ends name.now levels_left) (listed_view listed) at }
 {
     match listed {
-        Listed::Types => read_type(name, left, at),
-        Listed::Arguments => read_argument(name, left, at),
+        Listed::Types => read_type(name, levels_left, at),
+        Listed::Arguments => read_argument(name, levels_left, at),
         Listed::Traits => {
-            let mid = read_path(name, left, at)?;
-            read_bindings(name, left, mid)
+            let mid = read_path(name, levels_left, at)?;
+            read_bindings(name, levels_left, mid)
         }
     }
 }
 
 // `<generic-arg>`
 #[cycle(reading)]
-fn read_argument(name: &str, left: usize, at: usize) -> Option<usize>
+fn read_argument(name: &str, levels_left: usize, at: usize) -> Option<usize>
     requires ascii { IsAscii name.now }
-    requires levels { left ≤ MAX_LEVELS }
-    ensures { result ≡ argument_end name.now (ends name.now left) at }
+    requires levels { levels_left ≤ MAX_LEVELS }
+    ensures { result ≡ argument_end name.now (ends name.now levels_left) at }
 {
     let bytes = name.as_bytes();
     if eat(bytes, b'L', Some(at)).is_some() {
@@ -190,18 +182,18 @@ fn read_argument(name: &str, left: usize, at: usize) -> Option<usize>
         return after;
     }
     match eat(bytes, b'K', Some(at)) {
-        Some(after) => read_const(name, left, after),
-        None => read_type(name, left, at),
+        Some(after) => read_const(name, levels_left, after),
+        None => read_type(name, levels_left, at),
     }
 }
 
 // The bindings of a trait.
 #[cycle(reading)]
 #[tactic(auto, using(crate::proofs::ReadingLists::bindings_end_step, crate::proofs::ReadingLists::bindings_end_none, crate::proofs::ReadingLists::bindings_end_more))]
-fn read_bindings(name: &str, left: usize, start: usize) -> Option<usize>
+fn read_bindings(name: &str, levels_left: usize, start: usize) -> Option<usize>
     requires ascii { IsAscii name.now }
-    requires levels { left ≤ MAX_LEVELS }
-    ensures { result ≡ bindings_end name.now (ends name.now left) (suc (length name.now)) start }
+    requires levels { levels_left ≤ MAX_LEVELS }
+    ensures { result ≡ bindings_end name.now (ends name.now levels_left) (suc (length name.now)) start }
 {
     let bytes = name.as_bytes();
     let mut at = start;
@@ -210,7 +202,7 @@ fn read_bindings(name: &str, left: usize, start: usize) -> Option<usize>
             return Some(at);
         };
         let (_name, bound) = undisambiguated_at(name, binding)?;
-        at = read_type(name, left, bound)?;
+        at = read_type(name, levels_left, bound)?;
     }
     None
 }

@@ -3,12 +3,13 @@ use Rattle.std.specs.Prelude.{ℕ, ◌+◌, ◌*◌, List, Option}
 use Rattle.binfarce_bytes.specs.Steps.{◌>>=◌}
 use Rattle.binfarce_bytes.specs.Text.{text_at}
 use Rattle.binfarce_bytes.specs.Field.{Field, field}
-use Rattle.binfarce_elf.specs.declared.class.Row.{Row}
+use Rattle.binfarce_elf.specs.declared.class.SymbolRow.{SymbolRow}
 use Rattle.binfarce_elf.specs.declared.sections.Table.{Table}
-use Rattle.binfarce_elf.specs.declared.symbols.Found.{Found}
-use Rattle.binfarce_elf.specs.Elf.{ElfClass, Header, SectionHeader, SectionTable, SymbolRow, names_section, contents}
-use Rattle.binfarce_elf.specs.ElfSymbols.{Located}
-use Rattle.binfarce_elf.specs.ElfSeen.{section_seen}
+use Rattle.binfarce_elf.specs.declared.symbols.Located.{Located}
+use Rattle.binfarce_elf.specs.Elf as elf
+use Rattle.binfarce_elf.specs.Elf.{ElfClass, Header, SectionHeader, SectionTable, names_section, contents}
+use Rattle.binfarce_elf.specs.ElfSymbols as symbols
+use Rattle.binfarce_elf.specs.ElfViews.{section_view}
 
 -- the file header's fields, where a word has w bytes
 abbrev pub fields_of_header : ℕ → Header Field
@@ -43,15 +44,15 @@ fields_of_section w = record {
   entry_size = field (16 + 5 * w) w;
 }
 
-abbrev pub row_seen : Row → SymbolRow ℕ
-row_seen r = record { name = r.name; value = r.value; size = r.size; info = r.info; other = r.other; section = r.section }
+abbrev pub symbol_view : SymbolRow → elf.SymbolRow ℕ
+symbol_view r = record { name = r.name; value = r.value; size = r.size; info = r.info; other = r.other; section = r.section }
 
-abbrev pub table_seen : Table → SectionTable
-table_seen t = record { order = t.byte_order; file = t.bytes.now; shoff = t.shoff; shnum = t.shnum; shstrndx = t.shstrndx }
+abbrev pub table_view : Table → SectionTable
+table_view t = record { order = t.byte_order; file = t.data.now; shoff = t.shoff; shnum = t.shnum; shstrndx = t.shstrndx }
 
 -- where the symbols are
-abbrev pub found_seen : {C : Type 0} → (C → ℕ) → Found C → Located
-found_seen number f = record { text = section_seen number f.text; strings = f.strings.now; rows = f.rows.now }
+abbrev pub located_view : {C : Type 0} → (C → ℕ) → Located C → symbols.Located
+located_view number l = record { section = section_view number l.section; strings = l.strings.now; rows = l.rows.now }
 
 -- the bytes of the section of the section names
 abbrev pub names_bytes : ElfClass → SectionTable → Option (List ℕ)

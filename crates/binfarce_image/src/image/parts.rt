@@ -4,7 +4,7 @@ ghost use Rattle.std.specs.Prelude.{◌≡◌, ◌-◌, ◌^◌, is_some, min, c
 ghost use Rattle.std.specs.List.{list_any};
 ghost use Rattle.binfarce_image.specs.Image.{bodies_end, body_length, entry_length, name_offset, part_kind, part_link};
 ghost use Rattle.binfarce_image.specs.ImageRefusal.{has_one_table, is_table, claims_table, names_of};
-ghost use Rattle.binfarce_image.specs.machine.Seen.{class_seen};
+ghost use Rattle.binfarce_image.specs.machine.Views.{class_view};
 
 use super::tables::Class;
 use super::{Image, Part};
@@ -60,7 +60,7 @@ pub(super) fn has_names(image: &Image) -> bool
 
 /// Where the bodies end, or `usize::MAX` where that is no number.
 pub(super) fn bodies_end(parts: &[Part], class: Class) -> usize
-    ensures { result ≡ min (bodies_end (class_seen class) class.header_length parts.now) (2 ^ 64 - 1) }
+    ensures { result ≡ min (bodies_end (class_view class) class.header_length parts.now) (2 ^ 64 - 1) }
 {
     let mut end = class.header_length;
     for part in parts {
@@ -71,7 +71,7 @@ pub(super) fn bodies_end(parts: &[Part], class: Class) -> usize
 
 /// How many bytes a part has in a file, or `usize::MAX` where that is no number.
 pub(super) fn body_length(part: &Part, class: Class) -> usize
-    ensures { result ≡ min (body_length (class_seen class) part.now) (2 ^ 64 - 1) }
+    ensures { result ≡ min (body_length (class_view class) part.now) (2 ^ 64 - 1) }
 {
     match part {
         Part::Bytes { body, .. } => body.len(),
@@ -81,7 +81,7 @@ pub(super) fn body_length(part: &Part, class: Class) -> usize
 
 /// The length of a table's row, and else 0.
 pub(super) fn entry_length(part: &Part, class: Class) -> usize
-    ensures { result ≡ entry_length (class_seen class) part.now }
+    ensures { result ≡ entry_length (class_view class) part.now }
 {
     match part {
         Part::Bytes { .. } => 0,

@@ -5,7 +5,7 @@ ghost use Rattle.std.specs.List.{AllByRecursion, flat_map};
 ghost use Rattle.binfarce_image.specs.Structure.{put, filled};
 ghost use Rattle.binfarce_image.specs.Image.{bytes, class_of, order_of, identification, header_bytes, body, bodies_end, body_length, section_headers, section_bytes, symbol_bytes};
 ghost use Rattle.binfarce_image.specs.ImageSymbols.{PartFits, RowFits};
-ghost use Rattle.binfarce_image.specs.machine.Seen.{class_seen, field_seen, numbers_seen, fits, all_fit, BodyFits, HeaderFits};
+ghost use Rattle.binfarce_image.specs.machine.Views.{class_view, field_view, numbers_view, fits, all_fit, BodyFits, HeaderFits};
 
 use super::parts::{body_length, entry_length, kind, link, name};
 use super::tables::{Class, ELF32, ELF64, Field};
@@ -17,7 +17,7 @@ const LONGEST: usize = 64;
 
 /// The tables of a layout's class.
 pub(super) fn class(layout: ElfLayout) -> Class
-    ensures { class_seen result ≡ class_of layout }
+    ensures { class_view result ≡ class_of layout }
 {
     match layout {
         ElfLayout::Elf32Little => ELF32,
@@ -218,8 +218,8 @@ fn push_structure(
     numbers: &[(Field, u64)],
 ) -> Result<(), AllocError>
     requires longest { length ≤ 64 }
-    requires fit { all_fit length (numbers_seen numbers.now) ≡ true }
-    ensures { OnOk result (file.new.items ≡ file.old.items ++ filled order (take length blank) (numbers_seen numbers.now)) }
+    requires fit { all_fit length (numbers_view numbers.now) ≡ true }
+    ensures { OnOk result (file.new.items ≡ file.old.items ++ filled order (take length blank) (numbers_view numbers.now)) }
 {
     let structure = &mut blank[..length];
     fill(structure, order, numbers);
@@ -228,8 +228,8 @@ fn push_structure(
 
 // Puts each number into its field.
 fn fill(structure: &mut [u8], order: ByteOrder, numbers: &[(Field, u64)])
-    requires { all_fit (length structure.old) (numbers_seen numbers.now) ≡ true }
-    ensures { structure.new ≡ filled order structure.old (numbers_seen numbers.now) }
+    requires { all_fit (length structure.old) (numbers_view numbers.now) ≡ true }
+    ensures { structure.new ≡ filled order structure.old (numbers_view numbers.now) }
 {
     for number in numbers {
         put(structure, order, number.0, number.1);
@@ -238,8 +238,8 @@ fn fill(structure: &mut [u8], order: ByteOrder, numbers: &[(Field, u64)])
 
 // Puts a number into its field: as many of its bytes as the field is wide.
 fn put(structure: &mut [u8], order: ByteOrder, field: Field, number: u64)
-    requires { fits (length structure.old) (field_seen field) ≡ true }
-    ensures { structure.new ≡ put order structure.old (field_seen field, number) }
+    requires { fits (length structure.old) (field_view field) ≡ true }
+    ensures { structure.new ≡ put order structure.old (field_view field, number) }
 {
     let Field(place, width) = field;
     let bytes = &mut structure[place..place + width];

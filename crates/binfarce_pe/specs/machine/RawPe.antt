@@ -1,22 +1,22 @@
 -- Definitions that only private contracts cite: what they see of the values that a PE file is read into.
 use Rattle.std.specs.Prelude.{◌≡◌, ℕ, ◌+◌, List, [], ◌∷◌, Some, get_or}
 use Rattle.std.specs.List.{AllZip}
-use Rattle.binfarce_pe.specs.declared.symbols.SymbolRecord.{SymbolRecord}
+use Rattle.binfarce_pe.specs.declared.symbols.SymbolRow.{SymbolRow}
 use Rattle.binfarce_pe.specs.declared.symbols.SymbolTable.{SymbolTable}
-use Rattle.binfarce_pe.specs.declared.symbols.Found.{Found}
+use Rattle.binfarce_pe.specs.declared.symbols.Located.{Located}
 use Rattle.binfarce_pe.specs.PeSymbols as symbols
-use Rattle.binfarce_pe.specs.PeSeen.{section_seen}
+use Rattle.binfarce_pe.specs.PeViews.{section_view}
 use Rattle.binfarce_symbols.specs.Sizes.{RowAddress, addresses_of}
 use Rattle.binfarce_symbols.specs.Symbol.{Entry}
 
-abbrev pub record_seen : SymbolRecord → symbols.SymbolRecord ℕ
-record_seen r = record { zeroes = r.zeroes; offset = r.offset; value = r.value; section_number = r.section_number; kind = r.kind; storage_class = r.storage_class; number_of_aux_symbols = r.number_of_aux_symbols }
+abbrev pub symbol_view : SymbolRow → symbols.SymbolRow ℕ
+symbol_view r = record { zeroes = r.zeroes; offset = r.offset; value = r.value; section_number = r.section_number; kind = r.kind; storage_class = r.storage_class; number_of_aux_symbols = r.number_of_aux_symbols }
 
-abbrev pub table_seen : SymbolTable → symbols.SymbolTable
-table_seen t = record { rows = t.rows.now; strings = t.strings.now }
+abbrev pub table_view : SymbolTable → symbols.SymbolTable
+table_view t = record { rows = t.rows.now; strings = t.strings.now }
 
-abbrev pub found_seen : Found → symbols.Located
-found_seen f = record { text = section_seen f.text; table = table_seen f.table }
+abbrev pub located_view : Located → symbols.Located
+located_view l = record { text = section_view l.text; table = table_view l.table }
 
 -- rows of these addresses, numbered from n on
 abbrev pub numbered : ℕ → List ℕ → List RowAddress
@@ -25,7 +25,7 @@ numbered n (address ∷ addresses) = record { address = address; row = n } ∷ n
 
 -- the name of this row can be read, and is this one
 abbrev pub IsNameOf : symbols.SymbolTable → RowAddress → List ℕ → Type 0
-IsNameOf table r name = symbols.name_of table r.row (symbols.record_of table r.row) ≡ Some name
+IsNameOf table r name = symbols.name_of table r.row (symbols.symbol_of table r.row) ≡ Some name
 
 -- the rows that are held have the addresses of the kept ones and are numbered in their order, and the names are theirs
 pub record HoldsKept (table : symbols.SymbolTable) (kept rows : List RowAddress) (names : List (List ℕ)) : Type 0 where

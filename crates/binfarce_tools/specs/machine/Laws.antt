@@ -3,7 +3,7 @@ use Rattle.std.specs.Prelude.{ℕ, List, [], ◌∷◌, ◌++◌, map}
 use Rattle.std.specs.List.{concat}
 use Rattle.std.specs.String.{string_bytes}
 use Rattle.binfarce.specs.declared.demangle.SymbolData.{SymbolData}
-use Rattle.binfarce.specs.Name.{name_seen}
+use Rattle.binfarce.specs.Name.{name_view}
 use Rattle.binfarce_tools.specs.Listing.{line_head, size_line}
 use Rattle.binfarce_tools.specs.Report.{Share, IsReportOfShares, crate_text}
 
@@ -17,7 +17,7 @@ symbols_listing symbols size = concat (map symbol_line symbols) ++ size_line siz
 
 -- what a symbol adds to a report
 abbrev pub share_of : SymbolData → Share
-share_of symbol = record { name = crate_text (name_seen symbol.name); size = symbol.size }
+share_of symbol = record { name = crate_text (name_view symbol.name); size = symbol.size }
 
 -- text is the report of what symbols add
 abbrev pub IsReportOfSymbols : List SymbolData → ℕ → List ℕ → Type 0

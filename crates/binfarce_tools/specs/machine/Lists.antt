@@ -3,10 +3,10 @@ use Rattle.std.specs.Prelude.{◌≡◌, ◌⊎◌, ℕ, List, map, drop, Option
 use Rattle.std.specs.Io.KnownBytes.{Appends}
 use Rattle.binfarce.specs.declared.ParseError.{ParseError}
 use Rattle.binfarce.specs.Elf.{elf32, elf64}
-use Rattle.binfarce.specs.ElfSeen as elf
+use Rattle.binfarce.specs.ElfViews as elf
 use Rattle.binfarce.specs.Refusal.{Refusal, refusal_of}
-use Rattle.binfarce.specs.Symbol.{Entry, Listed, Answers}
-use Rattle.binfarce.specs.SymbolSeen.{function_seen}
+use Rattle.binfarce.specs.Symbol.{Entry, Listed}
+use Rattle.binfarce.specs.SymbolViews.{function_view}
 use Rattle.binfarce_tools.specs.declared.functions.Functions.{Functions}
 use Rattle.binfarce_tools.specs.declared.functions.Arranged.{Arranged}
 use Rattle.binfarce_tools.specs.declared.functions.Functions.TheVariants as variants
@@ -16,7 +16,7 @@ use Rattle.binfarce_tools.specs.Writing.{AppendsBeginning}
 
 -- the entries that a list has left
 abbrev pub arranged_left : Arranged → List Entry
-arranged_left a = map function_seen (drop a.next a.functions.items)
+arranged_left a = map function_view (drop a.next a.functions.items)
 
 -- the entries that are left of a file's
 abbrev pub functions_left : Functions → List Entry
@@ -27,13 +27,6 @@ functions_left (variants.Arranged functions) = arranged_left functions
 -- what is left are these entries, and the size is that of their section
 abbrev pub HoldsLeft : Listed → Functions × ℕ → Type 0
 HoldsLeft listed answer = (functions_left answer.0 ≡ listed.entries) × (answer.1 ≡ listed.section_size)
-
--- what the reader of the format returns, if there is one
-abbrev pub Reads : (Result Listed Refusal → Type 0) → Option (Result Listed Refusal) → Option (Result (Functions × ℕ) ParseError) → Type 0
-Reads NeedsMemory None None = Unit {0}
-Reads NeedsMemory None (Some result) = ⊥
-Reads NeedsMemory (Some answer) None = ⊥
-Reads NeedsMemory (Some answer) (Some result) = Answers HoldsLeft NeedsMemory answer result
 
 -- what reading the functions of a file returns: what it holds, or why it can't be had
 abbrev pub Gets : (Result Listed Refusal → Type 0) → Option (Result Listed Refusal) → Result (Functions × ℕ) ListError → Type 0

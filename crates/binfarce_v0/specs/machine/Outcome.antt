@@ -1,33 +1,12 @@
 -- What a whole printing tells of a name.
-use Rattle.std.specs.Prelude.{◌≡◌, ◌⊎◌, ℕ, ◌-◌, List, Option, Some, None, Bool, true, false, ⊤}
+use Rattle.std.specs.Prelude.{◌≡◌, ◌⊎◌, ℕ, List, Option, Some, None, Bool, true, false, ⊤}
 use Rattle.std.specs.Option.{option_map}
-use Rattle.std.specs.String.{string_bytes}
-use Rattle.binfarce_v0_grammar.specs.Identifiers.{UndisambiguatedIdentifier, identifier_text}
-use Rattle.binfarce_v0_grammar.specs.Tree.{PathTree, path_height, path_steps, path_root, name_text}
+use Rattle.binfarce_v0_grammar.specs.Tree.{PathTree, path_height, path_steps, path_root}
+use Rattle.binfarce_v0_text.specs.LeafTexts.{identifier_text}
+use Rattle.binfarce_v0_text.specs.TreeTexts.{name_text}
 use Rattle.binfarce_v0_grammar.specs.Unfolding.{UnfoldsTo}
-use Rattle.binfarce_v0_grammar.specs.machine.Seen.{undisambiguated_seen}
-use Rattle.binfarce_v0_grammar.specs.declared.limits.TheConstants.{MAX_LEVELS, MAX_STEPS}
 use Rattle.binfarce_v0.specs.Mangling.{PathStands, IsV0, HasNoTree}
-use Rattle.binfarce_v0.specs.declared.state.Printed.{Printed}
-use Rattle.binfarce_v0.specs.machine.Printing.{State}
-
--- what a finished printing gives: a text, the first crate root, how many levels and steps it took, and the position after the path
-pub record Outcome : Type 0 where
-  pub text : List ℕ
-  pub root : Option UndisambiguatedIdentifier
-  pub levels : ℕ
-  pub steps : ℕ
-  pub after : Option ℕ
-
--- what a `Printed` gives, its texts as their bytes
-abbrev pub printed_seen : Printed → Outcome
-printed_seen p =
-    record { text = string_bytes p.text; root = option_map undisambiguated_seen p.root; levels = p.levels; steps = p.steps; after = p.after }
-
--- what a state gives at the end: the levels and the steps that are no longer left were taken
-abbrev pub outcome_of : State → Outcome
-outcome_of s =
-    record { text = s.text; root = s.root; levels = MAX_LEVELS - s.least; steps = MAX_STEPS - s.room; after = s.at }
+use Rattle.binfarce_v0_state.specs.machine.Outcome.{Outcome}
 
 -- where a position is known, the first path of a name reads up to it
 abbrev pub ReadsUpTo : List ℕ → Option ℕ → Type 0

@@ -84,5 +84,5 @@ path_end name R (BackToPath target q) = Some q
 
 unfoldable pub ends : List ℕ → ℕ → Ends
 ends name zero = record { path = λ at. None; ty = λ at. None; constant = λ at. None }
-ends name (suc left) =
-    record { path = λ at. path_end name (ends name left) (path_form name (Some at)); ty = λ at. type_end name (ends name left) at (type_form name (Some at)); constant = λ at. const_end (const_form name (Some at)) }
+ends name (suc levels_left) =
+    record { path = λ at. path_end name (ends name levels_left) (path_form name (Some at)); ty = λ at. type_end name (ends name levels_left) at (type_form name (Some at)); constant = λ at. const_end (const_form name (Some at)) }

@@ -7,18 +7,18 @@ use Rattle.binfarce_v0_grammar.specs.Base62.{digit_62, limited}
 
 -- base-62 digits up to a "_", where those before are worth `worth`: one more than what they write, and the position after the "_"
 abbrev pub number_from : List ℕ → ℕ → ℕ → Option (ℕ × ℕ)
-number_from [] worth at = None
-number_from (c ∷ rest) worth at =
-    if c == '_' then limited (worth + 1) (at + 1) else (if is_ascii_alphanumeric c then number_from rest (worth * 62 + digit_62 c) (at + 1) else None)
+number_from [] value at = None
+number_from (c ∷ rest) value at =
+    if c == '_' then limited (value + 1) (at + 1) else (if is_ascii_alphanumeric c then number_from rest (value * 62 + digit_62 c) (at + 1) else None)
 
 -- decimal digits, where those before are worth `worth`: what they write, and the position after them
 abbrev pub decimal_from : List ℕ → ℕ → ℕ → ℕ × ℕ
-decimal_from [] worth at = (worth, at)
-decimal_from (c ∷ rest) worth at =
-    if is_ascii_digit c then decimal_from rest (worth * 10 + (c - '0')) (at + 1) else (worth, at)
+decimal_from [] value at = (value, at)
+decimal_from (c ∷ rest) value at =
+    if is_ascii_digit c then decimal_from rest (value * 10 + (c - '0')) (at + 1) else (value, at)
 
 abbrev pub length_from : List ℕ → ℕ → ℕ → Option (ℕ × ℕ)
-length_from digits worth at = limited (decimal_from digits worth at).0 (decimal_from digits worth at).1
+length_from digits value at = limited (decimal_from digits value at).0 (decimal_from digits value at).1
 
 -- how many hexadecimal digits stand before a "_"
 abbrev pub hex_length : List ℕ → Option ℕ

@@ -4,18 +4,8 @@ ghost use Rattle.std.specs.Prelude.{◌≡◌, ◌<◌, IfSome, IsTrue, Some, le
 ghost use Rattle.std.specs.Option.{option_map};
 ghost use Rattle.std.specs.Str.{IsAscii};
 ghost use Rattle.binfarce_v0_grammar.specs.Base62.{hex_digits};
-ghost use Rattle.binfarce_v0_grammar.specs.Forms.{
-  is_signed,
-  const_type,
-  has_sign,
-  boolean_of,
-  character_of,
-  value_of,
-  const_value,
-  typed_form,
-  const_form,
-};
-ghost use Rattle.binfarce_v0_grammar.specs.machine.Seen.{value_seen, const_seen};
+ghost use Rattle.binfarce_v0_grammar.specs.Forms.{is_signed, const_type, has_sign, boolean_of, character_of, value_of, const_value, typed_form, const_form};
+ghost use Rattle.binfarce_v0_grammar.specs.machine.View.{value_view, const_view};
 
 use super::basic_type;
 use crate::identifiers::part;
@@ -51,7 +41,7 @@ pub enum ConstForm<'a> {
 #[tactic(auto, unfolding(crate::specs::Forms::const_form))]
 pub fn const_form<'a>(name: &'a str, at: Option<usize>) -> ConstForm<'a>
     requires ascii { IsAscii name.now }
-    ensures { const_seen result ≡ const_form name.now at }
+    ensures { const_view result ≡ const_form name.now at }
 {
     let Some(at) = at else {
         return ConstForm::Nothing;
@@ -88,7 +78,7 @@ fn const_type(letter: u8) -> Option<&'static str>
 // The form of a const of a type, after the type's letter.
 fn typed_form<'a>(name: &'a str, letter: u8, at: usize, type_name: &'static str) -> ConstForm<'a>
     requires ascii { IsAscii name.now }
-    ensures { const_seen result ≡ typed_form name.now letter at (Some type_name.now) }
+    ensures { const_view result ≡ typed_form name.now letter at (Some type_name.now) }
 {
     let bytes = name.as_bytes();
     if byte_at(bytes, at) == b'p' {
@@ -127,7 +117,7 @@ fn const_value<'a>(
 ) -> Option<(ConstValue<'a>, usize)>
     requires ascii { IsAscii name.now }
     requires within { IsTrue negative → at < length name.now }
-    ensures { option_map (λ v. (value_seen v.0, v.1)) result ≡ const_value name.now letter negative at }
+    ensures { option_map (λ v. (value_view v.0, v.1)) result ≡ const_value name.now letter negative at }
 {
     let start = if negative { at + 1 } else { at };
     let (digits, after) = hex_digits(name, start)?;
@@ -148,7 +138,7 @@ fn hex_digits<'a>(name: &'a str, at: usize) -> Option<(&'a str, usize)>
 // What digits write as a value of a type.
 #[tactic(auto, unfolding(crate::specs::Forms::value_of))]
 fn value_of<'a>(letter: u8, negative: bool, digits: &'a str) -> Option<ConstValue<'a>>
-    ensures { option_map value_seen result ≡ value_of letter negative digits.now }
+    ensures { option_map value_view result ≡ value_of letter negative digits.now }
 {
     match letter {
         b'b' => boolean_of(hex_number(digits.as_bytes())?),
@@ -159,7 +149,7 @@ fn value_of<'a>(letter: u8, negative: bool, digits: &'a str) -> Option<ConstValu
 
 // The boolean of a number.
 fn boolean_of<'a>(n: u64) -> Option<ConstValue<'a>>
-    ensures { option_map value_seen result ≡ boolean_of n }
+    ensures { option_map value_view result ≡ boolean_of n }
 {
     match n {
         0 => Some(ConstValue::Boolean(false)),
@@ -170,7 +160,7 @@ fn boolean_of<'a>(n: u64) -> Option<ConstValue<'a>>
 
 // The char of a code point.
 fn character_of<'a>(n: u64) -> Option<ConstValue<'a>>
-    ensures { option_map value_seen result ≡ character_of n }
+    ensures { option_map value_view result ≡ character_of n }
 {
     let character = char::from_u32(u32::try_from(n).ok()?)?;
     Some(ConstValue::Character(character))

@@ -1,8 +1,8 @@
 use Rattle.std.proofs.Common.{◌≡◌, ◌+◌, ◌*◌, ◌≤◌, All, false}
 use Rattle.binfarce_bytes.specs.Walk.{Answered}
-use Rattle.binfarce_elf.specs.ElfSeen.{section_seen}
+use Rattle.binfarce_elf.specs.ElfViews.{section_view}
 use Rattle.binfarce_elf.specs.Elf.{whole_headers}
-use Rattle.binfarce_elf.specs.machine.RawElf.{table_seen}
+use Rattle.binfarce_elf.specs.machine.RawElf.{table_view}
 use Rattle.binfarce_elf.proofs.Walks.{numbered_below}
 use Rattle.binfarce_elf.proofs.sections.first_section.Given as goal
 
@@ -10,5 +10,5 @@ use Rattle.binfarce_elf.proofs.sections.first_section.Given as goal
 abbrev pub invariant-loop-index : goal.invariant-loop-index
 invariant-loop-index g l =
     (l.start ≡ l.table.shoff + l.index * g.C.Class.table.section_length)
-    × (l.index ≤ whole_headers g.C.Class.table (table_seen l.table))
-    × All (Answered (section_seen g.C.Class.number_of) (goal.F-post g l.callback) false) (numbered_below g.C.Class.table (table_seen l.table) l.index)
+    × (l.index ≤ whole_headers g.C.Class.table (table_view l.table))
+    × All (Answered (section_view g.C.Class.number_of) (goal.F-post g l.callback) false) (numbered_below g.C.Class.table (table_view l.table) l.index)

@@ -1,13 +1,13 @@
 use Rattle.std.proofs.Common.{rules}
 use Rattle.std.specs.Prelude.{nat_eq}
 use Rattle.binfarce_bytes.specs.Refusal.{unexpected_eof}
-use Rattle.binfarce_elf.specs.ElfSeen.{section_seen}
+use Rattle.binfarce_elf.specs.ElfViews.{section_view}
 use Rattle.binfarce_elf.specs.Elf.{walk}
-use Rattle.binfarce_elf.specs.machine.RawElf.{table_seen}
+use Rattle.binfarce_elf.specs.machine.RawElf.{table_view}
 use Rattle.binfarce_bytes.proofs.Firsts.{first_is}
 use Rattle.binfarce_elf.proofs.symbols.section_of_kind.Goals as goal
 
 pub returns : goal.returns
 returns g c =
-    first_is (λ _. unexpected_eof) (section_seen g.C.Class.number_of) _ (λ s. nat_eq s.kind c.args.kind) (walk g.C.Class.table (table_seen c.args.table)) c.first_section.result
+    first_is (λ _. unexpected_eof) (section_view g.C.Class.number_of) _ (λ s. nat_eq s.kind c.args.kind) (walk g.C.Class.table (table_view c.args.table)) c.first_section.result
     (λ value answer reported. search rules) c.first_section.ensures

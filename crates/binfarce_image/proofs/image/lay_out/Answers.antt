@@ -11,7 +11,7 @@ use Rattle.binfarce.specs.Format.{format_of}
 use Rattle.binfarce_image.specs.Image.{class_of, bodies_end}
 use Rattle.binfarce_image.specs.ImageRefusal.{has_one_table, names_of, refusal_due, Refuses}
 use Rattle.binfarce_image.specs.ImageSymbols.{ReadsBack}
-use Rattle.binfarce_image.specs.machine.Seen.{class_seen}
+use Rattle.binfarce_image.specs.machine.Views.{class_view}
 use Rattle.binfarce_image.proofs.Lengths.{lengths}
 use Rattle.binfarce_image.proofs.Refusing.{many_due, table_due, names_due, large_due, none_due, computes, long, short, ends}
 use Rattle.binfarce_image.proofs.ReadsBack.{reads_back}
@@ -60,14 +60,14 @@ returns-then-length-ge-TOO_LARGE-clause-refused c =
     let layout = c.args.layout in
     let few = subst (λ (parts : List Part). length parts ≤ 65535) c.as_slice-parts.ensures.value c.if-parts-gt-MAX_SECTIONS.false in
     let table = sym (ap has_one_table c.as_slice-parts.ensures.value) ∙ sym c.has_one_table.ensures ∙ c.if-not-has_one_table.false in
-    let told = computes image layout (class_seen c.class-class.result) c.as_slice-parts.result.now c.bodies_end-shoff.result c.saturating_add-length.result c.class-class.ensures c.as_slice-parts.ensures.value c.bodies_end-shoff.ensures c.saturating_add-length.ensures in
+    let told = computes image layout (class_view c.class-class.result) c.as_slice-parts.result.now c.bodies_end-shoff.result c.saturating_add-length.result c.class-class.ensures c.as_slice-parts.ensures.value c.bodies_end-shoff.ensures c.saturating_add-length.ensures in
     large_due image layout few table (sym c.has_names.ensures ∙ c.if-not-has_names.false) (long image layout c.bodies_end-shoff.result c.saturating_add-length.result told c.if-length-ge-TOO_LARGE.true)
 
 pub file-requires : goal.file-requires
 file-requires c =
     let image = c.args.image.now in
     let layout = c.args.layout in
-    let told = computes image layout (class_seen c.class-class.result) c.as_slice-parts.result.now c.bodies_end-shoff.result c.saturating_add-length.result c.class-class.ensures c.as_slice-parts.ensures.value c.bodies_end-shoff.ensures c.saturating_add-length.ensures in
+    let told = computes image layout (class_view c.class-class.result) c.as_slice-parts.result.now c.bodies_end-shoff.result c.saturating_add-length.result c.class-class.ensures c.as_slice-parts.ensures.value c.bodies_end-shoff.ensures c.saturating_add-length.ensures in
     let end = ends image layout c.bodies_end-shoff.result c.saturating_add-length.result told c.if-length-ge-TOO_LARGE.false in
     record { end = end.0; small = end.1 }
 
@@ -76,21 +76,21 @@ returns-in_err-file-clause-refused c =
     let image = c.args.image.now in
     let layout = c.args.layout in
     memory (refusal_due image layout) c.from_residual.result c.from_residual.ensures.1
-    (none image layout (class_seen c.class-class.result) c.as_slice-parts.result.now c.bodies_end-shoff.result c.saturating_add-length.result c.has_one_table.result c.has_names.result
+    (none image layout (class_view c.class-class.result) c.as_slice-parts.result.now c.bodies_end-shoff.result c.saturating_add-length.result c.has_one_table.result c.has_names.result
     c.class-class.ensures c.as_slice-parts.ensures.value c.bodies_end-shoff.ensures c.saturating_add-length.ensures c.if-parts-gt-MAX_SECTIONS.false c.has_one_table.ensures c.if-not-has_one_table.false c.has_names.ensures c.if-not-has_names.false c.if-length-ge-TOO_LARGE.false)
 
 pub returns-clause-refused : goal.returns-clause-refused
 returns-clause-refused c =
     let image = c.args.image.now in
     let layout = c.args.layout in
-    none image layout (class_seen c.class-class.result) c.as_slice-parts.result.now c.bodies_end-shoff.result c.saturating_add-length.result c.has_one_table.result c.has_names.result
+    none image layout (class_view c.class-class.result) c.as_slice-parts.result.now c.bodies_end-shoff.result c.saturating_add-length.result c.has_one_table.result c.has_names.result
     c.class-class.ensures c.as_slice-parts.ensures.value c.bodies_end-shoff.ensures c.saturating_add-length.ensures c.if-parts-gt-MAX_SECTIONS.false c.has_one_table.ensures c.if-not-has_one_table.false c.has_names.ensures c.if-not-has_names.false c.if-length-ge-TOO_LARGE.false
 
 pub returns-clause-law : goal.returns-clause-law
 returns-clause-law c =
     let image = c.args.image.now in
     let layout = c.args.layout in
-    let due = none image layout (class_seen c.class-class.result) c.as_slice-parts.result.now c.bodies_end-shoff.result c.saturating_add-length.result c.has_one_table.result c.has_names.result
+    let due = none image layout (class_view c.class-class.result) c.as_slice-parts.result.now c.bodies_end-shoff.result c.saturating_add-length.result c.has_one_table.result c.has_names.result
     c.class-class.ensures c.as_slice-parts.ensures.value c.bodies_end-shoff.ensures c.saturating_add-length.ensures c.if-parts-gt-MAX_SECTIONS.false c.has_one_table.ensures c.if-not-has_one_table.false c.has_names.ensures c.if-not-has_names.false c.if-length-ge-TOO_LARGE.false in
     subst (λ (file : List ℕ). ReadsBack layout image file) (sym c.in_ok-file.ensures.file) (reads_back image layout c.in_ok-file.ensures.fits due)
 

@@ -1,6 +1,6 @@
 use Rattle.std.proofs.Common.{ℕ, List, ◌++◌, ap, ◌∙◌}
 use Rattle.std.specs.String.{string_bytes}
-use Rattle.binfarce_v0.specs.machine.Outcome.{printed_seen}
+use Rattle.binfarce_v0_state.specs.machine.Outcome.{printed_view}
 use Rattle.binfarce_names.proofs.Trimmed.{IsOther, on_ok, pushed, legacy_grows, tree_grows, unchanged_grows}
 use Rattle.binfarce_names.proofs.demangle.push_trimmed.Goals as goal
 
@@ -18,7 +18,7 @@ returns-in-Some-2-clause-trimmed c =
     let new = string_bytes c.push_str.new.self in
     let is = rw c.in-Some-2.is at c.in_ok-printed.ensures in
     pushed c.push_str.result old new c.as_str.result.now _
-    (λ e. tree_grows c.args.name.now c.without_llvm-stripped.result.now c.in-Some-2.field-0-0.now (printed_seen c.in-Some-2.printed) old new
+    (λ e. tree_grows c.args.name.now c.without_llvm-stripped.result.now c.in-Some-2.field-0-0.now (printed_view c.in-Some-2.printed) old new
     other is.0 is.1 (e ∙ ap (λ (t : List ℕ). old ++ t) c.as_str.ensures.value))
     c.push_str.ensures.bytes
 

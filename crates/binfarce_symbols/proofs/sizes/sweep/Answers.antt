@@ -2,7 +2,7 @@ use Rattle.std.proofs.Common.{◌≡◌, ◌<◌, ◌≤◌, ◌+◌, ◌-◌, s
 use Rattle.std.proofs.lemmas.Grind.{get_or-set_at}
 use Rattle.std.proofs.lemmas.Bool.{cases_eq}
 use Rattle.binfarce_symbols.specs.Sizes.{least_above}
-use Rattle.binfarce_symbols.proofs.Sweeping.{addresses, addresses_seen, past, filled_whole, last_above, next_above, same_above}
+use Rattle.binfarce_symbols.proofs.Sweeping.{addresses, addresses_view, past, filled_whole, last_above, next_above, same_above}
 use Rattle.binfarce_symbols.proofs.sizes.sweep.Goals as goal
 use Rattle.binfarce_symbols.proofs.sizes.sweep.Goals.{then-place-rows+then-rows-place, else-place-rows, else-place-rows-via-then-place-rows+else-rows-place, else-place-rows-via-else-place-rows}
 
@@ -37,5 +37,5 @@ loop-place-preserved c =
 
 pub returns-clause-above : goal.returns-clause-above
 returns-clause-above c =
-    rw (addresses_seen c.args.rows.now)
+    rw (addresses_view c.args.rows.now)
     (filled_whole c.args.rows.now (λ r. least_above (addresses c.args.rows.now) r.address) c.loop-place.above.items c.loop-place.invariant.room (λ k lt. c.loop-place.invariant.filled k (omega arith) lt))

@@ -1,5 +1,5 @@
 use Rattle.std.specs.String.{string_bytes}
-use Rattle.binfarce.specs.SymbolSeen.{function_seen}
+use Rattle.binfarce.specs.SymbolViews.{function_view}
 use Rattle.binfarce_tools.specs.machine.Lists.{functions_left}
 use Rattle.binfarce_tools.proofs.Lines.{one_line, whole, is_listing}
 use Rattle.binfarce_tools.proofs.list.listing.Goals as goal
@@ -7,7 +7,7 @@ use Rattle.binfarce_tools.proofs.list.listing.Goals as goal
 pub loop-function-preserved : goal.loop-function-preserved
 loop-function-preserved c =
     let line = c.in_ok-push_line.ensures in
-    one_line (functions_left c.args.functions) (functions_left c.loop-function.function-iterator) (functions_left c.next.new.self) (function_seen c.in-Some.function) line.0 (string_bytes c.loop-function.text) (string_bytes c.push_line.new.text)
+    one_line (functions_left c.args.functions) (functions_left c.loop-function.function-iterator) (functions_left c.next.new.self) (function_view c.in-Some.function) line.0 (string_bytes c.loop-function.text) (string_bytes c.push_line.new.text)
     c.in-Some.ensures.steps line.1 line.2 c.loop-function.invariant
 
 pub returns : goal.returns

@@ -1,7 +1,7 @@
 use Rattle.std.proofs.Common.{◌≡◌, ℕ, ◌+◌, sym, ap, ◌∙◌}
 use Rattle.std.specs.List.{sum_by}
 use Rattle.binfarce.specs.Symbol.{Entry}
-use Rattle.binfarce.specs.SymbolSeen.{function_seen}
+use Rattle.binfarce.specs.SymbolViews.{function_view}
 use Rattle.binfarce_tools.specs.Report.{Share}
 use Rattle.binfarce_tools.specs.machine.Lists.{functions_left}
 use Rattle.binfarce_tools.proofs.CrateSums.{all_added, all_sizes, checked, fit_more, one_share, one_size, total_is}
@@ -12,7 +12,7 @@ loop-function-preserved c =
     let share = c.in_ok-add_function.ensures in
     let before = functions_left c.loop-function.function-iterator in
     let left = functions_left c.next.new.self in
-    let entry = function_seen c.in-Some.function in
+    let entry = function_view c.in-Some.function in
     let sum = checked (c.loop-function.total + c.in-Some.function.size) c.in_ok-total.total c.checked_add.result c.checked_add.ensures c.in_ok-total.ensures.ok_part in
     let size : share.0.size ≡ entry.size = ap (λ (s : Share). s.size) share.1.2 in
     record {

@@ -1,12 +1,12 @@
 use Rattle.std.proofs.Common.{ap, ◌∙◌}
-use Rattle.binfarce_v0_grammar.specs.Tree.{InValue}
-use Rattle.binfarce_v0.specs.machine.Printing.{Printing, readers}
+use Rattle.binfarce_v0_text.specs.TreeTexts.{InValue}
+use Rattle.binfarce_v0_state.specs.machine.Printing.{Printing, readers}
 use Rattle.binfarce_v0_grammar.specs.declared.limits.TheConstants.{MAX_LEVELS}
-use Rattle.binfarce_v0.specs.machine.Outcome.{printed_seen}
+use Rattle.binfarce_v0_state.specs.machine.Outcome.{printed_view}
 use Rattle.binfarce_v0.proofs.Manglings.{print_gives_outcome}
 use Rattle.binfarce_v0.proofs.mangling.print.Goals as goal
 
 pub returns : goal.returns
 returns c =
     let begun = ap (λ (p : Printing). ((readers p.name MAX_LEVELS).path InValue 0 p.state).1) c.in_ok-printer.ensures in
-    print_gives_outcome printed_seen c.args.name.now c.args.full _ c.finish.result (ap (λ (p : Printing). p.state) c.in_ok-print_path.ensures.printed ∙ begun) c.finish.ensures
+    print_gives_outcome printed_view c.args.name.now c.args.full _ c.finish.result (ap (λ (p : Printing). p.state) c.in_ok-print_path.ensures.printed ∙ begun) c.finish.ensures

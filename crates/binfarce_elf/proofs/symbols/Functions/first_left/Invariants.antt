@@ -1,6 +1,6 @@
 use Rattle.std.proofs.Common.{◌≡◌}
 use Rattle.binfarce_elf.specs.ElfSymbols.{entries_from}
-use Rattle.binfarce_elf.specs.ElfSeen.{functions_left}
+use Rattle.binfarce_elf.specs.ElfViews.{functions_left}
 use Rattle.binfarce_elf.proofs.symbols.Functions.first_left.Given as goal
 
 -- the rows that are passed have no entry

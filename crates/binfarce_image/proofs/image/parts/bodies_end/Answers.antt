@@ -1,13 +1,13 @@
 use Rattle.std.proofs.Common.{◌≡◌, ℕ, ◌+◌, ◌-◌, ◌^◌, min, [], ◌∷◌, drop, sym, ap, ◌∙◌, arith}
 use Rattle.std.proofs.lemmas.List.{drop_more, drop_all}
 use Rattle.binfarce_image.specs.Image.{bodies_end, body_length}
-use Rattle.binfarce_image.specs.machine.Seen.{class_seen}
+use Rattle.binfarce_image.specs.machine.Views.{class_view}
 use Rattle.binfarce_image.proofs.Lengths.{bodies_end_saturated}
 use Rattle.binfarce_image.proofs.image.parts.bodies_end.Goals as goal
 
 pub loop-part-preserved : goal.loop-part-preserved
 loop-part-preserved c =
-    let class = class_seen c.args.class in
+    let class = class_view c.args.class in
     let parts = c.args.parts.now in
     let i = c.loop-part.part-index in
     let most : ℕ = 2 ^ 64 - 1 in
@@ -22,7 +22,7 @@ loop-part-preserved c =
 
 pub returns : goal.returns
 returns c =
-    let class = class_seen c.args.class in
+    let class = class_view c.args.class in
     let none : drop c.loop-part.part-index c.args.parts.now ≡ [] = drop_all c.loop-part.part-index c.args.parts.now c.loop-part-test.false in
     let fits : c.loop-part.end ≡ min c.loop-part.end 18446744073709551615 = omega arith in
     fits ∙ sym (ap (λ ps. min (bodies_end class c.loop-part.end ps) 18446744073709551615) none) ∙ c.loop-part.invariant.end

@@ -1,7 +1,7 @@
 use Rattle.std.proofs.Common.{◌≡◌, ◌++◌, drop}
 use Rattle.std.specs.List.{AllByRecursion, flat_map}
 use Rattle.binfarce_image.specs.Image.{class_of, order_of, body}
-use Rattle.binfarce_image.specs.machine.Seen.{BodyFits}
+use Rattle.binfarce_image.specs.machine.Views.{BodyFits}
 use Rattle.binfarce_image.proofs.image.write.push_bodies.Given as goal
 
 -- with the bodies that are left the file has all bodies, and all fit

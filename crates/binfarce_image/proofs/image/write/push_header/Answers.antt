@@ -3,7 +3,7 @@ use Rattle.binfarce.specs.Elf.{ElfClass}
 use Rattle.binfarce.specs.declared.ByteOrder.{ByteOrder}
 use Rattle.binfarce_image.specs.Structure.{filled}
 use Rattle.binfarce_image.specs.Image.{class_of, order_of, bodies_end, identification, header_numbers, header_bytes}
-use Rattle.binfarce_image.specs.machine.Seen.{all_fit, class_seen}
+use Rattle.binfarce_image.specs.machine.Views.{all_fit, class_view}
 use Rattle.binfarce_image.proofs.Lengths.{lengths, take_blank, header_fits}
 use Rattle.binfarce_image.proofs.image.write.push_header.Goals as goal
 
@@ -23,7 +23,7 @@ returns c =
     let written : ByteOrder → ElfClass → List ℕ → ℕ → ℕ → ℕ → List ℕ = λ order class blank shoff shnum shstrndx.
     filled order (take class.header_length blank) ((class.header.elf_type, 1) ∷ (class.header.version, 1) ∷ (class.header.shoff, shoff) ∷ (class.header.ehsize, class.header_length) ∷ (class.header.shentsize, class.section_length) ∷ (class.header.shnum, shnum) ∷ (class.header.shstrndx, shstrndx) ∷ []) in
     let count : c.len.result ≡ length image.parts.items = c.len.ensures ∙ image.parts.ok.0 in
-    let told : written c.order.result (class_seen c.class-class.result) c.identified.result c.args.shoff c.len.result c.from.result
+    let told : written c.order.result (class_view c.class-class.result) c.identified.result c.args.shoff c.len.result c.from.result
     ≡ written (order_of layout) (class_of layout) (identification layout ++ replicate 48 0) (bodies_end (class_of layout) (class_of layout).header_length image.parts.items) (length image.parts.items) image.names_at =
     λ i. written (c.order.ensures i) (c.class-class.ensures i) (c.identified.ensures i) (c.requires i) (count i) (c.from.ensures i) in
     let blank = ap (λ bytes. filled (order_of layout) bytes (header_numbers (class_of layout) image)) (take_blank layout) in

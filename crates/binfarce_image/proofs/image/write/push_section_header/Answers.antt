@@ -3,7 +3,7 @@ use Rattle.binfarce.specs.Elf.{ElfClass}
 use Rattle.binfarce.specs.declared.ByteOrder.{ByteOrder}
 use Rattle.binfarce_image.specs.Structure.{filled}
 use Rattle.binfarce_image.specs.Image.{class_of, order_of, name_offset, part_kind, part_link, body_length, entry_length, section_numbers, section_bytes}
-use Rattle.binfarce_image.specs.machine.Seen.{all_fit, class_seen}
+use Rattle.binfarce_image.specs.machine.Views.{all_fit, class_view}
 use Rattle.binfarce_image.proofs.Lengths.{lengths, take_zeros, section_fits}
 use Rattle.binfarce_image.proofs.image.write.push_section_header.Goals as goal
 
@@ -29,7 +29,7 @@ returns-clause-header c =
     let fits : min (body_length (class_of layout) part) (2 ^ 64 - 1) ≡ body_length (class_of layout) part = omega (arith, c.requires) in
     let size : c.body_length.result ≡ body_length (class_of layout) part = c.body_length.ensures ∙ ap (λ class. min (body_length class part) (2 ^ 64 - 1)) c.class-class.ensures ∙ fits in
     let entry : c.entry_length.result ≡ entry_length (class_of layout) part = c.entry_length.ensures ∙ ap (λ class. entry_length class part) c.class-class.ensures in
-    let told : written c.order.result (class_seen c.class-class.result) c.from.result c.from-2.result c.body_length.result c.from-3.result c.entry_length.result
+    let told : written c.order.result (class_view c.class-class.result) c.from.result c.from-2.result c.body_length.result c.from-3.result c.entry_length.result
     ≡ written (order_of layout) (class_of layout) (name_offset part) (part_kind part) (body_length (class_of layout) part) (part_link part) (entry_length (class_of layout) part) =
     λ i. written (c.order.ensures i) (c.class-class.ensures i) (name i) (kind i) (size i) (link i) (entry i) in
     let zeros = ap (λ blank. filled (order_of layout) blank (section_numbers (class_of layout) place part)) (take_zeros (class_of layout).section_length 64 (lengths layout).section) in

@@ -4,7 +4,7 @@ use Rattle.std.specs.List.{AllByRecursion}
 use Rattle.binfarce.specs.Elf.{ElfClass}
 use Rattle.binfarce_image.specs.declared.image.Part.{Part}
 use Rattle.binfarce_image.specs.Image.{class_of, order_of, body_length, bodies_end, section_bytes, section_headers}
-use Rattle.binfarce_image.specs.machine.Seen.{class_seen, HeaderFits}
+use Rattle.binfarce_image.specs.machine.Views.{class_view, HeaderFits}
 use Rattle.binfarce_image.proofs.Lengths.{bodies_end_above}
 use Rattle.binfarce_image.proofs.image.write.push_section_headers.Goals as goal
 
@@ -38,7 +38,7 @@ overflow_add-place c =
     let i = c.loop-part.part-index in
     let part = c.part-item.result in
     let ends = further class c.loop-part.place parts i part (more parts i part c.loop-part-test.true c.part-item.is) c.loop-part.invariant.end in
-    let same = size class (class_seen c.class-class.result) part c.body_length-place.result c.class-class.ensures c.body_length-place.ensures (omega (arith, ends.1)) in
+    let same = size class (class_view c.class-class.result) part c.body_length-place.result c.class-class.ensures c.body_length-place.ensures (omega (arith, ends.1)) in
     record { fits = omega (arith, same, ends.1) }
 
 pub loop-part-preserved : goal.loop-part-preserved
@@ -52,7 +52,7 @@ loop-part-preserved c =
     let rest = drop (i + 1) parts in
     let split = more parts i part c.loop-part-test.true c.part-item.is in
     let ends = further class place parts i part split c.loop-part.invariant.end in
-    let same = size class (class_seen c.class-class.result) part c.body_length-place.result c.class-class.ensures c.body_length-place.ensures (omega (arith, ends.1)) in
+    let same = size class (class_view c.class-class.result) part c.body_length-place.result c.class-class.ensures c.body_length-place.ensures (omega (arith, ends.1)) in
     let headers = λ (n : ℕ). section_headers class order n rest in
     record {
       headers = ap (λ n. c.push_section_header.new.file.items ++ headers (place + n)) same

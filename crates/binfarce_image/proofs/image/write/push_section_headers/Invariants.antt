@@ -1,7 +1,7 @@
 use Rattle.std.proofs.Common.{◌≡◌, ◌++◌, ◌^◌, ◌<◌, drop}
 use Rattle.std.specs.List.{AllByRecursion}
 use Rattle.binfarce_image.specs.Image.{class_of, order_of, section_headers, bodies_end}
-use Rattle.binfarce_image.specs.machine.Seen.{HeaderFits}
+use Rattle.binfarce_image.specs.machine.Views.{HeaderFits}
 use Rattle.binfarce_image.proofs.image.write.push_section_headers.Given as goal
 
 -- with the headers that are left the file has all headers, all fit, and the bodies that are left end where all do

@@ -5,7 +5,7 @@ use Rattle.binfarce.specs.declared.ByteOrder.{ByteOrder}
 use Rattle.binfarce.specs.declared.ByteOrder.TheVariants.{BigEndian}
 use Rattle.binfarce.specs.Field.{Field}
 use Rattle.binfarce_image.specs.Structure.{number_bytes, put}
-use Rattle.binfarce_image.specs.machine.Seen.{field_seen, fits}
+use Rattle.binfarce_image.specs.machine.Views.{field_view, fits}
 use Rattle.binfarce_image.proofs.Bytes.{le_bytes, be_bytes, length-number_bytes}
 use borrow.Rule.Slice.PartMut.{put_mid}
 use Rattle.binfarce_image.proofs.image.write.put.Goals as goal
@@ -22,14 +22,14 @@ wide length_of f h = grind (arith, nat_tests)
 
 pub returns-in-LittleEndian : goal.returns-in-LittleEndian
 returns-in-LittleEndian c =
-    let f = field_seen c.args.field in
+    let f = field_view c.args.field in
     let n = c.args.number in
     written c.args.order c.args.structure.now f n _
     (c.copy_from_slice.ensures.after ∙ ap (take f.width) c.to_le_bytes.ensures ∙ le_bytes f.width n (wide _ f c.requires) ∙ ap (λ order. number_bytes order f.width n) (sym c.in-LittleEndian.is))
 
 pub returns-in-BigEndian : goal.returns-in-BigEndian
 returns-in-BigEndian c =
-    let f = field_seen c.args.field in
+    let f = field_view c.args.field in
     let n = c.args.number in
     let last : drop (8 - f.width) c.to_be_bytes.result ≡ number_bytes BigEndian f.width n = ap (drop (8 - f.width)) c.to_be_bytes.ensures ∙ be_bytes f.width n (wide _ f c.requires) in
     let some : f.width ≤ 8 = wide _ f c.requires in

@@ -1,7 +1,7 @@
 use Rattle.std.proofs.Common.{◌≢◌, sym, [], Some}
-use Rattle.binfarce_symbols.specs.SymbolSeen.{HoldsFunctions}
+use Rattle.binfarce_symbols.specs.SymbolViews.{HoldsFunctions}
 use Rattle.binfarce_macho.specs.MachoSymbols.{HasAddress, macho_answer, answer_of, row_addresses}
-use Rattle.binfarce_macho.specs.machine.RawMacho.{found_seen}
+use Rattle.binfarce_macho.specs.machine.RawMacho.{located_view}
 use Rattle.binfarce_macho.proofs.MachoAnswers.{refusal_answers, refused_answer, no_table_answer, answer_at, same_answer}
 use Rattle.binfarce_macho.proofs.macho.Macho.functions.Goals as goal
 
@@ -15,7 +15,7 @@ returns-in-None c = no_table_answer c.args.self.now (λ _. HasAddress c.args.sel
 pub returns-in-Some : goal.returns-in-Some
 returns-in-Some c =
     let file = c.args.self.now in
-    let found = found_seen c.in-Some.found in
+    let found = located_view c.in-Some.found in
     let at = rw c.in-Some.is at c.in_ok-locate.ensures in
     same_answer HoldsFunctions (row_addresses found.rows ≢ []) (HasAddress file) (answer_of (Some found)) (macho_answer file) c.functions_of.result (sym (answer_at file (Some found) at))
     (λ some. record { found = found; is_located = at; some = some }) c.functions_of.ensures

@@ -1,5 +1,5 @@
 use Rattle.std.proofs.Common.{◌≡◌}
-use Rattle.binfarce_names.specs.Name.{name_seen}
+use Rattle.binfarce_names.specs.Name.{name_view}
 use Rattle.binfarce_names.specs.Named.{IsNamed, unknown}
 use Rattle.binfarce_names.proofs.NameLemmas.{if_ok}
 use Rattle.binfarce_names.proofs.Trimmed.{IsOther, named_legacy, named_texts, named_unchanged}
@@ -8,7 +8,7 @@ use Rattle.binfarce_names.proofs.demangle.SymbolName.demangle.Goals as goal
 pub returns-in-Some : goal.returns-in-Some
 returns-in-Some c =
     let is = c.in-Some.ensures in
-    record { named = if_ok _ (λ n. IsNamed c.args.name.now (name_seen n)) c.legacy_name.result (λ n e. named_legacy c.args.name.now c.without_llvm-stripped.result.now c.in-Some.part.now is.1 is.0 (name_seen n) c.without_llvm-stripped.ensures is.2 (e is.0 is.1 is.2.reads)) c.legacy_name.ensures }
+    record { named = if_ok _ (λ n. IsNamed c.args.name.now (name_view n)) c.legacy_name.result (λ n e. named_legacy c.args.name.now c.without_llvm-stripped.result.now c.in-Some.part.now is.1 is.0 (name_view n) c.without_llvm-stripped.ensures is.2 (e is.0 is.1 is.2.reads)) c.legacy_name.ensures }
 
 pub returns-in-Some-2 : goal.returns-in-Some-2
 returns-in-Some-2 c =
@@ -19,4 +19,4 @@ pub returns-in-None : goal.returns-in-None
 returns-in-None c =
     let other : IsOther c.args.name.now c.without_llvm-stripped.result.now = record { stripped = c.without_llvm-stripped.ensures; not_legacy = c.in_default.ensures } in
     let none = rw c.in-None.is at c.in_ok-texts.ensures in
-    record { named = if_ok (λ n. name_seen n ≡ unknown c.args.name.now) (λ n. IsNamed c.args.name.now (name_seen n)) c.unknown.result (λ n e. named_unchanged c.args.name.now c.without_llvm-stripped.result.now (name_seen n) other none e) c.unknown.ensures }
+    record { named = if_ok (λ n. name_view n ≡ unknown c.args.name.now) (λ n. IsNamed c.args.name.now (name_view n)) c.unknown.result (λ n e. named_unchanged c.args.name.now c.without_llvm-stripped.result.now (name_view n) other none e) c.unknown.ensures }

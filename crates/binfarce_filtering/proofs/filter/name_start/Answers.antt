@@ -1,0 +1,16 @@
+use Rattle.std.proofs.Common.{ℕ, List, ◌≡◌, ◌<◌, true, false, length, take, get_or, sym, subst, arith}
+use Rattle.std.proofs.lemmas.List.{take_more}
+use Rattle.binfarce_filtering.specs.machine.Scan.{is_plain}
+use Rattle.binfarce_filtering.proofs.Scans.{plain_more}
+use Rattle.binfarce_filtering.proofs.filter.name_start.Goals as goal
+
+pub loop-at-preserved : goal.loop-at-preserved
+loop-at-preserved c =
+    let text = c.args.text.now in
+    let at = c.loop-at.at in
+    let within : at < length text = omega (arith, c.loop-at-test.true) in
+    record {
+      within = omega (arith, within);
+      plain = subst (λ (x : List ℕ). is_plain false x ≡ true) (sym (take_more text at 0 within))
+          (plain_more false (take at text) (get_or text at 0) c.loop-at.invariant.plain (c.name_begins.ensures.goes_on c.if-not-name_begins.true));
+    }

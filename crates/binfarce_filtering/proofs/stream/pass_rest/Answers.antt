@@ -1,0 +1,12 @@
+use Rattle.std.proofs.Common.{◌++◌, ℕ, List, ◌∙◌, ap}
+use Rattle.binfarce_filtering.proofs.Streams.{ends_none, ends_written}
+use Rattle.binfarce_filtering.proofs.stream.pass_rest.Goals as goal
+
+pub returns-in_err-finish : goal.returns-in_err-finish
+returns-in_err-finish g c = ends_none c.args.filter.now _ c.from_residual.result c.from_residual.ensures.1
+
+pub returns : goal.returns
+returns g c =
+    let more = c.in_ok-finish.ensures in
+    ends_written c.args.filter.now c.as_slice.result.now more.0 _ _ c.write_whole.result more.1
+    (c.as_slice.ensures.value ∙ more.2 ∙ ap (λ (x : List ℕ). x ++ more.0) c.clear.ensures.items) c.write_whole.ensures

@@ -1,0 +1,4 @@
+pub mod Filter
+pub mod FilterViews
+pub mod Stream
+pub mod machine

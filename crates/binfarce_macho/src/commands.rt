@@ -1,0 +1,124 @@
+//! The load commands of a file, one after the other (Apple's `<mach-o/loader.h>`).
+
+ghost use Rattle.std.specs.Prelude.{◌≡◌, ◌+◌, ◌<◌, ◌≤◌, length, MatchResult};
+ghost use Rattle.std.specs.Iterator.{UpTo};
+ghost use Rattle.binfarce_bytes.specs.Refusal.{refusal_of};
+ghost use Rattle.binfarce_macho.specs.Macho.{header_of, command_at, commands};
+ghost use Rattle.binfarce_macho.specs.machine.RawMacho.{command_view, damage_refusal, commands_left};
+
+use crate::header::HEADER_LENGTH;
+use crate::macho::Macho;
+use binfarce_bytes::parser::{Stream, UnexpectedEof};
+use binfarce_bytes::{ByteOrder, ParseError};
+
+pub(crate) const LC_SYMTAB: u32 = 0x2;
+
+pub(crate) const LC_SEGMENT_64: u32 = 0x19;
+
+// How many bytes a load command has before its body.
+const COMMAND_HEAD: u32 = 8;
+
+/// Why a walk ends before its end. A public refusal holds a `'static` text, and so a callback's borrow can't meet it.
+#[derive(Clone, Copy)]
+pub(crate) enum Damage {
+    Malformed,
+    Truncated,
+}
+
+impl From<UnexpectedEof> for Damage {
+    ghost use Rattle.std.specs.Prelude.{◌≡◌};
+    ghost use Rattle.binfarce_macho.specs.declared.commands.Damage.TheVariants.{Truncated};
+
+    ghost from_gives = { λ _ damage. damage ≡ Truncated };
+
+    fn from(_: UnexpectedEof) -> Self {
+        Damage::Truncated
+    }
+}
+
+impl From<Damage> for ParseError {
+    ghost use Rattle.std.specs.Prelude.{◌≡◌};
+    ghost use Rattle.binfarce_bytes.specs.Refusal.{refusal_of};
+    ghost use Rattle.binfarce_macho.specs.machine.RawMacho.{damage_refusal};
+
+    ghost from_gives = { λ damage error. refusal_of error ≡ damage_refusal damage };
+
+    fn from(damage: Damage) -> Self {
+        match damage {
+            Damage::Malformed => ParseError::MalformedInput,
+            Damage::Truncated => ParseError::UnexpectedEof,
+        }
+    }
+}
+
+/// A load command: where it begins, its kind and its size.
+#[derive(Clone, Copy)]
+pub(crate) struct Command {
+    pub(crate) offset: usize,
+    pub(crate) kind: u32,
+    size: u32,
+}
+
+/// The load commands, at most as many as are left. A command whose size is below 8 ends them with an error.
+#[derive(Drop)]
+pub(crate) struct LoadCommands<'a> {
+    bytes: &'a [u8],
+    offset: usize,
+    left: u32,
+}
+
+impl Iterator for LoadCommands<'_> {
+    ghost use Rattle.std.specs.Prelude.{◌≡◌};
+    ghost use Rattle.std.specs.Iterator.{at_most};
+    ghost use Rattle.binfarce_macho.specs.machine.RawMacho.{Takes, commands_left};
+
+    type Item = Result<Command, Damage>;
+
+    ghost next_gives = { λ before result after. (after.bytes.now ≡ before.bytes.now) × Takes (commands_left before) result (commands_left after) };
+
+    ghost remaining = { λ it. at_most it.left };
+
+    fn next(&mut self) -> Option<Result<Command, Damage>> {
+        if self.left == 0 {
+            return None;
+        }
+        match command_at(self.bytes, self.offset) {
+            Err(_) => None,
+            Ok(command) => {
+                if command.size < COMMAND_HEAD {
+                    self.left = 0;
+                    return Some(Err(Damage::Malformed));
+                }
+                self.left -= 1;
+                self.offset += command.size as usize;
+                Some(Ok(command))
+            }
+        }
+    }
+}
+
+// The load commands of a file.
+pub(crate) fn commands<'a>(file: &Macho<'a>) -> LoadCommands<'a>
+    ensures bytes { result.bytes.now ≡ file.now }
+    ensures left { commands_left result ≡ commands file.now }
+    // No more items come than the header has commands, and then they end.
+    ensures at_most { UpTo (⟦<LoadCommands<'static> as Iterator>⟧.remaining result) (header_of file.now).ncmds }
+{
+    LoadCommands {
+        bytes: file.data,
+        offset: HEADER_LENGTH,
+        left: file.header.ncmds,
+    }
+}
+
+// The load command that begins at `offset`; refused where its head is truncated.
+fn command_at(bytes: &[u8], offset: usize) -> Result<Command, UnexpectedEof>
+    ensures { MatchResult result
+        (λ c. (offset + 8 ≤ length bytes.now) × (command_view c ≡ command_at bytes.now offset))
+        (λ _. length bytes.now < offset + 8) }
+{
+    let mut s = Stream::new_at(bytes, offset, ByteOrder::LittleEndian)?;
+    let kind = s.read()?;
+    let size = s.read()?;
+    Ok(Command { offset, kind, size })
+}

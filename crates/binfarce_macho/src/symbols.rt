@@ -1,0 +1,290 @@
+//! The symbol table (Apple's `<mach-o/nlist.h>`) and the functions of the first section in it.
+
+ghost use Rattle.std.specs.Prelude.{◌≡◌, ◌≢◌, ℕ, ◌+◌, ◌*◌, ◌<◌, ◌≤◌, [], length, map, nat_eq, not, All, Some, IfOk, OnErr, MatchResult};
+ghost use Rattle.std.specs.Option.{option_map};
+ghost use Rattle.binfarce_bytes.specs.Refusal.{Gives, refusal_of};
+ghost use Rattle.binfarce_macho.specs.Macho.{body_of};
+ghost use Rattle.binfarce_macho.specs.MachoSymbols.{answer_of, listed_of, located, located_by, text_section, some_size, symbol_command, symbol_table_at, text_end_of, row_addresses, symbol_at, is_candidate, size_up_to, sized_entry, entry_of};
+ghost use Rattle.binfarce_symbols.specs.Sizes.{addresses_of, least_above};
+ghost use Rattle.binfarce_symbols.specs.RowViews.{row_view, rows_view};
+ghost use Rattle.binfarce_symbols.specs.Symbol.{Answers};
+ghost use Rattle.binfarce_symbols.specs.SymbolViews.{function_view, HoldsFunctions};
+ghost use Rattle.binfarce_macho.specs.MachoViews.{section_view};
+ghost use Rattle.binfarce_macho.specs.machine.RawMacho.{command_view, located_view, symbol_view, table_view};
+
+use crate::commands::{Command, LC_SYMTAB, commands};
+use crate::macho::Macho;
+use crate::sections::{Section, section_with_name};
+use binfarce_bytes::parser::{Stream, UnexpectedEof, parse_null_string, slice_at};
+use binfarce_bytes::{ByteOrder, ParseError};
+use binfarce_symbols::functions::FunctionSymbol;
+use binfarce_symbols::sizes::{RowAddress, arrange};
+use std::alloc::{AllocError, Global};
+
+const SYMBOL_LENGTH: usize = 16;
+
+/// Where the symbols of a file are, and where its text ends.
+#[derive(Clone, Copy)]
+pub(crate) struct Located<'a> {
+    text_end: u64,
+    text_size: u64,
+    strings: &'a [u8],
+    rows: &'a [u8],
+}
+
+// Where the symbols are, `None` without a symbol table, or the first refusal.
+#[tactic(auto, unfolding(crate::specs::MachoSymbols::located))]
+pub(crate) fn locate<'a>(file: &Macho<'a>) -> Result<Option<Located<'a>>, ParseError>
+    ensures { Gives refusal_of (option_map located_view) (located file.now) result }
+{
+    let found = text_section(file)?;
+    let text = some_size(found)?;
+    let command = symbol_command(file)?;
+    located_by(file.data, text, command)
+}
+
+fn text_section<'a>(file: &Macho<'a>) -> Result<Section<'a>, ParseError>
+    ensures { Gives refusal_of section_view (text_section file.now) result }
+{
+    section_with_name(file, "__TEXT", "__text")?.ok_or(ParseError::SymbolsSectionIsMissing)
+}
+
+// The first command that names a symbol table.
+fn symbol_command(file: &Macho<'_>) -> Result<Option<Command>, ParseError>
+    ensures { Gives refusal_of (option_map command_view) (symbol_command file.now) result }
+{
+    for item in commands(file) {
+        let command = item?;
+        if command.kind == LC_SYMTAB {
+            return Ok(Some(command));
+        }
+    }
+    Ok(None)
+}
+
+fn some_size(section: Section<'_>) -> Result<Section<'_>, ParseError>
+    ensures { Gives refusal_of section_view (some_size (section_view section.entry)) result }
+{
+    if section.size == 0 {
+        Err(ParseError::MalformedInput)
+    } else {
+        Ok(section)
+    }
+}
+
+#[tactic(auto, unfolding(crate::specs::MachoSymbols::located_by))]
+fn located_by<'a>(
+    bytes: &'a [u8],
+    text: Section<'_>,
+    command: Option<Command>,
+) -> Result<Option<Located<'a>>, ParseError>
+    ensures { Gives refusal_of (option_map located_view)
+        (located_by bytes.entry.now (section_view text.entry) (option_map command_view command)) result }
+{
+    match command {
+        None => Ok(None),
+        Some(command) => {
+            let table = symbol_table_at(bytes, command)?;
+            let strings = slice_at(
+                bytes,
+                table.strings_offset as usize,
+                table.strings_size as usize,
+            )?;
+            let rows = slice_at(
+                bytes,
+                table.symbol_offset as usize,
+                SYMBOL_LENGTH * table.row_count as usize,
+            )?;
+            let text_end = text_end(text)?;
+            Ok(Some(Located {
+                text_end,
+                text_size: text.size,
+                strings,
+                rows,
+            }))
+        }
+    }
+}
+
+/// What the body of a symbol table's command names (`symtab_command`).
+#[derive(Clone, Copy)]
+struct SymbolTable {
+    symbol_offset: u32,
+    row_count: u32,
+    strings_offset: u32,
+    strings_size: u32,
+}
+
+#[tactic(auto, unfolding(crate::specs::MachoSymbols::symbol_table_at, crate::specs::MachoSymbols::symbol_table_fields))]
+fn symbol_table_at(bytes: &[u8], command: Command) -> Result<SymbolTable, UnexpectedEof>
+    ensures { let body = body_of (command_view command) in MatchResult result
+        (λ t. (body + 16 ≤ length bytes.now) × (table_view t ≡ symbol_table_at bytes.now body))
+        (λ _. length bytes.now < body + 16) }
+{
+    let body = command.offset.checked_add(8).ok_or(UnexpectedEof {})?;
+    let mut s = Stream::new_at(bytes, body, ByteOrder::LittleEndian)?;
+    let symbol_offset = s.read()?;
+    let row_count = s.read()?;
+    let strings_offset = s.read()?;
+    let strings_size = s.read()?;
+    Ok(SymbolTable {
+        symbol_offset,
+        row_count,
+        strings_offset,
+        strings_size,
+    })
+}
+
+fn text_end(text: Section<'_>) -> Result<u64, ParseError>
+    ensures { Gives refusal_of (λ n. n) (text_end_of (section_view text.entry)) result }
+{
+    text.address
+        .checked_add(text.size)
+        .ok_or(ParseError::MalformedInput)
+}
+
+/// A symbol table entry's values (`nlist_64`).
+#[derive(Clone, Copy)]
+struct SymbolRow {
+    name: u32,
+    kind: u8,
+    section: u8,
+    value: u64,
+}
+
+#[inline]
+#[tactic(auto, unfolding(crate::specs::MachoSymbols::symbol_at, crate::specs::MachoSymbols::symbol_fields))]
+fn symbol_at(rows: &[u8], start: usize) -> Result<SymbolRow, UnexpectedEof>
+    ensures { MatchResult result
+        (λ s. (start + 16 ≤ length rows.now) × (symbol_view s ≡ symbol_at rows.now start))
+        (λ _. length rows.now < start + 16) }
+{
+    let mut s = Stream::new_at(rows, start, ByteOrder::LittleEndian)?;
+    let name = s.read()?;
+    let kind = s.read()?;
+    let section = s.read()?;
+    s.skip::<u16>()?; // description
+    let value = s.read()?;
+    Ok(SymbolRow {
+        name,
+        kind,
+        section,
+        value,
+    })
+}
+
+// The function symbols of a table, in the order of their addresses.
+pub(crate) fn functions_of<'a>(
+    alloc: Global,
+    found: Located<'a>,
+) -> Result<(Vec<FunctionSymbol<'a>>, u64), ParseError>
+    ensures { Answers HoldsFunctions (λ _. row_addresses found.entry.rows.now ≢ []) (answer_of (Some (located_view found.entry))) result }
+{
+    let rows = row_addresses(alloc, found.rows)?;
+    if rows.is_empty() {
+        return Ok((Vec::new(alloc), found.text_size));
+    }
+    let arranged = arrange(alloc, rows)?;
+    list_functions(alloc, found, &arranged.rows, &arranged.above)
+}
+
+// The addresses of the rows that have one.
+fn row_addresses(alloc: Global, rows: &[u8]) -> Result<Vec<RowAddress>, AllocError>
+    ensures items { IfOk result (λ v. rows_view v.items ≡ row_addresses rows.now) }
+    ensures memory { OnErr result (row_addresses rows.now ≢ []) }
+{
+    let mut addresses = Vec::new(alloc);
+    for k in 0..rows.len() / SYMBOL_LENGTH {
+        let row = symbol_at(rows, k * SYMBOL_LENGTH).unwrap();
+        if has_address(row) {
+            addresses.push(RowAddress {
+                address: row.value,
+                index: k,
+            })?;
+        }
+    }
+    Ok(addresses)
+}
+
+// The function symbols of the rows in the order that they stand in, given what is above each.
+fn list_functions<'a>(
+    alloc: Global,
+    found: Located<'a>,
+    rows: &[RowAddress],
+    above: &[Option<u64>],
+) -> Result<(Vec<FunctionSymbol<'a>>, u64), ParseError>
+    requires above { above.now ≡ map (λ r. least_above (addresses_of (row_addresses found.rows.now)) r.address) rows.now }
+    requires inside { All (λ r. r.index * 16 + 16 ≤ length found.rows.now) rows.now }
+    ensures { Answers HoldsFunctions (λ _. rows.now ≢ []) (listed_of (located_view found.entry) (rows_view rows.now)) result }
+{
+    let mut functions = Vec::with_capacity(alloc, rows.len())?;
+    for k in 0..rows.len() {
+        match entry_of(found, rows[k], above[k])? {
+            None => {}
+            Some(function) => functions.push_reserved(function),
+        }
+    }
+    Ok((functions, found.text_size))
+}
+
+// The entry of a row, given what is above its address.
+#[tactic(auto, unfolding(crate::specs::MachoSymbols::entry_of, crate::specs::MachoSymbols::macho_size))]
+fn entry_of<'a>(
+    found: Located<'a>,
+    at: RowAddress,
+    above: Option<u64>,
+) -> Result<Option<FunctionSymbol<'a>>, ParseError>
+    requires above { above ≡ least_above (addresses_of (row_addresses found.rows.now)) at.address }
+    requires inside { at.index * 16 + 16 ≤ length found.rows.now }
+    ensures { Gives refusal_of (option_map function_view) (entry_of (located_view found.entry) (row_view at)) result }
+{
+    let row = symbol_at(found.rows, at.index * SYMBOL_LENGTH).unwrap();
+    if !is_candidate(row) {
+        return Ok(None);
+    }
+    let size = size_up_to(above, found.text_end, at.address)?;
+    let name = parse_null_string(found.strings, row.name as usize);
+    Ok(sized_entry(at.address, size, name))
+}
+
+fn has_address(row: SymbolRow) -> bool
+    ensures { result ≡ not (nat_eq (symbol_view row).value 0) }
+{
+    row.value != 0
+}
+
+fn is_candidate(row: SymbolRow) -> bool
+    ensures { result ≡ is_candidate (symbol_view row) }
+{
+    row.name != 0 && row.kind & 0x0A != 0 && row.section == 1
+}
+
+fn size_up_to(above: Option<u64>, text_end: u64, address: u64) -> Result<Option<u64>, ParseError>
+    requires { (n : ℕ) → above ≡ Some n → address < n }
+    ensures { Gives refusal_of (λ o. o) (size_up_to above text_end address) result }
+{
+    match above {
+        Some(above) => Ok(Some(above - address)),
+        None => {
+            if address < text_end {
+                Ok(Some(text_end - address))
+            } else if address == text_end {
+                Ok(None)
+            } else {
+                Err(ParseError::MalformedInput)
+            }
+        }
+    }
+}
+
+fn sized_entry(address: u64, size: Option<u64>, name: Option<&str>) -> Option<FunctionSymbol<'_>>
+    ensures { option_map function_view result ≡ sized_entry address size (option_map (λ t. t.now) name.entry) }
+{
+    let size = size?;
+    let name = name?;
+    Some(FunctionSymbol {
+        name,
+        address,
+        size,
+    })
+}

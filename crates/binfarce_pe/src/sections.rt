@@ -1,0 +1,131 @@
+//! The sections of a file (Microsoft PE Format, "Section Table").
+
+ghost use Rattle.std.specs.Prelude.{◌≡◌, ◌+◌, ◌<◌, ◌≤◌, length, All, MatchResult};
+ghost use Rattle.std.specs.Option.{option_map};
+ghost use Rattle.binfarce_bytes.specs.Refusal.{Gives, unexpected_eof};
+ghost use Rattle.binfarce_bytes.specs.Text.{padded_text};
+ghost use Rattle.binfarce_bytes.specs.Walk.{MayBeAsked, FirstAccepted, first};
+ghost use Rattle.binfarce_pe.specs.Pe.{section_at, sections_offset, walk, is_named};
+ghost use Rattle.binfarce_pe.specs.PeViews.{section_view};
+
+use crate::header::{HEADER_LENGTH, SIGNATURE_LENGTH};
+use crate::pe::Pe;
+use binfarce_bytes::parser::{Stream, UnexpectedEof, range, up_to_nul, utf8_text};
+use binfarce_bytes::{ByteOrder, ParseError};
+use std::ops::Range;
+
+const SECTION_LENGTH: usize = 40;
+
+/// A section header's values ("Section Table"), and the section's index, counted from 0.
+///
+/// The name is a part of the file, which the section borrows and not its reader.
+#[derive(Debug, Clone, Copy)]
+pub struct Section<'a> {
+    pub(crate) name: &'a str,
+    pub(crate) virtual_size: u32,
+    pub(crate) size_of_raw_data: u32,
+    pub(crate) pointer_to_raw_data: u32,
+    pub(crate) index: u16,
+}
+
+impl Section<'_> {
+    /// The bytes of the file that the section has, from its raw pointer on and as many as its raw size.
+    ///
+    /// The range isn't checked against the file's length. It always fits a `usize`, so nothing is refused.
+    pub fn range(&self) -> Result<Range<usize>, ParseError>
+        ensures { let s = section_view self.now in MatchResult result
+            (λ r. (r.start ≡ s.pointer_to_raw_data) × (r.end ≡ s.pointer_to_raw_data + s.size_of_raw_data))
+            (λ _. ⊥) }
+    {
+        range(
+            self.pointer_to_raw_data as usize,
+            self.size_of_raw_data as usize,
+        )
+    }
+}
+
+// The first section that the callback accepts.
+pub(crate) fn first_section<'a, F: Fn(Section<'a>) -> bool>(
+    file: &Pe<'a>,
+    callback: F,
+) -> Result<Option<Section<'a>>, UnexpectedEof>
+    requires { All (MayBeAsked section_view (F.pre callback)) (walk file.now).items }
+    ensures { FirstAccepted (λ _. unexpected_eof) section_view (F.post callback) (walk file.now) result }
+{
+    let mut start = sections_offset(file);
+    if start >= file.data.len() {
+        return Err(UnexpectedEof {});
+    }
+    for index in 0..file.header.number_of_sections {
+        let found = section_at(file.data, start, index)?;
+        start += SECTION_LENGTH;
+        let section = match found {
+            None => continue,
+            Some(section) => section,
+        };
+        if is_accepted(&callback, section) {
+            return Ok(Some(section));
+        }
+    }
+    Ok(None)
+}
+
+// The first section with this name. The error holds no text, so that the closure may borrow the name.
+pub(crate) fn section_with_name<'a>(
+    file: &Pe<'a>,
+    name: &str,
+) -> Result<Option<Section<'a>>, UnexpectedEof>
+    ensures { Gives (λ _. unexpected_eof) (option_map section_view) (first (λ s. is_named name.now s) (walk file.now)) result }
+{
+    first_section(file, |section| section.name == name)
+}
+
+// Where the section table begins.
+fn sections_offset(file: &Pe<'_>) -> usize
+    ensures { result ≡ sections_offset file.now }
+{
+    file.pe_pointer
+        + SIGNATURE_LENGTH
+        + HEADER_LENGTH
+        + file.header.size_of_optional_header as usize
+}
+
+fn is_accepted<'a, F: Fn(Section<'a>) -> bool>(callback: &F, section: Section<'a>) -> bool
+    requires { F.pre callback.now section }
+    ensures { F.post callback.now section.entry result }
+{
+    callback(section)
+}
+
+// The section whose header begins at `start`, where its name is UTF-8; refused where a field is truncated.
+#[tactic(auto, unfolding(crate::specs::Pe::section_fields, crate::specs::Pe::section_at))]
+fn section_at(data: &[u8], start: usize, index: u16) -> Result<Option<Section<'_>>, UnexpectedEof>
+    ensures { MatchResult result
+        (λ o. (start + 24 ≤ length data.now) × (option_map section_view o ≡ section_at data.now start index))
+        (λ _. length data.now < start + 24) }
+{
+    let mut s = Stream::new_at(data, start, ByteOrder::LittleEndian)?;
+    let name = s.read_bytes(8)?;
+    let virtual_size = s.read()?;
+    s.skip::<u32>()?; // virtual address
+    let size_of_raw_data = s.read()?;
+    let pointer_to_raw_data = s.read()?;
+    match short_name(name) {
+        None => Ok(None),
+        Some(name) => Ok(Some(Section {
+            name,
+            virtual_size,
+            size_of_raw_data,
+            pointer_to_raw_data,
+            index,
+        })),
+    }
+}
+
+// The bytes up to the first NUL, or all where there is none, as UTF-8.
+#[tactic(auto, unfolding(binfarce_bytes::specs::Text::padded_text))]
+pub(crate) fn short_name(bytes: &[u8]) -> Option<&str>
+    ensures { option_map (λ t. t.now) result ≡ padded_text bytes.now }
+{
+    utf8_text(up_to_nul(bytes))
+}

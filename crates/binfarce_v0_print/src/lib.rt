@@ -1,0 +1,9 @@
+//! Printing a v0 name of a Rust symbol (RFC 2603): what a position unfolds to is written as it is read, by the letter that a
+//! form begins with.
+#![tactic(auto)]
+
+pub mod consts;
+mod identifiers;
+mod lists;
+pub mod paths;
+pub mod types;

@@ -1,0 +1,288 @@
+//! Printing a v0 name: what a position unfolds to is written as it is read, by the letter that a form begins with.
+
+ghost use Rattle.std.specs.Prelude.{◌≡◌, ◌+◌, ◌<◌, IfOk, IsTrue, OnOk, Some, true};
+ghost use Rattle.std.specs.Char.{is_ascii_alphabetic};
+ghost use Rattle.binfarce_v0_grammar.specs.Forms.{InherentImpl, TraitImpl, path_form};
+ghost use Rattle.binfarce_v0_text.specs.TreeTexts.{parent_position, is_left_open};
+ghost use Rattle.binfarce_v0_text.specs.machine.View.{position_view};
+ghost use Rattle.binfarce_v0_state.specs.machine.Printing.{WithinLevels, with_state, readers, path_rule, qualified, into, back_to, generic_rule, seek, set_muted};
+
+use crate::identifiers::{print_crate_root, print_nested_name};
+use crate::lists::print_items;
+use crate::types::print_type;
+use binfarce_v0_grammar::forms::Listed;
+use binfarce_v0_grammar::numbers::{back_reference, byte_at, skip_optional_base_62_number};
+use binfarce_v0_state::fragments::{FragmentKey, Production};
+use binfarce_v0_state::state::Printer;
+use binfarce_v0_text::position::{Position, closing, is_open_trait, parent, value_mark};
+use std::alloc::AllocError;
+
+// A letter that may be a namespace.
+#[inline(always)]
+fn is_namespace(letter: u8) -> bool
+    ensures value { result ≡ is_ascii_alphabetic letter }
+    ensures some { IsTrue result → 0 < letter }
+{
+    letter.is_ascii_alphabetic()
+}
+
+/// `<path>`: whether it was left open. It is kept where a back reference may mean it.
+#[cycle(printing)]
+pub fn print_path(
+    printer: &mut Printer<'_>,
+    levels_left: usize,
+    binder_depth: usize,
+    position: Position,
+) -> Result<bool, AllocError>
+    requires levels { WithinLevels levels_left binder_depth }
+    ensures printed { OnOk result (printer.new ≡ with_state (((readers printer.old.name levels_left).path (position_view position) binder_depth printer.old.state).1) printer.old) }
+    ensures opened { IfOk result (λ opened. opened ≡ is_left_open ((readers printer.old.name levels_left).path (position_view position) binder_depth printer.old.state).0 (position_view position)) }
+{
+    match printer.keeps_at() {
+        Some(at) => print_and_keep_path(printer, levels_left, binder_depth, position, at),
+        None => print_path_anew(printer, levels_left, binder_depth, position),
+    }
+}
+
+// A path that is kept.
+#[cycle(printing)]
+#[inline(never)]
+#[tactic(auto, using(binfarce_v0_state::proofs::KeptLemmas::path_anew))]
+fn print_and_keep_path(
+    printer: &mut Printer<'_>,
+    levels_left: usize,
+    binder_depth: usize,
+    position: Position,
+    at: usize,
+) -> Result<bool, AllocError>
+    requires at { printer.old.state.at ≡ Some at }
+    requires levels { WithinLevels levels_left binder_depth }
+    ensures printed { OnOk result (printer.new ≡ with_state (((readers printer.old.name levels_left).path (position_view position) binder_depth printer.old.state).1) printer.old) }
+    ensures opened { IfOk result (λ opened. opened ≡ is_left_open ((readers printer.old.name levels_left).path (position_view position) binder_depth printer.old.state).0 (position_view position)) }
+{
+    let mark = printer.mark(levels_left, at);
+    let opened = print_path_anew(printer, levels_left, binder_depth, position)?;
+    printer.keep(
+        mark,
+        levels_left,
+        binder_depth,
+        Production::Path(position),
+        opened,
+    )?;
+    Ok(opened)
+}
+
+// A path from its position.
+#[cycle(printing)]
+#[inline(always)]
+#[tactic(auto, using(binfarce_v0_state::proofs::Levels::path_at))]
+fn print_path_anew(
+    printer: &mut Printer<'_>,
+    levels_left: usize,
+    binder_depth: usize,
+    position: Position,
+) -> Result<bool, AllocError>
+    requires levels { WithinLevels levels_left binder_depth }
+    ensures printed { OnOk result (printer.new ≡ with_state (((readers printer.old.name levels_left).path (position_view position) binder_depth printer.old.state).1) printer.old) }
+    ensures opened { IfOk result (λ opened. opened ≡ is_left_open ((readers printer.old.name levels_left).path (position_view position) binder_depth printer.old.state).0 (position_view position)) }
+{
+    let start = printer.at;
+    let Some(below) = printer.enter(levels_left) else {
+        return Ok(false);
+    };
+    print_path_by_letter(printer, below, binder_depth, position, start)
+}
+
+// A path by the letter that it begins with.
+#[cycle(printing)]
+#[inline(always)]
+#[tactic(auto, using(crate::proofs::Shown::root_state, crate::proofs::Shown::root_closed), unfolding(binfarce_v0_state::specs::machine::Printing::path_rule, binfarce_v0_grammar::specs::Forms::path_form))]
+fn print_path_by_letter(
+    printer: &mut Printer<'_>,
+    levels_left: usize,
+    binder_depth: usize,
+    position: Position,
+    start: Option<usize>,
+) -> Result<bool, AllocError>
+    requires levels { WithinLevels (levels_left + 1) binder_depth }
+    ensures printed { OnOk result (printer.new ≡ with_state ((path_rule printer.old.name (readers printer.old.name levels_left) (position_view position) binder_depth printer.old.state (path_form printer.old.name start)).1) printer.old) }
+    ensures opened { IfOk result (λ opened. opened ≡ is_left_open (path_rule printer.old.name (readers printer.old.name levels_left) (position_view position) binder_depth printer.old.state (path_form printer.old.name start)).0 (position_view position)) }
+{
+    let Some(at) = start else {
+        printer.invalid_syntax()?;
+        return Ok(false);
+    };
+    let bytes = printer.name.as_bytes();
+    match byte_at(bytes, at) {
+        b'C' => print_crate_root(printer, at + 1)?,
+        b'N' => {
+            let namespace = byte_at(bytes, at + 1);
+            if is_namespace(namespace) {
+                printer.seek(Some(at + 2));
+                print_path(printer, levels_left, binder_depth, parent(position))?;
+                print_nested_name(printer, namespace)?;
+            } else {
+                printer.invalid_syntax()?;
+            }
+        }
+        b'M' => match skip_optional_base_62_number(bytes, b's', at + 1) {
+            Some(after) => print_inherent_impl(
+                printer,
+                levels_left,
+                binder_depth,
+                position,
+                after,
+            )?,
+            None => printer.invalid_syntax()?,
+        },
+        b'X' => match skip_optional_base_62_number(bytes, b's', at + 1) {
+            Some(after) => print_trait_impl(printer, levels_left, binder_depth, position, after)?,
+            None => printer.invalid_syntax()?,
+        },
+        b'Y' => {
+            printer.seek(Some(at + 1));
+            print_qualified(printer, levels_left, binder_depth)?;
+        }
+        b'I' => {
+            print_generic(printer, levels_left, binder_depth, position, at + 1)?;
+            return Ok(is_open_trait(position));
+        }
+        b'B' => match back_reference(bytes, at) {
+            Some((target, after)) => {
+                return print_path_target(
+                    printer,
+                    levels_left,
+                    binder_depth,
+                    position,
+                    target,
+                    after,
+                );
+            }
+            None => printer.invalid_syntax()?,
+        },
+        _ => printer.invalid_syntax()?,
+    }
+    Ok(false)
+}
+
+// What a back reference stands for: a path like any other, printed from its target.
+#[cycle(printing)]
+fn print_path_target(
+    printer: &mut Printer<'_>,
+    levels_left: usize,
+    binder_depth: usize,
+    position: Position,
+    target: usize,
+    after: usize,
+) -> Result<bool, AllocError>
+    requires levels { WithinLevels levels_left binder_depth }
+    ensures printed { OnOk result (printer.new ≡ with_state (back_to after printer.old.state.in_back_reference ((readers printer.old.name levels_left).path (position_view position) binder_depth (into target printer.old.state)).1) printer.old) }
+    ensures opened { IfOk result (λ opened. opened ≡ is_left_open ((readers printer.old.name levels_left).path (position_view position) binder_depth (into target printer.old.state)).0 (position_view position)) }
+{
+    let key = FragmentKey {
+        production: Production::Path(position),
+        at: target,
+        binder_depth,
+    };
+    if let Some(opened) = printer.print_kept(levels_left, key, after)? {
+        return Ok(opened);
+    }
+    let in_back_reference = printer.in_back_reference;
+    printer.enter_target(target);
+    let opened = print_path(printer, levels_left, binder_depth, position)?;
+    printer.leave_target(after, in_back_reference);
+    Ok(opened)
+}
+
+// `"M" [<disambiguator>] ..`
+#[cycle(printing)]
+#[tactic(auto, unfolding(binfarce_v0_state::specs::machine::Printing::path_rule))]
+fn print_inherent_impl(
+    printer: &mut Printer<'_>,
+    levels_left: usize,
+    binder_depth: usize,
+    position: Position,
+    after: usize,
+) -> Result<(), AllocError>
+    requires levels { WithinLevels levels_left binder_depth }
+    ensures { OnOk result (printer.new ≡ with_state ((path_rule printer.old.name (readers printer.old.name levels_left) (position_view position) binder_depth printer.old.state (InherentImpl after)).1) printer.old) }
+{
+    print_impl_path(printer, levels_left, binder_depth, position, after)?;
+    printer.write("<")?;
+    print_type(printer, levels_left, binder_depth)?;
+    printer.write(">")
+}
+
+// `"X" [<disambiguator>] ..`
+#[cycle(printing)]
+#[tactic(auto, unfolding(binfarce_v0_state::specs::machine::Printing::path_rule))]
+fn print_trait_impl(
+    printer: &mut Printer<'_>,
+    levels_left: usize,
+    binder_depth: usize,
+    position: Position,
+    after: usize,
+) -> Result<(), AllocError>
+    requires levels { WithinLevels levels_left binder_depth }
+    ensures { OnOk result (printer.new ≡ with_state ((path_rule printer.old.name (readers printer.old.name levels_left) (position_view position) binder_depth printer.old.state (TraitImpl after)).1) printer.old) }
+{
+    print_impl_path(printer, levels_left, binder_depth, position, after)?;
+    print_qualified(printer, levels_left, binder_depth)
+}
+
+// The path of an impl, which is read and not written.
+#[cycle(printing)]
+fn print_impl_path(
+    printer: &mut Printer<'_>,
+    levels_left: usize,
+    binder_depth: usize,
+    position: Position,
+    after: usize,
+) -> Result<(), AllocError>
+    requires levels { WithinLevels levels_left binder_depth }
+    ensures { OnOk result (printer.new ≡ with_state (set_muted printer.old.state.muted ((readers printer.old.name levels_left).path (parent_position (position_view position)) binder_depth (set_muted true (seek (Some after) printer.old.state))).1) printer.old) }
+{
+    let muted = printer.muted;
+    printer.seek(Some(after));
+    printer.set_muted(true);
+    print_path(printer, levels_left, binder_depth, parent(position))?;
+    printer.set_muted(muted);
+    Ok(())
+}
+
+// `<T as Trait>`
+#[cycle(printing)]
+fn print_qualified(
+    printer: &mut Printer<'_>,
+    levels_left: usize,
+    binder_depth: usize,
+) -> Result<(), AllocError>
+    requires levels { WithinLevels levels_left binder_depth }
+    ensures { OnOk result (printer.new ≡ with_state ((qualified (readers printer.old.name levels_left) binder_depth printer.old.state).1) printer.old) }
+{
+    printer.write("<")?;
+    print_type(printer, levels_left, binder_depth)?;
+    printer.write(" as ")?;
+    print_path(printer, levels_left, binder_depth, Position::InType)?;
+    printer.write(">")
+}
+
+// A path with its arguments.
+#[cycle(printing)]
+fn print_generic(
+    printer: &mut Printer<'_>,
+    levels_left: usize,
+    binder_depth: usize,
+    position: Position,
+    after: usize,
+) -> Result<(), AllocError>
+    requires levels { WithinLevels levels_left binder_depth }
+    ensures { OnOk result (printer.new ≡ with_state ((generic_rule printer.old.name (readers printer.old.name levels_left) (position_view position) binder_depth ((readers printer.old.name levels_left).path (parent_position (position_view position)) binder_depth (seek (Some after) printer.old.state))).1) printer.old) }
+{
+    printer.seek(Some(after));
+    print_path(printer, levels_left, binder_depth, parent(position))?;
+    printer.write(value_mark(position))?;
+    printer.write("<")?;
+    print_items(printer, levels_left, binder_depth, Listed::Arguments, ", ")?;
+    printer.write(closing(position))
+}

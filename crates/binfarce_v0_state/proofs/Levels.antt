@@ -1,0 +1,28 @@
+-- What a reader of some levels does.
+use Rattle.std.proofs.Common.{◌≡◌, ℕ, zero, suc, ◌-◌, true, List, nat_le, if◌then◌else◌, ◌&&◌, refl, arith}
+use Rattle.std.proofs.lemmas.Bool.Decides.{nat_tests}
+use Rattle.binfarce_v0_grammar.specs.Forms.{path_form, type_form, const_form}
+use Rattle.binfarce_v0_text.specs.TreeTexts.{Position}
+use Rattle.binfarce_v0_grammar.specs.Tree.{NoPath, NoType, NoConst}
+use Rattle.binfarce_v0_state.specs.machine.Printing.{State, readers, path_rule, type_rule, const_rule, entered, stopped}
+
+one_le_suc : (l : ℕ) → nat_le 1 (suc l) ≡ true
+one_le_suc l = grind (arith, nat_tests)
+
+suc-one : (l : ℕ) → suc l - 1 ≡ l
+suc-one l = omega arith
+
+pub constant_at : (name : List ℕ) (levels_left : ℕ) (s : State) → (readers name levels_left).constant s ≡ (if nat_le 1 levels_left && nat_le 1 s.steps_left then const_rule (readers name (levels_left - 1)) (entered (levels_left - 1) s) (const_form name s.at) else (NoConst, stopped s))
+unfolding readers
+constant_at name zero s = refl
+constant_at name (suc l) s = rw (one_le_suc l, suc-one l) refl
+
+pub type_at : (name : List ℕ) (levels_left binder_depth : ℕ) (s : State) → (readers name levels_left).ty binder_depth s ≡ (if nat_le 1 levels_left && nat_le 1 s.steps_left then type_rule name (readers name (levels_left - 1)) binder_depth (entered (levels_left - 1) s) (type_form name s.at) else (NoType, stopped s))
+unfolding readers
+type_at name zero binder_depth s = refl
+type_at name (suc l) binder_depth s = rw (one_le_suc l, suc-one l) refl
+
+pub path_at : (name : List ℕ) (levels_left : ℕ) (position : Position) (binder_depth : ℕ) (s : State) → (readers name levels_left).path position binder_depth s ≡ (if nat_le 1 levels_left && nat_le 1 s.steps_left then path_rule name (readers name (levels_left - 1)) position binder_depth (entered (levels_left - 1) s) (path_form name s.at) else (NoPath, stopped s))
+unfolding readers
+path_at name zero position binder_depth s = refl
+path_at name (suc l) position binder_depth s = rw (one_le_suc l, suc-one l) refl

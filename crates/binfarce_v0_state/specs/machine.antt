@@ -1,0 +1,4 @@
+-- Definitions that only private contracts cite.
+pub mod Printing
+pub mod Kept
+pub mod Outcome

@@ -1,0 +1,276 @@
+//! What a printing keeps of its own text: a back reference's target that was printed whole isn't read again.
+
+ghost use Rattle.std.specs.Prelude.{◌≡◌, ◌≤◌, ◌++◌, ◌∷◌, [], IfOk, IfSome, OnOk, OnErr, MatchOption, Some, slice_range, is_ok, if◌then◌else◌};
+ghost use Rattle.binfarce_v0_grammar.specs.declared.limits.TheConstants.{MAX_LEVELS};
+ghost use Rattle.binfarce_v0_state.specs.machine.Printing.{with_state, readers, write, into, back_to};
+ghost use Rattle.binfarce_v0_state.specs.machine.Kept.{production_view, left_open_of, read, IsFragmentFor, IsMark, MayKeep, raised, lowered};
+
+use crate::state::Printer;
+use crate::targets::Targets;
+use binfarce_v0_text::position::Position;
+use std::alloc::{AllocError, Global};
+use std::collections::BTreeMap;
+
+/// What is kept: a path as it is shown in a position, a type or a const.
+#[derive(Clone, Copy, PartialEq, Eq, PartialOrd, Ord)]
+pub enum Production {
+    Path(Position),
+    Type,
+    Const,
+}
+
+/// What a back reference asks for: what a position of the name unfolds to under a depth of binders. A const has no depth:
+/// its depth is 0.
+#[derive(Clone, Copy, PartialEq, Eq, PartialOrd, Ord)]
+pub struct FragmentKey {
+    pub production: Production,
+    pub at: usize,
+    pub binder_depth: usize,
+}
+
+/// A range of a printing's text, in bytes, that shows a whole path, type or const: its steps and its levels, and whether
+/// an open trait was left open.
+#[derive(Clone, Copy)]
+pub struct Fragment {
+    pub key: FragmentKey,
+    pub start: usize,
+    pub end: usize,
+    pub steps: usize,
+    pub height: usize,
+    pub left_open: bool,
+}
+
+/// Where a printing stands before what it will keep.
+#[derive(Clone, Copy)]
+pub struct Mark {
+    pub at: usize,
+    pub start: usize,
+    pub steps_left: usize,
+    pub least_levels_left: usize,
+}
+
+/// The fragments of a printing.
+#[derive(Drop)]
+pub struct Fragments {
+    /// What the name's back references may mean: nothing else is kept.
+    pub targets: Targets,
+    /// In the order in which they were printed.
+    pub fragments: Vec<Fragment>,
+    /// Where each stands in `fragments`, but for the first `IN_SIGHT`, which are looked through.
+    index: BTreeMap<FragmentKey, usize>,
+    /// What is written again, for a moment.
+    copy: String,
+}
+
+const LINEAR_SEARCH: usize = 16;
+
+// The first room for fragments: few names have more.
+const FIRST_ROOM: usize = 4;
+
+/// Nothing is kept of a text that an allocation was refused for.
+#[inline(always)]
+pub fn or_forget(
+    kept: &mut Vec<Fragment>,
+    written: Result<(), AllocError>,
+) -> Result<(), AllocError>
+    ensures same { result ≡ written }
+    ensures ok { OnOk result (kept.new ≡ kept.old) }
+    ensures err { OnErr result (kept.new.items ≡ []) }
+{
+    if written.is_err() {
+        kept.clear();
+    }
+    written
+}
+
+impl Fragments {
+    /// No fragment yet, for a printing of `name`.
+    pub fn new(alloc: Global, name: &[u8]) -> Result<Fragments, AllocError>
+        ensures { IfOk result (λ k. k.fragments.items ≡ []) }
+    {
+        let targets = Targets::new(alloc, name)?;
+        let (fragments, bytes) = if targets.is_empty() {
+            (0, 0)
+        } else {
+            (FIRST_ROOM, name.len())
+        };
+        Ok(Fragments {
+            targets,
+            fragments: Vec::with_capacity(alloc, fragments)?,
+            index: BTreeMap::new(alloc),
+            copy: String::with_capacity(alloc, bytes)?,
+        })
+    }
+
+    // Keeps a fragment.
+    fn keep(&mut self, fragment: Fragment) -> Result<(), AllocError>
+        ensures { self.new.fragments.items ≡ (if is_ok result then self.old.fragments.items ++ (fragment ∷ []) else self.old.fragments.items) }
+    {
+        let number = self.fragments.len();
+        if number >= LINEAR_SEARCH {
+            self.index.insert(fragment.key, number)?;
+        }
+        self.fragments.push(fragment)?;
+        Ok(())
+    }
+}
+
+impl<'a> Printer<'a> {
+    /// The position of what is printed next, where it may be kept: a back reference may mean it, and it is written.
+    #[inline(always)]
+    pub fn keeps_at(&self) -> Option<usize>
+        ensures { IfSome result (λ at. self.now.state.at ≡ Some at) }
+    {
+        let at = self.at?;
+        if self.kept.targets.may_have(at) && self.keeps(at) {
+            Some(at)
+        } else {
+            None
+        }
+    }
+
+    // Whether what is printed from a position on may be kept.
+    #[inline(never)]
+    fn keeps(&self, at: usize) -> bool {
+        self.kept.targets.has(at) && !self.muted
+    }
+
+    /// Marks where a path, a type or a const begins: from here on the least number of levels is counted anew.
+    pub fn mark(&mut self, levels_left: usize, at: usize) -> Mark
+        requires at { self.old.state.at ≡ Some at }
+        requires levels_left { levels_left ≤ MAX_LEVELS }
+        ensures state { self.new ≡ with_state (raised levels_left self.old.state) self.old }
+        ensures mark { IsMark self.old.state result }
+    {
+        let mark = Mark {
+            at,
+            start: self.text.len(),
+            steps_left: self.steps_left,
+            least_levels_left: self.least_levels_left,
+        };
+        self.least_levels_left = self.least_levels_left.max(levels_left);
+        mark
+    }
+
+    /// Keeps what was printed since a mark, where it was read without invalid syntax and no limit was exceeded.
+    pub fn keep(
+        &mut self,
+        mark: Mark,
+        levels_left: usize,
+        binder_depth: usize,
+        production: Production,
+        left_open: bool,
+    ) -> Result<(), AllocError>
+        requires { MayKeep self.old.name self.old.state mark levels_left binder_depth (production_view production) left_open }
+        ensures { OnOk result (self.new ≡ with_state (lowered mark.least_levels_left self.old.state) self.old) }
+    {
+        let least_levels_left = self.least_levels_left;
+        self.least_levels_left = mark.least_levels_left.min(least_levels_left);
+        if self.limit_exceeded || self.muted {
+            return Ok(());
+        }
+        let Some(_after) = self.at else {
+            return Ok(());
+        };
+        let fragment = Fragment {
+            key: FragmentKey {
+                production,
+                at: mark.at,
+                binder_depth,
+            },
+            start: mark.start,
+            end: self.text.len(),
+            steps: mark.steps_left.saturating_sub(self.steps_left),
+            height: levels_left.saturating_sub(least_levels_left),
+            left_open,
+        };
+        self.kept.keep(fragment)
+    }
+
+    // The fragment of a number, where it is the one that is asked for.
+    #[inline(always)]
+    fn fragment_at(&self, number: usize, key: FragmentKey) -> Option<&Fragment>
+        ensures { IfSome result (λ f. IsFragmentFor self.now.name self.now.state key f.now) }
+    {
+        let fragment = self.kept.fragments.get(number)?;
+        let other = fragment.key;
+        if other.at == key.at
+            && other.binder_depth == key.binder_depth
+            && other.production == key.production
+        {
+            Some(fragment)
+        } else {
+            None
+        }
+    }
+
+    // The fragment that a back reference asks for, among the first.
+    fn first_fragments(&self, key: FragmentKey) -> Option<&Fragment>
+        ensures { IfSome result (λ f. IsFragmentFor self.now.name self.now.state key f.now) }
+    {
+        for number in 0..self.kept.fragments.len().min(LINEAR_SEARCH) {
+            let found = self.fragment_at(number, key);
+            if found.is_some() {
+                return found;
+            }
+        }
+        None
+    }
+
+    // The fragment that a back reference asks for.
+    fn fragment(&self, key: FragmentKey) -> Option<&Fragment>
+        ensures { IfSome result (λ f. IsFragmentFor self.now.name self.now.state key f.now) }
+    {
+        let found = self.first_fragments(key);
+        if found.is_some() || self.kept.fragments.len() <= LINEAR_SEARCH {
+            return found;
+        }
+        self.fragment_at(*self.kept.index.get(&key)?, key)
+    }
+
+    // Writes a part of the text again, where it begins and ends with characters.
+    fn write_again(&mut self, start: usize, end: usize) -> Result<bool, AllocError>
+        ensures { IfOk result (λ written. self.new ≡ with_state (if written then write (slice_range self.old.state.text start end) self.old.state else self.old.state) self.old) }
+    {
+        if self.muted {
+            return Ok(true);
+        }
+        let Some(part) = self.text.as_str().get(start..end) else {
+            return Ok(false);
+        };
+        self.kept.copy.clear();
+        self.kept.copy.push_str(part)?;
+        self.text.push_str(self.kept.copy.as_str())?;
+        Ok(true)
+    }
+
+    /// Writes what is kept of a back reference's target, and reads on after the reference: whether it was left open.
+    /// None, and nothing is done, where nothing is kept or a limit would be passed.
+    pub fn print_kept(
+        &mut self,
+        levels_left: usize,
+        key: FragmentKey,
+        after: usize,
+    ) -> Result<Option<bool>, AllocError>
+        ensures { IfOk result (λ r. MatchOption r (self.new ≡ self.old) (λ opened. (self.new ≡ with_state (back_to after self.old.state.in_back_reference (read (readers self.old.name levels_left) (production_view key.production) key.binder_depth (into key.at self.old.state)).1) self.old) × (opened ≡ left_open_of (production_view key.production) (read (readers self.old.name levels_left) (production_view key.production) key.binder_depth (into key.at self.old.state)).0))) }
+    {
+        if self.limit_exceeded {
+            return Ok(None);
+        }
+        let Some(fragment) = self.fragment(key) else {
+            return Ok(None);
+        };
+        let (start, end) = (fragment.start, fragment.end);
+        let (steps, height, left_open) = (fragment.steps, fragment.height, fragment.left_open);
+        if height > levels_left || steps > self.steps_left {
+            return Ok(None);
+        }
+        if !self.write_again(start, end)? {
+            return Ok(None);
+        }
+        self.at = Some(after);
+        self.steps_left -= steps;
+        self.least_levels_left = self.least_levels_left.min(levels_left - height);
+        Ok(Some(left_open))
+    }
+}

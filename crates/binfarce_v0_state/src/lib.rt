@@ -1,0 +1,7 @@
+//! The state of the printing of a v0 name of a Rust symbol (RFC 2603): where it reads, what it has counted and written, and
+//! what it may write again.
+#![tactic(auto)]
+
+pub mod fragments;
+pub mod state;
+pub mod targets;

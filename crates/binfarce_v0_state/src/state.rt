@@ -1,0 +1,276 @@
+//! The state of a printing: where it reads, what it has counted, and what it has written.
+
+ghost use Rattle.std.specs.Prelude.{◌≡◌, ◌-◌, ◌≤◌, IfOk, OnOk, IsTrue, MatchOption, option_map, true, false, if◌then◌else◌, ◌&&◌, nat_le};
+ghost use Rattle.std.specs.Str.{IsAscii};
+ghost use Rattle.std.specs.String.{string_bytes};
+ghost use Rattle.binfarce_v0_grammar.specs.Tree.{lifetime_steps};
+ghost use Rattle.binfarce_v0_grammar.specs.machine.View.{undisambiguated_view, lifetime_view};
+ghost use Rattle.binfarce_v0_state.specs.machine.Printing.{with_state, first_printing, write, seek, after_invalid_syntax, stopped, take, entered, rooted, into, back_to, set_muted};
+
+use crate::fragments::{Fragments, or_forget};
+use binfarce_v0_grammar::forms::Lifetime;
+use binfarce_v0_grammar::identifiers::UndisambiguatedIdentifier;
+use binfarce_v0_grammar::limits::{MAX_LEVELS, MAX_STEPS};
+use binfarce_v0_grammar::positions::lifetime_steps;
+use binfarce_v0_text::text::Leaf;
+use std::alloc::{AllocError, Global};
+use std::marker::Model;
+
+/// What a name means, as a text.
+#[derive(Drop)]
+pub struct Printed<'a> {
+    /// The text of the tree.
+    pub text: String,
+    /// The name of the first crate root.
+    pub root: Option<UndisambiguatedIdentifier<'a>>,
+    /// How many levels the tree has.
+    pub levels: usize,
+    /// How many steps the tree takes.
+    pub steps: usize,
+    /// The position after the path, None after invalid syntax outside back references.
+    pub after: Option<usize>,
+}
+
+/// A printing of a name: it is read and written in one pass.
+#[derive(Drop)]
+pub struct Printer<'a> {
+    /// What stands after the prefix of a mangling. It is ASCII, and stays.
+    pub name: &'a str,
+    /// The position in the name, None after invalid syntax.
+    pub at: Option<usize>,
+    /// The steps that are left.
+    pub steps_left: usize,
+    /// The least number of levels that were left so far.
+    pub least_levels_left: usize,
+    /// A limit is exceeded.
+    pub limit_exceeded: bool,
+    /// What was written, unless it is muted.
+    pub text: String,
+    /// Nothing is written: the path of an impl is read and not shown.
+    pub muted: bool,
+    /// Disambiguators of crates are written.
+    pub full: bool,
+    /// Within what a back reference stands for.
+    pub in_back_reference: bool,
+    /// The first crate root.
+    pub root: Option<UndisambiguatedIdentifier<'a>>,
+    /// What may be written again.
+    pub kept: Fragments,
+    /// How many paths, types, consts and lifetimes were really read.
+    pub visits: usize,
+}
+
+impl<'a> Model for Printer<'a> {
+    ghost use Rattle.std.specs.Prelude.{◌≤◌};
+    ghost use Rattle.std.specs.List.{All};
+    ghost use Rattle.std.specs.Option.{option_map};
+    ghost use Rattle.std.specs.Str.{IsAscii};
+    ghost use Rattle.std.specs.String.{string_bytes};
+    ghost use Rattle.binfarce_v0_state.specs.machine.Kept.{IsKept};
+    ghost use Rattle.binfarce_v0_state.specs.machine.Printing.{Printing};
+    ghost use Rattle.binfarce_v0_grammar.specs.declared.limits.TheConstants.{MAX_LEVELS, MAX_STEPS};
+    ghost use Rattle.binfarce_v0_grammar.specs.machine.View.{undisambiguated_view};
+
+    ghost Value = { Printing };
+
+    ghost view = { λ p. record { name = p.name.now; state = record { at = p.at; steps_left = p.steps_left; least_levels_left = p.least_levels_left; limit_exceeded = p.limit_exceeded; text = string_bytes p.text; muted = p.muted; full = p.full; in_back_reference = p.in_back_reference; root = option_map undisambiguated_view p.root } } };
+
+    ghost invariant = { λ p. IsAscii p.name.now × ((p.steps_left ≤ MAX_STEPS) × (p.least_levels_left ≤ MAX_LEVELS)) × All (IsKept p.name.now p.full (string_bytes p.text)) p.kept.fragments.items };
+}
+
+impl<'a> Printer<'a> {
+    ghost use Rattle.binfarce_v0_state.specs.machine.Outcome.{outcome_of, printed_view};
+
+    /// A printing of `name` that begins at its first position, with memory for a text of as many bytes.
+    pub fn new(alloc: Global, name: &'a str, full: bool) -> Result<Printer<'a>, AllocError>
+        requires { IsAscii name.now }
+        ensures { IfOk result (λ p. p ≡ first_printing name.entry.now full) }
+    {
+        let text = String::with_capacity(alloc, name.len())?;
+        let kept = Fragments::new(alloc, name.as_bytes())?;
+        Ok(Printer {
+            name,
+            at: Some(0),
+            steps_left: MAX_STEPS,
+            least_levels_left: MAX_LEVELS,
+            limit_exceeded: false,
+            text,
+            muted: false,
+            full,
+            in_back_reference: false,
+            root: None,
+            kept,
+            visits: 0,
+        })
+    }
+
+    /// What was printed, or None where a limit was passed.
+    pub fn finish(self) -> Option<Printed<'a>>
+        ensures { MatchOption result (self.entry.state.limit_exceeded ≡ true) (λ p. (self.entry.state.limit_exceeded ≡ false) × (printed_view p ≡ outcome_of self.entry.state)) }
+    {
+        let Printer {
+            name: _,
+            at,
+            steps_left,
+            least_levels_left,
+            limit_exceeded,
+            text,
+            muted: _,
+            full: _,
+            in_back_reference: _,
+            root,
+            kept: _,
+            visits: _,
+        } = self;
+        if limit_exceeded {
+            return None;
+        }
+        Some(Printed {
+            text,
+            root,
+            levels: MAX_LEVELS - least_levels_left,
+            steps: MAX_STEPS - steps_left,
+            after: at,
+        })
+    }
+
+    /// Reads on at a position, or nowhere after invalid syntax.
+    #[inline(always)]
+    pub fn seek(&mut self, at: Option<usize>)
+        ensures { self.new ≡ with_state (seek at self.old.state) self.old }
+    {
+        self.at = at;
+    }
+
+    /// Passes a limit.
+    pub fn stop(&mut self)
+        ensures { self.new ≡ with_state (stopped self.old.state) self.old }
+    {
+        self.at = None;
+        self.limit_exceeded = true;
+    }
+
+    /// Takes steps, where so many are left.
+    #[inline(always)]
+    pub fn take(&mut self, count: u64) -> bool
+        ensures took { self.new ≡ with_state (if nat_le count self.old.state.steps_left then take count self.old.state else stopped self.old.state) self.old }
+        ensures enough { result ≡ nat_le count self.old.state.steps_left }
+        ensures small { IsTrue result → count ≤ MAX_STEPS }
+    {
+        if count <= self.steps_left as u64 {
+            self.steps_left -= count as usize;
+            true
+        } else {
+            self.stop();
+            false
+        }
+    }
+
+    /// Counts what is read.
+    #[inline(always)]
+    pub fn visit(&mut self)
+        ensures { self.new ≡ self.old }
+    {
+        self.visits = self.visits.wrapping_add(1);
+    }
+
+    /// Takes the steps of a lifetime, where so many are left.
+    #[inline(always)]
+    pub fn take_lifetime(&mut self, life: Lifetime) -> bool
+        ensures took { self.new ≡ with_state (if nat_le (lifetime_steps (lifetime_view life)) self.old.state.steps_left then take (lifetime_steps (lifetime_view life)) self.old.state else stopped self.old.state) self.old }
+        ensures enough { result ≡ nat_le (lifetime_steps (lifetime_view life)) self.old.state.steps_left }
+    {
+        if lifetime_steps(life) == 1 {
+            self.visit();
+        }
+        self.take(lifetime_steps(life))
+    }
+
+    /// Takes a level and a step, where there is one of each: how many levels are left below, one less.
+    #[inline(always)]
+    pub fn enter(&mut self, levels_left: usize) -> Option<usize>
+        ensures entered { self.new ≡ with_state (if nat_le 1 levels_left && nat_le 1 self.old.state.steps_left then entered (levels_left - 1) self.old.state else stopped self.old.state) self.old }
+        ensures below { MatchOption result ((nat_le 1 levels_left && nat_le 1 self.old.state.steps_left) ≡ false) (λ below. ((nat_le 1 levels_left && nat_le 1 self.old.state.steps_left) ≡ true) × (below ≡ levels_left - 1)) }
+    {
+        if levels_left == 0 || self.steps_left == 0 {
+            self.stop();
+            return None;
+        }
+        let below = levels_left - 1;
+        self.steps_left -= 1;
+        self.least_levels_left = self.least_levels_left.min(below);
+        self.visit();
+        Some(below)
+    }
+
+    /// Writes a text.
+    #[inline(always)]
+    pub fn write(&mut self, part: &str) -> Result<(), AllocError>
+        ensures { OnOk result (self.new ≡ with_state (write part.now self.old.state) self.old) }
+    {
+        if !self.muted {
+            self.text.push_str(part)?;
+        }
+        Ok(())
+    }
+
+    /// Reads on at a back reference's target.
+    #[inline(always)]
+    pub fn enter_target(&mut self, target: usize)
+        ensures { self.new ≡ with_state (into target self.old.state) self.old }
+    {
+        self.at = Some(target);
+        self.in_back_reference = true;
+    }
+
+    /// Reads on after a back reference.
+    #[inline(always)]
+    pub fn leave_target(&mut self, after: usize, in_back_reference: bool)
+        ensures { self.new ≡ with_state (back_to after in_back_reference self.old.state) self.old }
+    {
+        self.at = if self.limit_exceeded {
+            None
+        } else {
+            Some(after)
+        };
+        self.in_back_reference = in_back_reference;
+    }
+
+    /// Writes nothing, or writes again.
+    #[inline(always)]
+    pub fn set_muted(&mut self, muted: bool)
+        ensures { self.new ≡ with_state (set_muted muted self.old.state) self.old }
+    {
+        self.muted = muted;
+    }
+
+    /// Marks invalid syntax by `?`: nothing is read after it.
+    pub fn invalid_syntax(&mut self) -> Result<(), AllocError>
+        ensures { OnOk result (self.new ≡ with_state (after_invalid_syntax self.old.state) self.old) }
+    {
+        self.seek(None);
+        self.write("?")
+    }
+
+    /// Keeps the first crate root.
+    #[inline(always)]
+    pub fn keep_root(&mut self, name: UndisambiguatedIdentifier<'a>)
+        ensures { self.new ≡ with_state (rooted (undisambiguated_view name.entry) self.old.state) self.old }
+    {
+        if !self.in_back_reference && self.root.is_none() {
+            self.root = Some(name);
+        }
+    }
+
+    /// Writes the text of a leaf.
+    #[tactic(auto, using(crate::proofs::KeptLemmas::grown))]
+    #[inline(always)]
+    pub fn put<L: Leaf + Drop>(&mut self, leaf: L) -> Result<(), AllocError>
+        ensures { OnOk result (self.new ≡ with_state (write (L.text leaf) self.old.state) self.old) }
+    {
+        if !self.muted {
+            or_forget(&mut self.kept.fragments, leaf.push(&mut self.text))?;
+        }
+        Ok(())
+    }
+}

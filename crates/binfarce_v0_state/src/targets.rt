@@ -1,0 +1,127 @@
+//! Which positions of a name its back references may mean.
+
+ghost use Rattle.std.specs.Prelude.{◌≤◌, ◌+◌, length};
+
+use binfarce_v0_grammar::numbers::back_reference;
+use std::alloc::{AllocError, Global};
+
+/// The positions that the back references of a name may mean, where a `B` and a number stand, whether or not a back
+/// reference is read there. A printing keeps what it prints there and nothing else. That changes no text, so that nothing
+/// here says which they are: what isn't kept is printed anew.
+#[derive(Drop)]
+pub struct Targets {
+    // A bit for the positions of each remainder by 64: most positions that are no target are told apart by these.
+    any: u64,
+    // A bit for each of the first 256 positions.
+    near: [u64; 4],
+    // A bit for each of the others. Empty where none of them is a target.
+    far: Vec<u64>,
+}
+
+impl Targets {
+    /// The targets of a name. Nothing is allocated but for those from position 256 on.
+    #[inline(never)]
+    pub fn new(alloc: Global, name: &[u8]) -> Result<Targets, AllocError> {
+        let mut targets = Targets {
+            any: 0,
+            near: [0; 4],
+            far: Vec::new(alloc),
+        };
+        let words = name.len() / 8;
+        for word in 0..words {
+            let flags = b_flags(name, 8 * word);
+            if flags != 0 {
+                targets.add_flagged(name, 8 * word, flags)?;
+            }
+        }
+        for at in 8 * words..name.len() {
+            targets.add_target(name, at)?;
+        }
+        Ok(targets)
+    }
+
+    // Adds the targets of the flagged ones of 8 bytes.
+    fn add_flagged(&mut self, name: &[u8], start: usize, flags: u64) -> Result<(), AllocError>
+        requires { start + 8 ≤ length name.now }
+    {
+        let mut levels_left = flags;
+        for _turn in 0..8 {
+            if levels_left == 0 {
+                break;
+            }
+            self.add_target(name, start + levels_left.trailing_zeros() as usize % 64 / 8)?;
+            levels_left &= levels_left - 1;
+        }
+        Ok(())
+    }
+
+    // Adds the target of a back reference, where one may stand.
+    fn add_target(&mut self, name: &[u8], at: usize) -> Result<(), AllocError> {
+        if at >= name.len() || name[at] != b'B' {
+            return Ok(());
+        }
+        match back_reference(name, at) {
+            Some((target, _)) => self.add(target, name.len()),
+            None => Ok(()),
+        }
+    }
+
+    // Adds a position of a name of so many bytes.
+    fn add(&mut self, at: usize, len: usize) -> Result<(), AllocError> {
+        let bit = 1u64 << (at % 64);
+        let word = at / 64;
+        self.any |= bit;
+        if word < 4 {
+            self.near[word] |= bit;
+            return Ok(());
+        }
+        if self.far.is_empty() {
+            self.far.resize(len / 64, 0)?;
+        }
+        if let Some(bits) = self.far.get_mut(word - 4) {
+            *bits |= bit;
+        }
+        Ok(())
+    }
+
+    /// Whether there are none.
+    pub fn is_empty(&self) -> bool {
+        self.any == 0
+    }
+
+    /// Whether a position may be a target.
+    #[inline(always)]
+    pub fn may_have(&self, at: usize) -> bool {
+        (self.any >> (at % 64)) & 1 == 1
+    }
+
+    /// Whether a position is a target.
+    pub fn has(&self, at: usize) -> bool {
+        let word = at / 64;
+        let bits = if word < 4 {
+            self.near[word]
+        } else {
+            self.far.get(word - 4).copied().unwrap_or(0)
+        };
+        (bits >> (at % 64)) & 1 == 1
+    }
+}
+
+// Of 8 bytes, the highest bit of each that is `B`.
+#[inline(always)]
+fn b_flags(name: &[u8], at: usize) -> u64
+    requires { at + 8 ≤ length name.now }
+{
+    let word = u64::from_le_bytes([
+        name[at],
+        name[at + 1],
+        name[at + 2],
+        name[at + 3],
+        name[at + 4],
+        name[at + 5],
+        name[at + 6],
+        name[at + 7],
+    ]);
+    // The name is ASCII: no sum goes beyond its byte.
+    !(word ^ 0x4242_4242_4242_4242).wrapping_add(0x7f7f_7f7f_7f7f_7f7f) & 0x8080_8080_8080_8080
+}

@@ -1,0 +1,3 @@
+pub mod LeafTexts
+pub mod TreeTexts
+pub mod machine

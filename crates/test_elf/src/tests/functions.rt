@@ -1,0 +1,46 @@
+//! The function symbols of a section as they are stored.
+
+use super::{Class, LAYOUTS, class_of, order_of};
+use binfarce::{FunctionSymbol, ParseError, elf32, elf64};
+use std::test::Fail;
+use test_samples::elf::Layout;
+
+// The first function symbol of `.text`, whether it is the only one, and the section's size.
+type Found = (Option<FunctionSymbol<'static>>, bool, u64);
+
+fn found_32(layout: Layout) -> Result<Found, ParseError> {
+    let file = elf32::parse(layout.bytes(), order_of(layout))?;
+    let (mut functions, size) = file.functions(".text")?;
+    let first = functions.next();
+    let is_only = functions.next().is_none();
+    Ok((first, is_only, size))
+}
+
+fn found_64(layout: Layout) -> Result<Found, ParseError> {
+    let file = elf64::parse(layout.bytes(), order_of(layout))?;
+    let (mut functions, size) = file.functions(".text")?;
+    let first = functions.next();
+    let is_only = functions.next().is_none();
+    Ok((first, is_only, size))
+}
+
+fn found(layout: Layout) -> Result<Found, ParseError> {
+    match class_of(layout) {
+        Class::Elf32 => found_32(layout),
+        Class::Elf64 => found_64(layout),
+    }
+}
+
+#[test]
+fn functions(rt: HostRuntime) -> Result<(), Fail> {
+    for layout in LAYOUTS {
+        let (first, is_only, size) = found(layout)?;
+        let first = first.ok_or("no function symbol")?;
+        assert_eq!(rt; first.name, "_ZN3foo3barE");
+        assert_eq!(rt;
+            (first.address, first.size, is_only, size),
+            (4096, 16, true, 32)
+        );
+    }
+    Ok(())
+}

@@ -1,0 +1,75 @@
+//! What the Mach-O reader finds in a file, worked out by hand from the format's description.
+
+mod sections;
+mod symbols;
+mod truncated;
+
+use binfarce::macho::parse;
+use std::alloc::{AllocError, Global};
+use std::test::Fail;
+use test_samples::Patch;
+use test_samples::macho::MACHO;
+use test_samples::question::{Question, wrong_with};
+
+const TRUNCATED: &str = "unexpected end of file";
+
+const MALFORMED: &str = "malformed input file";
+
+const NO_SECTION: &str = "symbols section is missing";
+
+const LISTING: &str = "1000 64 a, 1000 64 b, 1040 192 c, text 256";
+
+// All fields of the file header, or the words of the refusal.
+#[derive(Clone, Copy)]
+struct Header;
+
+impl Question for Header {
+    fn answer(&self, alloc: Global, file: &[u8]) -> Result<String, AllocError> {
+        match parse(file) {
+            Err(error) => format!(in alloc; "{error}"),
+            Ok(reader) => format!(in alloc; "{:?}", reader.header()),
+        }
+    }
+}
+
+// No two bytes the same.
+const FIELDS: [Patch<'static>; 6] = [
+    (4, &[1, 2, 3, 4]),
+    (8, &[5, 6, 7, 8]),
+    (12, &[9, 10, 11, 12]),
+    (16, &[13, 14, 15, 16]),
+    (20, &[17, 18, 19, 20]),
+    (24, &[21, 22, 23, 24]),
+];
+
+#[test]
+fn header_fields(rt: HostRuntime) -> Result<(), Fail> {
+    let text =
+        "MachoHeader { cputype: 67305985, cpusubtype: 134678021, filetype: 202050057, ncmds: 269422093, sizeofcmds: 336794129, flags: 404166165 }";
+    let wrong = wrong_with(rt.alloc(), &Header, &MACHO, &FIELDS, text)?;
+    assert!(rt; wrong.is_none(), "{wrong:?}");
+    Ok(())
+}
+
+// Address, size and stored name of each function symbol, and then the section's size.
+fn stored(alloc: Global, file: &[u8]) -> Result<String, Fail> {
+    let (functions, size) = parse(file)?.functions(alloc)?;
+    let mut lines = String::new(alloc);
+    for function in &functions {
+        let line = format!(in alloc;
+            "{:x} {} {}, ",
+            function.address, function.size, function.name
+        )?;
+        lines.push_str(line.as_str())?;
+    }
+    let line = format!(in alloc; "text {size}")?;
+    lines.push_str(line.as_str())?;
+    Ok(lines)
+}
+
+// These names are no manglings, so they are stored as they are listed.
+#[test]
+fn functions(rt: HostRuntime) -> Result<(), Fail> {
+    assert_eq!(rt; stored(rt.alloc(), &MACHO)?.as_str(), LISTING);
+    Ok(())
+}

@@ -1,0 +1,122 @@
+//! Listings and reports: the whole text, or `OutOfMemory` and nothing written.
+
+use crate::expected::Expected;
+use crate::readers::{FILES, File, bytes_of, magic_of};
+use crate::tally::{Row, Tally};
+use binfarce::ParseError;
+use binfarce_image::image::ImageError;
+use binfarce_tools::list::{ListError, Out, list};
+use binfarce_tools::report::{ReportError, report};
+use std::alloc::{AllocError, Global};
+use test_image_samples::file_beside;
+use test_samples::macho::MACHO;
+use test_samples::{Patch, elf, macho, patched, pe};
+
+fn is_listed(alloc: Global, file: File, text: &str) -> Row {
+    let bytes = patched(alloc, bytes_of(file), &[magic_of(file)])?;
+    let mut out = Out::new(Expected::new(text));
+    let result = list(alloc, &bytes, ".text", &mut out);
+    let written = out.into_inner();
+    match result {
+        Ok(()) => Ok(written.is_whole()),
+        Err(ListError::OutOfMemory) if written.is_empty => Err(AllocError),
+        Err(_) => Ok(false),
+    }
+}
+
+// What is listed of a sample, and what is reported.
+fn texts_of(file: File) -> (&'static str, &'static str) {
+    match file {
+        File::Elf(_) => (elf::LISTING, "        16 foo\nsum 16\ntext 32\n"),
+        File::Macho => (macho::LISTING, "       320 [unknown]\nsum 320\ntext 256\n"),
+        File::Pe => (pe::LISTING, "       448 [unknown]\nsum 448\ntext 256\n"),
+    }
+}
+
+// The one refusal in whose place `OutOfMemory` may come.
+fn is_past_the_text(alloc: Global) -> Row {
+    let past_the_text: Patch<'_> = (264, &[0, 0x12]);
+    let file = patched(alloc, &MACHO, &[macho::MAGIC, past_the_text])?;
+    let mut out = Out::new(Expected::new(""));
+    let result = list(alloc, &file, ".text", &mut out);
+    let is_empty = out.into_inner().is_empty;
+    match result {
+        Err(ListError::OutOfMemory) if is_empty => Err(AllocError),
+        other => Ok(other == Err(ListError::Parse(ParseError::MalformedInput)) && is_empty),
+    }
+}
+
+pub(crate) fn add_listings(alloc: Global, tally: &mut Tally) {
+    for (name, file) in &FILES {
+        let (listing, _) = texts_of(*file);
+        tally.add(name, is_listed(alloc, *file, listing));
+    }
+    tally.add("a symbol past the text", is_past_the_text(alloc));
+}
+
+// The text of a report, or its refusal.
+#[derive(Clone, Copy)]
+enum Reported {
+    Text(&'static str),
+    TooLarge,
+}
+
+fn is_reported(alloc: Global, file: &[u8], expected: Reported) -> Row {
+    let text = match expected {
+        Reported::Text(text) => text,
+        Reported::TooLarge => "",
+    };
+    let mut out = Out::new(Expected::new(text));
+    let result = report(alloc, file, ".text", &mut out);
+    let written = out.into_inner();
+    match (result, expected) {
+        (Ok(()), Reported::Text(_)) => Ok(written.is_whole()),
+        (Err(ReportError::TooLarge), Reported::TooLarge) => Ok(written.is_empty),
+        (Err(ReportError::OutOfMemory), _) if written.is_empty => Err(AllocError),
+        _ => Ok(false),
+    }
+}
+
+fn is_reported_of(alloc: Global, file: File) -> Row {
+    let bytes = patched(alloc, bytes_of(file), &[magic_of(file)])?;
+    let (_, text) = texts_of(file);
+    is_reported(alloc, &bytes, Reported::Text(text))
+}
+
+// The name of a function that stands before `foo::bar`, and the report of both; `TooLarge` where the first function's
+// size, which stands at 112, is 2^64 - 1.
+const REPORTS: [(&str, Reported); 3] = [
+    (
+        "_RNvC6_123foo3bar",
+        Reported::Text("        16 123foo\n        16 foo\nsum 32\ntext 32\n"),
+    ),
+    (
+        "_ZN11_$LT$a$GT$bE",
+        Reported::Text("        16 [unknown]\n        16 foo\nsum 32\ntext 32\n"),
+    ),
+    ("a", Reported::TooLarge),
+];
+
+fn is_reported_beside(alloc: Global, name: &str, expected: Reported) -> Row {
+    let file = match file_beside(alloc, name) {
+        Ok(file) => file,
+        Err(ImageError::OutOfMemory) => return Err(AllocError),
+        Err(_) => return Ok(false),
+    };
+    match expected {
+        Reported::Text(_) => is_reported(alloc, &file, expected),
+        Reported::TooLarge => {
+            let file = patched(alloc, &file, &[(112, &[0xFF; 8])])?;
+            is_reported(alloc, &file, expected)
+        }
+    }
+}
+
+pub(crate) fn add_reports(alloc: Global, tally: &mut Tally) {
+    for (name, file) in &FILES {
+        tally.add(name, is_reported_of(alloc, *file));
+    }
+    for (name, expected) in &REPORTS {
+        tally.add(name, is_reported_beside(alloc, name, *expected));
+    }
+}

@@ -1,0 +1,72 @@
+//! What the PE reader finds in a file, worked out by hand from the format's description.
+
+mod sections;
+mod symbols;
+mod truncated;
+
+use binfarce::pe;
+use std::alloc::{AllocError, Global};
+use std::test::Fail;
+use test_samples::Patch;
+use test_samples::pe::PE;
+use test_samples::question::{Question, wrong_with};
+
+const TRUNCATED: &str = "unexpected end of file";
+
+const LISTING: &str = "0 64 b, 0 64 d, 40 192 c, 100 128 e, 180 0 a, text 256";
+
+// All fields of the file header, or the words of the refusal.
+#[derive(Clone, Copy)]
+struct Header;
+
+impl Question for Header {
+    fn answer(&self, alloc: Global, file: &[u8]) -> Result<String, AllocError> {
+        match pe::parse(file) {
+            Err(error) => format!(in alloc; "{error}"),
+            Ok(reader) => format!(in alloc; "{:?}", reader.header()),
+        }
+    }
+}
+
+// No two bytes the same.
+const FIELDS: [Patch<'static>; 7] = [
+    (68, &[1, 2]),
+    (70, &[3, 4]),
+    (72, &[5, 6, 7, 8]),
+    (76, &[9, 10, 11, 12]),
+    (80, &[13, 14, 15, 16]),
+    (84, &[17, 18]),
+    (86, &[19, 20]),
+];
+
+#[test]
+fn header_fields(rt: HostRuntime) -> Result<(), Fail> {
+    let text =
+        "PeHeader { machine: 513, number_of_sections: 1027, time_date_stamp: 134678021, pointer_to_symbol_table: 202050057, number_of_symbols: 269422093, size_of_optional_header: 4625, characteristics: 5139 }";
+    let wrong = wrong_with(rt.alloc(), &Header, &PE, &FIELDS, text)?;
+    assert!(rt; wrong.is_none(), "{wrong:?}");
+    Ok(())
+}
+
+// Address, size and stored name of each function symbol, and then the section's size.
+fn stored(alloc: Global, file: &[u8]) -> Result<String, Fail> {
+    let (functions, size) = pe::parse(file)?.functions(alloc)?;
+    let mut lines = String::new(alloc);
+    for function in &functions {
+        let line = format!(in alloc;
+            "{:x} {} {}, ",
+            function.address, function.size, function.name
+        )?;
+        lines.push_str(line.as_str())?;
+    }
+    let line = format!(in alloc; "text {size}")?;
+    lines.push_str(line.as_str())?;
+    Ok(lines)
+}
+
+// These names are no manglings, so they are stored as they are listed.
+#[test]
+fn functions(rt: HostRuntime) -> Result<(), Fail> {
+    assert_eq!(rt; stored(rt.alloc(), &PE)?.as_str(), LISTING);
+    Ok(())
+}

@@ -8,7 +8,7 @@ What is checked, for each crates/CRATE/must-fail/MODULE.FUNCTION.EDIT.edit:
 - its first text stands in that function (or constant, or struct) of that module; two functions of one name are told apart by
   their type, as in `SymbolName.demangle`;
 - EDIT stands in exactly one row of the table, in a section whose heading names the crate, and each name there is an edit;
-- where the list has it, and the goal that refuses it is no clause and no invariant (an overflow, what a callee requires), or
+- the list has it, and where the goal that refuses it is no clause and no invariant (an overflow, what a callee requires), or
   stands in another function than the text, the row names that goal or that function, as code, under "refused by".
 """
 
@@ -175,6 +175,7 @@ def wrong_places(known):
 def wrong_refusals(known, said, found):
     for it in known:
         if it not in found:
+            yield f"{'/'.join(it)}: not in {LIST}"
             continue
         function, goal = found[it]
         row = re.findall(r"`([^`]+)`", said.get(it, ""))
@@ -209,7 +210,7 @@ def main(words):
             gate = refusals(file.read())
         wrong += [f"{'/'.join(it)}: the gate doesn't refuse it" for it in known if it not in gate]
         print("".join(f"{it}\n" for it in elsewhere(found, gate)), end="")
-    print("\n".join(wrong or [f"wrong bodies: {len(known)} edits, each in one row and in the function that it names; {LIST} has {len(found)}"]))
+    print("\n".join(wrong or [f"wrong bodies: {len(known)} edits, each in one row, in the function that it names and in {LIST}"]))
     return 1 if wrong else 0
 
 

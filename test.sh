@@ -1,7 +1,7 @@
 #!/bin/sh
-# Runs all tests: the sizes of crates; definitions that no clause reaches; the documents; the gate; beside it `run`, the
-# programs that must not compile, and each allocation failing in turn; after it whether the wrong bodies are refused where
-# their list says, and the programs where no stored run can have them.
+# Runs all tests: the sizes of crates; definitions that no clause reaches; the documents; the gate; beside it `run` and
+# `install`, the programs that must not compile, and each allocation failing in turn; after it whether the wrong bodies are
+# refused where their list says, and the programs where no stored run can have them.
 #
 # crates/NAME/must-not-compile/*.txt: code that calls the crate NAME. WHAT_outlives_WHAT.txt begins with `// wants: ERROR`,
 # and must be refused with that error and no other. WHAT_within_WHAT.txt begins with `// compiles`, and must not be refused:
@@ -93,12 +93,13 @@ must_not_compile() {
 
 beside_the_gate() {
     tests/run.sh
+    tests/install.sh
     must_not_compile
     crates/test_memory/refused.sh
 }
 
 # The programs that the gate builds are those that `run` would build: it is given them, with what they were made of.
-run_by_name="binfarce_list binfarce_size binfarce_filter"
+run_by_name="binfarce_list binfarce_size binfarce_filter binfarce_at"
 made_of() {
     for name in $run_by_name; do
         tools/build-program --sources "$name" >"$scratch/$name"

@@ -76,11 +76,15 @@ def compare(args, names, counts, faults):
 
 
 def main():
-    args = listing.arguments(__doc__)
-    if not args.peer:
-        sys.exit("--peer is needed here")
+    args = listing.arguments(__doc__, lambda parser: parser.add_argument("--made", metavar="FILE", help="write that ELF file, and compare nothing"))
+    if not (args.peer or args.made):
+        sys.exit("--peer or --made is needed here")
     names = dict.fromkeys(n for path in args.paths for n in names_of(path) if can_be_held(n))
     names = list(names)
+    if args.made:
+        with open(args.made, "wb") as file:
+            file.write(made(names))
+        return
     counts, faults = collections.Counter(), []
     for start in range(0, len(names), STEP):
         compare(args, names[start:start + STEP], counts, faults)

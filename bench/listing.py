@@ -14,12 +14,13 @@ LINE = re.compile(rb"([0-9a-f]{16}) ( *[0-9]{1,20}) (.*)", re.S)
 MANGLED = re.compile(rb"_?_?ZN|_?_?R[A-Z]|.*\.llvm\.", re.S)
 
 
-def arguments(what):
+def arguments(what, add=lambda parser: None):
     parser = argparse.ArgumentParser(description=what)
     parser.add_argument("--list", default=PROGRAM, metavar="PROGRAM", help="the listing program, if not the built one")
     parser.add_argument("--peer", metavar="COMMAND", help="answers names from standard input, one a line")
     parser.add_argument("--section", default=".text", help="the section that is listed (ELF)")
     parser.add_argument("--all", action="store_true", help="print every disagreement of a file, not the first three")
+    add(parser)
     parser.add_argument("paths", nargs="+", metavar="FILE|FOLDER")
     return parser.parse_args()
 

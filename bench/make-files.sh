@@ -1,28 +1,11 @@
 #!/bin/sh
 # Makes files to compare and to measure on, in FOLDER; what a missing compiler would have made is left out with a line.
 #
-#   SIDE   (optional) how large the Rust program is: by default 160, some 100,000 function symbols
-#
 # Usage: ./make-files.sh FOLDER
+#        ./make-files.sh --grid SIDE    prints the Rust program alone, of SIDE times SIDE times 3 instances
 set -u
 trap 'exit 130' HUP INT TERM
-out=${1:?a folder for the files}
-side=${SIDE:-160}
-mkdir -p "$out"
-
-make() {
-    file=$1
-    shift
-    "$@" -o "$out/$file" 2>"$out/log" || echo "left out $file: $(grep -v '^ *$' "$out/log" | tail -n 1 | cut -c 1-120)"
-}
-
-cat >"$out/some.c" <<'C'
-#include <stdio.h>
-static int kept(int a) { return a * 3; }
-__attribute__((weak)) int weak(int a) { return kept(a) + 1; }
-__attribute__((noinline, section(".text.elsewhere"))) int elsewhere(int a) { return weak(a) - 2; }
-int main(int count, char **words) { return printf("%d %s\n", elsewhere(count), words[0]) > 0 ? 0 : 1; }
-C
+side=20
 
 # A line for each number of a row or a column, which stands for each & of the line.
 numbered() {
@@ -53,7 +36,28 @@ RUST
     numbered 'k += row_&(k);'
     echo 'println!("{}", k); }'
 }
+if [ "${1:-}" = --grid ]; then
+    side=$2
+    grid
+    exit
+fi
+out=${1:?a folder for the files}
+mkdir -p "$out"
+
+make() {
+    file=$1
+    shift
+    "$@" -o "$out/$file" 2>"$out/log" || echo "left out $file: $(grep -v '^ *$' "$out/log" | tail -n 1 | cut -c 1-120)"
+}
+
 grid >"$out/grid.rs"
+cat >"$out/some.c" <<'C'
+#include <stdio.h>
+static int kept(int a) { return a * 3; }
+__attribute__((weak)) int weak(int a) { return kept(a) + 1; }
+__attribute__((noinline, section(".text.elsewhere"))) int elsewhere(int a) { return weak(a) - 2; }
+int main(int count, char **words) { return printf("%d %s\n", elsewhere(count), words[0]) > 0 ? 0 : 1; }
+C
 
 make c gcc -O2 "$out/some.c"
 make c.o gcc -O2 -c "$out/some.c"

@@ -3,13 +3,15 @@
 #
 #   LIST      (optional) the listing program, if not the one that the repository has built
 #   SIZE      (optional) the reporting program, if not the one that the repository has built
-#   ORIGINAL  (optional) a command that makes the same listing, called as `ORIGINAL FILE`
+#   PEER      (optional) the program of bench/peer, which makes the same listing by the Rust crate
+#   ROWS      (optional) a file to which each figure is added as a row (results.tsv is one): date, commit, machine, file,
+#             command, ms, MB and instructions, with tabs between them
 #   RUNS      (optional) runs of each command, 15
 #   COUNT     (optional) 1 counts instructions too, by callgrind (slow)
 #
 # Usage: ./measure.sh FILE..
 #
-# Names of files hold neither tabs nor line feeds; a command that ORIGINAL names, no blanks within its words.
+# Names of files hold neither tabs nor line feeds.
 #
 # The runs of a round follow one another, so that a busy machine is as busy for all of them; the least wall time of
 # each command counts. The peak is the greatest resident set of one run.
@@ -22,6 +24,8 @@ trap 'rm -rf "$scratch"' EXIT
 trap 'exit 130' HUP INT TERM
 
 tab=$(printf '\t')
+machine="$(nproc) processors, $(awk '/^MemTotal:/ { printf "%.0f GB", $2 / 1000000 }' /proc/meminfo), $(sed -n 's/^model name[^:]*: //p' /proc/cpuinfo | head -n 1)"
+commit=$(git -C "$(dirname "$0")" rev-parse --short HEAD 2>/dev/null || echo -)
 
 # A line of a command: its title, and its words, with a tab before each.
 line() {
@@ -35,7 +39,7 @@ line() {
 commands() {
     line program "$LIST" "$1"
     [ ! -x "$SIZE" ] || line report "$SIZE" "$1"
-    [ -z "${ORIGINAL:-}" ] || line original $ORIGINAL "$1"
+    [ -z "${PEER:-}" ] || line original "$PEER" list "$1"
     line 'nm -S' nm -S --defined-only "$1"
     line 'nm -SC' nm -S -C --defined-only "$1"
     ! command -v llvm-nm >/dev/null || line llvm-nm llvm-nm -S --defined-only --no-demangle "$1"
@@ -88,5 +92,7 @@ PY
         first_time=${first_time:-$least} first_peak=${first_peak:-$kilobytes}
         line "$title" "$least" "$kilobytes" "$first_time" "$first_peak" "$counted" | awk -F '\t' '{
             printf "%-12s %9.2f %9.1f %7.2f %7.2f %14s\n", $1, $2 * 1000, $3 / 1024, $4 / $2, $5 / $3, $6 }'
+        [ -z "${ROWS:-}" ] || line "$(date -I)" "$commit" "$machine" "$(basename "$file")" "$title" \
+            "$(awk "BEGIN { printf \"%.2f\", $least * 1000 }")" "$(awk "BEGIN { printf \"%.1f\", $kilobytes / 1024 }")" "$counted" >>"$ROWS"
     done <"$scratch/times"
 done

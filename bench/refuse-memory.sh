@@ -2,7 +2,8 @@
 # Lets each of a program's allocations fail in turn and says how it ends: it may print the usage (the arguments are
 # texts too), `out of memory`, or all that it prints of the file; anything else is shown as WRONG, and ends with status 1.
 #
-#   PROGRAM  (optional) the program: binfarce_list, or binfarce_size
+#   PROGRAM  (optional) the program: binfarce_list, binfarce_size, or binfarce_at
+#   WORDS    (optional) what follows the file: the addresses of binfarce_at
 #   LAST     (optional) the last allocation that fails, 30; from some number on there is none left
 #
 # Usage: ./refuse-memory.sh FILE
@@ -16,7 +17,7 @@ trap 'rm -rf "$scratch"' EXIT
 trap 'exit 130' HUP INT TERM
 
 ends() {
-    rt try "$@" --data "listed=$file" -- listed 2>&1 |
+    rt try "$@" --data "listed=$file" -- listed ${WORDS:-} 2>&1 |
         grep -v -e warning -e '^interpreter' -e '^checked' -e '^run=' -e '^allocations' || true
 }
 
@@ -26,7 +27,7 @@ while [ "$request" -le "${LAST:-30}" ]; do
     ends --fail-alloc "$request" >"$scratch/end"
     case $(cat "$scratch/end") in
         "$shown: out of memory") how="out of memory" ;;
-        "usage: $shown FILE [SECTION]") how="the usage" ;;
+        "usage: $shown "*) how="the usage" ;;
         "$(cat "$scratch/whole")") how="the whole" ;;
         *) how="WRONG: $(head -n 1 "$scratch/end")" wrong=1 ;;
     esac

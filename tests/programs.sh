@@ -73,3 +73,31 @@ if [ -s "$scratch/told" ]; then
     echo "$program: a line isn't written before the next is waited for"
     exit 1
 fi
+
+# Addresses as arguments and on standard input, where answers come as soon as their lines do.
+sample=crates/binfarce_at/data/e-elf64-little.bin
+usage="usage: binfarce-at [--base ADDRESS] FILE [ADDRESS..]"
+ended=0
+./run binfarce_at "$sample" 1000 >/dev/full 2>"$scratch/error" || ended=$?
+told 1 "$ended" "binfarce-at: write failed" binfarce_at "$sample" 1000
+ends 0 crates/binfarce_at/stdout "" binfarce_at "$sample" 1000 0x1005 100f 1010 0fff
+ends 1 /dev/null "binfarce-at: cannot read file" binfarce_at "$scratch/missing" 1000
+ends 1 /dev/null "binfarce-at: unknown file format" binfarce_at /dev/null 1000
+ends 2 /dev/null "$usage" binfarce_at
+ends 2 /dev/null "$usage" binfarce_at "$sample" 1000 10g
+ends 2 /dev/null "$usage" binfarce_at --base "$sample" 1000
+printf '1000\n0x1005\n100f\n1010\n0fff' | ends 0 crates/binfarce_at/stdout "" binfarce_at "$sample"
+printf '401000\n401005\n40100f\n401010\n400fff\n' | ./run binfarce_at --base 400000 "$sample" | sed 's/^000000000040/000000000000/' | cmp crates/binfarce_at/stdout -
+head -n 1 crates/binfarce_at/stdout >"$scratch/first"
+printf '1000\nno\n1005\n' | ends 2 "$scratch/first" "binfarce-at: not an address" binfarce_at "$sample"
+head -c 1000 /dev/zero | ends 2 /dev/null "binfarce-at: not an address" binfarce_at "$sample"
+ends 1 /dev/null "binfarce-at: read failed" binfarce_at "$sample" <"$scratch"
+mkfifo "$scratch/in" "$scratch/out"
+./run binfarce_at "$sample" <"$scratch/in" >"$scratch/out" &
+exec 3>"$scratch/in" 4<"$scratch/out"
+echo 1000 >&3
+IFS= read -r line <&4
+[ "$line" = "$(cat "$scratch/first")" ] || { echo "binfarce_at: a line is not answered as it comes" && exit 1; }
+exec 3>&-
+wait
+echo "binfarce_at: a line is answered as it comes"

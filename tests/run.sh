@@ -48,9 +48,11 @@ chmod +x "out/$crate"
 exit 2
 END
 chmod +x "$kit/bin/"*
-printf 'lower:\nupper: lower\n' >"$top/crates.txt"
+printf 'lower:\nupper: lower\nffi staticlib: lower\n' >"$top/crates.txt"
 echo '// says below' >"$top/crates/lower/src/lib.rt"
 echo '// says above' >"$top/crates/upper/src/main.rt"
+mkdir -p "$top/crates/ffi/src"
+echo '// is for C' >"$top/crates/ffi/src/lib.rt"
 cp run "$top/run"
 cp tools/build-program "$top/tools"
 mkdir -m 1777 "$scratch/temporary"
@@ -150,6 +152,16 @@ error: src/main.rt is wrong" "upper " "$top/run" upper
 what="after it was mended"
 echo '// says last' >"$top/crates/upper/src/main.rt"
 runs 0 "deepes last  " "$building" "upper " "$top/run" upper
+
+archive="$top/crates/ffi/out/run/libffi.a"
+what="a static library"
+runs 0 "$building ffi:  " "" "ffi " "$top/tools/build-program" ffi
+printf '// says deepes\n// is for C\n' | cmp - "$archive"
+what="the same again"
+runs 0 "" "" "" "$top/tools/build-program" ffi
+what="an edit of the static library"
+echo '// is still for C' >"$top/crates/ffi/src/lib.rt"
+runs 0 "$building ffi:  " "" "ffi " "$top/tools/build-program" ffi
 
 # A folder that can't be written to: root writes everywhere, so nobody runs it.
 as=

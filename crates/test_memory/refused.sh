@@ -22,6 +22,7 @@ names 95
 trimmed 75
 crates 65
 tuples 85
+addresses 60
 files 35
 unfit_images 30
 refusals 18

@@ -12,12 +12,18 @@ pub use binfarce_pe::pe;
 pub use binfarce_symbols::functions::FunctionSymbol;
 
 /// The format that a file's first bytes name.
-#[derive(PartialEq, Debug, Drop)]
+#[derive(PartialEq, Eq, Hash, Debug, Drop)]
 pub enum Format {
     /// ELF of 32 bits (`ELFCLASS32`), in this byte order (`EI_DATA`): for [`elf32::parse`].
-    Elf32 { byte_order: ByteOrder },
+    Elf32 {
+        /// The order of the numbers' bytes.
+        byte_order: ByteOrder,
+    },
     /// ELF of 64 bits (`ELFCLASS64`), in this byte order (`EI_DATA`): for [`elf64::parse`].
-    Elf64 { byte_order: ByteOrder },
+    Elf64 {
+        /// The order of the numbers' bytes.
+        byte_order: ByteOrder,
+    },
     /// Mach-O of any kind. [`macho::parse`] reads each as one of 64 bits in little-endian order.
     Macho,
     /// A file that begins with the MS-DOS stub of a PE file: for [`pe::parse`].

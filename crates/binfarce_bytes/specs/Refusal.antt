@@ -1,6 +1,7 @@
 -- Why a file can't be read, as data, and the words that are printed.
-use Rattle.std.specs.Prelude.{◌≡◌, ℕ, List, ◌++◌, codes, Option, Some, None, Result, Ok, Err}
+use Rattle.std.specs.Prelude.{◌≡◌, ℕ, ◌+◌, ◌^◌, List, ◌++◌, length, codes, Option, Some, None, Result, Ok, Err, nat_le, nat_lt, if◌then◌else◌}
 use Rattle.std.specs.Fmt.{decimal}
+use Rattle.binfarce_bytes.specs.Number.{bytes_at}
 use Rattle.binfarce_bytes.specs.declared.error.ParseError.{ParseError}
 use Rattle.binfarce_bytes.specs.declared.error.ParseError.TheVariants.{SymbolsSectionIsMissing, SectionIsMissing, UnexpectedSectionType, MalformedInput, UnexpectedEof, OutOfMemory}
 
@@ -45,3 +46,10 @@ required refusal (Some x) = Ok x
 abbrev pub Gives : {X Y E : Type 0} → (E → Refusal) → (X → Y) → Result Y Refusal → Result X E → Type 0
 Gives why view answer (Ok x) = answer ≡ Ok (view x)
 Gives why view answer (Err e) = answer ≡ Err (why e)
+
+-- the bytes of a file that a section has: their end is below 2^64, and lies in the file
+unfoldable pub bytes_in_file : List ℕ → ℕ → ℕ → Result (List ℕ) Refusal
+bytes_in_file file offset size =
+    if nat_le (2 ^ 64) (offset + size) then Err malformed_input
+    else if nat_lt (length file) (offset + size) then Err unexpected_eof
+    else Ok (bytes_at file offset size)

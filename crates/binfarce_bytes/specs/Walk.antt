@@ -1,5 +1,6 @@
 -- A walk over what a file holds in order (sections, load commands), and the first item that a callback accepts.
-use Rattle.std.specs.Prelude.{◌≡◌, Bool, true, false, List, [], ◌∷◌, ◌++◌, All, Option, Some, None, Result, Ok, Err, find}
+use Rattle.std.specs.Prelude.{◌≡◌, ℕ, ◌+◌, Bool, true, false, List, [], ◌∷◌, ◌++◌, length, All, Option, Some, None, Result, Ok, Err, find}
+use Rattle.std.specs.Iterator.{Count, at_most}
 use Rattle.binfarce_bytes.specs.Refusal.{Refusal}
 
 -- the items in file order, and the refusal that the walk ends with, if it isn't done
@@ -19,6 +20,20 @@ ahead_of item walk = record { items = item ∷ walk.items; refusal = walk.refusa
 abbrev pub and_then : {S : Type 0} → List S → Option Refusal → Walk S → Walk S
 and_then items None after = record { items = items ++ after.items; refusal = after.refusal }
 and_then items (Some refusal) after = record { items = items; refusal = Some refusal }
+
+-- what an iterator gives of what is left of a walk, and what is left then: the first item, or the refusal, after which nothing is left
+abbrev pub YieldsNext : {T S E : Type 0} → (E → Refusal) → (T → S) → Walk S → Option (Result T E) → Walk S → Type 0
+YieldsNext why seen walk None left = (walk ≡ ended None) × (left ≡ ended None)
+YieldsNext why seen walk (Some (Ok value)) left = walk ≡ ahead_of (seen value) left
+YieldsNext why seen walk (Some (Err e)) left = (walk ≡ ended (Some (why e))) × (left ≡ ended None)
+
+abbrev pub refusal_count : Option Refusal → ℕ
+refusal_count None = 0
+refusal_count (Some refusal) = 1
+
+-- no more comes than the items, and the refusal where there is one
+abbrev pub walk_count : {S : Type 0} → Walk S → Count
+walk_count walk = at_most (length walk.items + refusal_count walk.refusal)
 
 -- what the end of a walk gives
 abbrev pub end_of : {S : Type 0} → Option Refusal → Result (Option S) Refusal

@@ -9,14 +9,19 @@ use std::fmt;
 use std::num::TryFromIntError;
 
 /// Why a file could not be read.
-#[derive(Debug, Clone, Copy, PartialEq)]
+#[derive(Debug, Clone, Copy, PartialEq, Eq, Hash)]
 pub enum ParseError {
     /// No section has the name that was asked for.
     SymbolsSectionIsMissing,
     /// A section that the symbols need is missing: the one named.
     SectionIsMissing(&'static str),
-    /// A section isn't of the kind that its use needs.
-    UnexpectedSectionType { expected: u32, actual: u32 },
+    /// A section isn't of the type that its use needs.
+    UnexpectedSectionType {
+        /// The type that it has to have (`sh_type`).
+        expected: u32,
+        /// The type that it has.
+        actual: u32,
+    },
     /// A number in the file fits nothing that the file could mean.
     MalformedInput,
     /// The file ends before what it should hold.

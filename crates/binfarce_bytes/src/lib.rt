@@ -10,7 +10,7 @@ pub use crate::error::ParseError;
 pub use crate::parser::UnexpectedEof;
 
 /// The order of a number's bytes in a file.
-#[derive(Clone, Copy, PartialEq, Debug)]
+#[derive(Clone, Copy, PartialEq, Eq, Hash, Debug)]
 pub enum ByteOrder {
     /// The first byte has the least weight.
     LittleEndian,

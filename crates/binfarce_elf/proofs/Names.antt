@@ -3,7 +3,7 @@ use Rattle.std.specs.Option.{option_map}
 use Rattle.std.specs.Result.{result_ok}
 use Rattle.std.proofs.Common.{◌≡◌, ℕ, List, length, Option, Some, None, Result, Ok, Err, Bor, inl, inr, refl, sym, ap, ◌∙◌, cond, ◌+◌, ◌<◌, ◌^◌, IfSome, Bool, true, false, leb, arith}
 use Rattle.std.proofs.lemmas.Bool.{cases_lt, lt-leb, le-leb, lt-ltb, le-ltb}
-use Rattle.binfarce_bytes.specs.Refusal.{Refusal, Gives, malformed_input, unexpected_eof}
+use Rattle.binfarce_bytes.specs.Refusal.{Refusal, Gives, malformed_input, unexpected_eof, bytes_in_file}
 use Rattle.binfarce_bytes.specs.Number.{bytes_at}
 use Rattle.binfarce_bytes.specs.Steps.{◌>>=◌}
 use Rattle.binfarce_bytes.specs.Text.{text_at}
@@ -45,7 +45,7 @@ name_reported class table section None e = tt
 -- what was read of a section's bytes is its contents, since no slice has 2^64 bytes
 pub contents_read : {E : Type 0} (why : E → Refusal) (file : List ℕ) (section : Section) (r : Result (Bor (List ℕ)) E) → length file < 2 ^ 64
     → Gives why (λ b. b.now) (section_data file section) r → option_map (λ b. b.now) (result_ok r) ≡ contents file section
-unfolding section_data
+unfolding section_data bytes_in_file
 contents_read {E} why file section r short gives = elim (cases_lt (length file) end) [
   | inl past ↦ rw (lt-leb end (length file) past) (by_test (leb (2 ^ 64) end) (rw (lt-ltb (length file) end past) at gives))
   | inr inside ↦ rw (le-leb end (length file) inside) (read_whole (bytes_at file section.offset section.size) r (rw (lt-leb (2 ^ 64) end (omega (arith, short, inside)), le-ltb (length file) end inside) at gives))

@@ -39,7 +39,7 @@ sections_is : (class : ElfClass) (table : SectionTable) (n : ℕ) → min table.
 unfolding walk
 sections_is class table n e = ap (numbered_below class table) e
 
-done_is : (class : ElfClass) (table : SectionTable) → table.shoff < length table.file → table.shnum ≤ whole_headers class table → (walk class table).refusal ≡ None
+pub done_is : (class : ElfClass) (table : SectionTable) → table.shoff < length table.file → table.shnum ≤ whole_headers class table → (walk class table).refusal ≡ None
 unfolding walk
 done_is class table inside room = rw (lt-ltb table.shoff (length table.file) inside, le-leb table.shnum (whole_headers class table) room) refl
 
@@ -47,11 +47,11 @@ and_false : (b : Bool) → (b && false) ≡ false
 and_false true = refl
 and_false false = refl
 
-truncated_is : (class : ElfClass) (table : SectionTable) → whole_headers class table < table.shnum → (walk class table).refusal ≡ Some unexpected_eof
+pub truncated_is : (class : ElfClass) (table : SectionTable) → whole_headers class table < table.shnum → (walk class table).refusal ≡ Some unexpected_eof
 unfolding walk
 truncated_is class table truncated = rw (lt-leb table.shnum (whole_headers class table) truncated, and_false (ltb table.shoff (length table.file))) refl
 
-outside_is : (class : ElfClass) (table : SectionTable) → length table.file ≤ table.shoff → (walk class table).refusal ≡ Some unexpected_eof
+pub outside_is : (class : ElfClass) (table : SectionTable) → length table.file ≤ table.shoff → (walk class table).refusal ≡ Some unexpected_eof
 unfolding walk
 outside_is class table outside = rw (le-ltb table.shoff (length table.file) outside) refl
 

@@ -165,6 +165,7 @@ pub record Section : Type 0 where
   pub index : ℕ
   pub name_offset : ℕ
   pub kind : ℕ
+  pub address : ℕ
   pub link : ℕ
   pub offset : ℕ
   pub size : ℕ
@@ -180,6 +181,7 @@ section_at class order file start index = record {
   index = index;
   name_offset = value_at order file start class.section.name;
   kind = value_at order file start class.section.kind;
+  address = value_at order file start class.section.addr;
   link = value_at order file start class.section.link;
   offset = value_at order file start class.section.offset;
   size = value_at order file start class.section.size;

@@ -1,12 +1,11 @@
 -- The function symbols of one section of an ELF file (System V gABI, "Symbol Table").
-use Rattle.std.specs.Prelude.{ℕ, ◌+◌, ◌-◌, ◌*◌, ◌/◌, ◌%◌, ◌^◌, Bool, false, ◌&&◌, List, length, Option, Some, None, Result, Ok, Err, nat_eq, nat_le, nat_lt, not, codes, if◌then◌else◌}
+use Rattle.std.specs.Prelude.{ℕ, ◌-◌, ◌*◌, ◌/◌, ◌%◌, Bool, false, ◌&&◌, List, length, Option, Some, None, Result, Ok, Err, nat_eq, not, codes, if◌then◌else◌}
 use Rattle.std.specs.Option.{option_map}
 use Rattle.std.specs.List.{range_with_len, filter_map}
 use Rattle.std.specs.Str.{bytes_eq}
 use Rattle.binfarce_bytes.specs.declared.ByteOrder.{ByteOrder}
-use Rattle.binfarce_bytes.specs.Number.{bytes_at}
 use Rattle.binfarce_bytes.specs.Text.{text_at}
-use Rattle.binfarce_bytes.specs.Refusal.{◌>>=◌, Refusal, required, symbols_section_is_missing, section_is_missing, unexpected_section_type, malformed_input, unexpected_eof}
+use Rattle.binfarce_bytes.specs.Refusal.{◌>>=◌, Refusal, required, symbols_section_is_missing, section_is_missing, unexpected_section_type, unexpected_eof, bytes_in_file}
 use Rattle.binfarce_bytes.specs.Walk.{Walk, first}
 use Rattle.binfarce_bytes.specs.Field.{value_at}
 use Rattle.binfarce_elf.specs.Elf.{ElfClass, SectionTable, Section, SymbolRow, walk, name_of}
@@ -49,12 +48,9 @@ is_named text (Some name) = bytes_eq name text
 abbrev pub sought : Refusal → (Section → Bool) → Walk Section → Result Section Refusal
 sought refusal accepts sections = first accepts sections >>= required refusal
 
--- the bytes of a section: its end is below 2^64, and lies in the file
+-- the bytes of a section
 unfoldable pub section_data : List ℕ → Section → Result (List ℕ) Refusal
-section_data file section =
-    if nat_le (2 ^ 64) (section.offset + section.size) then Err malformed_input
-    else if nat_lt (length file) (section.offset + section.size) then Err unexpected_eof
-    else Ok (bytes_at file section.offset section.size)
+section_data file section = bytes_in_file file section.offset section.size
 
 -- SHT_STRTAB
 abbrev pub string_table_kind : Section → Result Section Refusal

@@ -6,13 +6,13 @@ ghost use Rattle.binfarce_bytes.specs.Refusal.{Gives, refusal_of, unexpected_eof
 ghost use Rattle.binfarce_bytes.specs.Walk.{MayBeAsked, FirstAccepted, first};
 ghost use Rattle.binfarce_symbols.specs.Symbol.{Answers, HoldsSymbols, ListsSome};
 ghost use Rattle.binfarce_elf.specs.Elf.{header_of, section_table, walk, name_of};
-ghost use Rattle.binfarce_elf.specs.ElfSymbols.{is_named, elf_answer};
+ghost use Rattle.binfarce_elf.specs.ElfSymbols.{is_named, section_data, elf_answer};
 ghost use Rattle.binfarce_elf.specs.ElfViews.{header_view, section_view, functions_view};
 ghost use Rattle.binfarce_elf.specs.machine.RawElf.{table_view};
 
 use crate::class::Class;
 use crate::header::{Header, parse_header};
-use crate::sections::{self, Section, Table};
+use crate::sections::{self, Section, Sections, Table};
 use crate::symbols::{self, Functions};
 use binfarce_bytes::{ByteOrder, ParseError};
 use binfarce_names::demangle::SymbolData;
@@ -23,7 +23,7 @@ use std::marker::Model;
 /// An ELF file of either class. It borrows the file's bytes.
 #[derive(Drop)]
 pub struct Elf<'a, C: Class> {
-    data: &'a [u8],
+    pub(crate) data: &'a [u8],
     byte_order: ByteOrder,
     header: Header<C>,
 }
@@ -62,10 +62,37 @@ impl<'a, C: Class> Elf<'a, C> {
         self.header
     }
 
+    /// The sections in file order, which `find_section` searches. Each is read when it is asked for.
+    ///
+    /// `UnexpectedEof` comes, and after it nothing, where `find_section` with a callback that always answers false
+    /// has it: where the section header table doesn't begin in the file, or a header is truncated.
+    pub fn sections(&self) -> Sections<'a, C>
+        ensures { result ≡ walk C.table (section_table C.table self.now) }
+    {
+        sections::sections_of::<C>(self.table())
+    }
+
+    /// The bytes that the section has in the file, a part of it.
+    ///
+    /// The range is the one that the header states (`sh_offset`, `sh_size`). A section of type `SHT_NOBITS` has no bytes
+    /// in the file (gABI, "Sections"): for it these are whatever stands there.
+    ///
+    /// # Errors
+    ///
+    /// `MalformedInput` where their end passes `usize`, `UnexpectedEof` where it passes the file's.
+    pub fn section_bytes(&self, section: &Section<C>) -> Result<&'a [u8], ParseError>
+        ensures { Gives refusal_of (λ b. b.now) (section_data self.now.bytes (section_view C.number_of section.now)) result }
+    {
+        sections::section_data::<C>(self.data, *section)
+    }
+
     /// The first section that the callback accepts, in file order; `None` where it accepts none.
     ///
-    /// A section header is read only when the callback has refused the sections before it. `UnexpectedEof` where
-    /// the section header table doesn't begin in the file, or a header that is read is truncated.
+    /// A section header is read only when the callback has refused the sections before it.
+    ///
+    /// # Errors
+    ///
+    /// `UnexpectedEof` where the section header table doesn't begin in the file, or a header that is read is truncated.
     pub fn find_section<F: Fn(Section<C>) -> bool>(
         &self,
         callback: F,
@@ -76,7 +103,11 @@ impl<'a, C: Class> Elf<'a, C> {
         Ok(sections::first_section::<C, F>(self.table(), callback)?)
     }
 
-    /// The first section with this name; refused as `find_section` is.
+    /// The first section with this name.
+    ///
+    /// # Errors
+    ///
+    /// Those of `find_section`.
     pub fn section_with_name(&self, name: &str) -> Result<Option<Section<C>>, ParseError>
         ensures { let table = section_table C.table self.now in Gives refusal_of (option_map (section_view C.number_of))
             (first (λ s. is_named name.now (name_of C.table table s)) (walk C.table table)) result }
@@ -88,7 +119,10 @@ impl<'a, C: Class> Elf<'a, C> {
     /// and the section's size in bytes. Nothing is allocated, and names stay mangled.
     ///
     /// Kept are rows of type function (`STT_FUNC`) that name the section by its index, and have a size and a name.
-    /// Refused, in this order: as `find_section`; `SymbolsSectionIsMissing`; `SectionIsMissing` of `.symtab` (the
+    ///
+    /// # Errors
+    ///
+    /// In this order: as `find_section`; `SymbolsSectionIsMissing`; `SectionIsMissing` of `.symtab` (the
     /// first section of kind 2, `SHT_SYMTAB`) and of `.strtab` (the section that it links to); `UnexpectedSectionType`
     /// where that isn't of kind 3 (`SHT_STRTAB`); `MalformedInput` and `UnexpectedEof` where the string table's and
     /// then the symbol table's bytes end past `usize` and past the file; `UnexpectedEof` for a truncated last row.
@@ -100,7 +134,9 @@ impl<'a, C: Class> Elf<'a, C> {
 
     /// The same functions as symbols, whose names are in readable form, and the section's size in bytes.
     ///
-    /// Refused as `functions` is, and with `OutOfMemory` where an allocation failed, which an empty list never needs.
+    /// # Errors
+    ///
+    /// Those of `functions`, and `OutOfMemory` where an allocation failed, which an empty list never needs.
     #[tactic(auto, using(crate::proofs::RowsLeft::symbols_are))]
     pub fn symbols(
         &self,

@@ -20,10 +20,15 @@ pub type Elf32Header = header::Header<Address>;
 /// A section header's values in a 32-bit file, and the section's index.
 pub type Section = sections::Section<Offset>;
 
+/// The sections of a 32-bit file that are left: what [`Elf32::sections`](elf::Elf::sections) gives.
+pub type Sections<'a> = sections::Sections<'a, Offset>;
+
 /// The function symbols of a section that are left: what [`Elf32::functions`](elf::Elf::functions) gives.
 pub type Functions<'a> = symbols::Functions<'a, Address>;
 
 /// Reads the file header in the given order, without a look at the magic number. Nothing is copied.
+///
+/// # Errors
 ///
 /// `UnexpectedEof` for fewer than 52 bytes.
 #[tactic(auto, unfolding(crate::specs::Elf::elf32))]

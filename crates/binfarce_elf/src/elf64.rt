@@ -20,10 +20,15 @@ pub type Elf64Header = header::Header<Address>;
 /// A section header's values in a 64-bit file, and the section's index.
 pub type Section = sections::Section<Offset>;
 
+/// The sections of a 64-bit file that are left: what [`Elf64::sections`](elf::Elf::sections) gives.
+pub type Sections<'a> = sections::Sections<'a, Offset>;
+
 /// The function symbols of a section that are left: what [`Elf64::functions`](elf::Elf::functions) gives.
 pub type Functions<'a> = symbols::Functions<'a, Address>;
 
 /// Reads the file header in the given order, without a look at the magic number. Nothing is copied.
+///
+/// # Errors
 ///
 /// `UnexpectedEof` for fewer than 64 bytes.
 #[tactic(auto, unfolding(crate::specs::Elf::elf64))]

@@ -9,7 +9,7 @@ ghost use Rattle.binfarce_elf.specs.ElfSymbols.{entries_from};
 #[tactic(auto, unfolding(crate::specs::Elf::elf32, crate::specs::Elf::section_at, binfarce_bytes::proofs::Computing::computing))]
 fn worked_section()
     ensures { section_at elf32 BigEndian (0 ∷ 0 ∷ 0 ∷ 11 ∷ 0 ∷ 0 ∷ 0 ∷ 1 ∷ 0 ∷ 0 ∷ 0 ∷ 6 ∷ 0 ∷ 0 ∷ 0x10 ∷ 0 ∷ 0 ∷ 0 ∷ 0 ∷ 0x34 ∷ 0 ∷ 0 ∷ 0 ∷ 0x20 ∷ 0 ∷ 0 ∷ 0 ∷ 7 ∷ 0 ∷ 0 ∷ 0 ∷ 0 ∷ 0 ∷ 0 ∷ 0 ∷ 1 ∷ 0 ∷ 0 ∷ 0 ∷ 4 ∷ []) 0 5
-        ≡ record { index = 5; name_offset = 11; kind = 1; link = 7; offset = 0x34; size = 0x20; entry_size = 4 } }
+        ≡ record { index = 5; name_offset = 11; kind = 1; address = 0x1000; link = 7; offset = 0x34; size = 0x20; entry_size = 4 } }
 {}
 
 /// A row of the function `f` at 0x1000, of 16 bytes, in section 1: as it stands in both classes, and as an object.

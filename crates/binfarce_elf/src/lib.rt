@@ -1,6 +1,7 @@
 //! ELF files of both classes and both byte orders (System V gABI).
 #![tactic(auto)]
 
+mod accessors;
 mod class;
 mod elf;
 pub mod elf32;

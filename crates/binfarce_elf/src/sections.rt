@@ -1,18 +1,19 @@
 //! The sections of a file of either class: their headers, the walk over these, and the names (gABI, "Sections").
 
-ghost use Rattle.std.specs.Prelude.{◌≡◌, ◌+◌, ◌<◌, ◌≤◌, ◌^◌, length, All, MatchResult, IfSome};
+ghost use Rattle.std.specs.Prelude.{◌≡◌, ◌+◌, ◌<◌, ◌≤◌, ◌^◌, length, All, Some, None, MatchOption, MatchResult, IfSome};
 ghost use Rattle.std.specs.Option.{option_map};
 ghost use Rattle.binfarce_bytes.specs.Refusal.{Gives, refusal_of, malformed_input, unexpected_eof};
-ghost use Rattle.binfarce_bytes.specs.Walk.{MayBeAsked, FirstAccepted, first};
+ghost use Rattle.binfarce_bytes.specs.Walk.{MayBeAsked, FirstAccepted, first, ended, ahead_of};
 ghost use Rattle.binfarce_elf.specs.Elf.{section_table, walk, name_of, entry_count, NameIsInFile, section_at, names_section};
 ghost use Rattle.binfarce_elf.specs.ElfSymbols.{is_named, section_data};
 ghost use Rattle.binfarce_elf.specs.ElfViews.{section_view};
-ghost use Rattle.binfarce_elf.specs.machine.RawElf.{table_view, names_bytes, name_among};
+ghost use Rattle.binfarce_elf.specs.machine.RawElf.{table_view, names_bytes, name_among, section_count, walk_from};
 
 use crate::class::{Class, Half, Word};
 use crate::elf::Elf;
 use binfarce_bytes::parser::{Stream, UnexpectedEof, parse_null_string, range};
 use binfarce_bytes::{ByteOrder, ParseError};
+use std::marker::{Model, PhantomData};
 use std::ops::Range;
 
 /// A section header's values (gABI, "Section Header"), and the section's index. It borrows nothing.
@@ -21,6 +22,7 @@ pub struct Section<C> {
     pub(crate) index: Half,
     pub(crate) name_offset: Word,
     pub(crate) kind: Word,
+    pub(crate) address: C,
     pub(crate) link: Word,
     pub(crate) offset: C,
     pub(crate) size: C,
@@ -28,9 +30,11 @@ pub struct Section<C> {
 }
 
 impl<C: Class> Section<C> {
-    /// The section's bytes as a range of the file (`sh_offset`, `sh_size`); `MalformedInput` where its end passes `usize`.
+    /// The section's bytes as a range of the file (`sh_offset`, `sh_size`), which isn't checked against the file's length.
     ///
-    /// The range isn't checked against the file's length.
+    /// # Errors
+    ///
+    /// `MalformedInput` where the range's end passes `usize`.
     pub fn range(&self) -> Result<Range<usize>, ParseError>
         ensures { let s = section_view C.number_of self.now in MatchResult result
             (λ r. (r.start ≡ s.offset) × (r.end ≡ s.offset + s.size))
@@ -84,7 +88,8 @@ fn section_at<C: Class>(
     let mut s = Stream::new_at(bytes, start, byte_order)?;
     let name_offset = s.read()?;
     let kind = s.read()?;
-    s.skip_len(2 * C::SIZE)?; // flags, addr
+    s.skip_len(C::SIZE)?; // flags
+    let address = s.read()?;
     let offset = s.read()?;
     let size = s.read()?;
     let link = s.read()?;
@@ -94,11 +99,100 @@ fn section_at<C: Class>(
         index,
         name_offset,
         kind,
+        address,
         link,
         offset,
         size,
         entry_size,
     })
+}
+
+/// The sections of a file that are left, in file order: what [`Elf::sections`] gives. It borrows the file's bytes.
+///
+/// A section header is read when it is asked for. `UnexpectedEof` comes in place of a header that is truncated, and
+/// where the section header table doesn't begin in the file; after it nothing comes.
+#[must_use = "iterators are lazy and do nothing unless consumed"]
+#[derive(Drop)]
+pub struct Sections<'a, C: Class> {
+    table: Table<'a>,
+    // The index of the next section; none after a refusal.
+    next: Option<Half>,
+    class: PhantomData<C>,
+}
+
+impl<'a, C: Class> Model for Sections<'a, C> {
+    ghost use Rattle.std.specs.Prelude.{◌≤◌, IfSome};
+    ghost use Rattle.binfarce_bytes.specs.Walk.{Walk};
+    ghost use Rattle.binfarce_elf.specs.Elf.{Section};
+    ghost use Rattle.binfarce_elf.specs.machine.RawElf.{table_view, section_count, walk_from};
+
+    ghost Value = { Walk Section };
+
+    ghost view = { λ s. walk_from C.table (table_view s.table) s.next };
+
+    ghost invariant = { λ s. IfSome s.next (λ index. index ≤ section_count C.table (table_view s.table)) };
+}
+
+/// All sections of the table.
+pub(crate) fn sections_of<'a, C: Class>(table: Table<'a>) -> Sections<'a, C>
+    ensures { result ≡ walk C.table (table_view table.entry) }
+{
+    Sections {
+        table,
+        next: Some(0),
+        class: PhantomData,
+    }
+}
+
+impl<'a, C: Class> Iterator for Sections<'a, C> {
+    ghost use Rattle.binfarce_bytes.specs.Refusal.{refusal_of};
+    ghost use Rattle.binfarce_bytes.specs.Walk.{YieldsNext, walk_count};
+    ghost use Rattle.binfarce_elf.specs.ElfViews.{section_view};
+
+    type Item = Result<Section<C>, ParseError>;
+
+    ghost next_gives = { YieldsNext refusal_of (section_view C.number_of) };
+
+    ghost remaining = { walk_count };
+
+    fn next(&mut self) -> Option<Result<Section<C>, ParseError>> {
+        let index = self.next?;
+        match section_left::<C>(self.table, index) {
+            Err(_) => {
+                self.next = None;
+                Some(Err(ParseError::UnexpectedEof))
+            }
+            Ok(None) => None,
+            Ok(Some(section)) => {
+                self.next = Some(index + 1);
+                Some(Ok(section))
+            }
+        }
+    }
+}
+
+// The section of this index, where those before it were whole; `None` where there are no more.
+fn section_left<C: Class>(
+    table: Table<'_>,
+    index: Half,
+) -> Result<Option<Section<C>>, UnexpectedEof>
+    requires { index ≤ section_count C.table (table_view table) }
+    ensures { let left = walk_from C.table (table_view table.entry) (Some index) in MatchResult result
+        (λ found. MatchOption found (left ≡ ended None)
+        (λ s. (index < section_count C.table (table_view table.entry)) × (left ≡ ahead_of (section_view C.number_of s) (walk_from C.table (table_view table.entry) (Some (index + 1))))))
+        (λ _. left ≡ ended (Some unexpected_eof)) }
+{
+    if table.shoff >= table.data.len() {
+        return Err(UnexpectedEof {});
+    }
+    if index >= table.shnum {
+        return Ok(None);
+    }
+    let start = table.shoff + index as usize * C::SECTION_LENGTH;
+    match section_at(table.data, start, table.byte_order, index) {
+        Err(e) => Err(e),
+        Ok(section) => Ok(Some(section)),
+    }
 }
 
 /// The first section that the callback accepts.
@@ -180,7 +274,7 @@ fn names_section<C: Class>(table: Table<'_>) -> Option<Section<C>>
 }
 
 /// The section's bytes, a part of the file; `MalformedInput` and `UnexpectedEof` where they end past `usize` and past the file.
-#[tactic(auto, unfolding(crate::specs::ElfSymbols::section_data))]
+#[tactic(auto, unfolding(crate::specs::ElfSymbols::section_data, binfarce_bytes::specs::Refusal::bytes_in_file))]
 pub(crate) fn section_data<C: Class>(data: &[u8], section: Section<C>) -> Result<&[u8], ParseError>
     ensures { Gives refusal_of (λ b. b.now) (section_data data.now (section_view C.number_of section)) result }
 {

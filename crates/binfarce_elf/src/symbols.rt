@@ -134,6 +134,7 @@ fn whole_rows<C: Class>(rows: &[u8]) -> Result<&[u8], ParseError>
 /// The function symbols of a section that are left, in the order of the symbol table.
 ///
 /// Rows are read as they are asked for, and names stay in the file: nothing is allocated or copied.
+#[must_use = "iterators are lazy and do nothing unless consumed"]
 #[derive(Drop)]
 pub struct Functions<'a, C> {
     rows: &'a [u8],

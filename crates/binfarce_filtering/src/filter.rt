@@ -23,7 +23,11 @@ fn limit_is()
 ///
 /// A run is a longest stretch of ASCII letters, digits, `_`, `$` and `.`. One that begins with `_` and is mangled, without
 /// the dots that it ends in, is replaced, unless it is longer than `MAX_RUN`, or its text has a control character. All
-/// other bytes stand unchanged; they need not be UTF-8. Fails only where an allocation fails.
+/// other bytes stand unchanged; they need not be UTF-8.
+///
+/// # Errors
+///
+/// `AllocError` where an allocation failed.
 pub fn filter(alloc: Global, full: bool, text: &[u8]) -> Result<Vec<u8>, AllocError>
     ensures { IfOk result (λ out. IsFiltered full text.now out.items) }
 {
@@ -61,7 +65,9 @@ impl TextFilter {
     /// Takes the next part of the text, and writes after `out` what is shown of the text so far. What is held back is
     /// the run that it ends in, where that may be a name.
     ///
-    /// Fails only where an allocation fails. The filter must not be used any more then.
+    /// # Errors
+    ///
+    /// `AllocError` where an allocation failed. The filter must not be used any more then.
     pub fn push(&mut self, alloc: Global, part: &[u8], out: &mut Vec<u8>) -> Result<(), AllocError>
         ensures { OnOk result ((more : List ℕ) × Goes self.old self.new part.now more × (out.new.items ≡ out.old.items ++ more)) }
     {
@@ -75,9 +81,11 @@ impl TextFilter {
         self.grow(&rest[at..], out)
     }
 
-    /// Ends the text, and writes what is left to be shown after `out`.
+    /// Ends the text, and writes what is left to be shown after `out`. The filter must not be used any more, however that ends.
     ///
-    /// Fails only where an allocation fails. The filter must not be used any more, however that ends.
+    /// # Errors
+    ///
+    /// `AllocError` where an allocation failed.
     pub fn finish(&mut self, alloc: Global, out: &mut Vec<u8>) -> Result<(), AllocError>
         ensures { OnOk result ((more : List ℕ) × IsDone self.old more × (out.new.items ≡ out.old.items ++ more)) }
     {

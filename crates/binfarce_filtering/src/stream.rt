@@ -53,9 +53,13 @@ impl From<AllocError> for StreamError {
 /// Filters what the reader gives: `filter` of all of it is written, and what is shown of each part before the next is
 /// read. `full` as in `filter`.
 ///
-/// Memory goes by the longest run that may be a name, and by the longest text of a name. `Read` where the reader failed: what came before is
-/// filtered, as if it ended there. `Write` where the writer failed, and `OutOfMemory` where an allocation did: a beginning
-/// was written. A read that was interrupted is tried again.
+/// Memory goes by the longest run that may be a name, and by the longest text of a name. A read that was interrupted is
+/// tried again.
+///
+/// # Errors
+///
+/// `Read` where the reader failed: what came before is filtered, as if it ended there. `Write` where the writer failed, and
+/// `OutOfMemory` where an allocation did: a beginning was written.
 pub fn filter_stream<R: Read, W: Write>(
     alloc: Global,
     full: bool,

@@ -13,6 +13,7 @@ use Rattle.binfarce_image.proofs.Fields.{IsPut}
 pub record SectionPut (class : ElfClass) (place : ℕ) (part : Part) : Type 0 where
   pub name : IsPut class.section_length class.section.name (section_numbers class place part) (name_offset part) (2 ^ 32)
   pub kind : IsPut class.section_length class.section.kind (section_numbers class place part) (part_kind part) (2 ^ 32)
+  pub addr : IsPut class.section_length class.section.addr (section_numbers class place part) 0 (2 ^ 32)
   pub link : IsPut class.section_length class.section.link (section_numbers class place part) (part_link part) (2 ^ 32)
   pub offset : IsPut class.section_length class.section.offset (section_numbers class place part) place (2 ^ 32)
   pub size : IsPut class.section_length class.section.size (section_numbers class place part) (body_length class part) (2 ^ 32)
@@ -46,6 +47,7 @@ is_elf32 = record {
   section_put = λ place part. record {
     name = record { last = refl; room = refl };
     kind = record { last = refl; room = refl };
+    addr = record { last = refl; room = refl };
     link = record { last = refl; room = refl };
     offset = record { last = refl; room = refl };
     size = record { last = refl; room = refl };
@@ -74,6 +76,7 @@ is_elf64 = record {
   section_put = λ place part. record {
     name = record { last = refl; room = refl };
     kind = record { last = refl; room = refl };
+    addr = record { last = refl; room = refl };
     link = record { last = refl; room = refl };
     offset = record { last = refl; room = refl };
     size = record { last = refl; room = refl };

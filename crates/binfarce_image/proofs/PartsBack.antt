@@ -10,6 +10,7 @@ use Rattle.binfarce.specs.Steps.{◌>>=◌}
 use Rattle.binfarce.specs.Text.{text_at}
 use Rattle.binfarce.specs.Elf.{ElfClass, Section, SectionTable, section_of, whole_headers, contents, names_section, name_of}
 use Rattle.binfarce.specs.ElfSymbols.{section_data}
+use Rattle.binfarce.specs.Refusal.{bytes_in_file}
 use Rattle.binfarce_image.specs.declared.image.ElfLayout.{ElfLayout}
 use Rattle.binfarce_image.specs.declared.image.Image.{Image}
 use Rattle.binfarce_image.specs.declared.image.Part.{Part}
@@ -33,7 +34,7 @@ contents_back class order file section found r =
 -- the part of the file that a section is, is the body
 pub part_back : (class : ElfClass) (order : ByteOrder) (file : List ℕ) (section : Section) (found : ℕ × Part) → IsSectionOf class order file section found → length file < 2 ^ 32
     → section_data file section ≡ Ok (body class order found.1)
-unfolding section_data
+unfolding section_data bytes_in_file
 part_back class order file section found r small =
     let inside = r.inside in
     let low : r.place + body_length class found.1 < 2 ^ 64 = omega arith in

@@ -132,7 +132,9 @@ impl From<AllocError> for ImageError {
 /// link are the part's, the type is its kind, `sh_addralign` is 1, and `sh_entsize` is the length of a row for the
 /// table. What isn't named is 0.
 ///
-/// Refused, in this order: `TooManySections` for more than 65,535 parts; `TableCount` where there isn't exactly one
+/// # Errors
+///
+/// In this order: `TooManySections` for more than 65,535 parts; `TableCount` where there isn't exactly one
 /// `Table`, or a `Bytes` part has kind 2; `NamesPlace` where `names_at` isn't the index of a `Bytes` part; `TooLarge`
 /// where the file would have 2^32 bytes or more; `OutOfMemory` where an allocation failed, of which the first comes
 /// after the other refusals.

@@ -4,3 +4,4 @@ pub mod Kept
 pub mod MachoAnswers
 pub mod MachoLaws
 pub mod SectionNames
+pub mod SectionsLeft

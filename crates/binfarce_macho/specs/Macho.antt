@@ -1,11 +1,11 @@
 -- 64-bit Mach-O files, which are always little endian (Apple's <mach-o/loader.h>): tables of offsets and widths, and what stands there.
-use Rattle.std.specs.Prelude.{ℕ, zero, suc, ◌+◌, ◌-◌, ◌*◌, ◌/◌, Bool, ◌&&◌, List, [], ◌∷◌, length, Option, Some, None, nat_eq, nat_lt, nat_le, min, if◌then◌else◌}
+use Rattle.std.specs.Prelude.{ℕ, zero, suc, ◌+◌, ◌-◌, ◌*◌, ◌/◌, Bool, ◌&&◌, List, [], ◌∷◌, length, Option, Some, None, Result, nat_eq, nat_lt, nat_le, min, if◌then◌else◌}
 use Rattle.std.specs.List.{range_with_len, filter_map}
 use Rattle.std.specs.Str.{bytes_eq}
 use Rattle.binfarce_bytes.specs.Steps.{◌>>=◌}
 use Rattle.binfarce_bytes.specs.Number.{bytes_at}
 use Rattle.binfarce_bytes.specs.Text.{padded_name}
-use Rattle.binfarce_bytes.specs.Refusal.{Refusal, malformed_input, unexpected_eof}
+use Rattle.binfarce_bytes.specs.Refusal.{Refusal, malformed_input, unexpected_eof, bytes_in_file}
 use Rattle.binfarce_bytes.specs.Walk.{Walk, ended, ahead_of, and_then}
 use Rattle.binfarce_bytes.specs.Field.{Field, field, number_in}
 
@@ -174,3 +174,7 @@ walk file = sections_of file (commands file).items (commands file).refusal
 -- the section has these two names
 abbrev pub is_named : List ℕ → List ℕ → Section → Bool
 is_named segment_name section_name section = bytes_eq section.segment_name segment_name && bytes_eq section.section_name section_name
+
+-- the bytes of a section
+abbrev pub section_data : List ℕ → Section → Result (List ℕ) Refusal
+section_data file section = bytes_in_file file section.offset section.size

@@ -62,9 +62,9 @@ pub(crate) struct Command {
 /// The load commands, at most as many as are left. A command whose size is below 8 ends them with an error.
 #[derive(Drop)]
 pub(crate) struct LoadCommands<'a> {
-    bytes: &'a [u8],
+    pub(crate) bytes: &'a [u8],
     offset: usize,
-    left: u32,
+    pub(crate) left: u32,
 }
 
 impl Iterator for LoadCommands<'_> {

@@ -4,7 +4,7 @@ ghost use Rattle.std.specs.Prelude.{◌≡◌, ℕ, List, ◌<◌, ◌≤◌, le
 ghost use Rattle.std.specs.Option.{option_map};
 ghost use Rattle.binfarce_bytes.specs.Refusal.{Gives, refusal_of, unexpected_eof};
 ghost use Rattle.binfarce_bytes.specs.Walk.{MayBeAsked, FirstAccepted, first};
-ghost use Rattle.binfarce_macho.specs.Macho.{header_of, walk, is_named, least_length};
+ghost use Rattle.binfarce_macho.specs.Macho.{header_of, section_data, walk, is_named, least_length};
 ghost use Rattle.binfarce_macho.specs.MachoSymbols.{ArrangesRows, SizesEntries, HasAddress, macho_answer};
 ghost use Rattle.binfarce_symbols.specs.Symbol.{HoldsSymbols, Answers};
 ghost use Rattle.binfarce_symbols.specs.SymbolViews.{HoldsFunctions};
@@ -12,7 +12,7 @@ ghost use Rattle.binfarce_macho.specs.MachoViews.{header_view, section_view};
 
 pub use crate::header::MachoHeader;
 use crate::header::parse_header;
-pub use crate::sections::Section;
+pub use crate::sections::{Section, Sections};
 use crate::sections::{self, first_section};
 use crate::symbols::{functions_of, locate};
 use binfarce_bytes::ParseError;
@@ -42,6 +42,8 @@ impl<'a> Model for Macho<'a> {
 
 /// Reads the header of a Mach-O file, without a look at the magic number.
 ///
+/// # Errors
+///
 /// `UnexpectedEof` for fewer than 28 bytes.
 pub fn parse(data: &[u8]) -> Result<Macho<'_>, ParseError>
     ensures { MatchResult result
@@ -60,13 +62,36 @@ impl<'a> Macho<'a> {
         self.header
     }
 
+    /// The sections in file order, segment by segment, which `find_section` searches. Each is read when it is asked for.
+    ///
+    /// A refusal comes, and after it nothing, where `find_section` with a callback that always answers false has it.
+    pub fn sections(&self) -> Sections<'a>
+        ensures { result ≡ walk self.now }
+    {
+        sections::sections_of(self)
+    }
+
+    /// The bytes that the section has in the file, a part of it.
+    ///
+    /// # Errors
+    ///
+    /// `MalformedInput` where their end passes `usize`, `UnexpectedEof` where it passes the file's.
+    pub fn section_bytes(&self, section: &Section<'_>) -> Result<&'a [u8], ParseError>
+        ensures { Gives refusal_of (λ b. b.now) (section_data self.now (section_view section.now)) result }
+    {
+        sections::section_data(self, section)
+    }
+
     /// The first section that the callback accepts, in file order; `None` where it accepts none.
     ///
     /// The sections are those of the segment commands (`LC_SEGMENT_64`) whose segment and section name are both valid.
     /// A name is the bytes of its own 16 up to the first NUL, or all 16 where there is none; it is valid where it isn't
-    /// empty and is UTF-8. `UnexpectedEof` where a segment command or a section is truncated, `MalformedInput` where a
-    /// load command's size is below 8; the sections before it are asked first. The section borrows from the file and
-    /// may outlive the reader.
+    /// empty and is UTF-8. The section borrows from the file and may outlive the reader.
+    ///
+    /// # Errors
+    ///
+    /// `UnexpectedEof` where a segment command or a section is truncated, `MalformedInput` where a load command's size is
+    /// below 8; the sections before it are asked first.
     pub fn find_section<F: Fn(Section<'_>) -> bool>(
         &self,
         callback: F,
@@ -77,7 +102,11 @@ impl<'a> Macho<'a> {
         Ok(first_section(self, callback)?)
     }
 
-    /// The first section with these two names; refused as `find_section` is.
+    /// The first section with these two names.
+    ///
+    /// # Errors
+    ///
+    /// Those of `find_section`.
     pub fn section_with_name(
         &self,
         segment_name: &str,
@@ -94,7 +123,11 @@ impl<'a> Macho<'a> {
     /// A symbol's size is the distance to the least greater address in the whole table, or to the text's end where
     /// there is none. Kept are rows with a value, a name offset, one of the type bits 0x0A and section 1, that have
     /// a size and a valid name; rows of one address stand in table order. Without a symbol table the answer is
-    /// an empty list and 0. Refused, in this order: as `find_section`; `SymbolsSectionIsMissing` without a section
+    /// an empty list and 0.
+    ///
+    /// # Errors
+    ///
+    /// In this order: as `find_section`; `SymbolsSectionIsMissing` without a section
     /// `__text` of `__TEXT`; `MalformedInput` where that is empty, or for a bad load command before the symbol
     /// table's; `UnexpectedEof` where that command, the string table or the rows are truncated; `MalformedInput` where
     /// the text's end passes an address, or a row that would be kept lies past that end with no address above it.
@@ -112,7 +145,11 @@ impl<'a> Macho<'a> {
 
     /// The function symbols that `symbols` carries, in its order, with their names as the file stores them.
     ///
-    /// The names are parts of the file and may outlive the reader. Refused as `symbols` is.
+    /// The names are parts of the file and may outlive the reader.
+    ///
+    /// # Errors
+    ///
+    /// Those of `symbols`.
     pub fn functions(&self, alloc: Global) -> Result<(Vec<FunctionSymbol<'a>>, u64), ParseError>
         ensures { Answers HoldsFunctions (λ _. HasAddress self.now) (macho_answer self.now) result }
     {

@@ -1,18 +1,19 @@
 //! The sections of a file (`section_64` of Apple's `<mach-o/loader.h>`).
 
-ghost use Rattle.std.specs.Prelude.{◌≡◌, ◌+◌, ◌<◌, ◌≤◌, ◌^◌, length, All, MatchResult};
+ghost use Rattle.std.specs.Prelude.{◌≡◌, ◌+◌, ◌<◌, ◌≤◌, ◌^◌, length, All, Some, None, MatchOption, MatchResult, OnSome};
 ghost use Rattle.std.specs.Option.{option_map};
 ghost use Rattle.binfarce_bytes.specs.Refusal.{Gives, refusal_of, malformed_input, unexpected_eof};
 ghost use Rattle.binfarce_bytes.specs.Text.{padded_name};
-ghost use Rattle.binfarce_bytes.specs.Walk.{MayBeAsked, FirstAccepted, first};
-ghost use Rattle.binfarce_macho.specs.Macho.{walk, segment, section_at, is_named};
+ghost use Rattle.binfarce_bytes.specs.Walk.{MayBeAsked, FirstAccepted, YieldsNext, first, ended, ahead_of};
+ghost use Rattle.binfarce_macho.specs.Macho.{walk, segment, section_at, section_data, is_named};
 ghost use Rattle.binfarce_macho.specs.MachoViews.{section_view};
-ghost use Rattle.binfarce_macho.specs.machine.RawMacho.{damage_refusal};
+ghost use Rattle.binfarce_macho.specs.machine.RawMacho.{damage_refusal, commands_left, section_count, segment_from, sections_left, IsWithin, StepsSegment};
 
-use crate::commands::{Damage, LC_SEGMENT_64, commands};
+use crate::commands::{Command, Damage, LC_SEGMENT_64, LoadCommands, commands};
 use crate::macho::Macho;
 use binfarce_bytes::parser::{Stream, UnexpectedEof, number_at, range, up_to_nul, utf8_text};
 use binfarce_bytes::{ByteOrder, ParseError};
+use std::marker::Model;
 use std::ops::Range;
 
 const SECTION_LENGTH: usize = 80;
@@ -20,23 +21,202 @@ const SECTION_LENGTH: usize = 80;
 /// A section (`section_64`): its names, its address, and the offset and size of its bytes. The names are parts of the file.
 #[derive(Debug, Clone, Copy)]
 pub struct Section<'a> {
-    segment_name: &'a str,
-    section_name: &'a str,
+    pub(crate) segment_name: &'a str,
+    pub(crate) section_name: &'a str,
     pub(crate) address: u64,
-    offset: u32,
+    pub(crate) offset: u32,
     pub(crate) size: u64,
 }
 
 impl Section<'_> {
-    /// The section's bytes as a range of the file (`offset`, `size`); `MalformedInput` where its end passes `usize`.
+    /// The section's bytes as a range of the file (`offset`, `size`), which isn't checked against the file's length.
     ///
-    /// The range isn't checked against the file's length.
+    /// # Errors
+    ///
+    /// `MalformedInput` where the range's end passes `usize`.
     pub fn range(&self) -> Result<Range<usize>, ParseError>
         ensures { let s = section_view self.now in MatchResult result
             (λ r. (r.start ≡ s.offset) × (r.end ≡ s.offset + s.size))
             (λ e. (2 ^ 64 ≤ s.offset + s.size) × (refusal_of e ≡ malformed_input)) }
     {
         range(self.offset as usize, self.size as usize)
+    }
+}
+
+/// The bytes that the section's header states, a part of the file; `MalformedInput` where they end past `usize`,
+/// `UnexpectedEof` where past the file.
+#[tactic(auto, unfolding(binfarce_bytes::specs::Refusal::bytes_in_file))]
+pub(crate) fn section_data<'a>(
+    file: &Macho<'a>,
+    section: &Section<'_>,
+) -> Result<&'a [u8], ParseError>
+    ensures { Gives refusal_of (λ b. b.now) (section_data file.now (section_view section.now)) result }
+{
+    file.data
+        .get(section.range()?)
+        .ok_or(ParseError::UnexpectedEof)
+}
+
+/// The sections of a file that are left, in file order: what [`Macho::sections`] gives. It borrows the file's bytes.
+///
+/// A section is read when it is asked for. A refusal comes in place of a segment command or a section that is truncated
+/// (`UnexpectedEof`), and of a load command whose size is below 8 (`MalformedInput`); after it nothing comes.
+#[must_use = "iterators are lazy and do nothing unless consumed"]
+#[derive(Drop)]
+pub struct Sections<'a> {
+    left: Left<'a>,
+}
+
+// The load commands after a segment command, and what is left of that segment.
+#[derive(Drop)]
+struct Left<'a> {
+    commands: LoadCommands<'a>,
+    segment: Segment,
+}
+
+// A segment command: where its body begins, how many sections it has, and the index of the next.
+#[derive(Clone, Copy)]
+struct Segment {
+    body: usize,
+    count: u32,
+    next: u32,
+}
+
+const NO_SEGMENT: Segment = Segment {
+    body: 0,
+    count: 0,
+    next: 0,
+};
+
+impl<'a> Model for Sections<'a> {
+    ghost use Rattle.binfarce_bytes.specs.Walk.{Walk};
+    ghost use Rattle.binfarce_macho.specs.Macho.{Section};
+    ghost use Rattle.binfarce_macho.specs.machine.RawMacho.{sections_left, IsWithin};
+
+    ghost Value = { Walk Section };
+
+    ghost view = { λ s. sections_left s.left };
+
+    ghost invariant = { λ s. IsWithin s.left };
+}
+
+/// All sections of the file.
+pub(crate) fn sections_of<'a>(file: &Macho<'a>) -> Sections<'a>
+    ensures { result ≡ walk file.now }
+{
+    Sections {
+        left: Left {
+            commands: commands(file),
+            segment: NO_SEGMENT,
+        },
+    }
+}
+
+impl<'a> Iterator for Sections<'a> {
+    ghost use Rattle.binfarce_bytes.specs.Refusal.{refusal_of};
+    ghost use Rattle.binfarce_bytes.specs.Walk.{YieldsNext, walk_count};
+    ghost use Rattle.binfarce_macho.specs.MachoViews.{section_view};
+
+    type Item = Result<Section<'a>, ParseError>;
+
+    ghost next_gives = { YieldsNext refusal_of section_view };
+
+    ghost remaining = { walk_count };
+
+    fn next(&mut self) -> Option<Result<Section<'a>, ParseError>> {
+        match next_section(&mut self.left) {
+            None => None,
+            Some(Err(damage)) => Some(Err(ParseError::from(damage))),
+            Some(Ok(section)) => Some(Ok(section)),
+        }
+    }
+}
+
+// The first section that is left: of the segment, or of one after it.
+fn next_section<'a>(left: &mut Left<'a>) -> Option<Result<Section<'a>, Damage>>
+    requires { IsWithin left.old }
+    ensures within { IsWithin left.new }
+    ensures steps { YieldsNext damage_refusal section_view (sections_left left.old) result (sections_left left.new) }
+{
+    loop {
+        match section_left(left.commands.bytes, left.segment) {
+            Err(_) => {
+                left.commands.left = 0;
+                left.segment = NO_SEGMENT;
+                return Some(Err(Damage::Truncated));
+            }
+            Ok(Some((section, next))) => {
+                left.segment.next = next;
+                return Some(Ok(section));
+            }
+            Ok(None) => {}
+        }
+        match next_segment(&mut left.commands) {
+            None => return None,
+            Some(Err(damage)) => {
+                left.commands.left = 0;
+                left.segment = NO_SEGMENT;
+                return Some(Err(damage));
+            }
+            Some(Ok(segment)) => left.segment = segment,
+        }
+    }
+}
+
+// The first section that the segment has left, and the index after it; `None` where there are no more.
+fn section_left(bytes: &[u8], segment: Segment) -> Result<Option<(Section<'_>, u32)>, UnexpectedEof>
+    requires inside { segment.body ≤ length bytes.now }
+    requires within { segment.next ≤ section_count bytes.now segment }
+    ensures { let left = segment_from bytes.entry.now segment in MatchResult result
+        (λ found. MatchOption found (left ≡ ended None)
+        (λ f. (f.1 ≤ section_count bytes.entry.now segment) × (left ≡ ahead_of (section_view f.0) (segment_from bytes.entry.now (record segment { next = f.1 })))))
+        (λ _. left ≡ ended (Some unexpected_eof)) }
+{
+    for index in segment.next..segment.count {
+        let start = segment.body + 64 + index as usize * SECTION_LENGTH;
+        match section_at(bytes, start) {
+            Err(e) => return Err(e),
+            Ok(None) => {}
+            Ok(Some(section)) => return Ok(Some((section, index + 1))),
+        }
+    }
+    Ok(None)
+}
+
+// The next segment command, before its first section.
+fn next_segment(commands: &mut LoadCommands<'_>) -> Option<Result<Segment, Damage>>
+    ensures bytes { commands.new.bytes.now ≡ commands.old.bytes.now }
+    ensures fewer { OnSome result (commands.new.left < commands.old.left) }
+    ensures steps { StepsSegment commands.old.bytes.now (commands_left commands.old) result (commands_left commands.new) }
+{
+    while let Some(item) = commands.next() {
+        match item {
+            Err(damage) => return Some(Err(damage)),
+            Ok(command) => {
+                if command.kind == LC_SEGMENT_64 {
+                    return Some(first_of_segment(commands.bytes, command));
+                }
+            }
+        }
+    }
+    None
+}
+
+// The segment of a command whose head stands in the file, before its first section; refused where its count is truncated.
+fn first_of_segment(bytes: &[u8], command: Command) -> Result<Segment, Damage>
+    requires { command.offset + 8 ≤ length bytes.now }
+    ensures { MatchResult result
+        (λ s. (s.body ≡ command.offset + 8) × (s.next ≡ 0) × (segment_from bytes.now s ≡ segment bytes.now (command.offset + 8)))
+        (λ d. segment bytes.now (command.offset + 8) ≡ ended (Some (damage_refusal d))) }
+{
+    let body = command.offset + 8;
+    match number_at(bytes, body + 56, ByteOrder::LittleEndian) {
+        Err(_) => Err(Damage::Truncated),
+        Ok(count) => Ok(Segment {
+            body,
+            count,
+            next: 0,
+        }),
     }
 }
 

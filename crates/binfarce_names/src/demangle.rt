@@ -16,7 +16,7 @@ pub use binfarce_v0_grammar::limits::{MAX_LEVELS, MAX_STEPS};
 use std::alloc::{AllocError, Global};
 
 /// How a name is mangled.
-#[derive(Clone, Copy, PartialEq, Eq, Debug)]
+#[derive(Clone, Copy, PartialEq, Eq, Hash, Debug)]
 pub enum Kind {
     /// Not at all, in a form that isn't read, or beyond the limits: the name stands unchanged.
     Unknown,
@@ -55,10 +55,31 @@ pub struct SymbolName {
 }
 
 /// A mangled name, of which a part of the text that was given is kept: nothing is copied.
+#[must_use]
 #[derive(Drop)]
 pub struct Demangled<'a> {
     kind: Kind,
     part: &'a str,
+}
+
+impl<'a> Demangled<'a> {
+    /// How the name is mangled. It was decided by `demangle`, so nothing is read here.
+    ///
+    /// `V0` says that the name is a v0 mangling. One whose text would pass the limits is `V0` here, and `Unknown` for
+    /// `SymbolName::demangle`, which has to print it to know that.
+    pub fn kind(&self) -> Kind
+        ensures { result ≡ (mangled_view self.now).kind }
+    {
+        self.kind
+    }
+
+    /// The part of the name that was kept: what stands after the mangling's prefix, without the `.llvm.` suffix; all of a
+    /// name that isn't mangled. It borrows the text that was given to `demangle`, and is still mangled.
+    pub fn part(&self) -> &'a str
+        ensures { result.now ≡ (mangled_view self.now).part }
+    {
+        self.part
+    }
 }
 
 impl SymbolName {
@@ -68,7 +89,11 @@ impl SymbolName {
     /// The readable form of `name`. A name that isn't mangled stands unchanged in both texts, with kind `Unknown`; so
     /// does a v0 name that nests deeper than `MAX_LEVELS` levels or takes more than `MAX_STEPS` steps.
     ///
-    /// The texts are copies in memory of `alloc`. The only refusal: an allocation failed.
+    /// The texts are copies in memory of `alloc`.
+    ///
+    /// # Errors
+    ///
+    /// `AllocError` where an allocation failed.
     pub fn demangle(alloc: Global, name: &str) -> Result<SymbolName, AllocError>
         ensures named { IfOk result (λ n. IsNamed name.now (name_view n)) }
     {
@@ -97,7 +122,9 @@ impl SymbolName {
 
 /// Writes the trimmed text of `name`, the one that `SymbolName::demangle` gives, after `text`.
 ///
-/// The only refusal: an allocation failed. `text` is then as it was.
+/// # Errors
+///
+/// `AllocError` where an allocation failed. `text` is then as it was.
 pub fn push_trimmed(alloc: Global, text: &mut String, name: &str) -> Result<(), AllocError>
     ensures trimmed { OnOk result ((n : Name) × IsNamed name.now n × (string_bytes text.new ≡ string_bytes text.old ++ n.trimmed)) }
     ensures unchanged { OnErr result (string_bytes text.new ≡ string_bytes text.old) }
@@ -115,7 +142,9 @@ pub fn push_trimmed(alloc: Global, text: &mut String, name: &str) -> Result<(), 
 /// The crate that `name` tells: of a v0 name its `crate_name`, and of a legacy name the first part of its path, unless
 /// that begins with `<`. None where no crate is told, and of other names.
 ///
-/// The only refusal: an allocation failed.
+/// # Errors
+///
+/// `AllocError` where an allocation failed.
 pub fn crate_of(alloc: Global, name: &str) -> Result<Option<String>, AllocError>
     ensures told { IfOk result (λ c. (n : Name) × IsNamed name.now n × (option_map string_bytes c ≡ crate_of n)) }
 {

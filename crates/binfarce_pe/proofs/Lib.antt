@@ -4,3 +4,4 @@ pub mod Rows
 pub mod Strictly
 pub mod Listing
 pub mod Answered
+pub mod SectionsLeft

@@ -24,7 +24,7 @@ sections_is : (file : List ℕ) (n : ℕ) → min (header_of file).number_of_sec
 unfolding walk
 sections_is file n e = ap (held_below (section_of file)) e
 
-done_is : (file : List ℕ) → sections_offset file < length file → (header_of file).number_of_sections ≤ whole_headers file → (walk file).refusal ≡ None
+pub done_is : (file : List ℕ) → sections_offset file < length file → (header_of file).number_of_sections ≤ whole_headers file → (walk file).refusal ≡ None
 unfolding walk
 done_is file inside room = rw (lt-ltb (sections_offset file) (length file) inside, le-leb (header_of file).number_of_sections (whole_headers file) room) refl
 
@@ -32,11 +32,11 @@ and_false : (b : Bool) → (b && false) ≡ false
 and_false true = refl
 and_false false = refl
 
-truncated_is : (file : List ℕ) → whole_headers file < (header_of file).number_of_sections → (walk file).refusal ≡ Some unexpected_eof
+pub truncated_is : (file : List ℕ) → whole_headers file < (header_of file).number_of_sections → (walk file).refusal ≡ Some unexpected_eof
 unfolding walk
 truncated_is file short = rw (lt-leb (header_of file).number_of_sections (whole_headers file) short, and_false (ltb (sections_offset file) (length file))) refl
 
-outside_is : (file : List ℕ) → length file ≤ sections_offset file → (walk file).refusal ≡ Some unexpected_eof
+pub outside_is : (file : List ℕ) → length file ≤ sections_offset file → (walk file).refusal ≡ Some unexpected_eof
 unfolding walk
 outside_is file outside = rw (le-ltb (sections_offset file) (length file) outside) refl
 

@@ -1,5 +1,5 @@
 -- PE files (Microsoft PE Format): the fields of the file header and of the section headers. Every number is little endian.
-use Rattle.std.specs.Prelude.{ℕ, ◌+◌, ◌-◌, ◌*◌, ◌/◌, Bool, ◌&&◌, List, length, Option, Some, None, nat_lt, nat_le, min, max, if◌then◌else◌}
+use Rattle.std.specs.Prelude.{ℕ, ◌+◌, ◌-◌, ◌*◌, ◌/◌, Bool, ◌&&◌, List, length, Option, Some, None, Result, nat_lt, nat_le, min, max, if◌then◌else◌}
 use Rattle.std.specs.Option.{option_map}
 use Rattle.std.specs.List.{range_with_len, filter_map}
 use Rattle.std.specs.Str.{bytes_eq}
@@ -7,7 +7,7 @@ use Rattle.binfarce_bytes.specs.declared.ByteOrder.TheVariants.{LittleEndian}
 use Rattle.binfarce_bytes.specs.Number.{number, bytes_at}
 use Rattle.binfarce_bytes.specs.Text.{padded_text}
 use Rattle.binfarce_bytes.specs.Field.{Field, field, number_in}
-use Rattle.binfarce_bytes.specs.Refusal.{unexpected_eof}
+use Rattle.binfarce_bytes.specs.Refusal.{Refusal, unexpected_eof, bytes_in_file}
 use Rattle.binfarce_bytes.specs.Walk.{Walk}
 
 -- COFF File Header: one A for each field
@@ -24,6 +24,7 @@ pub record Header (A : Type 0) : Type 0 where
 pub record SectionHeader (A : Type 0) : Type 0 where
   pub name : A
   pub virtual_size : A
+  pub virtual_address : A
   pub size_of_raw_data : A
   pub pointer_to_raw_data : A
 
@@ -43,6 +44,7 @@ unfoldable pub section_fields : SectionHeader Field
 section_fields = record {
   name = field 0 8;
   virtual_size = field 8 4;
+  virtual_address = field 12 4;
   size_of_raw_data = field 16 4;
   pointer_to_raw_data = field 20 4;
 }
@@ -89,6 +91,7 @@ sections_offset file = signature_offset file + headers_length + (header_of file)
 pub record Section : Type 0 where
   pub name : List ℕ
   pub virtual_size : ℕ
+  pub virtual_address : ℕ
   pub size_of_raw_data : ℕ
   pub pointer_to_raw_data : ℕ
   pub index : ℕ
@@ -100,6 +103,7 @@ section_at file start index =
     (λ name. record {
       name = name;
       virtual_size = number_in file start section_fields.virtual_size;
+      virtual_address = number_in file start section_fields.virtual_address;
       size_of_raw_data = number_in file start section_fields.size_of_raw_data;
       pointer_to_raw_data = number_in file start section_fields.pointer_to_raw_data;
       index = index;
@@ -124,3 +128,7 @@ walk file = record {
 -- the section has this name
 abbrev pub is_named : List ℕ → Section → Bool
 is_named name section = bytes_eq section.name name
+
+-- the bytes of a section
+abbrev pub section_data : List ℕ → Section → Result (List ℕ) Refusal
+section_data file section = bytes_in_file file section.pointer_to_raw_data section.size_of_raw_data

@@ -4,11 +4,11 @@ ghost use Rattle.std.specs.Prelude.{◌≡◌, [], ◌∷◌, ◌++◌, replicat
 ghost use Rattle.binfarce_pe.specs.Pe.{section_at};
 ghost use Rattle.binfarce_pe.specs.PeSymbols.{symbol_at, row_numbers, size_among};
 
-/// The section `.text`, of 0x1F bytes in memory and 0x200 in the file, from 0x400 on.
+/// The section `.text`, of 0x1F bytes in memory at 0x1000 and 0x200 in the file, from 0x400 on.
 #[tactic(auto, unfolding(crate::specs::Pe::section_at, crate::specs::Pe::section_fields, binfarce_bytes::proofs::Computing::computing))]
 fn worked_section()
     ensures { section_at (codes ".text" ++ (0 ∷ 0 ∷ 0 ∷ 0x1F ∷ 0 ∷ 0 ∷ 0 ∷ 0 ∷ 0x10 ∷ 0 ∷ 0 ∷ 0 ∷ 2 ∷ 0 ∷ 0 ∷ 0 ∷ 4 ∷ 0 ∷ 0 ∷ [])) 0 0
-        ≡ Some (record { name = codes ".text"; virtual_size = 0x1F; size_of_raw_data = 0x200; pointer_to_raw_data = 0x400; index = 0 }) }
+        ≡ Some (record { name = codes ".text"; virtual_size = 0x1F; virtual_address = 0x1000; size_of_raw_data = 0x200; pointer_to_raw_data = 0x400; index = 0 }) }
 {}
 
 /// A record of the string table's name at 4: an external function of section 1 at 0x10, with an auxiliary record.

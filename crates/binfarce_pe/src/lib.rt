@@ -1,6 +1,7 @@
 //! PE files with COFF symbols (Microsoft PE Format).
 #![tactic(auto)]
 
+mod accessors;
 mod header;
 mod laws;
 pub mod pe;

@@ -6,13 +6,13 @@ ghost use Rattle.binfarce_bytes.specs.Refusal.{Gives, refusal_of, unexpected_eof
 ghost use Rattle.binfarce_bytes.specs.Walk.{MayBeAsked, FirstAccepted, first};
 ghost use Rattle.binfarce_symbols.specs.Symbol.{Answers, HoldsSymbols, ListsSome};
 ghost use Rattle.binfarce_symbols.specs.SymbolViews.{HoldsFunctions};
-ghost use Rattle.binfarce_pe.specs.Pe.{least_length, signature_offset, header_of, walk, is_named};
+ghost use Rattle.binfarce_pe.specs.Pe.{least_length, signature_offset, header_of, section_data, walk, is_named};
 ghost use Rattle.binfarce_pe.specs.PeSymbols.{pe_answer, ArrangesRows, EqualAddressesEqualSizes};
 ghost use Rattle.binfarce_pe.specs.PeViews.{header_view, section_view};
 
 pub use crate::header::PeHeader;
 use crate::header::parse_header;
-pub use crate::sections::Section;
+pub use crate::sections::{Section, Sections};
 use crate::sections::{self, first_section};
 use crate::symbols::{functions_of, locate};
 use binfarce_bytes::ParseError;
@@ -43,6 +43,8 @@ impl<'a> Model for Pe<'a> {
 
 /// Reads the file header, without a look at the signature.
 ///
+/// # Errors
+///
 /// `UnexpectedEof` for fewer than 64 bytes, and where the file header that they point to is truncated.
 pub fn parse(data: &[u8]) -> Result<Pe<'_>, ParseError>
     ensures { MatchResult result
@@ -65,10 +67,35 @@ impl<'a> Pe<'a> {
         self.header
     }
 
+    /// The sections in file order, which `find_section` searches. Each is read when it is asked for.
+    ///
+    /// `UnexpectedEof` comes, and after it nothing, where `find_section` with a callback that always answers false
+    /// has it: where the section table doesn't begin in the file, or a header is truncated.
+    pub fn sections(&self) -> Sections<'a>
+        ensures { result ≡ walk self.now }
+    {
+        sections::sections_of(self)
+    }
+
+    /// The bytes that the section has in the file, a part of it.
+    ///
+    /// # Errors
+    ///
+    /// `UnexpectedEof` where they end past the file.
+    pub fn section_bytes(&self, section: &Section<'_>) -> Result<&'a [u8], ParseError>
+        ensures { Gives refusal_of (λ b. b.now) (section_data self.now (section_view section.now)) result }
+    {
+        sections::section_data(self, section)
+    }
+
     /// The first section that the callback accepts, in file order; `None` where it accepts none.
     ///
     /// A section header is read only when the callback has refused the sections before it. A section whose name isn't
-    /// UTF-8 is skipped. `UnexpectedEof` where the section table doesn't begin in the file, or a header that is
+    /// UTF-8 is skipped.
+    ///
+    /// # Errors
+    ///
+    /// `UnexpectedEof` where the section table doesn't begin in the file, or a header that is
     /// read is truncated; only the last 16 bytes of a header aren't read.
     pub fn find_section<F: Fn(Section<'_>) -> bool>(
         &self,
@@ -80,7 +107,11 @@ impl<'a> Pe<'a> {
         Ok(first_section(self, callback)?)
     }
 
-    /// The first section with this name; refused as `find_section` is.
+    /// The first section with this name.
+    ///
+    /// # Errors
+    ///
+    /// Those of `find_section`.
     pub fn section_with_name(&self, name: &str) -> Result<Option<Section<'a>>, ParseError>
         ensures { Gives refusal_of (option_map section_view) (first (λ s. is_named name.now s) (walk self.now)) result }
     {
@@ -94,7 +125,11 @@ impl<'a> Pe<'a> {
     /// section, in bytes. Kept are rows of external functions that name the section by its number and have a name: the
     /// row's own 8 bytes up to the first NUL, which may be empty but have to be UTF-8, or the text at an offset in the
     /// string table ("COFF Symbol Table"). A symbol's size is the distance to the least greater one among the addresses
-    /// of the kept rows and the section's size, and 0 where none is greater. Refused, in this order: as `find_section`;
+    /// of the kept rows and the section's size, and 0 where none is greater.
+    ///
+    /// # Errors
+    ///
+    /// In this order: as `find_section`;
     /// `SymbolsSectionIsMissing`; `UnexpectedEof` where the symbol table doesn't begin in the file, even an empty one,
     /// or passes its end. `OutOfMemory` comes only in place of a list that isn't empty.
     #[tactic(auto, unfolding(crate::specs::PeSymbols::pe_answer))]
@@ -109,7 +144,9 @@ impl<'a> Pe<'a> {
 
     /// The function symbols of `functions` with readable names, and the size in bytes that `.text` has in the file.
     ///
-    /// Refused as `functions` is.
+    /// # Errors
+    ///
+    /// Those of `functions`.
     pub fn symbols(&self, alloc: Global) -> Result<(Vec<SymbolData>, u64), ParseError>
         ensures answer { Answers HoldsSymbols ListsSome (pe_answer self.now) result }
         ensures order { ArrangesRows self.now }

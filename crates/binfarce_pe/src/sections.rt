@@ -1,17 +1,19 @@
 //! The sections of a file (Microsoft PE Format, "Section Table").
 
-ghost use Rattle.std.specs.Prelude.{◌≡◌, ◌+◌, ◌<◌, ◌≤◌, length, All, MatchResult};
+ghost use Rattle.std.specs.Prelude.{◌≡◌, ◌+◌, ◌<◌, ◌≤◌, length, All, Some, None, MatchOption, MatchResult};
 ghost use Rattle.std.specs.Option.{option_map};
-ghost use Rattle.binfarce_bytes.specs.Refusal.{Gives, unexpected_eof};
+ghost use Rattle.binfarce_bytes.specs.Refusal.{Gives, refusal_of, unexpected_eof};
 ghost use Rattle.binfarce_bytes.specs.Text.{padded_text};
-ghost use Rattle.binfarce_bytes.specs.Walk.{MayBeAsked, FirstAccepted, first};
-ghost use Rattle.binfarce_pe.specs.Pe.{section_at, sections_offset, walk, is_named};
+ghost use Rattle.binfarce_bytes.specs.Walk.{MayBeAsked, FirstAccepted, first, ended, ahead_of};
+ghost use Rattle.binfarce_pe.specs.Pe.{section_at, section_data, sections_offset, walk, is_named};
 ghost use Rattle.binfarce_pe.specs.PeViews.{section_view};
+ghost use Rattle.binfarce_pe.specs.machine.RawPe.{IsTable, header_count, walk_from};
 
 use crate::header::{HEADER_LENGTH, SIGNATURE_LENGTH};
 use crate::pe::Pe;
 use binfarce_bytes::parser::{Stream, UnexpectedEof, range, up_to_nul, utf8_text};
 use binfarce_bytes::{ByteOrder, ParseError};
+use std::marker::Model;
 use std::ops::Range;
 
 const SECTION_LENGTH: usize = 40;
@@ -23,6 +25,7 @@ const SECTION_LENGTH: usize = 40;
 pub struct Section<'a> {
     pub(crate) name: &'a str,
     pub(crate) virtual_size: u32,
+    pub(crate) virtual_address: u32,
     pub(crate) size_of_raw_data: u32,
     pub(crate) pointer_to_raw_data: u32,
     pub(crate) index: u16,
@@ -31,7 +34,11 @@ pub struct Section<'a> {
 impl Section<'_> {
     /// The bytes of the file that the section has, from its raw pointer on and as many as its raw size.
     ///
-    /// The range isn't checked against the file's length. It always fits a `usize`, so nothing is refused.
+    /// The range isn't checked against the file's length.
+    ///
+    /// # Errors
+    ///
+    /// None: the range always fits a `usize`.
     pub fn range(&self) -> Result<Range<usize>, ParseError>
         ensures { let s = section_view self.now in MatchResult result
             (λ r. (r.start ≡ s.pointer_to_raw_data) × (r.end ≡ s.pointer_to_raw_data + s.size_of_raw_data))
@@ -42,6 +49,114 @@ impl Section<'_> {
             self.size_of_raw_data as usize,
         )
     }
+}
+
+/// The bytes that the section has in the file, a part of them; `UnexpectedEof` where they end past the file.
+#[tactic(auto, unfolding(binfarce_bytes::specs::Refusal::bytes_in_file))]
+pub(crate) fn section_data<'a>(file: &Pe<'a>, section: &Section<'_>) -> Result<&'a [u8], ParseError>
+    ensures { Gives refusal_of (λ b. b.now) (section_data file.now (section_view section.now)) result }
+{
+    file.data
+        .get(section.range()?)
+        .ok_or(ParseError::UnexpectedEof)
+}
+
+/// The sections of a file that are left, in file order: what [`Pe::sections`] gives. It borrows the file's bytes.
+///
+/// A section header is read when it is asked for. `UnexpectedEof` comes in place of a header that is truncated, and
+/// where the section table doesn't begin in the file; after it nothing comes.
+#[must_use = "iterators are lazy and do nothing unless consumed"]
+#[derive(Drop)]
+pub struct Sections<'a> {
+    table: Table<'a>,
+    // The index of the next section header; none after a refusal.
+    next: Option<u16>,
+}
+
+// Where the section table begins, and how many headers it has.
+#[derive(Clone, Copy)]
+struct Table<'a> {
+    file: &'a [u8],
+    offset: usize,
+    count: u16,
+}
+
+impl<'a> Model for Sections<'a> {
+    ghost use Rattle.std.specs.Prelude.{◌≡◌, ◌≤◌, IfSome};
+    ghost use Rattle.binfarce_bytes.specs.Walk.{Walk};
+    ghost use Rattle.binfarce_pe.specs.Pe.{Section};
+    ghost use Rattle.binfarce_pe.specs.machine.RawPe.{IsTable, header_count, walk_from};
+
+    ghost Value = { Walk Section };
+
+    ghost view = { λ s. walk_from s.table.file.now s.next };
+
+    ghost invariant = { λ s. IsTable s.table × IfSome s.next (λ index. index ≤ header_count s.table.file.now) };
+}
+
+/// All sections of the file.
+pub(crate) fn sections_of<'a>(file: &Pe<'a>) -> Sections<'a>
+    ensures { result ≡ walk file.now }
+{
+    Sections {
+        table: Table {
+            file: file.data,
+            offset: sections_offset(file),
+            count: file.header.number_of_sections,
+        },
+        next: Some(0),
+    }
+}
+
+impl<'a> Iterator for Sections<'a> {
+    ghost use Rattle.binfarce_bytes.specs.Refusal.{refusal_of};
+    ghost use Rattle.binfarce_bytes.specs.Walk.{YieldsNext, walk_count};
+    ghost use Rattle.binfarce_pe.specs.PeViews.{section_view};
+
+    type Item = Result<Section<'a>, ParseError>;
+
+    ghost next_gives = { YieldsNext refusal_of section_view };
+
+    ghost remaining = { walk_count };
+
+    fn next(&mut self) -> Option<Result<Section<'a>, ParseError>> {
+        let index = self.next?;
+        match section_left(self.table, index) {
+            Err(_) => {
+                self.next = None;
+                Some(Err(ParseError::UnexpectedEof))
+            }
+            Ok(None) => None,
+            Ok(Some((section, next))) => {
+                self.next = Some(next);
+                Some(Ok(section))
+            }
+        }
+    }
+}
+
+// The first section from this index on, where the headers before it were whole, and the index after its own; `None` where
+// there are no more.
+fn section_left(table: Table<'_>, from: u16) -> Result<Option<(Section<'_>, u16)>, UnexpectedEof>
+    requires table { IsTable table }
+    requires within { from ≤ header_count table.file.now }
+    ensures { let left = walk_from table.entry.file.now (Some from) in MatchResult result
+        (λ found. MatchOption found (left ≡ ended None)
+        (λ f. (f.1 ≤ header_count table.entry.file.now) × (left ≡ ahead_of (section_view f.0) (walk_from table.entry.file.now (Some f.1)))))
+        (λ _. left ≡ ended (Some unexpected_eof)) }
+{
+    if table.offset >= table.file.len() {
+        return Err(UnexpectedEof {});
+    }
+    for index in from..table.count {
+        let start = table.offset + index as usize * SECTION_LENGTH;
+        match section_at(table.file, start, index) {
+            Err(e) => return Err(e),
+            Ok(None) => {}
+            Ok(Some(section)) => return Ok(Some((section, index + 1))),
+        }
+    }
+    Ok(None)
 }
 
 // The first section that the callback accepts.
@@ -107,7 +222,7 @@ fn section_at(data: &[u8], start: usize, index: u16) -> Result<Option<Section<'_
     let mut s = Stream::new_at(data, start, ByteOrder::LittleEndian)?;
     let name = s.read_bytes(8)?;
     let virtual_size = s.read()?;
-    s.skip::<u32>()?; // virtual address
+    let virtual_address = s.read()?;
     let size_of_raw_data = s.read()?;
     let pointer_to_raw_data = s.read()?;
     match short_name(name) {
@@ -115,6 +230,7 @@ fn section_at(data: &[u8], start: usize, index: u16) -> Result<Option<Section<'_
         Some(name) => Ok(Some(Section {
             name,
             virtual_size,
+            virtual_address,
             size_of_raw_data,
             pointer_to_raw_data,
             index,

@@ -9,9 +9,9 @@ use Rattle.binfarce_tools.specs.declared.functions.Functions.{Functions}
 use Rattle.binfarce_tools.specs.declared.list.ListError.{ListError}
 use Rattle.binfarce_tools.specs.declared.list.ListError.TheVariants.{Unknown, Parse, OutOfMemory, Write}
 use Rattle.binfarce_tools.specs.Listing.{IsLineOf, IsListingOf, size_line}
-use Rattle.binfarce_tools.specs.ListWords.{outcome_of}
+use Rattle.binfarce_tools.specs.ListWords.{outcome_of, Writes}
 use Rattle.binfarce_tools.specs.Writing as writing
-use Rattle.binfarce_tools.specs.machine.Lists.{HoldsLeft, Gets, Writes}
+use Rattle.binfarce_tools.specs.Entries.{HoldsLeft, Gets}
 
 -- all is the lines of these entries
 abbrev pub AreLines : List Entry → List ℕ → Type 0

@@ -15,7 +15,7 @@ use Rattle.binfarce_tools.specs.Writing.{AppendsBeginning}
 use Rattle.binfarce.specs.declared.Format.{Format}
 use Rattle.binfarce_tools.specs.Answer.{symbols_answer, NeedsMemory}
 use Rattle.binfarce_tools.specs.ListWords.{list_error_of}
-use Rattle.binfarce_tools.specs.machine.Lists.{HoldsLeft, Gets}
+use Rattle.binfarce_tools.specs.Entries.{HoldsLeft, Gets}
 use Rattle.binfarce_tools.proofs.Told.{is_told, Told}
 
 -- a failed allocation is reported as such

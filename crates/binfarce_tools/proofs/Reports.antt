@@ -12,7 +12,8 @@ use Rattle.binfarce_tools.specs.declared.report.ReportError.TheVariants.{OutOfMe
 use Rattle.binfarce_tools.specs.Report.{Share, IsShareOf, IsReportOf, IsReportOfShares, ReportFits, total}
 use Rattle.binfarce_tools.specs.ReportWords.{report_error_of, outcome_of}
 use Rattle.binfarce_tools.specs.Writing as writing
-use Rattle.binfarce_tools.specs.machine.Lists.{functions_left, HoldsLeft, Gets, Writes}
+use Rattle.binfarce_tools.specs.Entries.{functions_left, HoldsLeft, Gets}
+use Rattle.binfarce_tools.specs.ListWords.{Writes}
 use Rattle.binfarce_tools.proofs.CrateSums.{total_is}
 use Rattle.binfarce_tools.proofs.Lines.{nothing}
 

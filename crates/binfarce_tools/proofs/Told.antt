@@ -3,7 +3,7 @@ use Rattle.std.proofs.Common.{◌≡◌, ℕ, zero, suc, ◌*◌, ◌-◌, [], �
 use Rattle.std.specs.Prelude.{if◌then◌else◌, find, nat_eq, codes, ◌+◌, ◌%◌, ◌^◌, drop}
 use Rattle.binfarce.specs.declared.ByteOrder.{ByteOrder}
 use Rattle.binfarce.specs.declared.Format.TheVariants.{Macho}
-use Rattle.binfarce.specs.Refusal.{Refusal, ◌>>=◌, required, symbols_section_is_missing, section_is_missing, unexpected_section_type, malformed_input, unexpected_eof, out_of_memory}
+use Rattle.binfarce.specs.Refusal.{Refusal, ◌>>=◌, required, symbols_section_is_missing, section_is_missing, unexpected_section_type, malformed_input, unexpected_eof, out_of_memory, bytes_in_file}
 use Rattle.binfarce.specs.Walk.{Walk, found_or_end, first, ended, ahead_of, and_then}
 use Rattle.binfarce.specs.Elf.{ElfClass, SectionTable, Section, walk, name_of, section_table, whole_headers}
 use Rattle.binfarce.specs.ElfSymbols.{sought, is_named, section_data, located, elf_answer}
@@ -58,7 +58,7 @@ told_sought : (class : ElfClass) (table : SectionTable) (refusal : Refusal) (acc
 told_sought class table refusal accepts is = told_step (first accepts (walk class table)) (required refusal) (told_first class table accepts) (λ o. told_required refusal o is)
 
 told_section_data : (file : List ℕ) (section : Section) → Told (section_data file section)
-unfolding section_data
+unfolding section_data bytes_in_file
 told_section_data file section = told_if (leb (2 ^ 64) (section.offset + section.size)) _ _ refl (told_if (ltb (length file) (section.offset + section.size)) _ _ refl tt)
 
 told_located : (class : ElfClass) (table : SectionTable) (name : List ℕ) → Told (located class table name)

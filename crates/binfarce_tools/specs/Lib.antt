@@ -1,4 +1,5 @@
 pub mod Answer
+pub mod Entries
 pub mod Writing
 pub mod Sink
 pub mod Listing

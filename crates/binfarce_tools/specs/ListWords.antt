@@ -1,11 +1,12 @@
--- Which `ListError` a reader's error becomes, its printed words, and how a listing ended.
-use Rattle.std.specs.Prelude.{ℕ, List, codes, Result, Ok, Err}
+-- Which `ListError` a reader's error becomes, its printed words, how a listing ended, and what is taken of a whole text.
+use Rattle.std.specs.Prelude.{◌≡◌, ℕ, List, codes, Option, Result, Ok, Err}
+use Rattle.std.specs.Io.KnownBytes.{Appends}
 use Rattle.binfarce.specs.Refusal.{refusal_of, words}
 use Rattle.binfarce.specs.declared.ParseError.{ParseError}
 use Rattle.binfarce.specs.declared.ParseError.TheVariants as errors
 use Rattle.binfarce_tools.specs.declared.list.ListError.{ListError}
 use Rattle.binfarce_tools.specs.declared.list.ListError.TheVariants.{Unknown, Parse, OutOfMemory, Write}
-use Rattle.binfarce_tools.specs.Writing.{Outcome, written, write_failed, unknown_format, refused, no_memory}
+use Rattle.binfarce_tools.specs.Writing.{Outcome, AppendsBeginning, written, write_failed, unknown_format, refused, no_memory}
 
 -- that an allocation failed is reported as such, and any other error as the reader's
 abbrev pub list_error_of : ParseError → ListError
@@ -26,3 +27,8 @@ outcome_of (Err Unknown) = unknown_format
 outcome_of (Err (Parse e)) = refused (refusal_of e)
 outcome_of (Err OutOfMemory) = no_memory
 outcome_of (Err Write) = write_failed
+
+-- what is taken of bytes that are written whole, or as far as the sink takes them
+abbrev pub Writes : Option (List ℕ) → Option (List ℕ) → List ℕ → Result (Unit {0}) ListError → Type 0
+Writes old new bytes (Ok _) = Appends old new bytes
+Writes old new bytes (Err e) = (e ≡ Write) × AppendsBeginning old new bytes

@@ -1,4 +1,3 @@
 -- Definitions that only private contracts cite.
-pub mod Lists
 pub mod Shares
 pub mod Laws

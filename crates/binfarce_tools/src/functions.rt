@@ -7,7 +7,7 @@ ghost use Rattle.binfarce.specs.MachoSymbols.{HasAddress};
 ghost use Rattle.binfarce.specs.Symbol.{ListsSome, Answers};
 ghost use Rattle.binfarce.specs.SymbolViews.{function_view};
 ghost use Rattle.binfarce_tools.specs.Answer.{elf_file_answer, macho_file_answer, pe_file_answer, symbols_answer, NeedsMemory};
-ghost use Rattle.binfarce_tools.specs.machine.Lists.{arranged_left, HoldsLeft, Gets};
+ghost use Rattle.binfarce_tools.specs.Entries.{arranged_left, HoldsLeft, Gets};
 
 use crate::list::ListError;
 use binfarce::{
@@ -15,17 +15,17 @@ use binfarce::{
 };
 use std::alloc::Global;
 
-// The function symbols of a file that are left, in the order of its listing.
+/// The function symbols of a file that are left, in the order of its listing.
 #[derive(Drop)]
-pub(crate) enum Functions<'a> {
+pub enum Functions<'a> {
     Elf32(elf32::Functions<'a>),
     Elf64(elf64::Functions<'a>),
     Arranged(Arranged<'a>),
 }
 
-// Function symbols that stand in a list, from a place on.
+/// Function symbols that stand in a list, from a place on.
 #[derive(Drop)]
-pub(crate) struct Arranged<'a> {
+pub struct Arranged<'a> {
     functions: Vec<FunctionSymbol<'a>>,
     next: usize,
 }
@@ -33,7 +33,7 @@ pub(crate) struct Arranged<'a> {
 impl<'a> Iterator for Functions<'a> {
     ghost use Rattle.std.specs.Iterator.{YieldsFirstBy, item_count};
     ghost use Rattle.binfarce.specs.SymbolViews.{function_view};
-    ghost use Rattle.binfarce_tools.specs.machine.Lists.{functions_left};
+    ghost use Rattle.binfarce_tools.specs.Entries.{functions_left};
 
     type Item = FunctionSymbol<'a>;
 
@@ -61,9 +61,14 @@ impl<'a> Arranged<'a> {
     }
 }
 
-// The function symbols of a file and the size of their section, or why a listing or a report of them can't be had.
+/// The function symbols of a file and the size of their section, with their names as they are stored.
+///
+/// # Errors
+///
+/// `Unknown` where the format isn't one that is read; `Parse` where its reader refuses, other than for memory;
+/// `OutOfMemory` where an allocation failed.
 #[tactic(auto, unfolding(crate::specs::Answer::symbols_answer, crate::specs::Answer::NeedsMemory))]
-pub(crate) fn functions_of_file<'a>(
+pub fn functions_of_file<'a>(
     alloc: Global,
     data: &'a [u8],
     section: &str,

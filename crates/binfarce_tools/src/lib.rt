@@ -1,9 +1,9 @@
 //! What the programs are made of: listings of the function symbols of executables, and reports of their sizes by crate.
 #![tactic(auto)]
 
-mod functions;
+pub mod functions;
 mod head;
 mod laws;
 pub mod list;
 pub mod report;
-mod writing;
+pub mod writing;

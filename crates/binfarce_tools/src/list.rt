@@ -10,7 +10,7 @@ ghost use Rattle.binfarce_tools.specs.Answer.{symbols_answer, NeedsMemory};
 ghost use Rattle.binfarce_tools.specs.Listing.{IsLineOf, IsListingOf, ListingFits};
 ghost use Rattle.binfarce_tools.specs.ListWords.{outcome_of};
 ghost use Rattle.binfarce_tools.specs.Writing.{Tells, Takes, Fails, Leaves};
-ghost use Rattle.binfarce_tools.specs.machine.Lists.{HoldsLeft};
+ghost use Rattle.binfarce_tools.specs.Entries.{HoldsLeft};
 
 use crate::functions::{Functions, functions_of_file};
 use crate::head::push_head;
@@ -156,10 +156,14 @@ impl From<ParseError> for ListError {
 /// Lists the function symbols of a file's section: a line for each, and then the section's size.
 ///
 /// The format is the one that the file's first bytes name; the section is that of an ELF file, and of a Mach-O or PE file
-/// it is the text. A line is `{address:016x} {size:>10} {trimmed}`, the last one `text {size}`. Refused: `Unknown` where
-/// the format isn't one that is read; `Parse` where its reader refuses, other than for memory; `OutOfMemory` where an
-/// allocation failed; `Write` where a write failed. The listing is made before its first byte is written, so only
-/// `Write` can leave a beginning of it written.
+/// it is the text. A line is `{address:016x} {size:>10} {trimmed}`, the last one `text {size}`. The listing is made before
+/// its first byte is written.
+///
+/// # Errors
+///
+/// `Unknown` where the format isn't one that is read; `Parse` where its reader refuses, other than for memory;
+/// `OutOfMemory` where an allocation failed; `Write` where a write failed, which alone can leave a beginning of the listing
+/// written.
 pub fn list<S: Sink>(
     alloc: Global,
     data: &[u8],

@@ -12,7 +12,7 @@ ghost use Rattle.binfarce_tools.specs.Report.{Share, IsShareOf, IsReportOf, IsRe
 ghost use Rattle.binfarce_tools.specs.ReportWords.{outcome_of};
 ghost use Rattle.binfarce_tools.specs.Writing.{Tells, Takes, Fails, Leaves};
 ghost use Rattle.binfarce_tools.specs.declared.report.ReportError.TheVariants.{OutOfMemory, TooLarge};
-ghost use Rattle.binfarce_tools.specs.machine.Lists.{functions_left};
+ghost use Rattle.binfarce_tools.specs.Entries.{functions_left};
 ghost use Rattle.binfarce_tools.specs.machine.Shares.{Adds, AreSumsOf, sum_at};
 
 use crate::functions::{Functions, functions_of_file};
@@ -94,10 +94,12 @@ impl From<ListError> for ReportError {
 /// The symbols are those that `list` lists. The line of a crate is `{sum:>10} {name}`, with the sum of the sizes of its
 /// symbols; after these come `sum {total}`, with the sum of all sizes, and `text {size}`, with that of the section. The
 /// crate of a symbol is the one that its name tells, and for a legacy name the first part of its path, unless that
-/// begins with `<`; all other symbols are counted for `[unknown]`.
+/// begins with `<`; all other symbols are counted for `[unknown]`. The report is made before its first byte is written.
 ///
-/// Refused: as `list` refuses; `TooLarge` where the sum of all sizes is 2^64 or more. The report is made before its
-/// first byte is written, so only `Write` can leave a beginning of it written.
+/// # Errors
+///
+/// As `list`; `TooLarge` where the sum of all sizes is 2^64 or more. Only `Write` can leave a beginning of the report
+/// written.
 pub fn report<S: Sink>(
     alloc: Global,
     data: &[u8],

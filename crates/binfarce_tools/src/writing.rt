@@ -1,13 +1,16 @@
 //! How a text is written whole.
 
-ghost use Rattle.binfarce_tools.specs.ListWords.{outcome_of};
+ghost use Rattle.binfarce_tools.specs.ListWords.{outcome_of, Writes};
 ghost use Rattle.binfarce_tools.specs.Writing.{Fails};
-ghost use Rattle.binfarce_tools.specs.machine.Lists.{Writes};
 
 use crate::list::{ListError, Sink};
 
-// Writes the bytes in as many calls as the sink needs.
-pub(crate) fn write_whole<S: Sink>(out: &mut S, bytes: &[u8]) -> Result<(), ListError>
+/// Writes the bytes in as many calls as the sink needs.
+///
+/// # Errors
+///
+/// `Write` where a write of the sink failed: a beginning of the bytes was taken.
+pub fn write_whole<S: Sink>(out: &mut S, bytes: &[u8]) -> Result<(), ListError>
     ensures takes { Writes (S.taken out.old) (S.taken out.new) bytes.now result }
     ensures fails { Fails (S.has_failed out.old) (S.has_failed out.new) (outcome_of result) }
 {

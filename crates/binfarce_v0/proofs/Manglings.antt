@@ -21,7 +21,7 @@ use Rattle.binfarce_v0_grammar.proofs.ReadingComplete.{path_ends}
 
 -- the whole printing of a name
 abbrev pub printed : List ℕ → Bool → PathTree × State
-printed name full = (readers name MAX_LEVELS).path InValue 0 (first_state full)
+printed part full = (readers part MAX_LEVELS).path InValue 0 (first_state full)
 
 -- what is no longer left of a limit was taken
 levels_taken : (levels : ℕ) → levels ≤ MAX_LEVELS → MAX_LEVELS - min MAX_LEVELS (MAX_LEVELS - levels) ≡ levels
@@ -31,88 +31,88 @@ steps_taken : (steps : ℕ) → steps ≤ MAX_STEPS → MAX_STEPS - (MAX_STEPS -
 steps_taken steps h = omega arith
 
 -- a tree that ends at a position is read up to there
-reads_up_to : (name : List ℕ) (tree : PathTree) (after : Option ℕ) → IsPath name tree (Some 0) 0 after → path_height tree ≤ MAX_LEVELS → ReadsUpTo name after
-reads_up_to name tree None is h = tt
-reads_up_to name tree (Some q) is h =
-    let f = path_folds tree name 0 0 q is in record { tree = f.tree; reads = f.reads; levels = omega (arith, f.levels, h) }
+reads_up_to : (part : List ℕ) (tree : PathTree) (after : Option ℕ) → IsPath part tree (Some 0) 0 after → path_height tree ≤ MAX_LEVELS → ReadsUpTo part after
+reads_up_to part tree None is h = tt
+reads_up_to part tree (Some q) is h =
+    let f = path_folds tree part 0 0 q is in record { tree = f.tree; reads = f.reads; levels = omega (arith, f.levels, h) }
 
 -- a printing that passed no limit is that of the tree that the name unfolds to
-pub printed_is_outcome : (name : List ℕ) (full : Bool) → (printed name full).1.limit_exceeded ≡ false → IsOutcome name full (outcome_of (printed name full).1)
-printed_is_outcome name full o =
-    let H = readers_sound name MAX_LEVELS in
+pub printed_is_outcome : (part : List ℕ) (full : Bool) → (printed part full).1.limit_exceeded ≡ false → IsOutcome part full (outcome_of (printed part full).1)
+printed_is_outcome part full o =
+    let H = readers_sound part MAX_LEVELS in
     let f = H.path InValue 0 (first_state full) o in
-    let within : path_steps (printed name full).0 ≤ MAX_STEPS = omega arith in
-    let same = path_complete (printed name full).0 name MAX_LEVELS InValue 0 (first_state full) (printed name full).1.at refl f.is f.height within in
+    let within : path_steps (printed part full).0 ≤ MAX_STEPS = omega arith in
+    let same = path_complete (printed part full).0 part MAX_LEVELS InValue 0 (first_state full) (printed part full).1.at refl f.is f.height within in
     record {
-      tree = (printed name full).0;
-      unfolds = record { after = (printed name full).1.at; is_path = f.is; levels = f.height; steps = within };
+      tree = (printed part full).0;
+      unfolds = record { after = (printed part full).1.at; is_path = f.is; levels = f.height; steps = within };
       text_is = ap (λ r. r.1.text) same;
       root_is = ap (λ r. r.1.root) same;
-      levels_are = ap (λ r. MAX_LEVELS - r.1.least_levels_left) same ∙ levels_taken (path_height (printed name full).0) f.height;
-      steps_are = ap (λ r. MAX_STEPS - r.1.steps_left) same ∙ steps_taken (path_steps (printed name full).0) within;
-      reads = reads_up_to name (printed name full).0 (printed name full).1.at f.is f.height;
+      levels_are = ap (λ r. MAX_LEVELS - r.1.least_levels_left) same ∙ levels_taken (path_height (printed part full).0) f.height;
+      steps_are = ap (λ r. MAX_STEPS - r.1.steps_left) same ∙ steps_taken (path_steps (printed part full).0) within;
+      reads = reads_up_to part (printed part full).0 (printed part full).1.at f.is f.height;
     }
 
-pub printed_over : (name : List ℕ) (full : Bool) → (printed name full).1.limit_exceeded ≡ true → (tree : PathTree) → UnfoldsTo name tree → ⊥
-printed_over name full o tree u =
-    let same = path_complete tree name MAX_LEVELS InValue 0 (first_state full) u.after refl u.is_path u.levels u.steps in
-    let not_over : (printed name full).1.limit_exceeded ≡ false = ap (λ r. r.1.limit_exceeded) same in
+pub printed_over : (part : List ℕ) (full : Bool) → (printed part full).1.limit_exceeded ≡ true → (tree : PathTree) → UnfoldsTo part tree → ⊥
+printed_over part full o tree u =
+    let same = path_complete tree part MAX_LEVELS InValue 0 (first_state full) u.after refl u.is_path u.levels u.steps in
+    let not_over : (printed part full).1.limit_exceeded ≡ false = ap (λ r. r.1.limit_exceeded) same in
     let both : true ≡ false = sym o ∙ not_over in cc
 
 -- a path that the reading reads
-pub path_stands : (name : List ℕ) (at after : ℕ) → (ends name MAX_LEVELS).path at ≡ Some after → PathStands name at after
-path_stands name at after e =
-    let H = ends_read name MAX_LEVELS in
+pub path_stands : (part : List ℕ) (at after : ℕ) → (ends part MAX_LEVELS).path at ≡ Some after → PathStands part at after
+path_stands part at after e =
+    let H = ends_read part MAX_LEVELS in
     let f = H.path at after e in record { tree = f.tree; reads = f.reads; levels = f.height }
 
-pub path_read_at : (name : List ℕ) (at after : ℕ) → PathStands name at after → (ends name MAX_LEVELS).path at ≡ Some after
-path_read_at name at after p = path_ends p.tree name MAX_LEVELS at after p.reads p.levels
+pub path_read_at : (part : List ℕ) (at after : ℕ) → PathStands part at after → (ends part MAX_LEVELS).path at ≡ Some after
+path_read_at part at after p = path_ends p.tree part MAX_LEVELS at after p.reads p.levels
 
 -- a first path that is known to be read need not be read again
-pub first_path_known : (name : List ℕ) (first : Option ℕ) (mid : ℕ) → ReadsUpTo name first → first ≡ Some mid → (ends name MAX_LEVELS).path 0 ≡ Some mid
-first_path_known name first mid reads e =
-    let stands : PathStands name 0 mid = subst (ReadsUpTo name) e reads in path_read_at name 0 mid stands
+pub first_path_known : (part : List ℕ) (first : Option ℕ) (mid : ℕ) → ReadsUpTo part first → first ≡ Some mid → (ends part MAX_LEVELS).path 0 ≡ Some mid
+first_path_known part first mid reads e =
+    let stands : PathStands part 0 mid = subst (ReadsUpTo part) e reads in path_read_at part 0 mid stands
 
-second_path : (name : List ℕ) (at after : ℕ) (b : Bool) → (cond b ((ends name MAX_LEVELS).path at) (Some at)) ≡ Some after → SecondPath b name at after
-second_path name at after true e = path_stands name at after e
-second_path name at after false e = cc
+second_path : (part : List ℕ) (at after : ℕ) (b : Bool) → (cond b ((ends part MAX_LEVELS).path at) (Some at)) ≡ Some after → SecondPath b part at after
+second_path part at after true e = path_stands part at after e
+second_path part at after false e = cc
 
-second_read : (name : List ℕ) (at after : ℕ) (b : Bool) → SecondPath b name at after → (cond b ((ends name MAX_LEVELS).path at) (Some at)) ≡ Some after
-second_read name at after true p = path_read_at name at after p
-second_read name at after false p = ap Some (sym p)
+second_read : (part : List ℕ) (at after : ℕ) (b : Bool) → SecondPath b part at after → (cond b ((ends part MAX_LEVELS).path at) (Some at)) ≡ Some after
+second_read part at after true p = path_read_at part at after p
+second_read part at after false p = ap Some (sym p)
 
-pub paths_read : (name : List ℕ) (after : ℕ) → paths_end name ≡ Some after → ReadsPaths name after
-paths_read name after e =
-    let b = between ((ends name MAX_LEVELS).path 0) (λ mid. cond (is_upper_at name mid) ((ends name MAX_LEVELS).path mid) (Some mid)) after e in
+pub paths_read : (part : List ℕ) (after : ℕ) → paths_end part ≡ Some after → ReadsPaths part after
+paths_read part after e =
+    let b = between ((ends part MAX_LEVELS).path 0) (λ mid. cond (is_upper_at part mid) ((ends part MAX_LEVELS).path mid) (Some mid)) after e in
     record {
       mid = b.mid;
-      path = path_stands name 0 b.mid b.first;
-      instantiating_crate = second_path name b.mid after (is_upper_at name b.mid) b.second;
+      path = path_stands part 0 b.mid b.first;
+      instantiating_crate = second_path part b.mid after (is_upper_at part b.mid) b.second;
     }
 
-pub read_paths_at : (name : List ℕ) (after : ℕ) → ReadsPaths name after → paths_end name ≡ Some after
-read_paths_at name after p =
-    rw (path_read_at name 0 p.mid p.path) (second_read name p.mid after (is_upper_at name p.mid) p.instantiating_crate)
+pub read_paths_at : (part : List ℕ) (after : ℕ) → ReadsPaths part after → paths_end part ≡ Some after
+read_paths_at part after p =
+    rw (path_read_at part 0 p.mid p.path) (second_read part p.mid after (is_upper_at part p.mid) p.instantiating_crate)
 
 -- where no paths are read there is no mangling
-pub not_mangling : (text read : List ℕ) → part_after_prefix text ≡ Some read → paths_end read ≡ None → (name : List ℕ) (after : ℕ) → IsMangling text name after → ⊥
-not_mangling text read b e name after m =
-    let same : read ≡ name = cc (b, m.prefix) in
+pub not_mangling : (text read : List ℕ) → part_after_prefix text ≡ Some read → paths_end read ≡ None → (part : List ℕ) (after : ℕ) → IsMangling text part after → ⊥
+not_mangling text read b e part after m =
+    let same : read ≡ part = cc (b, m.prefix) in
     let paths = subst (λ n. ReadsPaths n after) (sym same) m.paths in
     let found = read_paths_at read after paths in cc
 
-pub print_gives_outcome : {P : Type 0} (seen : P → Outcome) (name : List ℕ) (full : Bool) (s : State) (r : Option P) → s ≡ (printed name full).1 → MatchOption r (s.limit_exceeded ≡ true) (λ p. (s.limit_exceeded ≡ false) × (seen p ≡ outcome_of s)) → MatchOption r ((tree : PathTree) → UnfoldsTo name tree → ⊥) (λ p. IsOutcome name full (seen p))
-print_gives_outcome seen name full s None e h =
-    let limit_exceeded : (printed name full).1.limit_exceeded ≡ true = ap (λ (v : State). v.limit_exceeded) (sym e) ∙ h in printed_over name full limit_exceeded
-print_gives_outcome seen name full s (Some p) e h =
-    let on : (printed name full).1.limit_exceeded ≡ false = ap (λ (v : State). v.limit_exceeded) (sym e) ∙ h.0 in
-    subst (IsOutcome name full) (sym (h.1 ∙ ap outcome_of e)) (printed_is_outcome name full on)
+pub print_gives_outcome : {P : Type 0} (seen : P → Outcome) (part : List ℕ) (full : Bool) (s : State) (r : Option P) → s ≡ (printed part full).1 → MatchOption r (s.limit_exceeded ≡ true) (λ p. (s.limit_exceeded ≡ false) × (seen p ≡ outcome_of s)) → MatchOption r ((tree : PathTree) → UnfoldsTo part tree → ⊥) (λ p. IsOutcome part full (seen p))
+print_gives_outcome seen part full s None e h =
+    let limit_exceeded : (printed part full).1.limit_exceeded ≡ true = ap (λ (v : State). v.limit_exceeded) (sym e) ∙ h in printed_over part full limit_exceeded
+print_gives_outcome seen part full s (Some p) e h =
+    let on : (printed part full).1.limit_exceeded ≡ false = ap (λ (v : State). v.limit_exceeded) (sym e) ∙ h.0 in
+    subst (IsOutcome part full) (sym (h.1 ∙ ap outcome_of e)) (printed_is_outcome part full on)
 
 -- a name unfolds to one tree
-pub unfolds_once : (name : List ℕ) (t u : PathTree) → UnfoldsTo name t → UnfoldsTo name u → t ≡ u
-unfolds_once name t u a b =
-    let first = path_complete t name MAX_LEVELS InValue 0 (first_state true) a.after refl a.is_path a.levels a.steps in
-    let second = path_complete u name MAX_LEVELS InValue 0 (first_state true) b.after refl b.is_path b.levels b.steps in
+pub unfolds_once : (part : List ℕ) (t u : PathTree) → UnfoldsTo part t → UnfoldsTo part u → t ≡ u
+unfolds_once part t u a b =
+    let first = path_complete t part MAX_LEVELS InValue 0 (first_state true) a.after refl a.is_path a.levels a.steps in
+    let second = path_complete u part MAX_LEVELS InValue 0 (first_state true) b.after refl b.is_path b.levels b.steps in
     ap (λ r. r.0) (sym first ∙ second)
 
 pub are_texts : (text part : List ℕ) (complete trimmed : Outcome) (whole short : List ℕ) (crate_name : Option (List ℕ)) → IsV0 text part → IsOutcome part true complete → IsOutcome part false trimmed → whole ≡ complete.text → short ≡ trimmed.text → crate_name ≡ option_map identifier_text complete.root → AreTexts text whole short crate_name

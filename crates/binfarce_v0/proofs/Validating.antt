@@ -10,21 +10,21 @@ use Rattle.binfarce_v0.specs.machine.Mangling.{paths_end}
 use Rattle.binfarce_v0.proofs.Manglings.{not_mangling, paths_read}
 use Rattle.binfarce_v0.proofs.RestLemmas.{rest_not_allowed}
 
-pub no_mangling : (text : List ℕ) → ((name : List ℕ) (after : ℕ) → IsMangling text name after → ⊥) → HasNoTree text
+pub no_mangling : (text : List ℕ) → ((part : List ℕ) (after : ℕ) → IsMangling text part after → ⊥) → HasNoTree text
 no_mangling text h part tree v u = h part v.after v.mangling
 
-pub past_limit : (text name : List ℕ) → part_after_prefix text ≡ Some name → ((tree : PathTree) → UnfoldsTo name tree → ⊥) → HasNoTree text
-past_limit text name e h part tree v u = h tree (subst (λ x. UnfoldsTo x tree) (some_same part name (sym v.mangling.prefix ∙ e)) u)
+pub past_limit : (text part : List ℕ) → part_after_prefix text ≡ Some part → ((tree : PathTree) → UnfoldsTo part tree → ⊥) → HasNoTree text
+past_limit text p e h part tree v u = h tree (subst (λ x. UnfoldsTo x tree) (some_same part p (sym v.mangling.prefix ∙ e)) u)
 
-pub no_paths : (text name : List ℕ) → part_after_prefix text ≡ Some name → paths_end name ≡ None → HasNoTree text
-no_paths text name e none part tree v u = not_mangling text name e none part v.after v.mangling
+pub no_paths : (text part : List ℕ) → part_after_prefix text ≡ Some part → paths_end part ≡ None → HasNoTree text
+no_paths text p e none part tree v u = not_mangling text p e none part v.after v.mangling
 
-mangles : (text name : List ℕ) (after : ℕ) → part_after_prefix text ≡ Some name → is_upper_at name 0 ≡ true → IsAscii name → paths_end name ≡ Some after → IsMangling text name after
-mangles text name after e upper ascii ends = record { prefix = e; begins = upper; ascii = ascii; paths = paths_read name after ends }
+mangles : (text part : List ℕ) (after : ℕ) → part_after_prefix text ≡ Some part → is_upper_at part 0 ≡ true → IsAscii part → paths_end part ≡ Some after → IsMangling text part after
+mangles text part after e upper ascii ends = record { prefix = e; begins = upper; ascii = ascii; paths = paths_read part after ends }
 
-pub bad_rest : (text name : List ℕ) (after : ℕ) → part_after_prefix text ≡ Some name → is_upper_at name 0 ≡ true → IsAscii name → paths_end name ≡ Some after → is_allowed_rest (drop after name) ≡ false → HasNoTree text
-bad_rest text name after e upper ascii ends bad part tree v u = rest_not_allowed text name after (mangles text name after e upper ascii ends) bad part v
+pub bad_rest : (text part : List ℕ) (after : ℕ) → part_after_prefix text ≡ Some part → is_upper_at part 0 ≡ true → IsAscii part → paths_end part ≡ Some after → is_allowed_rest (drop after part) ≡ false → HasNoTree text
+bad_rest text p after e upper ascii ends bad part tree v u = rest_not_allowed text p after (mangles text p after e upper ascii ends) bad part v
 
-pub is_v0 : (text name : List ℕ) (after : ℕ) → part_after_prefix text ≡ Some name → is_upper_at name 0 ≡ true → IsAscii name → paths_end name ≡ Some after → is_allowed_rest (drop after name) ≡ true → IsV0 text name
-is_v0 text name after e upper ascii ends allowed =
-    record { after = after; mangling = mangles text name after e upper ascii ends; rest = allowed }
+pub is_v0 : (text part : List ℕ) (after : ℕ) → part_after_prefix text ≡ Some part → is_upper_at part 0 ≡ true → IsAscii part → paths_end part ≡ Some after → is_allowed_rest (drop after part) ≡ true → IsV0 text part
+is_v0 text part after e upper ascii ends allowed =
+    record { after = after; mangling = mangles text part after e upper ascii ends; rest = allowed }

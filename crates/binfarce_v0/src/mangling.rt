@@ -34,25 +34,25 @@ fn part_after_prefix(text: &str) -> Option<&str>
 }
 
 // Whether a path may begin at a position.
-fn is_upper_at(name: &[u8], at: usize) -> bool
-    ensures { result ≡ is_upper_at name.now at }
+fn is_upper_at(part: &[u8], at: usize) -> bool
+    ensures { result ≡ is_upper_at part.now at }
 {
-    byte_at(name, at).is_ascii_uppercase()
+    byte_at(part, at).is_ascii_uppercase()
 }
 
 // The position after the paths of a name, where the one after the first path may be known.
 #[tactic(auto, using(crate::proofs::Manglings::first_path_known))]
-fn paths_end(name: &str, first: Option<usize>) -> Option<usize>
-    requires ascii { IsAscii name.now }
-    requires known { ReadsUpTo name.now first }
-    ensures { result ≡ paths_end name.now }
+fn paths_end(part: &str, first: Option<usize>) -> Option<usize>
+    requires ascii { IsAscii part.now }
+    requires known { ReadsUpTo part.now first }
+    ensures { result ≡ paths_end part.now }
 {
     let mid = match first {
         Some(mid) => mid,
-        None => read_path(name, MAX_LEVELS, 0)?,
+        None => read_path(part, MAX_LEVELS, 0)?,
     };
-    if is_upper_at(name.as_bytes(), mid) {
-        read_path(name, MAX_LEVELS, mid)
+    if is_upper_at(part.as_bytes(), mid) {
+        read_path(part, MAX_LEVELS, mid)
     } else {
         Some(mid)
     }
@@ -60,12 +60,12 @@ fn paths_end(name: &str, first: Option<usize>) -> Option<usize>
 
 // What stands after the prefix of a text that may begin with a v0 mangling.
 fn candidate(text: &str) -> Option<&str>
-    ensures { MatchOption result ((name : List ℕ) (after : ℕ) → IsMangling text.now name after → ⊥)
-        (λ name. (part_after_prefix text.now ≡ Some name.now) × (is_upper_at name.now 0 ≡ true) × IsAscii name.now) }
+    ensures { MatchOption result ((part : List ℕ) (after : ℕ) → IsMangling text.now part after → ⊥)
+        (λ part. (part_after_prefix text.now ≡ Some part.now) × (is_upper_at part.now 0 ≡ true) × IsAscii part.now) }
 {
-    let name = part_after_prefix(text)?;
-    if is_upper_at(name.as_bytes(), 0) && name.is_ascii() {
-        Some(name)
+    let part = part_after_prefix(text)?;
+    if is_upper_at(part.as_bytes(), 0) && part.is_ascii() {
+        Some(part)
     } else {
         None
     }
@@ -74,29 +74,29 @@ fn candidate(text: &str) -> Option<&str>
 /// The v0 mangling that `text` begins with: what stands after its prefix, and the position there after its paths.
 /// None where `text` begins with no v0 mangling whose reading has at most `MAX_LEVELS` levels. No memory is taken.
 pub fn read(text: &str) -> Option<(&str, usize)>
-    ensures { MatchOption result ((name : List ℕ) (after : ℕ) → IsMangling text.now name after → ⊥) (λ r. IsMangling text.now r.0.now r.1) }
+    ensures { MatchOption result ((part : List ℕ) (after : ℕ) → IsMangling text.now part after → ⊥) (λ r. IsMangling text.now r.0.now r.1) }
 {
-    let name = candidate(text)?;
-    let after = paths_end(name, None)?;
-    Some((name, after))
+    let part = candidate(text)?;
+    let after = paths_end(part, None)?;
+    Some((part, after))
 }
 
-/// The text of what `name`, which stands after a prefix, unfolds to, with or without the disambiguators of crates.
+/// The text of what `part`, which stands after a prefix, unfolds to, with or without the disambiguators of crates.
 /// None where it unfolds to no tree of at most `MAX_LEVELS` levels and `MAX_STEPS` steps.
 pub fn print<'a>(
     alloc: Global,
-    name: &'a str,
+    part: &'a str,
     full: bool,
 ) -> Result<Option<Printed<'a>>, AllocError>
-    requires { IsAscii name.now }
-    ensures { IfOk result (λ p. MatchOption p ((tree : PathTree) → UnfoldsTo name.entry.now tree → ⊥) (λ p. IsOutcome name.entry.now full (printed_view p))) }
+    requires { IsAscii part.now }
+    ensures { IfOk result (λ p. MatchOption p ((tree : PathTree) → UnfoldsTo part.entry.now tree → ⊥) (λ p. IsOutcome part.entry.now full (printed_view p))) }
 {
-    let mut printer = Printer::new(alloc, name, full)?;
+    let mut printer = Printer::new(alloc, part, full)?;
     print_path(&mut printer, MAX_LEVELS, 0, Position::InValue)?;
     Ok(printer.finish())
 }
 
-/// What stands after the prefix of a v0 mangling, up to the end of `text`: positions of the name may lie in all of it.
+/// What stands after the prefix of a v0 mangling, up to the end of `text`: positions may lie in all of it.
 /// None where `text` is no v0 mangling whose reading has at most `MAX_LEVELS` levels. No memory is taken.
 pub fn mangled_part(text: &str) -> Option<&str>
     ensures { MatchOption result ((part : List ℕ) → IsV0 text.now part → ⊥) (λ p. IsV0 text.now p.now) }
@@ -110,10 +110,10 @@ pub fn mangled_part(text: &str) -> Option<&str>
 }
 
 // What stands from a position on.
-fn rest_from(name: &[u8], at: usize) -> &[u8]
-    ensures { result.now ≡ drop at name.now }
+fn rest_from(part: &[u8], at: usize) -> &[u8]
+    ensures { result.now ≡ drop at part.now }
 {
-    if at <= name.len() { &name[at..] } else { &[] }
+    if at <= part.len() { &part[at..] } else { &[] }
 }
 
 /// What stands after the prefix of the v0 mangling `text`, and the text of what it unfolds to, with or without the
@@ -128,17 +128,17 @@ pub fn print_mangling<'a>(
 ) -> Result<Option<(&'a str, Printed<'a>)>, AllocError>
     ensures { IfOk result (λ p. MatchOption p (HasNoTree text.entry.now) (λ p. IsV0 text.entry.now p.0.now × IsOutcome p.0.now full (printed_view p.1))) }
 {
-    let Some(name) = candidate(text) else {
+    let Some(part) = candidate(text) else {
         return Ok(None);
     };
-    let Some(printed) = print(alloc, name, full)? else {
+    let Some(printed) = print(alloc, part, full)? else {
         return Ok(None);
     };
-    let Some(after) = paths_end(name, printed.after) else {
+    let Some(after) = paths_end(part, printed.after) else {
         return Ok(None);
     };
-    if is_allowed_rest(rest_from(name.as_bytes(), after)) {
-        Ok(Some((name, printed)))
+    if is_allowed_rest(rest_from(part.as_bytes(), after)) {
+        Ok(Some((part, printed)))
     } else {
         Ok(None)
     }

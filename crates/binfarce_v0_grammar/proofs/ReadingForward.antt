@@ -44,61 +44,61 @@ each P b x y h k = cond_both b x y P (λ e. h) (λ e. k)
 limited_after : (value at : ℕ) → After at (limited value at)
 limited_after value at = each (After at) (nat_lt value (2 ^ 64)) (Some (value, at)) None (omega arith) tt
 
-number_after : (name : List ℕ) (at : ℕ) → After (at + 1) (base_62_number name at)
+number_after : (part : List ℕ) (at : ℕ) → After (at + 1) (base_62_number part at)
 unfolding base_62_number
-number_after name at =
-    let digits : List ℕ = take_while is_ascii_alphanumeric (drop at name) in
+number_after part at =
+    let digits : List ℕ = take_while is_ascii_alphanumeric (drop at part) in
     let end : ℕ = at + length digits in
     let value : ℕ = cond (eqb (length digits) 0) 0 (value_62 digits + 1) in
-    each (After (at + 1)) (eqb (get_or name end 0) 95) (limited value (end + 1)) None (after_less (at + 1) (end + 1) (limited value (end + 1)) (omega arith) (limited_after value (end + 1))) tt
+    each (After (at + 1)) (eqb (get_or part end 0) 95) (limited value (end + 1)) None (after_less (at + 1) (end + 1) (limited value (end + 1)) (omega arith) (limited_after value (end + 1))) tt
 
-tagged_after : (name : List ℕ) (tag at : ℕ) → After at (optional_base_62_number name tag at)
+tagged_after : (part : List ℕ) (tag at : ℕ) → After at (optional_base_62_number part tag at)
 unfolding optional_base_62_number
-tagged_after name tag at =
-    each (After at) (eqb (get_or name at 0) tag) _ (Some (0, at)) (after_then at (base_62_number name (at + 1)) _ (λ r e. after_less at r.1 (limited (r.0 + 1) r.1) (omega (arith, after_is (at + 1 + 1) _ r (number_after name (at + 1)) e)) (limited_after (r.0 + 1) r.1))) (omega arith)
+tagged_after part tag at =
+    each (After at) (eqb (get_or part at 0) tag) _ (Some (0, at)) (after_then at (base_62_number part (at + 1)) _ (λ r e. after_less at r.1 (limited (r.0 + 1) r.1) (omega (arith, after_is (at + 1 + 1) _ r (number_after part (at + 1)) e)) (limited_after (r.0 + 1) r.1))) (omega arith)
 
-back_reference_after : (name : List ℕ) (at : ℕ) → After (at + 1) (back_reference name at)
+back_reference_after : (part : List ℕ) (at : ℕ) → After (at + 1) (back_reference part at)
 unfolding back_reference
-back_reference_after name at =
-    after_then (at + 1) (base_62_number name (at + 1)) _ (λ r e. each (After (at + 1)) (nat_lt r.0 at) (Some r) None (omega (arith, after_is (at + 1 + 1) _ r (number_after name (at + 1)) e)) tt)
+back_reference_after part at =
+    after_then (at + 1) (base_62_number part (at + 1)) _ (λ r e. each (After (at + 1)) (nat_lt r.0 at) (Some r) None (omega (arith, after_is (at + 1 + 1) _ r (number_after part (at + 1)) e)) tt)
 
-hex_digits_after : (name : List ℕ) (at : ℕ) → After (at + 1) (hex_digits name at)
+hex_digits_after : (part : List ℕ) (at : ℕ) → After (at + 1) (hex_digits part at)
 unfolding hex_digits
-hex_digits_after name at =
-    let digits : List ℕ = take_while is_hex_digit (drop at name) in
+hex_digits_after part at =
+    let digits : List ℕ = take_while is_hex_digit (drop at part) in
     let end : ℕ = at + length digits in
-    each (After (at + 1)) (eqb (get_or name end 0) 95) (Some (digits, end + 1)) None (omega arith) tt
+    each (After (at + 1)) (eqb (get_or part end 0) 95) (Some (digits, end + 1)) None (omega arith) tt
 
 -- Identifiers
 
-length_at_after : (name : List ℕ) (at : ℕ) → After at (length_at name at)
+length_at_after : (part : List ℕ) (at : ℕ) → After at (length_at part at)
 unfolding length_at
-length_at_after name at =
-    let digits : List ℕ = take_while is_ascii_digit (drop at name) in
+length_at_after part at =
+    let digits : List ℕ = take_while is_ascii_digit (drop at part) in
     let value : ℕ = digits_value 10 digits in
     let more : After at (limited value (at + length digits)) = after_less at (at + length digits) (limited value (at + length digits)) (omega arith) (limited_after value (at + length digits)) in
-    each (After at) (eqb (get_or name at 0) 48) (Some (0, at + 1)) _ (omega arith) (each (After at) (eqb (length digits) 0) None (limited value (at + length digits)) tt more)
+    each (After at) (eqb (get_or part at 0) 48) (Some (0, at + 1)) _ (omega arith) (each (After at) (eqb (length digits) 0) None (limited value (at + length digits)) tt more)
 
-past_after : (name : List ℕ) (byte at : ℕ) → at ≤ past name byte at
-past_after name byte at = each (λ (q : ℕ). at ≤ q) (eqb (get_or name at 0) byte) (at + 1) at (omega arith) (omega arith)
+past_after : (part : List ℕ) (byte at : ℕ) → at ≤ past part byte at
+past_after part byte at = each (λ (q : ℕ). at ≤ q) (eqb (get_or part at 0) byte) (at + 1) at (omega arith) (omega arith)
 
-identifier_bytes_after : (name : List ℕ) (is_punycode : Bool) (start size : ℕ) → After start (identifier_bytes name is_punycode start size)
+identifier_bytes_after : (part : List ℕ) (is_punycode : Bool) (start size : ℕ) → After start (identifier_bytes part is_punycode start size)
 unfolding identifier_bytes
-identifier_bytes_after name is_punycode start size =
-    each (After start) (nat_le (start + size) (length name)) _ None (after_then start (identifier_of is_punycode _) _ (λ i e. omega arith)) tt
+identifier_bytes_after part is_punycode start size =
+    each (After start) (nat_le (start + size) (length part)) _ None (after_then start (identifier_of is_punycode _) _ (λ i e. omega arith)) tt
 
-undisambiguated_after : (name : List ℕ) (at : ℕ) → After at (undisambiguated_identifier name at)
+undisambiguated_after : (part : List ℕ) (at : ℕ) → After at (undisambiguated_identifier part at)
 unfolding undisambiguated_identifier
-undisambiguated_after name at =
-    after_then at (length_at name (past name 117 at)) _ (λ n e. after_less at (past name 95 n.1) _ (omega (arith, past_after name 117 at, after_is (past name 117 at) _ n (length_at_after name (past name 117 at)) e, past_after name 95 n.1)) (identifier_bytes_after name _ (past name 95 n.1) n.0))
+undisambiguated_after part at =
+    after_then at (length_at part (past part 117 at)) _ (λ n e. after_less at (past part 95 n.1) _ (omega (arith, past_after part 117 at, after_is (past part 117 at) _ n (length_at_after part (past part 117 at)) e, past_after part 95 n.1)) (identifier_bytes_after part _ (past part 95 n.1) n.0))
 
-undisambiguated_forward : (name : List ℕ) (at after : ℕ) (i : UndisambiguatedIdentifier) → undisambiguated_identifier name at ≡ Some (i, after) → at ≤ after
-undisambiguated_forward name at after i e = after_is at (undisambiguated_identifier name at) (i, after) (undisambiguated_after name at) e
+undisambiguated_forward : (part : List ℕ) (at after : ℕ) (i : UndisambiguatedIdentifier) → undisambiguated_identifier part at ≡ Some (i, after) → at ≤ after
+undisambiguated_forward part at after i e = after_is at (undisambiguated_identifier part at) (i, after) (undisambiguated_after part at) e
 
-identifier_after : (name : List ℕ) (at : ℕ) → After at (identifier name at)
+identifier_after : (part : List ℕ) (at : ℕ) → After at (identifier part at)
 unfolding identifier
-identifier_after name at =
-    after_then at (optional_base_62_number name 115 at) _ (λ d e. after_then at (undisambiguated_identifier name d.1) _ (λ i f. omega (arith, after_is at _ d (tagged_after name 115 at) e, after_is d.1 _ i (undisambiguated_after name d.1) f)))
+identifier_after part at =
+    after_then at (optional_base_62_number part 115 at) _ (λ d e. after_then at (undisambiguated_identifier part d.1) _ (λ i f. omega (arith, after_is at _ d (tagged_after part 115 at) e, after_is d.1 _ i (undisambiguated_after part d.1) f)))
 
 -- Forms
 
@@ -114,16 +114,16 @@ indexed_after : (at : ℕ) (n : Option (ℕ × ℕ)) → After at n → Position
 indexed_after at None h = tt
 indexed_after at (Some n) h = h
 
-lifetime_after : (name : List ℕ) (at : ℕ) → PositionAfter at (lifetime name (Some at)).1
+lifetime_after : (part : List ℕ) (at : ℕ) → PositionAfter at (lifetime part (Some at)).1
 unfolding lifetime
-lifetime_after name at =
-    each (λ (l : Lifetime × Option ℕ). PositionAfter at l.1) (eqb (get_or name at 0) 76) (indexed_lifetime (base_62_number name (at + 1))) (NoLifetime, Some at) (indexed_after at (base_62_number name (at + 1)) (after_less at (at + 1 + 1) _ (omega arith) (number_after name (at + 1)))) (omega arith)
+lifetime_after part at =
+    each (λ (l : Lifetime × Option ℕ). PositionAfter at l.1) (eqb (get_or part at 0) 76) (indexed_lifetime (base_62_number part (at + 1))) (NoLifetime, Some at) (indexed_after at (base_62_number part (at + 1)) (after_less at (at + 1 + 1) _ (omega arith) (number_after part (at + 1)))) (omega arith)
 
 -- an "L" that is read
-lifetime_forward : (name : List ℕ) (at after : ℕ) (life : Lifetime) → stands name 76 (Some at) ≡ true → lifetime name (Some at) ≡ (life, Some after) → at < after
+lifetime_forward : (part : List ℕ) (at after : ℕ) (life : Lifetime) → stands part 76 (Some at) ≡ true → lifetime part (Some at) ≡ (life, Some after) → at < after
 unfolding lifetime
-lifetime_forward name at after life e r =
-    let past : PositionAfter (at + 1) (lifetime name (Some at)).1 = rw e (indexed_after (at + 1) (base_62_number name (at + 1)) (after_less (at + 1) (at + 1 + 1) _ (omega arith) (number_after name (at + 1)))) in
+lifetime_forward part at after life e r =
+    let past : PositionAfter (at + 1) (lifetime part (Some at)).1 = rw e (indexed_after (at + 1) (base_62_number part (at + 1)) (after_less (at + 1) (at + 1 + 1) _ (omega arith) (number_after part (at + 1)))) in
     let here : at + 1 ≤ after = subst (λ (l : Lifetime × Option ℕ). PositionAfter (at + 1) l.1) r past in omega arith
 
 abbrev PathAfter : ℕ → PathForm → Type 0
@@ -136,23 +136,23 @@ PathAfter at (TraitDefinition q) = at < q
 PathAfter at (WithArguments q) = at < q
 PathAfter at (BackToPath target q) = at < q
 
-path_form_after : (name : List ℕ) (at : ℕ) → PathAfter at (path_form name (Some at))
+path_form_after : (part : List ℕ) (at : ℕ) → PathAfter at (path_form part (Some at))
 unfolding path_form
-path_form_after name at =
+path_form_after part at =
     let P = PathAfter at in
-    let tag = get_or name at 0 in
-    each P (eqb tag 67) _ _ (mapped_after P (at + 1) (λ (i : Identifier × ℕ). CrateRoot i.0 i.1) (identifier name (at + 1)) NoPathForm (λ r h. omega arith) tt (identifier_after name (at + 1))) (
-    each P (eqb tag 78) _ _ (each P (is_ascii_alphabetic (get_or name (at + 1) 0)) (NestedIn (get_or name (at + 1) 0) (at + 2)) NoPathForm (omega arith) tt) (
-    each P (eqb tag 77) _ _ (mapped_after P (at + 1) (λ (d : ℕ × ℕ). InherentImpl d.1) (optional_base_62_number name 115 (at + 1)) NoPathForm (λ r h. omega arith) tt (tagged_after name 115 (at + 1))) (
-    each P (eqb tag 88) _ _ (mapped_after P (at + 1) (λ (d : ℕ × ℕ). TraitImpl d.1) (optional_base_62_number name 115 (at + 1)) NoPathForm (λ r h. omega arith) tt (tagged_after name 115 (at + 1))) (
+    let tag = get_or part at 0 in
+    each P (eqb tag 67) _ _ (mapped_after P (at + 1) (λ (i : Identifier × ℕ). CrateRoot i.0 i.1) (identifier part (at + 1)) NoPathForm (λ r h. omega arith) tt (identifier_after part (at + 1))) (
+    each P (eqb tag 78) _ _ (each P (is_ascii_alphabetic (get_or part (at + 1) 0)) (NestedIn (get_or part (at + 1) 0) (at + 2)) NoPathForm (omega arith) tt) (
+    each P (eqb tag 77) _ _ (mapped_after P (at + 1) (λ (d : ℕ × ℕ). InherentImpl d.1) (optional_base_62_number part 115 (at + 1)) NoPathForm (λ r h. omega arith) tt (tagged_after part 115 (at + 1))) (
+    each P (eqb tag 88) _ _ (mapped_after P (at + 1) (λ (d : ℕ × ℕ). TraitImpl d.1) (optional_base_62_number part 115 (at + 1)) NoPathForm (λ r h. omega arith) tt (tagged_after part 115 (at + 1))) (
     each P (eqb tag 89) (TraitDefinition (at + 1)) _ (omega arith) (
     each P (eqb tag 73) (WithArguments (at + 1)) _ (omega arith) (
-    each P (eqb tag 66) _ NoPathForm (mapped_after P (at + 1) (λ (b : ℕ × ℕ). BackToPath b.0 b.1) (back_reference name at) NoPathForm (λ r h. omega arith) tt (back_reference_after name at)) tt))))))
+    each P (eqb tag 66) _ NoPathForm (mapped_after P (at + 1) (λ (b : ℕ × ℕ). BackToPath b.0 b.1) (back_reference part at) NoPathForm (λ r h. omega arith) tt (back_reference_after part at)) tt))))))
 
-abi_after : (name : List ℕ) (at : ℕ) → After at (abi name at)
+abi_after : (part : List ℕ) (at : ℕ) → After at (abi part at)
 unfolding abi
-abi_after name at =
-    each (After at) (eqb (get_or name at 0) 75) _ (Some (None, at)) (each (After at) (eqb (get_or name (at + 1) 0) 67) (Some (Some (codes "C"), at + 2)) _ (omega arith) (after_then at (undisambiguated_identifier name (at + 1)) _ (λ i e. each (After at) (not (is_empty i.0.ascii) && is_empty i.0.punycode) (Some (Some i.0.ascii, i.1)) None (omega (arith, after_is (at + 1) _ i (undisambiguated_after name (at + 1)) e)) tt))) (omega arith)
+abi_after part at =
+    each (After at) (eqb (get_or part at 0) 75) _ (Some (None, at)) (each (After at) (eqb (get_or part (at + 1) 0) 67) (Some (Some (codes "C"), at + 2)) _ (omega arith) (after_then at (undisambiguated_identifier part (at + 1)) _ (λ i e. each (After at) (not (is_empty i.0.ascii) && is_empty i.0.punycode) (Some (Some i.0.ascii, i.1)) None (omega (arith, after_is (at + 1) _ i (undisambiguated_after part (at + 1)) e)) tt))) (omega arith)
 
 abbrev TypeAfter : ℕ → TypeForm → Type 0
 TypeAfter at NoTypeForm = ⊤
@@ -177,36 +177,36 @@ reference_after at mutable l h = by l.1 h
     by None h = tt
     by (Some q) h = omega arith
 
-function_after : (name : List ℕ) (at : ℕ) (b : Option (ℕ × ℕ)) → After (at + 1) b → TypeAfter at (function_form name b)
-function_after name at None h = tt
-function_after name at (Some b) h =
-    let q = past name 85 b.1 in
-    mapped_after (TypeAfter at) (at + 1) (λ (a : Option (List ℕ) × ℕ). FunctionOf (record { binder = b.0; is_unsafe = eqb (get_or name b.1 0) 85; abi = a.0 }) a.1) (abi name q) (InvalidAbi b.0) (λ r h. omega arith) tt (after_less (at + 1) q (abi name q) (omega (arith, past_after name 85 b.1)) (abi_after name q))
+function_after : (part : List ℕ) (at : ℕ) (b : Option (ℕ × ℕ)) → After (at + 1) b → TypeAfter at (function_form part b)
+function_after part at None h = tt
+function_after part at (Some b) h =
+    let q = past part 85 b.1 in
+    mapped_after (TypeAfter at) (at + 1) (λ (a : Option (List ℕ) × ℕ). FunctionOf (record { binder = b.0; is_unsafe = eqb (get_or part b.1 0) 85; abi = a.0 }) a.1) (abi part q) (InvalidAbi b.0) (λ r h. omega arith) tt (after_less (at + 1) q (abi part q) (omega (arith, past_after part 85 b.1)) (abi_after part q))
 
-type_form_by_after : (name : List ℕ) (at tag : ℕ) → TypeAfter at (type_form_by name at tag)
+type_form_by_after : (part : List ℕ) (at tag : ℕ) → TypeAfter at (type_form_by part at tag)
 unfolding type_form_by
-type_form_by_after name at tag =
+type_form_by_after part at tag =
     let T = TypeAfter at in
-    each T (eqb tag 82) _ _ (reference_after at false (lifetime name (Some (at + 1))) (lifetime_after name (at + 1))) (
-    each T (eqb tag 81) _ _ (reference_after at true (lifetime name (Some (at + 1))) (lifetime_after name (at + 1))) (
+    each T (eqb tag 82) _ _ (reference_after at false (lifetime part (Some (at + 1))) (lifetime_after part (at + 1))) (
+    each T (eqb tag 81) _ _ (reference_after at true (lifetime part (Some (at + 1))) (lifetime_after part (at + 1))) (
     each T (eqb tag 80) (PointerTo false (at + 1)) _ (omega arith) (
     each T (eqb tag 79) (PointerTo true (at + 1)) _ (omega arith) (
     each T (eqb tag 83) (SliceOf (at + 1)) _ (omega arith) (
     each T (eqb tag 65) (ArrayOf (at + 1)) _ (omega arith) (
     each T (eqb tag 84) (TupleOf (at + 1)) _ (omega arith) (
-    each T (eqb tag 70) _ _ (function_after name at (optional_base_62_number name 71 (at + 1)) (tagged_after name 71 (at + 1))) (
-    each T (eqb tag 68) _ _ (mapped_after T (at + 1) (λ (b : ℕ × ℕ). DynOf b.0 b.1) (optional_base_62_number name 71 (at + 1)) InvalidDyn (λ r h. omega arith) tt (tagged_after name 71 (at + 1))) (
-    each T (eqb tag 66) _ PathType (mapped_after T (at + 1) (λ (b : ℕ × ℕ). BackToType b.0 b.1) (back_reference name at) NoTypeForm (λ r h. omega arith) tt (back_reference_after name at)) tt)))))))))
+    each T (eqb tag 70) _ _ (function_after part at (optional_base_62_number part 71 (at + 1)) (tagged_after part 71 (at + 1))) (
+    each T (eqb tag 68) _ _ (mapped_after T (at + 1) (λ (b : ℕ × ℕ). DynOf b.0 b.1) (optional_base_62_number part 71 (at + 1)) InvalidDyn (λ r h. omega arith) tt (tagged_after part 71 (at + 1))) (
+    each T (eqb tag 66) _ PathType (mapped_after T (at + 1) (λ (b : ℕ × ℕ). BackToType b.0 b.1) (back_reference part at) NoTypeForm (λ r h. omega arith) tt (back_reference_after part at)) tt)))))))))
 
 basic_after : (at : ℕ) (text : Option (List ℕ)) (other : TypeForm) → TypeAfter at other → TypeAfter at (option_map_or (λ (name : List ℕ). BasicType name (at + 1)) text other)
 basic_after at None other h = h
 basic_after at (Some text) other h = omega arith
 
-type_form_after : (name : List ℕ) (at : ℕ) → TypeAfter at (type_form name (Some at))
+type_form_after : (part : List ℕ) (at : ℕ) → TypeAfter at (type_form part (Some at))
 unfolding type_form
-type_form_after name at =
-    let tag = get_or name at 0 in
-    each (TypeAfter at) (nat_lt at (length name)) _ NoTypeForm (basic_after at (basic_type tag) (type_form_by name at tag) (type_form_by_after name at tag)) tt
+type_form_after part at =
+    let tag = get_or part at 0 in
+    each (TypeAfter at) (nat_lt at (length part)) _ NoTypeForm (basic_after at (basic_type tag) (type_form_by part at tag) (type_form_by_after part at tag)) tt
 
 abbrev ConstAfter : ℕ → ConstForm → Type 0
 ConstAfter at NoConstForm = ⊤
@@ -216,118 +216,118 @@ ConstAfter at (ValueConst type_name value q) = at < q
 ConstAfter at (InvalidConst negative type_name) = ⊤
 ConstAfter at (BackToConst target q) = at < q
 
-const_value_after : (name : List ℕ) (letter : ℕ) (negative : Bool) (at : ℕ) → After at (const_value name letter negative at)
+const_value_after : (part : List ℕ) (letter : ℕ) (negative : Bool) (at : ℕ) → After at (const_value part letter negative at)
 unfolding const_value
-const_value_after name letter negative at =
+const_value_after part letter negative at =
     let start = cond negative (at + 1) at in
-    after_then at (hex_digits name start) _ (λ d e. after_then at (value_of letter negative d.0) _ (λ v g. omega (arith, each (λ s. at ≤ s) negative (at + 1) at (omega arith) (omega arith), after_is (start + 1) _ d (hex_digits_after name start) e)))
+    after_then at (hex_digits part start) _ (λ d e. after_then at (value_of letter negative d.0) _ (λ v g. omega (arith, each (λ s. at ≤ s) negative (at + 1) at (omega arith) (omega arith), after_is (start + 1) _ d (hex_digits_after part start) e)))
 
-typed_after : (name : List ℕ) (letter at : ℕ) (type_name : Option (List ℕ)) → ConstAfter at (typed_form name letter (at + 1) type_name)
-typed_after name letter at None = tt
-typed_after name letter at (Some type_name) =
-    let negative = has_sign name letter (at + 1) in
-    each (ConstAfter at) (eqb (get_or name (at + 1) 0) 112) (PlaceholderConst type_name (at + 1 + 1)) _ (omega arith) (mapped_after (ConstAfter at) (at + 1) (λ (v : ConstValue × ℕ). ValueConst type_name v.0 v.1) (const_value name letter negative (at + 1)) (InvalidConst negative type_name) (λ r h. omega arith) tt (const_value_after name letter negative (at + 1)))
+typed_after : (part : List ℕ) (letter at : ℕ) (type_name : Option (List ℕ)) → ConstAfter at (typed_form part letter (at + 1) type_name)
+typed_after part letter at None = tt
+typed_after part letter at (Some type_name) =
+    let negative = has_sign part letter (at + 1) in
+    each (ConstAfter at) (eqb (get_or part (at + 1) 0) 112) (PlaceholderConst type_name (at + 1 + 1)) _ (omega arith) (mapped_after (ConstAfter at) (at + 1) (λ (v : ConstValue × ℕ). ValueConst type_name v.0 v.1) (const_value part letter negative (at + 1)) (InvalidConst negative type_name) (λ r h. omega arith) tt (const_value_after part letter negative (at + 1)))
 
-const_form_after : (name : List ℕ) (at : ℕ) → ConstAfter at (const_form name (Some at))
+const_form_after : (part : List ℕ) (at : ℕ) → ConstAfter at (const_form part (Some at))
 unfolding const_form
-const_form_after name at =
+const_form_after part at =
     let C = ConstAfter at in
-    let tag = get_or name at 0 in
-    each C (eqb tag 66) _ _ (mapped_after C (at + 1) (λ (b : ℕ × ℕ). BackToConst b.0 b.1) (back_reference name at) NoConstForm (λ r h. omega arith) tt (back_reference_after name at)) (
-    each C (eqb tag 112) (UntypedPlaceholderConst (at + 1)) _ (omega arith) (typed_after name tag at (const_type tag)))
+    let tag = get_or part at 0 in
+    each C (eqb tag 66) _ _ (mapped_after C (at + 1) (λ (b : ℕ × ℕ). BackToConst b.0 b.1) (back_reference part at) NoConstForm (λ r h. omega arith) tt (back_reference_after part at)) (
+    each C (eqb tag 112) (UntypedPlaceholderConst (at + 1)) _ (omega arith) (typed_after part tag at (const_type tag)))
 
-path_front : (name : List ℕ) (at : ℕ) (form : PathForm) → path_form name (Some at) ≡ form → PathAfter at form
-path_front name at form e = subst (PathAfter at) e (path_form_after name at)
+path_front : (part : List ℕ) (at : ℕ) (form : PathForm) → path_form part (Some at) ≡ form → PathAfter at form
+path_front part at form e = subst (PathAfter at) e (path_form_after part at)
 
-type_front : (name : List ℕ) (at : ℕ) (form : TypeForm) → type_form name (Some at) ≡ form → TypeAfter at form
-type_front name at form e = subst (TypeAfter at) e (type_form_after name at)
+type_front : (part : List ℕ) (at : ℕ) (form : TypeForm) → type_form part (Some at) ≡ form → TypeAfter at form
+type_front part at form e = subst (TypeAfter at) e (type_form_after part at)
 
-const_front : (name : List ℕ) (at : ℕ) (form : ConstForm) → const_form name (Some at) ≡ form → ConstAfter at form
-const_front name at form e = subst (ConstAfter at) e (const_form_after name at)
+const_front : (part : List ℕ) (at : ℕ) (form : ConstForm) → const_form part (Some at) ≡ form → ConstAfter at form
+const_front part at form e = subst (ConstAfter at) e (const_form_after part at)
 
 -- Trees
 
-pub const_forward : (c : ConstTree) (name : List ℕ) (at after : ℕ) → ReadsConst name c at after → at < after
+pub const_forward : (c : ConstTree) (part : List ℕ) (at after : ℕ) → ReadsConst part c at after → at < after
 unfolding ReadsConst
-const_forward NoConst name at after r = absurd r
-const_forward UntypedPlaceholder name at after r = const_front name at _ r
-const_forward (Placeholder type_name) name at after r = const_front name at _ r
-const_forward (Value type_name value) name at after r = const_front name at _ r
-const_forward (InvalidValue negative type_name) name at after r = absurd r
-const_forward (BackConst c) name at after r = absurd r
-const_forward (ConstTarget target) name at after r = const_front name at _ r
+const_forward NoConst part at after r = absurd r
+const_forward UntypedPlaceholder part at after r = const_front part at _ r
+const_forward (Placeholder type_name) part at after r = const_front part at _ r
+const_forward (Value type_name value) part at after r = const_front part at _ r
+const_forward (InvalidValue negative type_name) part at after r = absurd r
+const_forward (BackConst c) part at after r = absurd r
+const_forward (ConstTarget target) part at after r = const_front part at _ r
 
 mutual
   unfolding ReadsPath
 
-  pub path_forward : (t : PathTree) (name : List ℕ) (at after : ℕ) → ReadsPath name t at after → at < after
-  path_forward NoPath name at after r = absurd r
-  path_forward (Crate root) name at after r = path_front name at _ r
-  path_forward (Nested namespace p l) name at after r =
-      omega (arith, path_front name at _ r.2, path_forward p name r.0 r.1 r.3, after_is r.1 (identifier name r.1) _ (identifier_after name r.1) r.4)
-  path_forward (InvalidNested p) name at after r = absurd r
-  path_forward (OfType p t) name at after r =
-      omega (arith, path_front name at _ r.2, path_forward p name r.0 r.1 r.3, type_forward t name r.1 after r.4)
-  path_forward (OfImpl p t u) name at after r =
-      omega (arith, path_front name at _ r.3, path_forward p name r.0 r.1 r.4, type_forward t name r.1 r.2 r.5, path_forward u name r.2 after r.6)
-  path_forward (OfTrait t u) name at after r =
-      omega (arith, path_front name at _ r.2, type_forward t name r.0 r.1 r.3, path_forward u name r.1 after r.4)
-  path_forward (Generic p items) name at after r =
-      omega (arith, path_front name at _ r.2, path_forward p name r.0 r.1 r.3, items_forward items name Arguments r.1 after r.4)
-  path_forward (BackPath p) name at after r = absurd r
-  path_forward (PathTarget target) name at after r = path_front name at _ r
+  pub path_forward : (t : PathTree) (part : List ℕ) (at after : ℕ) → ReadsPath part t at after → at < after
+  path_forward NoPath part at after r = absurd r
+  path_forward (Crate root) part at after r = path_front part at _ r
+  path_forward (Nested namespace p l) part at after r =
+      omega (arith, path_front part at _ r.2, path_forward p part r.0 r.1 r.3, after_is r.1 (identifier part r.1) _ (identifier_after part r.1) r.4)
+  path_forward (InvalidNested p) part at after r = absurd r
+  path_forward (OfType p t) part at after r =
+      omega (arith, path_front part at _ r.2, path_forward p part r.0 r.1 r.3, type_forward t part r.1 after r.4)
+  path_forward (OfImpl p t u) part at after r =
+      omega (arith, path_front part at _ r.3, path_forward p part r.0 r.1 r.4, type_forward t part r.1 r.2 r.5, path_forward u part r.2 after r.6)
+  path_forward (OfTrait t u) part at after r =
+      omega (arith, path_front part at _ r.2, type_forward t part r.0 r.1 r.3, path_forward u part r.1 after r.4)
+  path_forward (Generic p items) part at after r =
+      omega (arith, path_front part at _ r.2, path_forward p part r.0 r.1 r.3, items_forward items part Arguments r.1 after r.4)
+  path_forward (BackPath p) part at after r = absurd r
+  path_forward (PathTarget target) part at after r = path_front part at _ r
 
-  pub type_forward : (t : TypeTree) (name : List ℕ) (at after : ℕ) → ReadsType name t at after → at < after
-  type_forward NoType name at after r = absurd r
-  type_forward (Basic text) name at after r = type_front name at _ r
-  type_forward (Reference mutable life t) name at after r =
-      omega (arith, type_front name at _ r.1, type_forward t name r.0 after r.2)
-  type_forward InvalidReferenceType name at after r = absurd r
-  type_forward (Pointer mutable t) name at after r =
-      omega (arith, type_front name at _ r.1, type_forward t name r.0 after r.2)
-  type_forward (Slice t) name at after r = omega (arith, type_front name at _ r.1, type_forward t name r.0 after r.2)
-  type_forward (Array t c) name at after r =
-      omega (arith, type_front name at _ r.2, type_forward t name r.0 r.1 r.3, const_forward c name r.1 after r.4)
-  type_forward (Tuple items) name at after r =
-      omega (arith, type_front name at _ r.1, items_forward items name Types r.0 after r.2)
-  type_forward (Function signature items) name at after r =
-      omega (arith, type_front name at _ r.2, items_forward items name Types r.0 r.1 r.3, r.5)
-  type_forward (FunctionTo signature items t) name at after r =
-      omega (arith, type_front name at _ r.2, items_forward items name Types r.0 r.1 r.3, type_forward t name r.1 after r.5)
-  type_forward (InvalidFunction binder) name at after r = absurd r
-  type_forward (Dyn binder items life) name at after r =
-      omega (arith, type_front name at _ r.2, items_forward items name Traits r.0 r.1 r.3, lifetime_forward name r.1 after life r.4 r.5)
-  type_forward InvalidDynType name at after r = absurd r
-  type_forward (Named p) name at after r = path_forward p name at after r.1
-  type_forward (BackType t) name at after r = absurd r
-  type_forward (TypeTarget target) name at after r = type_front name at _ r
+  pub type_forward : (t : TypeTree) (part : List ℕ) (at after : ℕ) → ReadsType part t at after → at < after
+  type_forward NoType part at after r = absurd r
+  type_forward (Basic text) part at after r = type_front part at _ r
+  type_forward (Reference mutable life t) part at after r =
+      omega (arith, type_front part at _ r.1, type_forward t part r.0 after r.2)
+  type_forward InvalidReferenceType part at after r = absurd r
+  type_forward (Pointer mutable t) part at after r =
+      omega (arith, type_front part at _ r.1, type_forward t part r.0 after r.2)
+  type_forward (Slice t) part at after r = omega (arith, type_front part at _ r.1, type_forward t part r.0 after r.2)
+  type_forward (Array t c) part at after r =
+      omega (arith, type_front part at _ r.2, type_forward t part r.0 r.1 r.3, const_forward c part r.1 after r.4)
+  type_forward (Tuple items) part at after r =
+      omega (arith, type_front part at _ r.1, items_forward items part Types r.0 after r.2)
+  type_forward (Function signature items) part at after r =
+      omega (arith, type_front part at _ r.2, items_forward items part Types r.0 r.1 r.3, r.5)
+  type_forward (FunctionTo signature items t) part at after r =
+      omega (arith, type_front part at _ r.2, items_forward items part Types r.0 r.1 r.3, type_forward t part r.1 after r.5)
+  type_forward (InvalidFunction binder) part at after r = absurd r
+  type_forward (Dyn binder items life) part at after r =
+      omega (arith, type_front part at _ r.2, items_forward items part Traits r.0 r.1 r.3, lifetime_forward part r.1 after life r.4 r.5)
+  type_forward InvalidDynType part at after r = absurd r
+  type_forward (Named p) part at after r = path_forward p part at after r.1
+  type_forward (BackType t) part at after r = absurd r
+  type_forward (TypeTarget target) part at after r = type_front part at _ r
 
-  pub item_forward : (i : Item) (name : List ℕ) (listed : Listed) (at after : ℕ) → ReadsItem name listed i at after → at < after
-  item_forward (LifetimeItem life) name Arguments at after r = lifetime_forward name at after life r.0 r.1
-  item_forward (LifetimeItem life) name Types at after r = absurd r
-  item_forward (LifetimeItem life) name Traits at after r = absurd r
-  item_forward (TypeItem t) name Arguments at after r = type_forward t name at after r.2
-  item_forward (TypeItem t) name Types at after r = type_forward t name at after r
-  item_forward (TypeItem t) name Traits at after r = absurd r
-  item_forward (ConstItem c) name Arguments at after r = omega (arith, const_forward c name (at + 1) after r.2)
-  item_forward (ConstItem c) name Types at after r = absurd r
-  item_forward (ConstItem c) name Traits at after r = absurd r
-  item_forward (TraitItem p bound) name Arguments at after r = absurd r
-  item_forward (TraitItem p bound) name Types at after r = absurd r
-  item_forward (TraitItem p bound) name Traits at after r =
-      omega (arith, path_forward p name at r.0 r.1, bindings_forward bound name r.0 after r.2)
+  pub item_forward : (i : Item) (part : List ℕ) (listed : Listed) (at after : ℕ) → ReadsItem part listed i at after → at < after
+  item_forward (LifetimeItem life) part Arguments at after r = lifetime_forward part at after life r.0 r.1
+  item_forward (LifetimeItem life) part Types at after r = absurd r
+  item_forward (LifetimeItem life) part Traits at after r = absurd r
+  item_forward (TypeItem t) part Arguments at after r = type_forward t part at after r.2
+  item_forward (TypeItem t) part Types at after r = type_forward t part at after r
+  item_forward (TypeItem t) part Traits at after r = absurd r
+  item_forward (ConstItem c) part Arguments at after r = omega (arith, const_forward c part (at + 1) after r.2)
+  item_forward (ConstItem c) part Types at after r = absurd r
+  item_forward (ConstItem c) part Traits at after r = absurd r
+  item_forward (TraitItem p bound) part Arguments at after r = absurd r
+  item_forward (TraitItem p bound) part Types at after r = absurd r
+  item_forward (TraitItem p bound) part Traits at after r =
+      omega (arith, path_forward p part at r.0 r.1, bindings_forward bound part r.0 after r.2)
 
-  pub items_forward : (items : Items) (name : List ℕ) (listed : Listed) (at after : ℕ) → ReadsItems name listed items at after → at < after
-  items_forward NoItems name listed at after r = omega (arith, r.1)
-  items_forward (ItemThen i items) name listed at after r =
-      omega (arith, item_forward i name listed at r.0 r.2, items_forward items name listed r.0 after r.3)
+  pub items_forward : (items : Items) (part : List ℕ) (listed : Listed) (at after : ℕ) → ReadsItems part listed items at after → at < after
+  items_forward NoItems part listed at after r = omega (arith, r.1)
+  items_forward (ItemThen i items) part listed at after r =
+      omega (arith, item_forward i part listed at r.0 r.2, items_forward items part listed r.0 after r.3)
 
-  pub bindings_forward : (bound : Bindings) (name : List ℕ) (at after : ℕ) → ReadsBindings name bound at after → at ≤ after
-  bindings_forward NoBindings name at after r = omega (arith, r.1)
-  bindings_forward (Binding i t more) name at after r =
-      omega (arith, undisambiguated_forward name (at + 1) r.0 i r.3, type_forward t name r.0 r.1 r.4, bindings_forward more name r.1 after r.5)
-  bindings_forward InvalidBinding name at after r = absurd r
+  pub bindings_forward : (bound : Bindings) (part : List ℕ) (at after : ℕ) → ReadsBindings part bound at after → at ≤ after
+  bindings_forward NoBindings part at after r = omega (arith, r.1)
+  bindings_forward (Binding i t more) part at after r =
+      omega (arith, undisambiguated_forward part (at + 1) r.0 i r.3, type_forward t part r.0 r.1 r.4, bindings_forward more part r.1 after r.5)
+  bindings_forward InvalidBinding part at after r = absurd r
 
 -- a binding, from its "p"
-pub bound_forward : (i : UndisambiguatedIdentifier) (t : TypeTree) (name : List ℕ) (at q mid : ℕ) → undisambiguated_identifier name (at + 1) ≡ Some (i, q) → ReadsType name t q mid → at < mid
-bound_forward i t name at q mid e r = omega (arith, undisambiguated_forward name (at + 1) q i e, type_forward t name q mid r)
+pub bound_forward : (i : UndisambiguatedIdentifier) (t : TypeTree) (part : List ℕ) (at q mid : ℕ) → undisambiguated_identifier part (at + 1) ≡ Some (i, q) → ReadsType part t q mid → at < mid
+bound_forward i t part at q mid e r = omega (arith, undisambiguated_forward part (at + 1) q i e, type_forward t part q mid r)

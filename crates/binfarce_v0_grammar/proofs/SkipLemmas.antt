@@ -47,8 +47,8 @@ ten_digits s few =
     omega (arith, run_below s 0, top)
 
 -- the same of what stands from a position on
-pub few_digits : (name : List ℕ) (start : ℕ) → run (drop start name) ≤ 10 → value_62 (take (run (drop start name)) (drop start name)) < 2 ^ 64 - 2
-few_digits name start few = ten_digits (drop start name) few
+pub few_digits : (part : List ℕ) (start : ℕ) → run (drop start part) ≤ 10 → value_62 (take (run (drop start part)) (drop start part)) < 2 ^ 64 - 2
+few_digits part start few = ten_digits (drop start part) few
 
 -- nine digits after two that are worth less than 1362
 two_more : (a b : ℕ) (s : List ℕ) → run (a ∷ b ∷ s) ≡ 11 → digit_62 a * 62 + digit_62 b < 1362 → value_62 (take (run (a ∷ b ∷ s)) (a ∷ b ∷ s)) < 2 ^ 64 - 2
@@ -82,11 +82,11 @@ eleven_first (a ∷ []) e small = elim (cases_Bool (is_ascii_alphanumeric a)) [
 ]
 eleven_first (a ∷ b ∷ s) e small = two_more a b s e small
 
-pub eleven_digits : (name : List ℕ) (start : ℕ) → run (drop start name) ≡ 11 → digit_62 (get_or name start 0) * 62 + digit_62 (get_or name (start + 1) 0) < 1362 → value_62 (take (run (drop start name)) (drop start name)) < 2 ^ 64 - 2
-eleven_digits name start e small =
-    let first : get_or (drop start name) 0 0 ≡ get_or name start 0 = get_or-drop start name 0 0 ∙ ap (λ k. get_or name k 0) (let here : start + 0 ≡ start = omega arith in here) in
-    let second : get_or (drop start name) 1 0 ≡ get_or name (start + 1) 0 = get_or-drop start name 1 0 in
-    eleven_first (drop start name) e (rw (first, second) small)
+pub eleven_digits : (part : List ℕ) (start : ℕ) → run (drop start part) ≡ 11 → digit_62 (get_or part start 0) * 62 + digit_62 (get_or part (start + 1) 0) < 1362 → value_62 (take (run (drop start part)) (drop start part)) < 2 ^ 64 - 2
+eleven_digits part start e small =
+    let first : get_or (drop start part) 0 0 ≡ get_or part start 0 = get_or-drop start part 0 0 ∙ ap (λ k. get_or part k 0) (let here : start + 0 ≡ start = omega arith in here) in
+    let second : get_or (drop start part) 1 0 ≡ get_or part (start + 1) 0 = get_or-drop start part 1 0 in
+    eleven_first (drop start part) e (rw (first, second) small)
 
 -- Numbers after a tag
 
@@ -96,14 +96,14 @@ place_of o = option_map (λ r. r.1) o
 limited_small : (v after : ℕ) → v < 2 ^ 64 → limited v after ≡ Some (v, after)
 limited_small v after h = grind (arith, nat_tests)
 
-pub skips_nothing : (name : List ℕ) (tag at : ℕ) → (get_or name at 0 ≡ tag → ⊥) → place_of (optional_base_62_number name tag at) ≡ Some at
+pub skips_nothing : (part : List ℕ) (tag at : ℕ) → (get_or part at 0 ≡ tag → ⊥) → place_of (optional_base_62_number part tag at) ≡ Some at
 unfolding optional_base_62_number
-skips_nothing name tag at ne = ap place_of (cond-false (eqb (get_or name at 0) tag) _ _ (ne_eqb (get_or name at 0) tag ne))
+skips_nothing part tag at ne = ap place_of (cond-false (eqb (get_or part at 0) tag) _ _ (ne_eqb (get_or part at 0) tag ne))
 
 -- the number that n digits from a position on write, where a "_" stands after them
 abbrev number_of : List ℕ → ℕ → ℕ → ℕ → Option (ℕ × ℕ)
-number_of name at n k =
-    cond (eqb (get_or name (at + k) 0) 95) (limited (cond (eqb k 0) 0 (value_62 (take n (drop at name)) + 1)) (at + k + 1)) None
+number_of part at n k =
+    cond (eqb (get_or part (at + k) 0) 95) (limited (cond (eqb k 0) 0 (value_62 (take n (drop at part)) + 1)) (at + k + 1)) None
 
 worth_below : (n value : ℕ) → value < 2 ^ 64 - 2 → cond (eqb n 0) 0 (value + 1) < 2 ^ 64 - 1
 worth_below n value small = by (eqb n 0)
@@ -118,27 +118,27 @@ ends_small true value after small =
     ap (λ o. place_of (o >>= λ r. limited (r.0 + 1) r.1)) (limited_small value after (omega (arith, small)))
     ∙ ap place_of (limited_small (value + 1) after (omega (arith, small)))
 
-pub skips_small : (name : List ℕ) (tag at : ℕ) → get_or name at 0 ≡ tag
-    → value_62 (take (run (drop (at + 1) name)) (drop (at + 1) name)) < 2 ^ 64 - 2
-    → place_of (optional_base_62_number name tag at) ≡ (if get_or name (at + 1 + run (drop (at + 1) name)) 0 == 95 then Some (at + 1 + run (drop (at + 1) name) + 1) else None)
+pub skips_small : (part : List ℕ) (tag at : ℕ) → get_or part at 0 ≡ tag
+    → value_62 (take (run (drop (at + 1) part)) (drop (at + 1) part)) < 2 ^ 64 - 2
+    → place_of (optional_base_62_number part tag at) ≡ (if get_or part (at + 1 + run (drop (at + 1) part)) 0 == 95 then Some (at + 1 + run (drop (at + 1) part) + 1) else None)
 unfolding optional_base_62_number base_62_number
-skips_small name tag at here small =
-    let n : ℕ = run (drop (at + 1) name) in
-    let counted : base_62_number name (at + 1) ≡ number_of name (at + 1) n n = ap (number_of name (at + 1) n) (run_length is_ascii_alphanumeric (drop (at + 1) name)) in
-    ap place_of (cond-true (eqb (get_or name at 0) tag) _ _ (eq-eqb (get_or name at 0) tag here))
+skips_small part tag at here small =
+    let n : ℕ = run (drop (at + 1) part) in
+    let counted : base_62_number part (at + 1) ≡ number_of part (at + 1) n n = ap (number_of part (at + 1) n) (run_length is_ascii_alphanumeric (drop (at + 1) part)) in
+    ap place_of (cond-true (eqb (get_or part at 0) tag) _ _ (eq-eqb (get_or part at 0) tag here))
     ∙ ap (λ o. place_of (o >>= λ r. limited (r.0 + 1) r.1)) counted
-    ∙ ends_small (eqb (get_or name (at + 1 + n) 0) 95) _ (at + 1 + n + 1) (worth_below n _ small)
+    ∙ ends_small (eqb (get_or part (at + 1 + n) 0) 95) _ (at + 1 + n + 1) (worth_below n _ small)
 
 -- Identifiers
 
-pub identifier_name : (name : List ℕ) (at : ℕ) → without_disambiguator (identifier name at) ≡ (place_of (optional_base_62_number name 115 at) >>= λ start. undisambiguated_identifier name start)
+pub identifier_name : (part : List ℕ) (at : ℕ) → without_disambiguator (identifier part at) ≡ (place_of (optional_base_62_number part 115 at) >>= λ start. undisambiguated_identifier part start)
 unfolding identifier
-identifier_name name at = by (optional_base_62_number name 115 at)
+identifier_name part at = by (optional_base_62_number part 115 at)
   where
     named : (d : ℕ) (o : Option (UndisambiguatedIdentifier × ℕ)) → without_disambiguator (o >>= λ i. Some (record { disambiguator = d; name = i.0 }, i.1)) ≡ o
     named d None = refl
     named d (Some i) = refl
 
-    by : (o : Option (ℕ × ℕ)) → without_disambiguator (o >>= λ d. (undisambiguated_identifier name d.1 >>= λ i. Some (record { disambiguator = d.0; name = i.0 }, i.1))) ≡ (place_of o >>= λ start. undisambiguated_identifier name start)
+    by : (o : Option (ℕ × ℕ)) → without_disambiguator (o >>= λ d. (undisambiguated_identifier part d.1 >>= λ i. Some (record { disambiguator = d.0; name = i.0 }, i.1))) ≡ (place_of o >>= λ start. undisambiguated_identifier part start)
     by None = refl
-    by (Some d) = named d.0 (undisambiguated_identifier name d.1)
+    by (Some d) = named d.0 (undisambiguated_identifier part d.1)

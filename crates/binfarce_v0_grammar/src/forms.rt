@@ -103,16 +103,16 @@ fn nested_form<'a>(namespace: u8, after: usize) -> PathForm<'a>
 
 /// The form of a path that stands at a position, where there is one.
 #[tactic(auto, unfolding(crate::specs::Forms::path_form))]
-pub fn path_form<'a>(name: &'a str, at: Option<usize>) -> PathForm<'a>
-    requires ascii { IsAscii name.now }
-    ensures { path_view result ≡ path_form name.now at }
+pub fn path_form<'a>(part: &'a str, at: Option<usize>) -> PathForm<'a>
+    requires ascii { IsAscii part.now }
+    ensures { path_view result ≡ path_form part.now at }
 {
     let Some(at) = at else {
         return PathForm::Nothing;
     };
-    let bytes = name.as_bytes();
+    let bytes = part.as_bytes();
     match byte_at(bytes, at) {
-        b'C' => match identifier_at(name, at + 1) {
+        b'C' => match identifier_at(part, at + 1) {
             Some((root, after)) => PathForm::CrateRoot(root, after),
             None => PathForm::Nothing,
         },
@@ -145,16 +145,16 @@ pub fn path_form<'a>(name: &'a str, at: Option<usize>) -> PathForm<'a>
 /// The lifetime that stands at a position, and the position after it: None for an invalid one.
 #[inline(always)]
 #[tactic(auto, unfolding(crate::specs::Forms::lifetime))]
-pub fn lifetime_form(name: &[u8], at: Option<usize>) -> (Lifetime, Option<usize>)
-    ensures { (lifetime_view result.0, result.1) ≡ lifetime name.now at }
+pub fn lifetime_form(part: &[u8], at: Option<usize>) -> (Lifetime, Option<usize>)
+    ensures { (lifetime_view result.0, result.1) ≡ lifetime part.now at }
 {
     let Some(at) = at else {
         return (Lifetime::Nothing, None);
     };
-    if byte_at(name, at) != b'L' {
+    if byte_at(part, at) != b'L' {
         return (Lifetime::Nothing, Some(at));
     }
-    match base_62_number(name, at + 1) {
+    match base_62_number(part, at + 1) {
         Some((index, after)) => (Lifetime::Indexed(index), Some(after)),
         None => (Lifetime::Invalid, None),
     }
@@ -194,19 +194,19 @@ pub fn basic_type(letter: u8) -> Option<&'static str>
 
 // `["K" <abi>]`
 #[tactic(auto, unfolding(crate::specs::Forms::abi))]
-fn abi<'a>(name: &'a str, at: usize) -> Option<(Option<&'a str>, usize)>
-    requires ascii { IsAscii name.now }
-    ensures value { option_map (λ a. (option_map (λ t. t.now) a.0, a.1)) result ≡ abi name.now at }
+fn abi<'a>(part: &'a str, at: usize) -> Option<(Option<&'a str>, usize)>
+    requires ascii { IsAscii part.now }
+    ensures value { option_map (λ a. (option_map (λ t. t.now) a.0, a.1)) result ≡ abi part.now at }
     ensures ascii { IfSome result (λ a. ForSome a.0 (λ t. IsAscii t.now)) }
 {
-    let bytes = name.as_bytes();
+    let bytes = part.as_bytes();
     if byte_at(bytes, at) != b'K' {
         return Some((None, at));
     }
     if byte_at(bytes, at + 1) == b'C' {
         return Some((Some("C"), at + 2));
     }
-    let (name_of_abi, after) = undisambiguated_at(name, at + 1)?;
+    let (name_of_abi, after) = undisambiguated_at(part, at + 1)?;
     if name_of_abi.ascii.is_empty() || !name_of_abi.punycode.is_empty() {
         return None;
     }
@@ -214,16 +214,16 @@ fn abi<'a>(name: &'a str, at: usize) -> Option<(Option<&'a str>, usize)>
 }
 
 /// `"F"` and the front of a `<fn-sig>`, after its binder.
-pub fn function_form<'a>(name: &'a str, binder: Option<(u64, usize)>) -> TypeForm<'a>
-    requires ascii { IsAscii name.now }
-    ensures { type_view result ≡ function_form name.now binder }
+pub fn function_form<'a>(part: &'a str, binder: Option<(u64, usize)>) -> TypeForm<'a>
+    requires ascii { IsAscii part.now }
+    ensures { type_view result ≡ function_form part.now binder }
 {
     let Some((binder, at)) = binder else {
         return TypeForm::Nothing;
     };
-    let bytes = name.as_bytes();
+    let bytes = part.as_bytes();
     let is_unsafe = byte_at(bytes, at) == b'U';
-    match abi(name, past(bytes, b'U', at)) {
+    match abi(part, past(bytes, b'U', at)) {
         Some((abi, after)) => TypeForm::FunctionOf(
             Signature {
                 binder,
@@ -249,12 +249,12 @@ fn reference_form<'a>(mutable: bool, life: (Lifetime, Option<usize>)) -> TypeFor
 
 // A type that is no basic type.
 #[tactic(auto, unfolding(crate::specs::Forms::type_form_by))]
-fn type_form_by<'a>(name: &'a str, at: usize, tag: u8) -> TypeForm<'a>
-    requires ascii { IsAscii name.now }
-    requires within { at < length name.now }
-    ensures { type_view result ≡ type_form_by name.now at tag }
+fn type_form_by<'a>(part: &'a str, at: usize, tag: u8) -> TypeForm<'a>
+    requires ascii { IsAscii part.now }
+    requires within { at < length part.now }
+    ensures { type_view result ≡ type_form_by part.now at tag }
 {
-    let bytes = name.as_bytes();
+    let bytes = part.as_bytes();
     match tag {
         b'R' => reference_form(false, lifetime_form(bytes, Some(at + 1))),
         b'Q' => reference_form(true, lifetime_form(bytes, Some(at + 1))),
@@ -263,7 +263,7 @@ fn type_form_by<'a>(name: &'a str, at: usize, tag: u8) -> TypeForm<'a>
         b'S' => TypeForm::SliceOf(at + 1),
         b'A' => TypeForm::ArrayOf(at + 1),
         b'T' => TypeForm::TupleOf(at + 1),
-        b'F' => function_form(name, optional_base_62_number(bytes, b'G', at + 1)),
+        b'F' => function_form(part, optional_base_62_number(bytes, b'G', at + 1)),
         b'D' => match optional_base_62_number(bytes, b'G', at + 1) {
             Some((binder, after)) => TypeForm::DynOf(binder, after),
             None => TypeForm::InvalidDyn,
@@ -278,19 +278,19 @@ fn type_form_by<'a>(name: &'a str, at: usize, tag: u8) -> TypeForm<'a>
 
 /// The form of a type that stands at a position, where there is one.
 #[tactic(auto, unfolding(crate::specs::Forms::type_form))]
-pub fn type_form<'a>(name: &'a str, at: Option<usize>) -> TypeForm<'a>
-    requires ascii { IsAscii name.now }
-    ensures { type_view result ≡ type_form name.now at }
+pub fn type_form<'a>(part: &'a str, at: Option<usize>) -> TypeForm<'a>
+    requires ascii { IsAscii part.now }
+    ensures { type_view result ≡ type_form part.now at }
 {
     let Some(at) = at else {
         return TypeForm::Nothing;
     };
-    if at >= name.len() {
+    if at >= part.len() {
         return TypeForm::Nothing;
     }
-    let tag = byte_at(name.as_bytes(), at);
+    let tag = byte_at(part.as_bytes(), at);
     match basic_type(tag) {
         Some(text) => TypeForm::Basic(text, at + 1),
-        None => type_form_by(name, at, tag),
+        None => type_form_by(part, at, tag),
     }
 }

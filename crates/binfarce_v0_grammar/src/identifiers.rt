@@ -11,7 +11,7 @@ use crate::numbers::{
     byte_at, length_at, optional_base_62_number, past, skip_optional_base_62_number,
 };
 
-/// `<undisambiguated-identifier>`: its ASCII part, and its Punycode part. Both are parts of the name: nothing is copied.
+/// `<undisambiguated-identifier>`: its ASCII part, and its Punycode part. Both are slices of the name: nothing is copied.
 #[derive(Clone, Copy)]
 pub struct UndisambiguatedIdentifier<'a> {
     /// The characters before the last `_` of a Punycode identifier, and all of any other.
@@ -39,10 +39,10 @@ fn punycode_start(bytes: &[u8]) -> usize
     start
 }
 
-/// The part of an ASCII text between two positions.
+/// The slice of an ASCII text between two positions.
 #[inline(always)]
 #[tactic(auto, using(crate::proofs::TextLemmas::ascii_parts))]
-pub fn part(text: &str, start: usize, end: usize) -> &str
+pub fn ascii_slice(text: &str, start: usize, end: usize) -> &str
     requires ascii { IsAscii text.now }
     requires ordered { start ≤ end }
     requires within { end ≤ length text.now }
@@ -70,61 +70,61 @@ fn identifier_of<'a>(is_punycode: bool, text: &'a str) -> Option<Undisambiguated
     if start == text.len() {
         return None;
     }
-    let ascii = part(text, 0, start.saturating_sub(1));
-    let punycode = part(text, start, text.len());
+    let ascii = ascii_slice(text, 0, start.saturating_sub(1));
+    let punycode = ascii_slice(text, start, text.len());
     Some(UndisambiguatedIdentifier { ascii, punycode })
 }
 
-// As many bytes of a name as an identifier's length says.
+// As many bytes as an identifier's length says.
 #[inline(always)]
 #[tactic(auto, unfolding(crate::specs::Identifiers::identifier_bytes))]
 fn identifier_bytes<'a>(
-    name: &'a str,
+    part: &'a str,
     is_punycode: bool,
     start: usize,
     size: u64,
 ) -> Option<(UndisambiguatedIdentifier<'a>, usize)>
-    requires ascii { IsAscii name.now }
-    ensures value { option_map (λ i. (undisambiguated_view i.0, i.1)) result ≡ identifier_bytes name.now is_punycode start size }
+    requires ascii { IsAscii part.now }
+    ensures value { option_map (λ i. (undisambiguated_view i.0, i.1)) result ≡ identifier_bytes part.now is_punycode start size }
     ensures ascii { IfSome result (λ i. IsAscii i.0.ascii.now) }
 {
     let end = start.checked_add(size as usize)?;
-    if end > name.len() {
+    if end > part.len() {
         return None;
     }
-    let parts = identifier_of(is_punycode, part(name, start, end))?;
+    let parts = identifier_of(is_punycode, ascii_slice(part, start, end))?;
     Some((parts, end))
 }
 
 /// `<undisambiguated-identifier> = ["u"] <decimal-number> ["_"] <bytes>` at a position, and the position after it.
 ///
-/// None where no number stands there, where the name ends before as many bytes as it says, and where a Punycode identifier
+/// None where no number stands there, where the part ends before as many bytes as it says, and where a Punycode identifier
 /// has no Punycode.
 #[inline(always)]
 #[tactic(auto, unfolding(crate::specs::Identifiers::undisambiguated_identifier))]
 pub fn undisambiguated_at<'a>(
-    name: &'a str,
+    part: &'a str,
     at: usize,
 ) -> Option<(UndisambiguatedIdentifier<'a>, usize)>
-    requires ascii { IsAscii name.now }
-    ensures value { option_map (λ i. (undisambiguated_view i.0, i.1)) result ≡ undisambiguated_identifier name.now at }
+    requires ascii { IsAscii part.now }
+    ensures value { option_map (λ i. (undisambiguated_view i.0, i.1)) result ≡ undisambiguated_identifier part.now at }
     ensures ascii { IfSome result (λ i. IsAscii i.0.ascii.now) }
 {
-    let bytes = name.as_bytes();
+    let bytes = part.as_bytes();
     let is_punycode = byte_at(bytes, at) == b'u';
     let (size, after) = length_at(bytes, past(bytes, b'u', at))?;
-    identifier_bytes(name, is_punycode, past(bytes, b'_', after), size)
+    identifier_bytes(part, is_punycode, past(bytes, b'_', after), size)
 }
 
 /// `<identifier> = [<disambiguator>] <undisambiguated-identifier>` at a position, and the position after it. None where
 /// either is invalid.
 #[tactic(auto, unfolding(crate::specs::Identifiers::identifier))]
-pub fn identifier_at<'a>(name: &'a str, at: usize) -> Option<(Identifier<'a>, usize)>
-    requires ascii { IsAscii name.now }
-    ensures { option_map (λ l. (identifier_view l.0, l.1)) result ≡ identifier name.now at }
+pub fn identifier_at<'a>(part: &'a str, at: usize) -> Option<(Identifier<'a>, usize)>
+    requires ascii { IsAscii part.now }
+    ensures { option_map (λ l. (identifier_view l.0, l.1)) result ≡ identifier part.now at }
 {
-    let (disambiguator, start) = optional_base_62_number(name.as_bytes(), b's', at)?;
-    let (undisambiguated, after) = undisambiguated_at(name, start)?;
+    let (disambiguator, start) = optional_base_62_number(part.as_bytes(), b's', at)?;
+    let (undisambiguated, after) = undisambiguated_at(part, start)?;
     let identifier = Identifier {
         disambiguator,
         name: undisambiguated,
@@ -137,12 +137,12 @@ pub fn identifier_at<'a>(name: &'a str, at: usize) -> Option<(Identifier<'a>, us
 #[inline(always)]
 #[tactic(auto, using(crate::proofs::SkipLemmas::identifier_name))]
 pub fn identifier_name_at<'a>(
-    name: &'a str,
+    part: &'a str,
     at: usize,
 ) -> Option<(UndisambiguatedIdentifier<'a>, usize)>
-    requires ascii { IsAscii name.now }
-    ensures { option_map (λ i. (undisambiguated_view i.0, i.1)) result ≡ without_disambiguator (identifier name.now at) }
+    requires ascii { IsAscii part.now }
+    ensures { option_map (λ i. (undisambiguated_view i.0, i.1)) result ≡ without_disambiguator (identifier part.now at) }
 {
-    let start = skip_optional_base_62_number(name.as_bytes(), b's', at)?;
-    undisambiguated_at(name, start)
+    let start = skip_optional_base_62_number(part.as_bytes(), b's', at)?;
+    undisambiguated_at(part, start)
 }

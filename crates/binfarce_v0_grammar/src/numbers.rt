@@ -13,20 +13,20 @@ use binfarce_text::digits::hex_value;
 
 /// The byte at a position, and 0 from the end on.
 #[inline(always)]
-pub fn byte_at(name: &[u8], at: usize) -> u8
-    ensures value { result ≡ slice_index name.now at }
-    ensures within { 0 < result → at < length name.now }
+pub fn byte_at(part: &[u8], at: usize) -> u8
+    ensures value { result ≡ slice_index part.now at }
+    ensures within { 0 < result → at < length part.now }
 {
-    if at < name.len() { name[at] } else { 0 }
+    if at < part.len() { part[at] } else { 0 }
 }
 
 /// The position after a byte that may stand at a position, and else that position.
 #[inline(always)]
-pub fn past(name: &[u8], byte: u8, at: usize) -> usize
+pub fn past(part: &[u8], byte: u8, at: usize) -> usize
     requires { 0 < byte }
-    ensures { result ≡ past name.now byte at }
+    ensures { result ≡ past part.now byte at }
 {
-    if byte_at(name, at) == byte {
+    if byte_at(part, at) == byte {
         at + 1
     } else {
         at
@@ -61,31 +61,31 @@ const FEW_DIGITS: usize = 10;
 // Base-62 digits up to a `_`: one more than what they write.
 #[inline(always)]
 #[tactic(auto, using(crate::proofs::NumberLemmas::number_from_step, crate::proofs::NumberLemmas::number_from_past))]
-fn digits_62(name: &[u8], start: usize) -> Option<(u64, usize)>
-    ensures { result ≡ number_from (drop start name.now) 0 start }
+fn digits_62(part: &[u8], start: usize) -> Option<(u64, usize)>
+    ensures { result ≡ number_from (drop start part.now) 0 start }
 {
-    let end = name.len().min(start.saturating_add(FEW_DIGITS));
+    let end = part.len().min(start.saturating_add(FEW_DIGITS));
     let mut value: u64 = 0;
     for at in start..end {
-        let c = name[at];
+        let c = part[at];
         if c == b'_' {
             return Some((value + 1, at + 1));
         }
         let digit = digit_62(c)?;
         value = value * 62 + u64::from(digit);
     }
-    more_digits_62(name, value, end)
+    more_digits_62(part, value, end)
 }
 
 // The same after digits that are worth `worth`.
 #[inline(always)]
 #[tactic(auto, using(crate::proofs::NumberLemmas::number_from_step, crate::proofs::NumberLemmas::number_from_large, crate::proofs::NumberLemmas::number_from_over))]
-fn more_digits_62(name: &[u8], before: u64, start: usize) -> Option<(u64, usize)>
-    ensures { result ≡ number_from (drop start name.now) before start }
+fn more_digits_62(part: &[u8], before: u64, start: usize) -> Option<(u64, usize)>
+    ensures { result ≡ number_from (drop start part.now) before start }
 {
     let mut value = before;
-    for at in start..name.len() {
-        let c = name[at];
+    for at in start..part.len() {
+        let c = part[at];
         if c == b'_' {
             return Some((value.checked_add(1)?, at + 1));
         }
@@ -98,13 +98,13 @@ fn more_digits_62(name: &[u8], before: u64, start: usize) -> Option<(u64, usize)
 /// `<base-62-number>` at a position. None where it is invalid.
 #[inline(always)]
 #[tactic(auto, using(crate::proofs::NumberLemmas::number_step))]
-pub fn base_62_number(name: &[u8], at: usize) -> Option<(u64, usize)>
-    ensures { result ≡ base_62_number name.now at }
+pub fn base_62_number(part: &[u8], at: usize) -> Option<(u64, usize)>
+    ensures { result ≡ base_62_number part.now at }
 {
-    if byte_at(name, at) == b'_' {
+    if byte_at(part, at) == b'_' {
         Some((0, at + 1))
     } else {
-        digits_62(name, at)
+        digits_62(part, at)
     }
 }
 
@@ -112,12 +112,12 @@ pub fn base_62_number(name: &[u8], at: usize) -> Option<(u64, usize)>
 /// one more than the number. None where the number is invalid.
 #[inline(always)]
 #[tactic(auto, unfolding(crate::specs::Base62::optional_base_62_number))]
-pub fn optional_base_62_number(name: &[u8], tag: u8, at: usize) -> Option<(u64, usize)>
+pub fn optional_base_62_number(part: &[u8], tag: u8, at: usize) -> Option<(u64, usize)>
     requires { 0 < tag }
-    ensures { result ≡ optional_base_62_number name.now tag at }
+    ensures { result ≡ optional_base_62_number part.now tag at }
 {
-    if byte_at(name, at) == tag {
-        let (value, after) = base_62_number(name, at + 1)?;
+    if byte_at(part, at) == tag {
+        let (value, after) = base_62_number(part, at + 1)?;
         Some((value.checked_add(1)?, after))
     } else {
         Some((0, at))
@@ -126,13 +126,13 @@ pub fn optional_base_62_number(name: &[u8], tag: u8, at: usize) -> Option<(u64, 
 
 // The position after the longest run of base-62 digits from a position on.
 #[inline(always)]
-fn digits_end(name: &[u8], start: usize) -> usize
-    requires { start ≤ length name.now }
-    ensures value { result ≡ start + prefix_len is_ascii_alphanumeric (drop start name.now) }
-    ensures within { (start ≤ result) × (result ≤ length name.now) }
+fn digits_end(part: &[u8], start: usize) -> usize
+    requires { start ≤ length part.now }
+    ensures value { result ≡ start + prefix_len is_ascii_alphanumeric (drop start part.now) }
+    ensures within { (start ≤ result) × (result ≤ length part.now) }
 {
     let mut end = start;
-    while end < name.len() && name[end].is_ascii_alphanumeric() {
+    while end < part.len() && part[end].is_ascii_alphanumeric() {
         end += 1;
     }
     end
@@ -151,31 +151,31 @@ fn are_small(first: u8, second: u8) -> bool
 
 // Whether the digits from `start` to `end` write a number below 2^64 - 2, as far as their count and the first two tell.
 #[inline(always)]
-fn write_small(name: &[u8], start: usize, end: usize) -> bool
-    requires run { end ≡ start + prefix_len is_ascii_alphanumeric (drop start name.now) }
-    requires within { end ≤ length name.now }
-    ensures { IsTrue result → value_62 (take (prefix_len is_ascii_alphanumeric (drop start name.now)) (drop start name.now)) < 2 ^ 64 - 2 }
+fn write_small(part: &[u8], start: usize, end: usize) -> bool
+    requires run { end ≡ start + prefix_len is_ascii_alphanumeric (drop start part.now) }
+    requires within { end ≤ length part.now }
+    ensures { IsTrue result → value_62 (take (prefix_len is_ascii_alphanumeric (drop start part.now)) (drop start part.now)) < 2 ^ 64 - 2 }
 {
     let count = end - start;
-    count <= 10 || (count == 11 && are_small(name[start], name[start + 1]))
+    count <= 10 || (count == 11 && are_small(part[start], part[start + 1]))
 }
 
 /// The position after what `tagged` reads, whose digits are checked and decoded only where they may write too much.
 #[inline(always)]
 #[tactic(auto, using(crate::proofs::SkipLemmas::skips_nothing, crate::proofs::SkipLemmas::skips_small))]
-pub fn skip_optional_base_62_number(name: &[u8], tag: u8, at: usize) -> Option<usize>
+pub fn skip_optional_base_62_number(part: &[u8], tag: u8, at: usize) -> Option<usize>
     requires { 0 < tag }
-    ensures { result ≡ option_map (λ r. r.1) (optional_base_62_number name.now tag at) }
+    ensures { result ≡ option_map (λ r. r.1) (optional_base_62_number part.now tag at) }
 {
-    if byte_at(name, at) != tag {
+    if byte_at(part, at) != tag {
         return Some(at);
     }
-    let end = digits_end(name, at + 1);
-    if !write_small(name, at + 1, end) {
-        let (_, after) = optional_base_62_number(name, tag, at)?;
+    let end = digits_end(part, at + 1);
+    if !write_small(part, at + 1, end) {
+        let (_, after) = optional_base_62_number(part, tag, at)?;
         return Some(after);
     }
-    if byte_at(name, end) == b'_' {
+    if byte_at(part, end) == b'_' {
         Some(end + 1)
     } else {
         None
@@ -186,11 +186,11 @@ pub fn skip_optional_base_62_number(name: &[u8], tag: u8, at: usize) -> Option<u
 /// invalid or names no position before the `B`.
 #[inline(always)]
 #[tactic(auto, unfolding(crate::specs::Base62::back_reference))]
-pub fn back_reference(name: &[u8], at: usize) -> Option<(usize, usize)>
-    requires { at < length name.now }
-    ensures { result ≡ back_reference name.now at }
+pub fn back_reference(part: &[u8], at: usize) -> Option<(usize, usize)>
+    requires { at < length part.now }
+    ensures { result ≡ back_reference part.now at }
 {
-    let (target, after) = base_62_number(name, at + 1)?;
+    let (target, after) = base_62_number(part, at + 1)?;
     let target = target as usize;
     if target < at {
         Some((target, after))
@@ -213,13 +213,13 @@ fn decimal_digit(c: u8) -> Option<u8>
 // The longest run of decimal digits.
 #[inline(always)]
 #[tactic(auto, using(crate::proofs::NumberLemmas::length_from_step, crate::proofs::NumberLemmas::length_from_large))]
-fn digits_10(name: &[u8], start: usize) -> Option<(u64, usize)>
-    ensures { result ≡ length_from (drop start name.now) 0 start }
+fn digits_10(part: &[u8], start: usize) -> Option<(u64, usize)>
+    ensures { result ≡ length_from (drop start part.now) 0 start }
 {
     let mut value: u64 = 0;
     let mut after = start;
-    for at in start..name.len() {
-        let Some(digit) = decimal_digit(name[at]) else {
+    for at in start..part.len() {
+        let Some(digit) = decimal_digit(part[at]) else {
             return Some((value, at));
         };
         value = with_digit(value, 10, digit)?;
@@ -231,24 +231,24 @@ fn digits_10(name: &[u8], start: usize) -> Option<(u64, usize)>
 /// `<decimal-number>` at a position: a `0` alone, or the longest run of digits. None where it is invalid.
 #[inline(always)]
 #[tactic(auto, using(crate::proofs::NumberLemmas::length_step))]
-pub fn length_at(name: &[u8], at: usize) -> Option<(u64, usize)>
-    ensures { result ≡ length_at name.now at }
+pub fn length_at(part: &[u8], at: usize) -> Option<(u64, usize)>
+    ensures { result ≡ length_at part.now at }
 {
-    match byte_at(name, at) {
+    match byte_at(part, at) {
         b'0' => Some((0, at + 1)),
-        b'1'..=b'9' => digits_10(name, at),
+        b'1'..=b'9' => digits_10(part, at),
         _ => None,
     }
 }
 
 /// The position of the `_` that ends the lower-case hexadecimal digits at a position. None where another byte ends them.
 #[tactic(auto, using(crate::proofs::NumberLemmas::hex_length_step))]
-pub fn hex_end(name: &[u8], start: usize) -> Option<usize>
-    ensures value { result ≡ option_map (λ n. start + n) (hex_length (drop start name.now)) }
-    ensures within { IfSome result (λ end. (start ≤ end) × (end < length name.now)) }
+pub fn hex_end(part: &[u8], start: usize) -> Option<usize>
+    ensures value { result ≡ option_map (λ n. start + n) (hex_length (drop start part.now)) }
+    ensures within { IfSome result (λ end. (start ≤ end) × (end < length part.now)) }
 {
-    for at in start..name.len() {
-        match name[at] {
+    for at in start..part.len() {
+        match part[at] {
             b'_' => return Some(at),
             b'0'..=b'9' | b'a'..=b'f' => {}
             _ => return None,

@@ -11,12 +11,12 @@ use crate::numbers::byte_at;
 
 /// The position after a byte. None where the byte doesn't stand there.
 #[inline(always)]
-pub fn eat(name: &[u8], byte: u8, at: Option<usize>) -> Option<usize>
+pub fn eat(part: &[u8], byte: u8, at: Option<usize>) -> Option<usize>
     requires { 0 < byte }
-    ensures { MatchOption result (stands name.now byte at ≡ false) (λ after. (stands name.now byte at ≡ true) × (after_byte at ≡ Some after)) }
+    ensures { MatchOption result (stands part.now byte at ≡ false) (λ after. (stands part.now byte at ≡ true) × (after_byte at ≡ Some after)) }
 {
     let at = at?;
-    if byte_at(name, at) == byte {
+    if byte_at(part, at) == byte {
         Some(at + 1)
     } else {
         None
@@ -25,13 +25,13 @@ pub fn eat(name: &[u8], byte: u8, at: Option<usize>) -> Option<usize>
 
 /// The position after a list, where the list ends there: at an `E`, and after invalid syntax.
 #[inline(always)]
-pub fn list_end(name: &[u8], at: Option<usize>) -> Option<Option<usize>>
-    ensures { MatchOption result (list_goes_on name.now at ≡ true) (λ after. (list_goes_on name.now at ≡ false) × (after_byte at ≡ after)) }
+pub fn list_end(part: &[u8], at: Option<usize>) -> Option<Option<usize>>
+    ensures { MatchOption result (list_goes_on part.now at ≡ true) (λ after. (list_goes_on part.now at ≡ false) × (after_byte at ≡ after)) }
 {
     let Some(at) = at else {
         return Some(None);
     };
-    if byte_at(name, at) == b'E' {
+    if byte_at(part, at) == b'E' {
         Some(Some(at + 1))
     } else {
         None

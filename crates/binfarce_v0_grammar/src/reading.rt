@@ -14,15 +14,15 @@ use crate::positions::eat;
 
 // `<const>`
 #[tactic(auto, using(crate::proofs::ReadingComplete::const_end_at, crate::proofs::ReadingComplete::const_end_none), unfolding(crate::specs::machine::Ends::const_end))]
-fn read_const(name: &str, levels_left: usize, at: usize) -> Option<usize>
-    requires ascii { IsAscii name.now }
+fn read_const(part: &str, levels_left: usize, at: usize) -> Option<usize>
+    requires ascii { IsAscii part.now }
     requires levels { levels_left ≤ MAX_LEVELS }
-    ensures { result ≡ (ends name.now levels_left).constant at }
+    ensures { result ≡ (ends part.now levels_left).constant at }
 {
     if levels_left == 0 {
         return None;
     }
-    match const_form(name, Some(at)) {
+    match const_form(part, Some(at)) {
         ConstForm::UntypedPlaceholder(after) | ConstForm::Placeholder(_, after) => Some(after),
         ConstForm::Value(_, _, after) => Some(after),
         ConstForm::Back(_, after) => Some(after),
@@ -31,10 +31,10 @@ fn read_const(name: &str, levels_left: usize, at: usize) -> Option<usize>
 }
 
 // The lifetime of a dyn type.
-fn read_lifetime(name: &str, at: usize) -> Option<usize>
-    ensures { result ≡ lifetime_end name.now at }
+fn read_lifetime(part: &str, at: usize) -> Option<usize>
+    ensures { result ≡ lifetime_end part.now at }
 {
-    let bytes = name.as_bytes();
+    let bytes = part.as_bytes();
     let _start = eat(bytes, b'L', Some(at))?;
     let (_life, after) = lifetime_form(bytes, Some(at));
     after
@@ -44,40 +44,40 @@ fn read_lifetime(name: &str, at: usize) -> Option<usize>
 /// `levels_left` levels. What a back reference names isn't looked at, nor what a lifetime's index means.
 #[cycle(reading)]
 #[tactic(auto, using(crate::proofs::ReadingComplete::path_end_at, crate::proofs::ReadingComplete::path_end_none), unfolding(crate::specs::machine::Ends::path_end))]
-pub fn read_path(name: &str, levels_left: usize, at: usize) -> Option<usize>
-    requires ascii { IsAscii name.now }
+pub fn read_path(part: &str, levels_left: usize, at: usize) -> Option<usize>
+    requires ascii { IsAscii part.now }
     requires levels { levels_left ≤ MAX_LEVELS }
-    ensures { result ≡ (ends name.now levels_left).path at }
+    ensures { result ≡ (ends part.now levels_left).path at }
 {
     if levels_left == 0 {
         return None;
     }
     let inner = levels_left - 1;
-    match path_form(name, Some(at)) {
+    match path_form(part, Some(at)) {
         PathForm::Nothing => None,
         PathForm::CrateRoot(_, after) => Some(after),
         PathForm::Back(_, after) => Some(after),
         PathForm::NestedIn(_, after) => {
-            let mid = read_path(name, inner, after)?;
-            let (_identifier, end) = identifier_at(name, mid)?;
+            let mid = read_path(part, inner, after)?;
+            let (_identifier, end) = identifier_at(part, mid)?;
             Some(end)
         }
         PathForm::InherentImpl(after) => {
-            let mid = read_path(name, inner, after)?;
-            read_type(name, inner, mid)
+            let mid = read_path(part, inner, after)?;
+            read_type(part, inner, mid)
         }
         PathForm::TraitImpl(after) => {
-            let mid = read_path(name, inner, after)?;
-            let end = read_type(name, inner, mid)?;
-            read_path(name, inner, end)
+            let mid = read_path(part, inner, after)?;
+            let end = read_type(part, inner, mid)?;
+            read_path(part, inner, end)
         }
         PathForm::TraitDefinition(after) => {
-            let mid = read_type(name, inner, after)?;
-            read_path(name, inner, mid)
+            let mid = read_type(part, inner, after)?;
+            read_path(part, inner, mid)
         }
         PathForm::WithArguments(after) => {
-            let mid = read_path(name, inner, after)?;
-            read_items(name, inner, Listed::Arguments, mid)
+            let mid = read_path(part, inner, after)?;
+            read_items(part, inner, Listed::Arguments, mid)
         }
     }
 }
@@ -85,68 +85,68 @@ pub fn read_path(name: &str, levels_left: usize, at: usize) -> Option<usize>
 // `<type>`
 #[cycle(reading)]
 #[tactic(auto, using(crate::proofs::ReadingComplete::type_end_at, crate::proofs::ReadingComplete::type_end_none), unfolding(crate::specs::machine::Ends::type_end))]
-fn read_type(name: &str, levels_left: usize, at: usize) -> Option<usize>
-    requires ascii { IsAscii name.now }
+fn read_type(part: &str, levels_left: usize, at: usize) -> Option<usize>
+    requires ascii { IsAscii part.now }
     requires levels { levels_left ≤ MAX_LEVELS }
-    ensures { result ≡ (ends name.now levels_left).ty at }
+    ensures { result ≡ (ends part.now levels_left).ty at }
 {
     if levels_left == 0 {
         return None;
     }
     let inner = levels_left - 1;
-    match type_form(name, Some(at)) {
+    match type_form(part, Some(at)) {
         TypeForm::Nothing | TypeForm::InvalidReference | TypeForm::InvalidDyn => None,
         TypeForm::InvalidAbi(_) => None,
         TypeForm::Basic(_, after) => Some(after),
         TypeForm::Back(_, after) => Some(after),
-        TypeForm::ReferenceTo(_, _, after) => read_type(name, inner, after),
-        TypeForm::PointerTo(_, after) => read_type(name, inner, after),
-        TypeForm::SliceOf(after) => read_type(name, inner, after),
+        TypeForm::ReferenceTo(_, _, after) => read_type(part, inner, after),
+        TypeForm::PointerTo(_, after) => read_type(part, inner, after),
+        TypeForm::SliceOf(after) => read_type(part, inner, after),
         TypeForm::ArrayOf(after) => {
-            let mid = read_type(name, inner, after)?;
-            read_const(name, inner, mid)
+            let mid = read_type(part, inner, after)?;
+            read_const(part, inner, mid)
         }
-        TypeForm::TupleOf(after) => read_items(name, inner, Listed::Types, after),
+        TypeForm::TupleOf(after) => read_items(part, inner, Listed::Types, after),
         TypeForm::FunctionOf(_, after) => {
-            let mid = read_items(name, inner, Listed::Types, after)?;
-            read_return(name, inner, mid)
+            let mid = read_items(part, inner, Listed::Types, after)?;
+            read_return(part, inner, mid)
         }
         TypeForm::DynOf(_, after) => {
-            let mid = read_items(name, inner, Listed::Traits, after)?;
-            read_lifetime(name, mid)
+            let mid = read_items(part, inner, Listed::Traits, after)?;
+            read_lifetime(part, mid)
         }
-        TypeForm::Path => read_path(name, inner, at),
+        TypeForm::Path => read_path(part, inner, at),
     }
 }
 
 // The return of a function type.
 #[cycle(reading)]
-fn read_return(name: &str, levels_left: usize, at: usize) -> Option<usize>
-    requires ascii { IsAscii name.now }
+fn read_return(part: &str, levels_left: usize, at: usize) -> Option<usize>
+    requires ascii { IsAscii part.now }
     requires levels { levels_left ≤ MAX_LEVELS }
-    ensures { result ≡ return_end name.now (ends name.now levels_left) at }
+    ensures { result ≡ return_end part.now (ends part.now levels_left) at }
 {
-    match eat(name.as_bytes(), b'u', Some(at)) {
+    match eat(part.as_bytes(), b'u', Some(at)) {
         Some(after) => Some(after),
-        None => read_type(name, levels_left, at),
+        None => read_type(part, levels_left, at),
     }
 }
 
 // A list up to its `E`.
 #[cycle(reading)]
 #[tactic(auto, using(crate::proofs::ReadingLists::items_end_step, crate::proofs::ReadingLists::items_end_none, crate::proofs::ReadingLists::items_end_more))]
-fn read_items(name: &str, levels_left: usize, listed: Listed, start: usize) -> Option<usize>
-    requires ascii { IsAscii name.now }
+fn read_items(part: &str, levels_left: usize, listed: Listed, start: usize) -> Option<usize>
+    requires ascii { IsAscii part.now }
     requires levels { levels_left ≤ MAX_LEVELS }
-    ensures { result ≡ list_end name.now (ends name.now levels_left) (listed_view listed) start }
+    ensures { result ≡ list_end part.now (ends part.now levels_left) (listed_view listed) start }
 {
-    let bytes = name.as_bytes();
+    let bytes = part.as_bytes();
     let mut at = start;
     for _turn in 0..bytes.len() + 1 {
         if let Some(after) = eat(bytes, b'E', Some(at)) {
             return Some(after);
         }
-        at = read_item(name, levels_left, listed, at)?;
+        at = read_item(part, levels_left, listed, at)?;
     }
     None
 }
@@ -154,55 +154,55 @@ fn read_items(name: &str, levels_left: usize, listed: Listed, start: usize) -> O
 // An item of a list.
 #[cycle(reading)]
 #[tactic(auto, unfolding(crate::specs::machine::Ends::item_end))]
-fn read_item(name: &str, levels_left: usize, listed: Listed, at: usize) -> Option<usize>
-    requires ascii { IsAscii name.now }
+fn read_item(part: &str, levels_left: usize, listed: Listed, at: usize) -> Option<usize>
+    requires ascii { IsAscii part.now }
     requires levels { levels_left ≤ MAX_LEVELS }
-    ensures { result ≡ item_end name.now (ends name.now levels_left) (listed_view listed) at }
+    ensures { result ≡ item_end part.now (ends part.now levels_left) (listed_view listed) at }
 {
     match listed {
-        Listed::Types => read_type(name, levels_left, at),
-        Listed::Arguments => read_argument(name, levels_left, at),
+        Listed::Types => read_type(part, levels_left, at),
+        Listed::Arguments => read_argument(part, levels_left, at),
         Listed::Traits => {
-            let mid = read_path(name, levels_left, at)?;
-            read_bindings(name, levels_left, mid)
+            let mid = read_path(part, levels_left, at)?;
+            read_bindings(part, levels_left, mid)
         }
     }
 }
 
 // `<generic-arg>`
 #[cycle(reading)]
-fn read_argument(name: &str, levels_left: usize, at: usize) -> Option<usize>
-    requires ascii { IsAscii name.now }
+fn read_argument(part: &str, levels_left: usize, at: usize) -> Option<usize>
+    requires ascii { IsAscii part.now }
     requires levels { levels_left ≤ MAX_LEVELS }
-    ensures { result ≡ argument_end name.now (ends name.now levels_left) at }
+    ensures { result ≡ argument_end part.now (ends part.now levels_left) at }
 {
-    let bytes = name.as_bytes();
+    let bytes = part.as_bytes();
     if eat(bytes, b'L', Some(at)).is_some() {
         let (_life, after) = lifetime_form(bytes, Some(at));
         return after;
     }
     match eat(bytes, b'K', Some(at)) {
-        Some(after) => read_const(name, levels_left, after),
-        None => read_type(name, levels_left, at),
+        Some(after) => read_const(part, levels_left, after),
+        None => read_type(part, levels_left, at),
     }
 }
 
 // The bindings of a trait.
 #[cycle(reading)]
 #[tactic(auto, using(crate::proofs::ReadingLists::bindings_end_step, crate::proofs::ReadingLists::bindings_end_none, crate::proofs::ReadingLists::bindings_end_more))]
-fn read_bindings(name: &str, levels_left: usize, start: usize) -> Option<usize>
-    requires ascii { IsAscii name.now }
+fn read_bindings(part: &str, levels_left: usize, start: usize) -> Option<usize>
+    requires ascii { IsAscii part.now }
     requires levels { levels_left ≤ MAX_LEVELS }
-    ensures { result ≡ bindings_end name.now (ends name.now levels_left) (suc (length name.now)) start }
+    ensures { result ≡ bindings_end part.now (ends part.now levels_left) (suc (length part.now)) start }
 {
-    let bytes = name.as_bytes();
+    let bytes = part.as_bytes();
     let mut at = start;
     for _turn in 0..bytes.len() + 1 {
         let Some(binding) = eat(bytes, b'p', Some(at)) else {
             return Some(at);
         };
-        let (_name, bound) = undisambiguated_at(name, binding)?;
-        at = read_type(name, levels_left, bound)?;
+        let (_name, bound) = undisambiguated_at(part, binding)?;
+        at = read_type(part, levels_left, bound)?;
     }
     None
 }

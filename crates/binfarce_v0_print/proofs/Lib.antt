@@ -1,2 +1,3 @@
+pub mod Anew
 pub mod ListLemmas
 pub mod Shown

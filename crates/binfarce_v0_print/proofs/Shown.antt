@@ -51,12 +51,12 @@ trimmed_root s (Some l) short =
 abbrev crate_form : Option (Identifier × ℕ) → PathForm
 crate_form l = option_map_or (λ (i : Identifier × ℕ). CrateRoot i.0 i.1) l NoPathForm
 
-pub root_state : (name : List ℕ) (R : Readers) (position : Position) (binder_depth : ℕ) (s : State) (l : Option (Identifier × ℕ)) → (path_rule name R position binder_depth s (crate_form l)).1 ≡ crate_state l s
+pub root_state : (part : List ℕ) (R : Readers) (position : Position) (binder_depth : ℕ) (s : State) (l : Option (Identifier × ℕ)) → (path_rule part R position binder_depth s (crate_form l)).1 ≡ crate_state l s
 unfolding path_rule
-root_state name R position binder_depth s None = refl
-root_state name R position binder_depth s (Some l) = refl
+root_state part R position binder_depth s None = refl
+root_state part R position binder_depth s (Some l) = refl
 
-pub root_closed : (name : List ℕ) (R : Readers) (position : Position) (binder_depth : ℕ) (s : State) (l : Option (Identifier × ℕ)) → is_left_open (path_rule name R position binder_depth s (crate_form l)).0 position ≡ false
+pub root_closed : (part : List ℕ) (R : Readers) (position : Position) (binder_depth : ℕ) (s : State) (l : Option (Identifier × ℕ)) → is_left_open (path_rule part R position binder_depth s (crate_form l)).0 position ≡ false
 unfolding path_rule
-root_closed name R position binder_depth s None = refl
-root_closed name R position binder_depth s (Some l) = refl
+root_closed part R position binder_depth s None = refl
+root_closed part R position binder_depth s (Some l) = refl

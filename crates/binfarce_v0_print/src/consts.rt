@@ -2,57 +2,39 @@
 
 ghost use Rattle.std.specs.Prelude.{◌≡◌, ◌≤◌, ◌++◌, OnOk, Some, None, codes};
 ghost use Rattle.binfarce_v0_grammar.specs.declared.limits.TheConstants.{MAX_LEVELS};
+ghost use Rattle.binfarce_v0_grammar.specs.Forms.{const_form};
 ghost use Rattle.binfarce_v0_text.specs.LeafTexts.{sign_text, value_text};
 ghost use Rattle.binfarce_v0_grammar.specs.machine.View.{value_view};
-ghost use Rattle.binfarce_v0_state.specs.machine.Printing.{with_state, readers, seek, typed};
+ghost use Rattle.binfarce_v0_state.specs.machine.Printing.{with_state, readers, const_rule, seek, typed};
 
+use crate::productions::{print, print_target};
 use binfarce_v0_grammar::forms::{ConstForm, ConstValue, const_form};
-use binfarce_v0_state::fragments::{FragmentKey, Production};
+use binfarce_v0_state::fragments::Production;
 use binfarce_v0_state::state::Printer;
 use std::alloc::AllocError;
 
 /// `<const>`: it is kept where a back reference may mean it.
-#[cycle(print_const)]
+#[cycle(printing)]
 pub fn print_const(printer: &mut Printer<'_>, levels_left: usize) -> Result<(), AllocError>
     requires levels { levels_left ≤ MAX_LEVELS }
-    ensures { OnOk result (printer.new ≡ with_state ((readers printer.old.name levels_left).constant printer.old.state).1 printer.old) }
+    ensures { OnOk result (printer.new ≡ with_state ((readers printer.old.part levels_left).constant printer.old.state).1 printer.old) }
 {
-    match printer.keeps_at() {
-        Some(at) => print_and_keep_const(printer, levels_left, at),
-        None => print_const_anew(printer, levels_left),
-    }
+    print(printer, levels_left, 0, Production::Const)?;
+    Ok(())
 }
 
-// A const that is kept.
-#[cycle(print_const)]
-#[inline(never)]
-#[tactic(auto, using(binfarce_v0_state::proofs::KeptLemmas::constant_anew))]
-fn print_and_keep_const(
+// A const by the letter that it begins with.
+#[cycle(printing)]
+#[tactic(auto, unfolding(binfarce_v0_state::specs::machine::Printing::const_rule))]
+pub(crate) fn print_const_by_letter(
     printer: &mut Printer<'_>,
     levels_left: usize,
-    at: usize,
+    start: Option<usize>,
 ) -> Result<(), AllocError>
-    requires at { printer.old.state.at ≡ Some at }
     requires levels { levels_left ≤ MAX_LEVELS }
-    ensures { OnOk result (printer.new ≡ with_state ((readers printer.old.name levels_left).constant printer.old.state).1 printer.old) }
+    ensures { OnOk result (printer.new ≡ with_state ((const_rule (readers printer.old.part levels_left) printer.old.state (const_form printer.old.part start)).1) printer.old) }
 {
-    let mark = printer.mark(levels_left, at);
-    print_const_anew(printer, levels_left)?;
-    printer.keep(mark, levels_left, 0, Production::Const, false)
-}
-
-// A const from its position.
-#[cycle(print_const)]
-#[tactic(auto, using(binfarce_v0_state::proofs::Levels::constant_at), unfolding(binfarce_v0_state::specs::machine::Printing::const_rule))]
-fn print_const_anew(printer: &mut Printer<'_>, levels_left: usize) -> Result<(), AllocError>
-    requires levels { levels_left ≤ MAX_LEVELS }
-    ensures { OnOk result (printer.new ≡ with_state ((readers printer.old.name levels_left).constant printer.old.state).1 printer.old) }
-{
-    let form = const_form(printer.name, printer.at);
-    let Some(below) = printer.enter(levels_left) else {
-        return Ok(());
-    };
-    match form {
+    match const_form(printer.part, start) {
         ConstForm::Nothing => printer.invalid_syntax(),
         ConstForm::UntypedPlaceholder(after) => {
             printer.seek(Some(after));
@@ -64,18 +46,7 @@ fn print_const_anew(printer: &mut Printer<'_>, levels_left: usize) -> Result<(),
             print_invalid_value(printer, negative, type_name)
         }
         ConstForm::Back(target, after) => {
-            let key = FragmentKey {
-                production: Production::Const,
-                at: target,
-                binder_depth: 0,
-            };
-            if let Some(_opened) = printer.print_kept(below, key, after)? {
-                return Ok(());
-            }
-            let in_back_reference = printer.in_back_reference;
-            printer.enter_target(target);
-            print_const(printer, below)?;
-            printer.leave_target(after, in_back_reference);
+            print_target(printer, levels_left, 0, Production::Const, target, after)?;
             Ok(())
         }
     }

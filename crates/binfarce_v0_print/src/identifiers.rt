@@ -13,7 +13,7 @@ use std::alloc::AllocError;
 
 // The name of a nested path after its parent.
 pub fn print_nested_name(printer: &mut Printer<'_>, namespace: u8) -> Result<(), AllocError>
-    ensures { OnOk result (printer.new ≡ with_state (named_state namespace printer.old.state (identifier_at printer.old.name printer.old.state.at)) printer.old) }
+    ensures { OnOk result (printer.new ≡ with_state (named_state namespace printer.old.state (identifier_at printer.old.part printer.old.state.at)) printer.old) }
 {
     let Some(at) = printer.at else {
         return printer.invalid_syntax();
@@ -27,9 +27,9 @@ pub fn print_nested_name(printer: &mut Printer<'_>, namespace: u8) -> Result<(),
 
 // The name of a closure or of what has another special namespace, with its disambiguator.
 fn print_special_name(printer: &mut Printer<'_>, namespace: u8, at: usize) -> Result<(), AllocError>
-    ensures { OnOk result (printer.new ≡ with_state (named_state namespace printer.old.state (identifier printer.old.name at)) printer.old) }
+    ensures { OnOk result (printer.new ≡ with_state (named_state namespace printer.old.state (identifier printer.old.part at)) printer.old) }
 {
-    match identifier_at(printer.name, at) {
+    match identifier_at(printer.part, at) {
         Some((identifier, after)) => {
             printer.seek(Some(after));
             printer.put(Nested {
@@ -45,9 +45,9 @@ fn print_special_name(printer: &mut Printer<'_>, namespace: u8, at: usize) -> Re
 #[tactic(auto, using(crate::proofs::Shown::plain_name))]
 fn print_plain_name(printer: &mut Printer<'_>, namespace: u8, at: usize) -> Result<(), AllocError>
     requires { is_ascii_uppercase namespace ≡ false }
-    ensures { OnOk result (printer.new ≡ with_state (named_state namespace printer.old.state (identifier printer.old.name at)) printer.old) }
+    ensures { OnOk result (printer.new ≡ with_state (named_state namespace printer.old.state (identifier printer.old.part at)) printer.old) }
 {
-    match identifier_name_at(printer.name, at) {
+    match identifier_name_at(printer.part, at) {
         Some((name, after)) => {
             printer.seek(Some(after));
             printer.put(AfterMark { mark: "::", name })
@@ -58,7 +58,7 @@ fn print_plain_name(printer: &mut Printer<'_>, namespace: u8, at: usize) -> Resu
 
 // `"C" <identifier>`, by the position of the identifier.
 pub fn print_crate_root(printer: &mut Printer<'_>, at: usize) -> Result<(), AllocError>
-    ensures { OnOk result (printer.new ≡ with_state (crate_state (identifier printer.old.name at) printer.old.state) printer.old) }
+    ensures { OnOk result (printer.new ≡ with_state (crate_state (identifier printer.old.part at) printer.old.state) printer.old) }
 {
     if printer.full {
         print_full_root(printer, at)
@@ -70,9 +70,9 @@ pub fn print_crate_root(printer: &mut Printer<'_>, at: usize) -> Result<(), Allo
 // A crate's name with its disambiguator.
 fn print_full_root(printer: &mut Printer<'_>, at: usize) -> Result<(), AllocError>
     requires { printer.now.state.full ≡ true }
-    ensures { OnOk result (printer.new ≡ with_state (crate_state (identifier printer.old.name at) printer.old.state) printer.old) }
+    ensures { OnOk result (printer.new ≡ with_state (crate_state (identifier printer.old.part at) printer.old.state) printer.old) }
 {
-    match identifier_at(printer.name, at) {
+    match identifier_at(printer.part, at) {
         Some((root, after)) => {
             printer.seek(Some(after));
             printer.keep_root(root.name);
@@ -87,9 +87,9 @@ fn print_full_root(printer: &mut Printer<'_>, at: usize) -> Result<(), AllocErro
 #[tactic(auto, using(crate::proofs::Shown::trimmed_root))]
 fn print_trimmed_root(printer: &mut Printer<'_>, at: usize) -> Result<(), AllocError>
     requires { printer.now.state.full ≡ false }
-    ensures { OnOk result (printer.new ≡ with_state (crate_state (identifier printer.old.name at) printer.old.state) printer.old) }
+    ensures { OnOk result (printer.new ≡ with_state (crate_state (identifier printer.old.part at) printer.old.state) printer.old) }
 {
-    match identifier_name_at(printer.name, at) {
+    match identifier_name_at(printer.part, at) {
         Some((name, after)) => {
             printer.seek(Some(after));
             printer.keep_root(name);

@@ -6,4 +6,5 @@ pub mod consts;
 mod identifiers;
 mod lists;
 pub mod paths;
+mod productions;
 pub mod types;

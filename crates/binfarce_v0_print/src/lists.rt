@@ -27,12 +27,12 @@ pub fn print_items(
     between: &'static str,
 ) -> Result<usize, AllocError>
     requires levels { WithinLevels levels_left binder_depth }
-    ensures printed { OnOk result (printer.new ≡ with_state ((items_from printer.old.name (readers printer.old.name levels_left) binder_depth (listed_view listed) between.entry.now printer.old.state).1) printer.old) }
-    ensures counted { IfOk result (λ count. count ≡ items_count (items_from printer.old.name (readers printer.old.name levels_left) binder_depth (listed_view listed) between.entry.now printer.old.state).0) }
+    ensures printed { OnOk result (printer.new ≡ with_state ((items_from printer.old.part (readers printer.old.part levels_left) binder_depth (listed_view listed) between.entry.now printer.old.state).1) printer.old) }
+    ensures counted { IfOk result (λ count. count ≡ items_count (items_from printer.old.part (readers printer.old.part levels_left) binder_depth (listed_view listed) between.entry.now printer.old.state).0) }
 {
     let most = printer.steps_left + 1;
     for count in 0..most {
-        if let Some(after) = list_end(printer.name.as_bytes(), printer.at) {
+        if let Some(after) = list_end(printer.part.as_bytes(), printer.at) {
             printer.seek(after);
             return Ok(count);
         }
@@ -53,7 +53,7 @@ fn print_item(
     listed: Listed,
 ) -> Result<(), AllocError>
     requires levels { WithinLevels levels_left binder_depth }
-    ensures { OnOk result (printer.new ≡ with_state ((item_rule printer.old.name (readers printer.old.name levels_left) binder_depth (listed_view listed) printer.old.state).1) printer.old) }
+    ensures { OnOk result (printer.new ≡ with_state ((item_rule printer.old.part (readers printer.old.part levels_left) binder_depth (listed_view listed) printer.old.state).1) printer.old) }
 {
     match listed {
         Listed::Types => print_type(printer, levels_left, binder_depth),
@@ -74,9 +74,9 @@ fn print_argument(
     binder_depth: usize,
 ) -> Result<(), AllocError>
     requires levels { WithinLevels levels_left binder_depth }
-    ensures { OnOk result (printer.new ≡ with_state ((item_rule printer.old.name (readers printer.old.name levels_left) binder_depth Arguments printer.old.state).1) printer.old) }
+    ensures { OnOk result (printer.new ≡ with_state ((item_rule printer.old.part (readers printer.old.part levels_left) binder_depth Arguments printer.old.state).1) printer.old) }
 {
-    let bytes = printer.name.as_bytes();
+    let bytes = printer.part.as_bytes();
     if eat(bytes, b'L', printer.at).is_some() {
         let (life, after) = lifetime_form(bytes, printer.at);
         printer.visit();
@@ -105,15 +105,15 @@ fn print_bindings(
     mut opened: bool,
 ) -> Result<(), AllocError>
     requires levels { WithinLevels levels_left binder_depth }
-    ensures { OnOk result (printer.new ≡ with_state ((bindings_rule printer.old.name (readers printer.old.name levels_left) binder_depth (suc printer.old.state.steps_left) opened printer.old.state).1) printer.old) }
+    ensures { OnOk result (printer.new ≡ with_state ((bindings_rule printer.old.part (readers printer.old.part levels_left) binder_depth (suc printer.old.state.steps_left) opened printer.old.state).1) printer.old) }
 {
     let most = printer.steps_left + 1;
     for _turn in 0..most {
-        let Some(start) = eat(printer.name.as_bytes(), b'p', printer.at) else {
+        let Some(start) = eat(printer.part.as_bytes(), b'p', printer.at) else {
             return printer.write(if opened { ">" } else { "" });
         };
         printer.write(if opened { ", " } else { "<" })?;
-        let Some((binding, after)) = undisambiguated_at(printer.name, start) else {
+        let Some((binding, after)) = undisambiguated_at(printer.part, start) else {
             return printer.invalid_syntax();
         };
         printer.seek(Some(after));

@@ -5,14 +5,15 @@ ghost use Rattle.std.specs.Char.{is_ascii_alphabetic};
 ghost use Rattle.binfarce_v0_grammar.specs.Forms.{InherentImpl, TraitImpl, path_form};
 ghost use Rattle.binfarce_v0_text.specs.TreeTexts.{parent_position, is_left_open};
 ghost use Rattle.binfarce_v0_text.specs.machine.View.{position_view};
-ghost use Rattle.binfarce_v0_state.specs.machine.Printing.{WithinLevels, with_state, readers, path_rule, qualified, into, back_to, generic_rule, seek, set_muted};
+ghost use Rattle.binfarce_v0_state.specs.machine.Printing.{WithinLevels, with_state, readers, path_rule, qualified, generic_rule, seek, set_muted};
 
 use crate::identifiers::{print_crate_root, print_nested_name};
 use crate::lists::print_items;
+use crate::productions::{print, print_target};
 use crate::types::print_type;
 use binfarce_v0_grammar::forms::Listed;
 use binfarce_v0_grammar::numbers::{back_reference, byte_at, skip_optional_base_62_number};
-use binfarce_v0_state::fragments::{FragmentKey, Production};
+use binfarce_v0_state::fragments::Production;
 use binfarce_v0_state::state::Printer;
 use binfarce_v0_text::position::{Position, closing, is_open_trait, parent, value_mark};
 use std::alloc::AllocError;
@@ -35,69 +36,22 @@ pub fn print_path(
     position: Position,
 ) -> Result<bool, AllocError>
     requires levels { WithinLevels levels_left binder_depth }
-    ensures printed { OnOk result (printer.new ≡ with_state (((readers printer.old.name levels_left).path (position_view position) binder_depth printer.old.state).1) printer.old) }
-    ensures opened { IfOk result (λ opened. opened ≡ is_left_open ((readers printer.old.name levels_left).path (position_view position) binder_depth printer.old.state).0 (position_view position)) }
+    ensures printed { OnOk result (printer.new ≡ with_state (((readers printer.old.part levels_left).path (position_view position) binder_depth printer.old.state).1) printer.old) }
+    ensures opened { IfOk result (λ opened. opened ≡ is_left_open ((readers printer.old.part levels_left).path (position_view position) binder_depth printer.old.state).0 (position_view position)) }
 {
-    match printer.keeps_at() {
-        Some(at) => print_and_keep_path(printer, levels_left, binder_depth, position, at),
-        None => print_path_anew(printer, levels_left, binder_depth, position),
-    }
-}
-
-// A path that is kept.
-#[cycle(printing)]
-#[inline(never)]
-#[tactic(auto, using(binfarce_v0_state::proofs::KeptLemmas::path_anew))]
-fn print_and_keep_path(
-    printer: &mut Printer<'_>,
-    levels_left: usize,
-    binder_depth: usize,
-    position: Position,
-    at: usize,
-) -> Result<bool, AllocError>
-    requires at { printer.old.state.at ≡ Some at }
-    requires levels { WithinLevels levels_left binder_depth }
-    ensures printed { OnOk result (printer.new ≡ with_state (((readers printer.old.name levels_left).path (position_view position) binder_depth printer.old.state).1) printer.old) }
-    ensures opened { IfOk result (λ opened. opened ≡ is_left_open ((readers printer.old.name levels_left).path (position_view position) binder_depth printer.old.state).0 (position_view position)) }
-{
-    let mark = printer.mark(levels_left, at);
-    let opened = print_path_anew(printer, levels_left, binder_depth, position)?;
-    printer.keep(
-        mark,
+    print(
+        printer,
         levels_left,
         binder_depth,
         Production::Path(position),
-        opened,
-    )?;
-    Ok(opened)
-}
-
-// A path from its position.
-#[cycle(printing)]
-#[inline(always)]
-#[tactic(auto, using(binfarce_v0_state::proofs::Levels::path_at))]
-fn print_path_anew(
-    printer: &mut Printer<'_>,
-    levels_left: usize,
-    binder_depth: usize,
-    position: Position,
-) -> Result<bool, AllocError>
-    requires levels { WithinLevels levels_left binder_depth }
-    ensures printed { OnOk result (printer.new ≡ with_state (((readers printer.old.name levels_left).path (position_view position) binder_depth printer.old.state).1) printer.old) }
-    ensures opened { IfOk result (λ opened. opened ≡ is_left_open ((readers printer.old.name levels_left).path (position_view position) binder_depth printer.old.state).0 (position_view position)) }
-{
-    let start = printer.at;
-    let Some(below) = printer.enter(levels_left) else {
-        return Ok(false);
-    };
-    print_path_by_letter(printer, below, binder_depth, position, start)
+    )
 }
 
 // A path by the letter that it begins with.
 #[cycle(printing)]
 #[inline(always)]
 #[tactic(auto, using(crate::proofs::Shown::root_state, crate::proofs::Shown::root_closed), unfolding(binfarce_v0_state::specs::machine::Printing::path_rule, binfarce_v0_grammar::specs::Forms::path_form))]
-fn print_path_by_letter(
+pub(crate) fn print_path_by_letter(
     printer: &mut Printer<'_>,
     levels_left: usize,
     binder_depth: usize,
@@ -105,14 +59,14 @@ fn print_path_by_letter(
     start: Option<usize>,
 ) -> Result<bool, AllocError>
     requires levels { WithinLevels (levels_left + 1) binder_depth }
-    ensures printed { OnOk result (printer.new ≡ with_state ((path_rule printer.old.name (readers printer.old.name levels_left) (position_view position) binder_depth printer.old.state (path_form printer.old.name start)).1) printer.old) }
-    ensures opened { IfOk result (λ opened. opened ≡ is_left_open (path_rule printer.old.name (readers printer.old.name levels_left) (position_view position) binder_depth printer.old.state (path_form printer.old.name start)).0 (position_view position)) }
+    ensures printed { OnOk result (printer.new ≡ with_state ((path_rule printer.old.part (readers printer.old.part levels_left) (position_view position) binder_depth printer.old.state (path_form printer.old.part start)).1) printer.old) }
+    ensures opened { IfOk result (λ opened. opened ≡ is_left_open (path_rule printer.old.part (readers printer.old.part levels_left) (position_view position) binder_depth printer.old.state (path_form printer.old.part start)).0 (position_view position)) }
 {
     let Some(at) = start else {
         printer.invalid_syntax()?;
         return Ok(false);
     };
-    let bytes = printer.name.as_bytes();
+    let bytes = printer.part.as_bytes();
     match byte_at(bytes, at) {
         b'C' => print_crate_root(printer, at + 1)?,
         b'N' => {
@@ -149,11 +103,11 @@ fn print_path_by_letter(
         }
         b'B' => match back_reference(bytes, at) {
             Some((target, after)) => {
-                return print_path_target(
+                return print_target(
                     printer,
                     levels_left,
                     binder_depth,
-                    position,
+                    Production::Path(position),
                     target,
                     after,
                 );
@@ -163,35 +117,6 @@ fn print_path_by_letter(
         _ => printer.invalid_syntax()?,
     }
     Ok(false)
-}
-
-// What a back reference stands for: a path like any other, printed from its target.
-#[cycle(printing)]
-fn print_path_target(
-    printer: &mut Printer<'_>,
-    levels_left: usize,
-    binder_depth: usize,
-    position: Position,
-    target: usize,
-    after: usize,
-) -> Result<bool, AllocError>
-    requires levels { WithinLevels levels_left binder_depth }
-    ensures printed { OnOk result (printer.new ≡ with_state (back_to after printer.old.state.in_back_reference ((readers printer.old.name levels_left).path (position_view position) binder_depth (into target printer.old.state)).1) printer.old) }
-    ensures opened { IfOk result (λ opened. opened ≡ is_left_open ((readers printer.old.name levels_left).path (position_view position) binder_depth (into target printer.old.state)).0 (position_view position)) }
-{
-    let key = FragmentKey {
-        production: Production::Path(position),
-        at: target,
-        binder_depth,
-    };
-    if let Some(opened) = printer.print_kept(levels_left, key, after)? {
-        return Ok(opened);
-    }
-    let in_back_reference = printer.in_back_reference;
-    printer.enter_target(target);
-    let opened = print_path(printer, levels_left, binder_depth, position)?;
-    printer.leave_target(after, in_back_reference);
-    Ok(opened)
 }
 
 // `"M" [<disambiguator>] ..`
@@ -205,7 +130,7 @@ fn print_inherent_impl(
     after: usize,
 ) -> Result<(), AllocError>
     requires levels { WithinLevels levels_left binder_depth }
-    ensures { OnOk result (printer.new ≡ with_state ((path_rule printer.old.name (readers printer.old.name levels_left) (position_view position) binder_depth printer.old.state (InherentImpl after)).1) printer.old) }
+    ensures { OnOk result (printer.new ≡ with_state ((path_rule printer.old.part (readers printer.old.part levels_left) (position_view position) binder_depth printer.old.state (InherentImpl after)).1) printer.old) }
 {
     print_impl_path(printer, levels_left, binder_depth, position, after)?;
     printer.write("<")?;
@@ -224,7 +149,7 @@ fn print_trait_impl(
     after: usize,
 ) -> Result<(), AllocError>
     requires levels { WithinLevels levels_left binder_depth }
-    ensures { OnOk result (printer.new ≡ with_state ((path_rule printer.old.name (readers printer.old.name levels_left) (position_view position) binder_depth printer.old.state (TraitImpl after)).1) printer.old) }
+    ensures { OnOk result (printer.new ≡ with_state ((path_rule printer.old.part (readers printer.old.part levels_left) (position_view position) binder_depth printer.old.state (TraitImpl after)).1) printer.old) }
 {
     print_impl_path(printer, levels_left, binder_depth, position, after)?;
     print_qualified(printer, levels_left, binder_depth)
@@ -240,7 +165,7 @@ fn print_impl_path(
     after: usize,
 ) -> Result<(), AllocError>
     requires levels { WithinLevels levels_left binder_depth }
-    ensures { OnOk result (printer.new ≡ with_state (set_muted printer.old.state.muted ((readers printer.old.name levels_left).path (parent_position (position_view position)) binder_depth (set_muted true (seek (Some after) printer.old.state))).1) printer.old) }
+    ensures { OnOk result (printer.new ≡ with_state (set_muted printer.old.state.muted ((readers printer.old.part levels_left).path (parent_position (position_view position)) binder_depth (set_muted true (seek (Some after) printer.old.state))).1) printer.old) }
 {
     let muted = printer.muted;
     printer.seek(Some(after));
@@ -258,7 +183,7 @@ fn print_qualified(
     binder_depth: usize,
 ) -> Result<(), AllocError>
     requires levels { WithinLevels levels_left binder_depth }
-    ensures { OnOk result (printer.new ≡ with_state ((qualified (readers printer.old.name levels_left) binder_depth printer.old.state).1) printer.old) }
+    ensures { OnOk result (printer.new ≡ with_state ((qualified (readers printer.old.part levels_left) binder_depth printer.old.state).1) printer.old) }
 {
     printer.write("<")?;
     print_type(printer, levels_left, binder_depth)?;
@@ -277,7 +202,7 @@ fn print_generic(
     after: usize,
 ) -> Result<(), AllocError>
     requires levels { WithinLevels levels_left binder_depth }
-    ensures { OnOk result (printer.new ≡ with_state ((generic_rule printer.old.name (readers printer.old.name levels_left) (position_view position) binder_depth ((readers printer.old.name levels_left).path (parent_position (position_view position)) binder_depth (seek (Some after) printer.old.state))).1) printer.old) }
+    ensures { OnOk result (printer.new ≡ with_state ((generic_rule printer.old.part (readers printer.old.part levels_left) (position_view position) binder_depth ((readers printer.old.part levels_left).path (parent_position (position_view position)) binder_depth (seek (Some after) printer.old.state))).1) printer.old) }
 {
     printer.seek(Some(after));
     print_path(printer, levels_left, binder_depth, parent(position))?;

@@ -5,17 +5,18 @@ ghost use Rattle.binfarce_v0_grammar.specs.Base62.{optional_base_62_number};
 ghost use Rattle.binfarce_v0_grammar.specs.Forms.{lifetime, reference_form, function_form, type_form_by, type_form};
 ghost use Rattle.binfarce_v0_grammar.specs.Tree.{Items, NoType, Types};
 ghost use Rattle.binfarce_v0_grammar.specs.machine.View.{signature_view};
-ghost use Rattle.binfarce_v0_state.specs.machine.Printing.{WithinLevels, with_state, readers, type_rule, items_from, function_rule, dyn_rule, dyn_life, into, back_to, taking, seek, write, array_rule, tuple_end, invalid_reference, invalid_function};
+ghost use Rattle.binfarce_v0_state.specs.machine.Printing.{WithinLevels, with_state, readers, type_rule, items_from, function_rule, dyn_rule, dyn_life, taking, seek, write, array_rule, tuple_end, invalid_reference, invalid_function};
 
 use crate::consts::print_const;
 use crate::lists::print_items;
 use crate::paths::print_path;
+use crate::productions::{print, print_target};
 use binfarce_v0_grammar::forms::{
     Listed, Signature, TypeForm, basic_type, function_form, lifetime_form,
 };
 use binfarce_v0_grammar::numbers::{back_reference, byte_at, optional_base_62_number};
 use binfarce_v0_grammar::positions::{bound_end, eat, required_end};
-use binfarce_v0_state::fragments::{FragmentKey, Production};
+use binfarce_v0_state::fragments::Production;
 use binfarce_v0_state::state::Printer;
 use binfarce_v0_text::position::Position;
 use binfarce_v0_text::text::{Binder, DynLifetime, ReferenceLifetime};
@@ -37,72 +38,32 @@ pub fn print_type(
     binder_depth: usize,
 ) -> Result<(), AllocError>
     requires levels { WithinLevels levels_left binder_depth }
-    ensures { OnOk result (printer.new ≡ with_state (((readers printer.old.name levels_left).ty binder_depth printer.old.state).1) printer.old) }
+    ensures { OnOk result (printer.new ≡ with_state (((readers printer.old.part levels_left).ty binder_depth printer.old.state).1) printer.old) }
 {
-    match printer.keeps_at() {
-        Some(at) => print_and_keep_type(printer, levels_left, binder_depth, at),
-        None => print_type_anew(printer, levels_left, binder_depth),
-    }
-}
-
-// A type that is kept.
-#[cycle(printing)]
-#[inline(never)]
-#[tactic(auto, using(binfarce_v0_state::proofs::KeptLemmas::type_anew))]
-fn print_and_keep_type(
-    printer: &mut Printer<'_>,
-    levels_left: usize,
-    binder_depth: usize,
-    at: usize,
-) -> Result<(), AllocError>
-    requires at { printer.old.state.at ≡ Some at }
-    requires levels { WithinLevels levels_left binder_depth }
-    ensures { OnOk result (printer.new ≡ with_state (((readers printer.old.name levels_left).ty binder_depth printer.old.state).1) printer.old) }
-{
-    let mark = printer.mark(levels_left, at);
-    print_type_anew(printer, levels_left, binder_depth)?;
-    printer.keep(mark, levels_left, binder_depth, Production::Type, false)
-}
-
-// A type from its position.
-#[cycle(printing)]
-#[inline(always)]
-#[tactic(auto, using(binfarce_v0_state::proofs::Levels::type_at))]
-fn print_type_anew(
-    printer: &mut Printer<'_>,
-    levels_left: usize,
-    binder_depth: usize,
-) -> Result<(), AllocError>
-    requires levels { WithinLevels levels_left binder_depth }
-    ensures { OnOk result (printer.new ≡ with_state (((readers printer.old.name levels_left).ty binder_depth printer.old.state).1) printer.old) }
-{
-    let start = printer.at;
-    let Some(below) = printer.enter(levels_left) else {
-        return Ok(());
-    };
-    print_type_by_letter(printer, below, binder_depth, start)
+    print(printer, levels_left, binder_depth, Production::Type)?;
+    Ok(())
 }
 
 // A type by the letter that it begins with.
 #[cycle(printing)]
 #[inline(always)]
 #[tactic(auto, unfolding(binfarce_v0_state::specs::machine::Printing::type_rule, binfarce_v0_grammar::specs::Forms::type_form))]
-fn print_type_by_letter(
+pub(crate) fn print_type_by_letter(
     printer: &mut Printer<'_>,
     levels_left: usize,
     binder_depth: usize,
     start: Option<usize>,
 ) -> Result<(), AllocError>
     requires levels { WithinLevels (levels_left + 1) binder_depth }
-    ensures { OnOk result (printer.new ≡ with_state ((type_rule printer.old.name (readers printer.old.name levels_left) binder_depth printer.old.state (type_form printer.old.name start)).1) printer.old) }
+    ensures { OnOk result (printer.new ≡ with_state ((type_rule printer.old.part (readers printer.old.part levels_left) binder_depth printer.old.state (type_form printer.old.part start)).1) printer.old) }
 {
     let Some(at) = start else {
         return printer.invalid_syntax();
     };
-    if at >= printer.name.len() {
+    if at >= printer.part.len() {
         return printer.invalid_syntax();
     }
-    let letter = byte_at(printer.name.as_bytes(), at);
+    let letter = byte_at(printer.part.as_bytes(), at);
     match basic_type(letter) {
         Some(text) => {
             printer.seek(Some(at + 1));
@@ -123,10 +84,10 @@ fn print_other_type(
     letter: u8,
 ) -> Result<(), AllocError>
     requires levels { WithinLevels (levels_left + 1) binder_depth }
-    requires within { at < length printer.now.name }
-    ensures { OnOk result (printer.new ≡ with_state ((type_rule printer.old.name (readers printer.old.name levels_left) binder_depth printer.old.state (type_form_by printer.old.name at letter)).1) printer.old) }
+    requires within { at < length printer.now.part }
+    ensures { OnOk result (printer.new ≡ with_state ((type_rule printer.old.part (readers printer.old.part levels_left) binder_depth printer.old.state (type_form_by printer.old.part at letter)).1) printer.old) }
 {
-    let bytes = printer.name.as_bytes();
+    let bytes = printer.part.as_bytes();
     let after = at + 1;
     match letter {
         b'R' => print_reference(printer, levels_left, binder_depth, false, after),
@@ -147,13 +108,17 @@ fn print_other_type(
             None => print_invalid_dyn(printer),
         },
         b'B' => match back_reference(bytes, at) {
-            Some((target, end)) => print_type_target(
-                printer,
-                levels_left,
-                binder_depth,
-                target,
-                end,
-            ),
+            Some((target, end)) => {
+                print_target(
+                    printer,
+                    levels_left,
+                    binder_depth,
+                    Production::Type,
+                    target,
+                    end,
+                )?;
+                Ok(())
+            }
             None => printer.invalid_syntax(),
         },
         _ => {
@@ -173,7 +138,7 @@ fn print_pointer(
     after: usize,
 ) -> Result<(), AllocError>
     requires levels { WithinLevels levels_left binder_depth }
-    ensures { OnOk result (printer.new ≡ with_state ((readers printer.old.name levels_left).ty binder_depth (write mark.now (seek (Some after) printer.old.state))).1 printer.old) }
+    ensures { OnOk result (printer.new ≡ with_state ((readers printer.old.part levels_left).ty binder_depth (write mark.now (seek (Some after) printer.old.state))).1 printer.old) }
 {
     printer.seek(Some(after));
     printer.write(mark)?;
@@ -190,11 +155,11 @@ fn print_function_form(
     at: usize,
 ) -> Result<(), AllocError>
     requires levels { WithinLevels (levels_left + 1) binder_depth }
-    ensures { OnOk result (printer.new ≡ with_state ((type_rule printer.old.name (readers printer.old.name levels_left) binder_depth printer.old.state (function_form printer.old.name (optional_base_62_number printer.old.name 71 at))).1) printer.old) }
+    ensures { OnOk result (printer.new ≡ with_state ((type_rule printer.old.part (readers printer.old.part levels_left) binder_depth printer.old.state (function_form printer.old.part (optional_base_62_number printer.old.part 71 at))).1) printer.old) }
 {
     match function_form(
-        printer.name,
-        optional_base_62_number(printer.name.as_bytes(), b'G', at),
+        printer.part,
+        optional_base_62_number(printer.part.as_bytes(), b'G', at),
     ) {
         TypeForm::FunctionOf(signature, after) => {
             print_function(printer, levels_left, binder_depth, signature, after)
@@ -202,33 +167,6 @@ fn print_function_form(
         TypeForm::InvalidAbi(binder) => print_invalid_function(printer, binder_depth, binder),
         _ => printer.invalid_syntax(),
     }
-}
-
-// What a back reference stands for: a type like any other, printed from its target.
-#[cycle(printing)]
-fn print_type_target(
-    printer: &mut Printer<'_>,
-    levels_left: usize,
-    binder_depth: usize,
-    target: usize,
-    after: usize,
-) -> Result<(), AllocError>
-    requires levels { WithinLevels levels_left binder_depth }
-    ensures { OnOk result (printer.new ≡ with_state (back_to after printer.old.state.in_back_reference ((readers printer.old.name levels_left).ty binder_depth (into target printer.old.state)).1) printer.old) }
-{
-    let key = FragmentKey {
-        production: Production::Type,
-        at: target,
-        binder_depth,
-    };
-    if let Some(_opened) = printer.print_kept(levels_left, key, after)? {
-        return Ok(());
-    }
-    let in_back_reference = printer.in_back_reference;
-    printer.enter_target(target);
-    print_type(printer, levels_left, binder_depth)?;
-    printer.leave_target(after, in_back_reference);
-    Ok(())
 }
 
 // `"A" <type> <const>`
@@ -240,7 +178,7 @@ fn print_array(
     after: usize,
 ) -> Result<(), AllocError>
     requires levels { WithinLevels levels_left binder_depth }
-    ensures { OnOk result (printer.new ≡ with_state ((array_rule (readers printer.old.name levels_left) ((readers printer.old.name levels_left).ty binder_depth (write (codes "[") (seek (Some after) printer.old.state)))).1) printer.old) }
+    ensures { OnOk result (printer.new ≡ with_state ((array_rule (readers printer.old.part levels_left) ((readers printer.old.part levels_left).ty binder_depth (write (codes "[") (seek (Some after) printer.old.state)))).1) printer.old) }
 {
     printer.seek(Some(after));
     printer.write("[")?;
@@ -260,7 +198,7 @@ fn print_tuple(
     after: usize,
 ) -> Result<(), AllocError>
     requires levels { WithinLevels levels_left binder_depth }
-    ensures { OnOk result (printer.new ≡ with_state (tuple_end (items_from printer.old.name (readers printer.old.name levels_left) binder_depth Types (codes ", ") (write (codes "(") (seek (Some after) printer.old.state)))).1 printer.old) }
+    ensures { OnOk result (printer.new ≡ with_state (tuple_end (items_from printer.old.part (readers printer.old.part levels_left) binder_depth Types (codes ", ") (write (codes "(") (seek (Some after) printer.old.state)))).1 printer.old) }
 {
     printer.seek(Some(after));
     printer.write("(")?;
@@ -280,9 +218,9 @@ fn print_reference(
     at: usize,
 ) -> Result<(), AllocError>
     requires levels { WithinLevels levels_left binder_depth }
-    ensures { OnOk result (printer.new ≡ with_state ((type_rule printer.old.name (readers printer.old.name levels_left) binder_depth printer.old.state (reference_form mutable (lifetime printer.old.name (Some at)))).1) printer.old) }
+    ensures { OnOk result (printer.new ≡ with_state ((type_rule printer.old.part (readers printer.old.part levels_left) binder_depth printer.old.state (reference_form mutable (lifetime printer.old.part (Some at)))).1) printer.old) }
 {
-    let (life, end) = lifetime_form(printer.name.as_bytes(), Some(at));
+    let (life, end) = lifetime_form(printer.part.as_bytes(), Some(at));
     let Some(after) = end else {
         return print_invalid_reference(printer);
     };
@@ -306,7 +244,7 @@ fn print_function<'a>(
     after: usize,
 ) -> Result<(), AllocError>
     requires levels { WithinLevels (levels_left + 1) binder_depth }
-    ensures { OnOk result (printer.new ≡ with_state ((taking signature.entry.binder NoType printer.old.state (function_rule printer.old.name (readers printer.old.name levels_left) binder_depth (signature_view signature.entry) after)).1) printer.old) }
+    ensures { OnOk result (printer.new ≡ with_state ((taking signature.entry.binder NoType printer.old.state (function_rule printer.old.part (readers printer.old.part levels_left) binder_depth (signature_view signature.entry) after)).1) printer.old) }
 {
     if !printer.take(signature.binder) {
         return Ok(());
@@ -320,7 +258,7 @@ fn print_function<'a>(
     let inner = binder_depth + signature.binder as usize;
     print_items(printer, levels_left, inner, Listed::Types, ", ")?;
     printer.write(")")?;
-    match eat(printer.name.as_bytes(), b'u', printer.at) {
+    match eat(printer.part.as_bytes(), b'u', printer.at) {
         Some(after) => {
             printer.seek(Some(after));
             Ok(())
@@ -342,7 +280,7 @@ fn print_dyn(
     after: usize,
 ) -> Result<(), AllocError>
     requires levels { WithinLevels (levels_left + 1) binder_depth }
-    ensures { OnOk result (printer.new ≡ with_state ((taking binder NoType printer.old.state (dyn_rule printer.old.name (readers printer.old.name levels_left) binder_depth binder after)).1) printer.old) }
+    ensures { OnOk result (printer.new ≡ with_state ((taking binder NoType printer.old.state (dyn_rule printer.old.part (readers printer.old.part levels_left) binder_depth binder after)).1) printer.old) }
 {
     if !printer.take(binder) {
         return Ok(());
@@ -365,9 +303,9 @@ fn print_dyn(
 
 // The lifetime of a dyn type, which stands after its binder.
 fn print_dyn_lifetime(printer: &mut Printer<'_>, binder_depth: usize) -> Result<(), AllocError>
-    ensures { OnOk result ((binder : ℕ) (items : Items) → printer.new ≡ with_state ((dyn_life binder_depth binder items (lifetime printer.old.name printer.old.state.at) printer.old.state).1) printer.old) }
+    ensures { OnOk result ((binder : ℕ) (items : Items) → printer.new ≡ with_state ((dyn_life binder_depth binder items (lifetime printer.old.part printer.old.state.at) printer.old.state).1) printer.old) }
 {
-    let (life, end) = lifetime_form(printer.name.as_bytes(), printer.at);
+    let (life, end) = lifetime_form(printer.part.as_bytes(), printer.at);
     if printer.take_lifetime(life) {
         printer.seek(required_end(binder_depth, life, end));
         printer.put(DynLifetime { binder_depth, life })?;

@@ -26,17 +26,17 @@ took n none s f h = if_true (nat_le n s.steps_left) (f (take n s)) (none, stoppe
 both_true : (l steps_left : ℕ) → 1 ≤ l → 1 ≤ steps_left → (nat_le 1 l && nat_le 1 steps_left) ≡ true
 both_true l steps_left h k = rw (may_take 1 l h, may_take 1 steps_left k) refl
 
-enter_path : (name : List ℕ) (l : ℕ) (position : Position) (binder_depth : ℕ) (s : State) (form : PathForm) → 1 ≤ l → 1 ≤ s.steps_left → path_form name s.at ≡ form → (readers name l).path position binder_depth s ≡ path_rule name (readers name (l - 1)) position binder_depth (entered (l - 1) s) form
-enter_path name l position binder_depth s form h k e =
-    path_at name l position binder_depth s ∙ if_true _ _ _ (both_true l s.steps_left h k) ∙ ap (path_rule name (readers name (l - 1)) position binder_depth (entered (l - 1) s)) e
+enter_path : (part : List ℕ) (l : ℕ) (position : Position) (binder_depth : ℕ) (s : State) (form : PathForm) → 1 ≤ l → 1 ≤ s.steps_left → path_form part s.at ≡ form → (readers part l).path position binder_depth s ≡ path_rule part (readers part (l - 1)) position binder_depth (entered (l - 1) s) form
+enter_path part l position binder_depth s form h k e =
+    path_at part l position binder_depth s ∙ if_true _ _ _ (both_true l s.steps_left h k) ∙ ap (path_rule part (readers part (l - 1)) position binder_depth (entered (l - 1) s)) e
 
-enter_type : (name : List ℕ) (l binder_depth : ℕ) (s : State) (form : TypeForm) → 1 ≤ l → 1 ≤ s.steps_left → type_form name s.at ≡ form → (readers name l).ty binder_depth s ≡ type_rule name (readers name (l - 1)) binder_depth (entered (l - 1) s) form
-enter_type name l binder_depth s form h k e =
-    type_at name l binder_depth s ∙ if_true _ _ _ (both_true l s.steps_left h k) ∙ ap (type_rule name (readers name (l - 1)) binder_depth (entered (l - 1) s)) e
+enter_type : (part : List ℕ) (l binder_depth : ℕ) (s : State) (form : TypeForm) → 1 ≤ l → 1 ≤ s.steps_left → type_form part s.at ≡ form → (readers part l).ty binder_depth s ≡ type_rule part (readers part (l - 1)) binder_depth (entered (l - 1) s) form
+enter_type part l binder_depth s form h k e =
+    type_at part l binder_depth s ∙ if_true _ _ _ (both_true l s.steps_left h k) ∙ ap (type_rule part (readers part (l - 1)) binder_depth (entered (l - 1) s)) e
 
-enter_const : (name : List ℕ) (l : ℕ) (s : State) (form : ConstForm) → 1 ≤ l → 1 ≤ s.steps_left → const_form name s.at ≡ form → (readers name l).constant s ≡ const_rule (readers name (l - 1)) (entered (l - 1) s) form
-enter_const name l s form h k e =
-    constant_at name l s ∙ if_true _ _ _ (both_true l s.steps_left h k) ∙ ap (const_rule (readers name (l - 1)) (entered (l - 1) s)) e
+enter_const : (part : List ℕ) (l : ℕ) (s : State) (form : ConstForm) → 1 ≤ l → 1 ≤ s.steps_left → const_form part s.at ≡ form → (readers part l).constant s ≡ const_rule (readers part (l - 1)) (entered (l - 1) s) form
+enter_const part l s form h k e =
+    constant_at part l s ∙ if_true _ _ _ (both_true l s.steps_left h k) ∙ ap (const_rule (readers part (l - 1)) (entered (l - 1) s)) e
 
 -- the tree and a state
 at_tree : {T : Type 0} (t : T) (a b : State) → a ≡ b → ◌≡◌ {A = T × State} (t, a) (t, b)
@@ -44,27 +44,27 @@ at_tree {T} t a b e = let f : State → T × State = λ x. (t, x) in ap f e
 
 -- Consts
 
-pub const_complete : (c : ConstTree) (name : List ℕ) (l : ℕ) (s : State) (after : Option ℕ) → s.limit_exceeded ≡ false → IsConst name c s.at after → const_height c ≤ l → const_steps c ≤ s.steps_left → (readers name l).constant s ≡ (c, shown (const_text c) None (const_height c) (const_steps c) after l s)
+pub const_complete : (c : ConstTree) (part : List ℕ) (l : ℕ) (s : State) (after : Option ℕ) → s.limit_exceeded ≡ false → IsConst part c s.at after → const_height c ≤ l → const_steps c ≤ s.steps_left → (readers part l).constant s ≡ (c, shown (const_text c) None (const_height c) (const_steps c) after l s)
 unfolding IsConst const_rule
-const_complete NoConst name l s after o is h n =
-    enter_const name l s NoConstForm h n is.0 ∙ rw is.1 (at_tree _ _ _ (shown_leaf s l None (codes "?")))
-const_complete UntypedPlaceholder name l s after o is h n =
-    enter_const name l s (UntypedPlaceholderConst is.0) h n is.1 ∙ rw is.2 (at_tree _ _ _ (shown_leaf s l (Some is.0) (codes "_")))
-const_complete (Placeholder type_name) name l s after o is h n =
-    enter_const name l s (PlaceholderConst type_name is.0) h n is.1 ∙ rw is.2 (at_tree _ _ _ (shown_three s l (Some is.0) (codes "_") (codes ": ") type_name))
-const_complete (Value type_name value) name l s after o is h n =
-    enter_const name l s (ValueConst type_name value is.0) h n is.1 ∙ rw is.2 (at_tree _ _ _ (shown_three s l (Some is.0) (value_text value) (codes ": ") type_name))
-const_complete (InvalidValue negative type_name) name l s after o is h n =
-    enter_const name l s (InvalidConst negative type_name) h n is.0 ∙ rw is.1 (at_tree _ _ _ (shown_three s l None (sign_text negative ++ codes "?") (codes ": ") type_name))
-const_complete (BackConst c) name l s after o is h n =
+const_complete NoConst part l s after o is h n =
+    enter_const part l s NoConstForm h n is.0 ∙ rw is.1 (at_tree _ _ _ (shown_leaf s l None (codes "?")))
+const_complete UntypedPlaceholder part l s after o is h n =
+    enter_const part l s (UntypedPlaceholderConst is.0) h n is.1 ∙ rw is.2 (at_tree _ _ _ (shown_leaf s l (Some is.0) (codes "_")))
+const_complete (Placeholder type_name) part l s after o is h n =
+    enter_const part l s (PlaceholderConst type_name is.0) h n is.1 ∙ rw is.2 (at_tree _ _ _ (shown_three s l (Some is.0) (codes "_") (codes ": ") type_name))
+const_complete (Value type_name value) part l s after o is h n =
+    enter_const part l s (ValueConst type_name value is.0) h n is.1 ∙ rw is.2 (at_tree _ _ _ (shown_three s l (Some is.0) (value_text value) (codes ": ") type_name))
+const_complete (InvalidValue negative type_name) part l s after o is h n =
+    enter_const part l s (InvalidConst negative type_name) h n is.0 ∙ rw is.1 (at_tree _ _ _ (shown_three s l None (sign_text negative ++ codes "?") (codes ": ") type_name))
+const_complete (BackConst c) part l s after o is h n =
     let e = entered (l - 1) s in
-    enter_const name l s (BackToConst is.0 is.1) (omega arith) (omega arith) is.3 ∙ ap (back_const is.1 s.in_back_reference) (const_complete c name (l - 1) (into is.0 e) is.2 o is.4 (omega arith) (omega arith)) ∙ rw is.5 (at_tree _ _ _ (shown_back s l is.0 is.1 is.2 (const_text c) None (const_height c) (const_steps c) o))
-const_complete (ConstTarget target) name l s after o is h n = absurd is
+    enter_const part l s (BackToConst is.0 is.1) (omega arith) (omega arith) is.3 ∙ ap (back_const is.1 s.in_back_reference) (const_complete c part (l - 1) (into is.0 e) is.2 o is.4 (omega arith) (omega arith)) ∙ rw is.5 (at_tree _ _ _ (shown_back s l is.0 is.1 is.2 (const_text c) None (const_height c) (const_steps c) o))
+const_complete (ConstTarget target) part l s after o is h n = absurd is
 
 -- Steps are taken
 
-lifetime_there : (name : List ℕ) (at last : Option ℕ) (life : Lifetime) → stands name 76 at ≡ true → lifetime name at ≡ (life, last) → lifetime_steps life ≡ 1
-lifetime_there name at last life e is = ap (λ l. lifetime_steps l.0) (sym is) ∙ lifetime_step name at e
+lifetime_there : (part : List ℕ) (at last : Option ℕ) (life : Lifetime) → stands part 76 at ≡ true → lifetime part at ≡ (life, last) → lifetime_steps life ≡ 1
+lifetime_there part at last life e is = ap (λ l. lifetime_steps l.0) (sym is) ∙ lifetime_step part at e
 
 type_steps_some : (t : TypeTree) → 1 ≤ type_steps t
 unfolding type_steps
@@ -107,177 +107,177 @@ const_steps_some (InvalidValue negative type_name) = omega arith
 const_steps_some (BackConst c) = omega arith
 const_steps_some (ConstTarget at) = omega arith
 
-item_steps_some : (name : List ℕ) (listed : Listed) (i : Item) (at : Option ℕ) (binder_depth : ℕ) (after : Option ℕ) → IsItem name listed i at binder_depth after → 1 ≤ item_steps i
+item_steps_some : (part : List ℕ) (listed : Listed) (i : Item) (at : Option ℕ) (binder_depth : ℕ) (after : Option ℕ) → IsItem part listed i at binder_depth after → 1 ≤ item_steps i
 unfolding IsItem item_steps
-item_steps_some name Arguments (LifetimeItem life) at binder_depth after is =
-    omega (arith, lifetime_there name at is.0 life is.1 is.2)
-item_steps_some name Arguments (TypeItem t) at binder_depth after is = type_steps_some t
-item_steps_some name Arguments (ConstItem c) at binder_depth after is = const_steps_some c
-item_steps_some name Arguments (TraitItem p bindings) at binder_depth after is = absurd is
-item_steps_some name Types (LifetimeItem life) at binder_depth after is = absurd is
-item_steps_some name Types (TypeItem t) at binder_depth after is = type_steps_some t
-item_steps_some name Types (ConstItem c) at binder_depth after is = absurd is
-item_steps_some name Types (TraitItem p bindings) at binder_depth after is = absurd is
-item_steps_some name Traits (LifetimeItem life) at binder_depth after is = absurd is
-item_steps_some name Traits (TypeItem t) at binder_depth after is = absurd is
-item_steps_some name Traits (ConstItem c) at binder_depth after is = absurd is
-item_steps_some name Traits (TraitItem p bindings) at binder_depth after is = omega (arith, path_steps_some p)
+item_steps_some part Arguments (LifetimeItem life) at binder_depth after is =
+    omega (arith, lifetime_there part at is.0 life is.1 is.2)
+item_steps_some part Arguments (TypeItem t) at binder_depth after is = type_steps_some t
+item_steps_some part Arguments (ConstItem c) at binder_depth after is = const_steps_some c
+item_steps_some part Arguments (TraitItem p bindings) at binder_depth after is = absurd is
+item_steps_some part Types (LifetimeItem life) at binder_depth after is = absurd is
+item_steps_some part Types (TypeItem t) at binder_depth after is = type_steps_some t
+item_steps_some part Types (ConstItem c) at binder_depth after is = absurd is
+item_steps_some part Types (TraitItem p bindings) at binder_depth after is = absurd is
+item_steps_some part Traits (LifetimeItem life) at binder_depth after is = absurd is
+item_steps_some part Traits (TypeItem t) at binder_depth after is = absurd is
+item_steps_some part Traits (ConstItem c) at binder_depth after is = absurd is
+item_steps_some part Traits (TraitItem p bindings) at binder_depth after is = omega (arith, path_steps_some p)
 
 -- Paths, types and lists
 
 mutual
   unfolding IsPath path_height path_steps path_root path_text path_rule type_rule item_rule items_rule bindings_rule
 
-  pub path_complete : (t : PathTree) (name : List ℕ) (l : ℕ) (position : Position) (binder_depth : ℕ) (s : State) (after : Option ℕ) → s.limit_exceeded ≡ false → IsPath name t s.at binder_depth after → path_height t ≤ l → path_steps t ≤ s.steps_left → (readers name l).path position binder_depth s ≡ (t, shown (path_text s.full t position binder_depth) (path_root t) (path_height t) (path_steps t) after l s)
-  path_complete NoPath name l position binder_depth s after o is h n =
-      enter_path name l position binder_depth s NoPathForm h n is.0 ∙ rw is.1 (at_tree _ _ _ (shown_leaf s l None (codes "?")))
-  path_complete (Crate root) name l position binder_depth s after o is h n =
-      enter_path name l position binder_depth s (CrateRoot root is.0) h n is.1 ∙ rw is.2 (at_tree _ _ _ (shown_crate s l (Some is.0) root.name (identifier_text root.name) (disambiguator_text s.full root.disambiguator)))
-  path_complete (Nested namespace p identifier) name l position binder_depth s after o is h n =
+  pub path_complete : (t : PathTree) (part : List ℕ) (l : ℕ) (position : Position) (binder_depth : ℕ) (s : State) (after : Option ℕ) → s.limit_exceeded ≡ false → IsPath part t s.at binder_depth after → path_height t ≤ l → path_steps t ≤ s.steps_left → (readers part l).path position binder_depth s ≡ (t, shown (path_text s.full t position binder_depth) (path_root t) (path_height t) (path_steps t) after l s)
+  path_complete NoPath part l position binder_depth s after o is h n =
+      enter_path part l position binder_depth s NoPathForm h n is.0 ∙ rw is.1 (at_tree _ _ _ (shown_leaf s l None (codes "?")))
+  path_complete (Crate root) part l position binder_depth s after o is h n =
+      enter_path part l position binder_depth s (CrateRoot root is.0) h n is.1 ∙ rw is.2 (at_tree _ _ _ (shown_crate s l (Some is.0) root.name (identifier_text root.name) (disambiguator_text s.full root.disambiguator)))
+  path_complete (Nested namespace p identifier) part l position binder_depth s after o is h n =
       let e = entered (l - 1) s in
-      enter_path name l position binder_depth s (NestedIn namespace is.0) (omega arith) (omega arith) is.3 ∙ ap (nested_rule name namespace) (path_complete p name (l - 1) (parent_position position) binder_depth (seek (Some is.0) e) is.1 o is.4 (omega arith) (omega arith)) ∙ rw (is.5, is.6) (at_tree _ _ _ (shown_then s l (Some is.0) is.1 (Some is.2) (path_text s.full p (parent_position position) binder_depth) (nested_text namespace identifier) (path_root p) (path_height p) (path_steps p)))
-  path_complete (InvalidNested p) name l position binder_depth s after o is h n =
+      enter_path part l position binder_depth s (NestedIn namespace is.0) (omega arith) (omega arith) is.3 ∙ ap (nested_rule part namespace) (path_complete p part (l - 1) (parent_position position) binder_depth (seek (Some is.0) e) is.1 o is.4 (omega arith) (omega arith)) ∙ rw (is.5, is.6) (at_tree _ _ _ (shown_then s l (Some is.0) is.1 (Some is.2) (path_text s.full p (parent_position position) binder_depth) (nested_text namespace identifier) (path_root p) (path_height p) (path_steps p)))
+  path_complete (InvalidNested p) part l position binder_depth s after o is h n =
       let e = entered (l - 1) s in
-      enter_path name l position binder_depth s (NestedIn is.0 is.1) (omega arith) (omega arith) is.3 ∙ ap (nested_rule name is.0) (path_complete p name (l - 1) (parent_position position) binder_depth (seek (Some is.1) e) is.2 o is.4 (omega arith) (omega arith)) ∙ rw (is.5, is.6) (at_tree _ _ _ (shown_then s l (Some is.1) is.2 None (path_text s.full p (parent_position position) binder_depth) (codes "?") (path_root p) (path_height p) (path_steps p)))
-  path_complete (OfType p t) name l position binder_depth s after o is h n =
+      enter_path part l position binder_depth s (NestedIn is.0 is.1) (omega arith) (omega arith) is.3 ∙ ap (nested_rule part is.0) (path_complete p part (l - 1) (parent_position position) binder_depth (seek (Some is.1) e) is.2 o is.4 (omega arith) (omega arith)) ∙ rw (is.5, is.6) (at_tree _ _ _ (shown_then s l (Some is.1) is.2 None (path_text s.full p (parent_position position) binder_depth) (codes "?") (path_root p) (path_height p) (path_steps p)))
+  path_complete (OfType p t) part l position binder_depth s after o is h n =
       let e = entered (l - 1) s in
-      let R = readers name (l - 1) in
+      let R = readers part (l - 1) in
       let inner = set_muted true (seek (Some is.0) e) in
       let first = shown (path_text s.full p (parent_position position) binder_depth) (path_root p) (path_height p) (path_steps p) is.1 (l - 1) inner in
-      enter_path name l position binder_depth s (InherentImpl is.0) (omega arith) (omega arith) is.2 ∙ ap (λ r. of_type_rule R binder_depth (unmuted s.muted r)) (path_complete p name (l - 1) (parent_position position) binder_depth inner is.1 o is.3 (omega arith) (omega arith)) ∙ ap (of_type_end p) (type_complete t name (l - 1) binder_depth (write (codes "<") (set_muted s.muted first)) after o is.4 (omega arith) (omega arith)) ∙ at_tree _ _ _ (shown_of_type s l (Some is.0) is.1 after (path_text s.full p (parent_position position) binder_depth) (codes "<") (type_text s.full t binder_depth) (codes ">") (path_root p) (type_root t) (path_height p) (path_steps p) (type_height t) (type_steps t))
-  path_complete (OfImpl p t u) name l position binder_depth s after o is h n =
+      enter_path part l position binder_depth s (InherentImpl is.0) (omega arith) (omega arith) is.2 ∙ ap (λ r. of_type_rule R binder_depth (unmuted s.muted r)) (path_complete p part (l - 1) (parent_position position) binder_depth inner is.1 o is.3 (omega arith) (omega arith)) ∙ ap (of_type_end p) (type_complete t part (l - 1) binder_depth (write (codes "<") (set_muted s.muted first)) after o is.4 (omega arith) (omega arith)) ∙ at_tree _ _ _ (shown_of_type s l (Some is.0) is.1 after (path_text s.full p (parent_position position) binder_depth) (codes "<") (type_text s.full t binder_depth) (codes ">") (path_root p) (type_root t) (path_height p) (path_steps p) (type_height t) (type_steps t))
+  path_complete (OfImpl p t u) part l position binder_depth s after o is h n =
       let e = entered (l - 1) s in
-      let R = readers name (l - 1) in
+      let R = readers part (l - 1) in
       let inner = set_muted true (seek (Some is.0) e) in
       let first = shown (path_text s.full p (parent_position position) binder_depth) (path_root p) (path_height p) (path_steps p) is.1 (l - 1) inner in
       let second = shown (type_text s.full t binder_depth) (type_root t) (type_height t) (type_steps t) is.2 (l - 1) (write (codes "<") (set_muted s.muted first)) in
-      enter_path name l position binder_depth s (TraitImpl is.0) (omega arith) (omega arith) is.3 ∙ ap (λ r. of_impl_rule R binder_depth (unmuted s.muted r)) (path_complete p name (l - 1) (parent_position position) binder_depth inner is.1 o is.4 (omega arith) (omega arith)) ∙ ap (as_trait R binder_depth (OfImpl p)) (type_complete t name (l - 1) binder_depth (write (codes "<") (set_muted s.muted first)) is.2 o is.5 (omega arith) (omega arith)) ∙ ap (path_then (codes ">") (OfImpl p t)) (path_complete u name (l - 1) InType binder_depth (write (codes " as ") second) after o is.6 (omega arith) (omega arith)) ∙ at_tree _ _ _ (shown_of_impl s l (Some is.0) is.1 is.2 after (path_text s.full p (parent_position position) binder_depth) (codes "<") (type_text s.full t binder_depth) (codes " as ") (path_text s.full u InType binder_depth) (codes ">") (path_root p) (type_root t) (path_root u) (path_height p) (path_steps p) (type_height t) (type_steps t) (path_height u) (path_steps u))
-  path_complete (OfTrait t u) name l position binder_depth s after o is h n =
+      enter_path part l position binder_depth s (TraitImpl is.0) (omega arith) (omega arith) is.3 ∙ ap (λ r. of_impl_rule R binder_depth (unmuted s.muted r)) (path_complete p part (l - 1) (parent_position position) binder_depth inner is.1 o is.4 (omega arith) (omega arith)) ∙ ap (as_trait R binder_depth (OfImpl p)) (type_complete t part (l - 1) binder_depth (write (codes "<") (set_muted s.muted first)) is.2 o is.5 (omega arith) (omega arith)) ∙ ap (path_then (codes ">") (OfImpl p t)) (path_complete u part (l - 1) InType binder_depth (write (codes " as ") second) after o is.6 (omega arith) (omega arith)) ∙ at_tree _ _ _ (shown_of_impl s l (Some is.0) is.1 is.2 after (path_text s.full p (parent_position position) binder_depth) (codes "<") (type_text s.full t binder_depth) (codes " as ") (path_text s.full u InType binder_depth) (codes ">") (path_root p) (type_root t) (path_root u) (path_height p) (path_steps p) (type_height t) (type_steps t) (path_height u) (path_steps u))
+  path_complete (OfTrait t u) part l position binder_depth s after o is h n =
       let e = entered (l - 1) s in
-      let R = readers name (l - 1) in
+      let R = readers part (l - 1) in
       let first = shown (type_text s.full t binder_depth) (type_root t) (type_height t) (type_steps t) is.1 (l - 1) (write (codes "<") (seek (Some is.0) e)) in
-      enter_path name l position binder_depth s (TraitDefinition is.0) (omega arith) (omega arith) is.2 ∙ ap (as_trait R binder_depth OfTrait) (type_complete t name (l - 1) binder_depth (write (codes "<") (seek (Some is.0) e)) is.1 o is.3 (omega arith) (omega arith)) ∙ ap (path_then (codes ">") (OfTrait t)) (path_complete u name (l - 1) InType binder_depth (write (codes " as ") first) after o is.4 (omega arith) (omega arith)) ∙ at_tree _ _ _ (shown_of_trait s l (Some is.0) is.1 after (codes "<") (type_text s.full t binder_depth) (codes " as ") (path_text s.full u InType binder_depth) (codes ">") (type_root t) (path_root u) (type_height t) (type_steps t) (path_height u) (path_steps u))
-  path_complete (Generic p items) name l position binder_depth s after o is h n =
+      enter_path part l position binder_depth s (TraitDefinition is.0) (omega arith) (omega arith) is.2 ∙ ap (as_trait R binder_depth OfTrait) (type_complete t part (l - 1) binder_depth (write (codes "<") (seek (Some is.0) e)) is.1 o is.3 (omega arith) (omega arith)) ∙ ap (path_then (codes ">") (OfTrait t)) (path_complete u part (l - 1) InType binder_depth (write (codes " as ") first) after o is.4 (omega arith) (omega arith)) ∙ at_tree _ _ _ (shown_of_trait s l (Some is.0) is.1 after (codes "<") (type_text s.full t binder_depth) (codes " as ") (path_text s.full u InType binder_depth) (codes ">") (type_root t) (path_root u) (type_height t) (type_steps t) (path_height u) (path_steps u))
+  path_complete (Generic p items) part l position binder_depth s after o is h n =
       let e = entered (l - 1) s in
-      let R = readers name (l - 1) in
+      let R = readers part (l - 1) in
       let first = shown (path_text s.full p (parent_position position) binder_depth) (path_root p) (path_height p) (path_steps p) is.1 (l - 1) (seek (Some is.0) e) in
       let second = write (codes "<") (write (value_mark position) first) in
-      enter_path name l position binder_depth s (WithArguments is.0) (omega arith) (omega arith) is.2 ∙ ap (generic_rule name R position binder_depth) (path_complete p name (l - 1) (parent_position position) binder_depth (seek (Some is.0) e) is.1 o is.3 (omega arith) (omega arith)) ∙ ap (generic_end position p) (items_complete items name (l - 1) binder_depth Arguments (codes ", ") (suc second.steps_left) true second after o is.4 (omega arith) (omega arith) (omega arith) (omega arith)) ∙ at_tree _ _ _ (shown_generic s l (Some is.0) is.1 after (path_text s.full p (parent_position position) binder_depth) (value_mark position) (codes "<") (items_text s.full items (codes ", ") true binder_depth) (closing position) (path_root p) (items_root items) (path_height p) (path_steps p) (items_height items) (items_steps items))
-  path_complete (BackPath p) name l position binder_depth s after o is h n =
+      enter_path part l position binder_depth s (WithArguments is.0) (omega arith) (omega arith) is.2 ∙ ap (generic_rule part R position binder_depth) (path_complete p part (l - 1) (parent_position position) binder_depth (seek (Some is.0) e) is.1 o is.3 (omega arith) (omega arith)) ∙ ap (generic_end position p) (items_complete items part (l - 1) binder_depth Arguments (codes ", ") (suc second.steps_left) true second after o is.4 (omega arith) (omega arith) (omega arith) (omega arith)) ∙ at_tree _ _ _ (shown_generic s l (Some is.0) is.1 after (path_text s.full p (parent_position position) binder_depth) (value_mark position) (codes "<") (items_text s.full items (codes ", ") true binder_depth) (closing position) (path_root p) (items_root items) (path_height p) (path_steps p) (items_height items) (items_steps items))
+  path_complete (BackPath p) part l position binder_depth s after o is h n =
       let e = entered (l - 1) s in
-      enter_path name l position binder_depth s (BackToPath is.0 is.1) (omega arith) (omega arith) is.3 ∙ ap (back_path is.1 s.in_back_reference) (path_complete p name (l - 1) position binder_depth (into is.0 e) is.2 o is.4 (omega arith) (omega arith)) ∙ rw is.5 (at_tree _ _ _ (shown_back s l is.0 is.1 is.2 (path_text s.full p position binder_depth) (path_root p) (path_height p) (path_steps p) o))
-  path_complete (PathTarget target) name l position binder_depth s after o is h n = absurd is
+      enter_path part l position binder_depth s (BackToPath is.0 is.1) (omega arith) (omega arith) is.3 ∙ ap (back_path is.1 s.in_back_reference) (path_complete p part (l - 1) position binder_depth (into is.0 e) is.2 o is.4 (omega arith) (omega arith)) ∙ rw is.5 (at_tree _ _ _ (shown_back s l is.0 is.1 is.2 (path_text s.full p position binder_depth) (path_root p) (path_height p) (path_steps p) o))
+  path_complete (PathTarget target) part l position binder_depth s after o is h n = absurd is
 
-  pub type_complete : (t : TypeTree) (name : List ℕ) (l binder_depth : ℕ) (s : State) (after : Option ℕ) → s.limit_exceeded ≡ false → IsType name t s.at binder_depth after → type_height t ≤ l → type_steps t ≤ s.steps_left → (readers name l).ty binder_depth s ≡ (t, shown (type_text s.full t binder_depth) (type_root t) (type_height t) (type_steps t) after l s)
-  type_complete NoType name l binder_depth s after o is h n =
-      enter_type name l binder_depth s NoTypeForm h n is.0 ∙ rw is.1 (at_tree _ _ _ (shown_leaf s l None (codes "?")))
-  type_complete (Basic text) name l binder_depth s after o is h n =
-      enter_type name l binder_depth s (BasicType text is.0) h n is.1 ∙ rw is.2 (at_tree _ _ _ (shown_leaf s l (Some is.0) text))
-  type_complete (Reference mutable life t) name l binder_depth s after o is h n =
+  pub type_complete : (t : TypeTree) (part : List ℕ) (l binder_depth : ℕ) (s : State) (after : Option ℕ) → s.limit_exceeded ≡ false → IsType part t s.at binder_depth after → type_height t ≤ l → type_steps t ≤ s.steps_left → (readers part l).ty binder_depth s ≡ (t, shown (type_text s.full t binder_depth) (type_root t) (type_height t) (type_steps t) after l s)
+  type_complete NoType part l binder_depth s after o is h n =
+      enter_type part l binder_depth s NoTypeForm h n is.0 ∙ rw is.1 (at_tree _ _ _ (shown_leaf s l None (codes "?")))
+  type_complete (Basic text) part l binder_depth s after o is h n =
+      enter_type part l binder_depth s (BasicType text is.0) h n is.1 ∙ rw is.2 (at_tree _ _ _ (shown_leaf s l (Some is.0) text))
+  type_complete (Reference mutable life t) part l binder_depth s after o is h n =
       let e = entered (l - 1) s in
-      let R = readers name (l - 1) in
+      let R = readers part (l - 1) in
       let at = bound_end binder_depth life (Some is.0) in
       let start = write (mutable_text mutable (codes "mut ") []) (write (reference_lifetime binder_depth life) (write (codes "&") (seek at (take (lifetime_steps life) e)))) in
-      enter_type name l binder_depth s (ReferenceTo mutable life is.0) (omega arith) (omega arith) is.1 ∙ took (lifetime_steps life) NoType e (reference_rule R binder_depth mutable life is.0) (omega arith) ∙ ap (type_as (Reference mutable life)) (type_complete t name (l - 1) binder_depth start after o is.2 (omega arith) (omega arith)) ∙ at_tree _ _ _ (shown_reference s l (lifetime_steps life) at after (codes "&") (reference_lifetime binder_depth life) (mutable_text mutable (codes "mut ") []) (type_text s.full t binder_depth) (type_root t) (type_height t) (type_steps t))
-  type_complete InvalidReferenceType name l binder_depth s after o is h n =
-      enter_type name l binder_depth s InvalidReference h (omega arith) is.0 ∙ took 1 NoType (entered (l - 1) s) invalid_reference (omega arith) ∙ rw is.1 (at_tree _ _ _ (shown_steps s l 1 (codes "&?")))
-  type_complete (Pointer mutable t) name l binder_depth s after o is h n =
+      enter_type part l binder_depth s (ReferenceTo mutable life is.0) (omega arith) (omega arith) is.1 ∙ took (lifetime_steps life) NoType e (reference_rule R binder_depth mutable life is.0) (omega arith) ∙ ap (type_as (Reference mutable life)) (type_complete t part (l - 1) binder_depth start after o is.2 (omega arith) (omega arith)) ∙ at_tree _ _ _ (shown_reference s l (lifetime_steps life) at after (codes "&") (reference_lifetime binder_depth life) (mutable_text mutable (codes "mut ") []) (type_text s.full t binder_depth) (type_root t) (type_height t) (type_steps t))
+  type_complete InvalidReferenceType part l binder_depth s after o is h n =
+      enter_type part l binder_depth s InvalidReference h (omega arith) is.0 ∙ took 1 NoType (entered (l - 1) s) invalid_reference (omega arith) ∙ rw is.1 (at_tree _ _ _ (shown_steps s l 1 (codes "&?")))
+  type_complete (Pointer mutable t) part l binder_depth s after o is h n =
       let e = entered (l - 1) s in
       let mark = mutable_text mutable (codes "*mut ") (codes "*const ") in
-      enter_type name l binder_depth s (PointerTo mutable is.0) (omega arith) (omega arith) is.1 ∙ ap (type_as (Pointer mutable)) (type_complete t name (l - 1) binder_depth (write mark (seek (Some is.0) e)) after o is.2 (omega arith) (omega arith)) ∙ at_tree _ _ _ (shown_after s l (Some is.0) after mark (type_text s.full t binder_depth) (type_root t) (type_height t) (type_steps t))
-  type_complete (Slice t) name l binder_depth s after o is h n =
+      enter_type part l binder_depth s (PointerTo mutable is.0) (omega arith) (omega arith) is.1 ∙ ap (type_as (Pointer mutable)) (type_complete t part (l - 1) binder_depth (write mark (seek (Some is.0) e)) after o is.2 (omega arith) (omega arith)) ∙ at_tree _ _ _ (shown_after s l (Some is.0) after mark (type_text s.full t binder_depth) (type_root t) (type_height t) (type_steps t))
+  type_complete (Slice t) part l binder_depth s after o is h n =
       let e = entered (l - 1) s in
-      enter_type name l binder_depth s (SliceOf is.0) (omega arith) (omega arith) is.1 ∙ ap (type_then (codes "]") Slice) (type_complete t name (l - 1) binder_depth (write (codes "[") (seek (Some is.0) e)) after o is.2 (omega arith) (omega arith)) ∙ at_tree _ _ _ (shown_between s l (Some is.0) after (codes "[") (type_text s.full t binder_depth) (codes "]") (type_root t) (type_height t) (type_steps t))
-  type_complete (Array t c) name l binder_depth s after o is h n =
+      enter_type part l binder_depth s (SliceOf is.0) (omega arith) (omega arith) is.1 ∙ ap (type_then (codes "]") Slice) (type_complete t part (l - 1) binder_depth (write (codes "[") (seek (Some is.0) e)) after o is.2 (omega arith) (omega arith)) ∙ at_tree _ _ _ (shown_between s l (Some is.0) after (codes "[") (type_text s.full t binder_depth) (codes "]") (type_root t) (type_height t) (type_steps t))
+  type_complete (Array t c) part l binder_depth s after o is h n =
       let e = entered (l - 1) s in
-      let R = readers name (l - 1) in
+      let R = readers part (l - 1) in
       let first = shown (type_text s.full t binder_depth) (type_root t) (type_height t) (type_steps t) is.1 (l - 1) (write (codes "[") (seek (Some is.0) e)) in
-      enter_type name l binder_depth s (ArrayOf is.0) (omega arith) (omega arith) is.2 ∙ ap (array_rule R) (type_complete t name (l - 1) binder_depth (write (codes "[") (seek (Some is.0) e)) is.1 o is.3 (omega arith) (omega arith)) ∙ ap (array_end t) (const_complete c name (l - 1) (write (codes "; ") first) after o is.4 (omega arith) (omega arith)) ∙ at_tree _ _ _ (shown_array s l (Some is.0) is.1 after (codes "[") (type_text s.full t binder_depth) (codes "; ") (const_text c) (codes "]") (type_root t) (type_height t) (type_steps t) (const_height c) (const_steps c))
-  type_complete (Tuple items) name l binder_depth s after o is h n =
+      enter_type part l binder_depth s (ArrayOf is.0) (omega arith) (omega arith) is.2 ∙ ap (array_rule R) (type_complete t part (l - 1) binder_depth (write (codes "[") (seek (Some is.0) e)) is.1 o is.3 (omega arith) (omega arith)) ∙ ap (array_end t) (const_complete c part (l - 1) (write (codes "; ") first) after o is.4 (omega arith) (omega arith)) ∙ at_tree _ _ _ (shown_array s l (Some is.0) is.1 after (codes "[") (type_text s.full t binder_depth) (codes "; ") (const_text c) (codes "]") (type_root t) (type_height t) (type_steps t) (const_height c) (const_steps c))
+  type_complete (Tuple items) part l binder_depth s after o is h n =
       let e = entered (l - 1) s in
       let start = write (codes "(") (seek (Some is.0) e) in
-      enter_type name l binder_depth s (TupleOf is.0) (omega arith) (omega arith) is.1 ∙ ap tuple_end (items_complete items name (l - 1) binder_depth Types (codes ", ") (suc start.steps_left) true start after o is.2 (omega arith) (omega arith) (omega arith) (omega arith)) ∙ at_tree _ _ _ (shown_tuple s l (Some is.0) after (codes "(") (items_text s.full items (codes ", ") true binder_depth) (single_mark items) (codes ")") (items_root items) (items_height items) (items_steps items))
-  type_complete (Function signature items) name l binder_depth s after o is h n =
+      enter_type part l binder_depth s (TupleOf is.0) (omega arith) (omega arith) is.1 ∙ ap tuple_end (items_complete items part (l - 1) binder_depth Types (codes ", ") (suc start.steps_left) true start after o is.2 (omega arith) (omega arith) (omega arith) (omega arith)) ∙ at_tree _ _ _ (shown_tuple s l (Some is.0) after (codes "(") (items_text s.full items (codes ", ") true binder_depth) (single_mark items) (codes ")") (items_root items) (items_height items) (items_steps items))
+  type_complete (Function signature items) part l binder_depth s after o is h n =
       let e = entered (l - 1) s in
-      let R = readers name (l - 1) in
+      let R = readers part (l - 1) in
       let inner = binder_depth + signature.binder in
       let start = write (signature_text signature) (write (binder_text binder_depth signature.binder) (seek (Some is.0) (take signature.binder e))) in
       let first = shown (items_text s.full items (codes ", ") true inner) (items_root items) (items_height items) (items_steps items) is.1 (l - 1) start in
-      enter_type name l binder_depth s (FunctionOf signature is.0) (omega arith) (omega arith) is.2 ∙ took signature.binder NoType e (function_rule name R binder_depth signature is.0) (omega arith) ∙ ap (function_end name R inner signature) (items_complete items name (l - 1) inner Types (codes ", ") (suc start.steps_left) true start is.1 o is.3 (omega arith) (omega arith) (omega arith) (omega arith)) ∙ ap (returned name R inner signature items (write (codes ")") first)) is.4 ∙ rw is.5 (at_tree _ _ _ (shown_function s l signature.binder (Some is.0) is.1 (after_byte is.1) (binder_text binder_depth signature.binder) (signature_text signature) (items_text s.full items (codes ", ") true inner) (codes ")") (items_root items) (items_height items) (items_steps items)))
-  type_complete (FunctionTo signature items t) name l binder_depth s after o is h n =
+      enter_type part l binder_depth s (FunctionOf signature is.0) (omega arith) (omega arith) is.2 ∙ took signature.binder NoType e (function_rule part R binder_depth signature is.0) (omega arith) ∙ ap (function_end part R inner signature) (items_complete items part (l - 1) inner Types (codes ", ") (suc start.steps_left) true start is.1 o is.3 (omega arith) (omega arith) (omega arith) (omega arith)) ∙ ap (returned part R inner signature items (write (codes ")") first)) is.4 ∙ rw is.5 (at_tree _ _ _ (shown_function s l signature.binder (Some is.0) is.1 (after_byte is.1) (binder_text binder_depth signature.binder) (signature_text signature) (items_text s.full items (codes ", ") true inner) (codes ")") (items_root items) (items_height items) (items_steps items)))
+  type_complete (FunctionTo signature items t) part l binder_depth s after o is h n =
       let e = entered (l - 1) s in
-      let R = readers name (l - 1) in
+      let R = readers part (l - 1) in
       let inner = binder_depth + signature.binder in
       let start = write (signature_text signature) (write (binder_text binder_depth signature.binder) (seek (Some is.0) (take signature.binder e))) in
       let first = shown (items_text s.full items (codes ", ") true inner) (items_root items) (items_height items) (items_steps items) is.1 (l - 1) start in
-      enter_type name l binder_depth s (FunctionOf signature is.0) (omega arith) (omega arith) is.2 ∙ took signature.binder NoType e (function_rule name R binder_depth signature is.0) (omega arith) ∙ ap (function_end name R inner signature) (items_complete items name (l - 1) inner Types (codes ", ") (suc start.steps_left) true start is.1 o is.3 (omega arith) (omega arith) (omega arith) (omega arith)) ∙ ap (returned name R inner signature items (write (codes ")") first)) is.4 ∙ ap (type_as (FunctionTo signature items)) (type_complete t name (l - 1) inner (write (codes " -> ") (write (codes ")") first)) after o is.5 (omega arith) (omega arith)) ∙ at_tree _ _ _ (shown_function_to s l signature.binder (Some is.0) is.1 after (binder_text binder_depth signature.binder) (signature_text signature) (items_text s.full items (codes ", ") true inner) (codes ")") (codes " -> ") (type_text s.full t inner) (items_root items) (type_root t) (items_height items) (items_steps items) (type_height t) (type_steps t))
-  type_complete (InvalidFunction binder) name l binder_depth s after o is h n =
-      enter_type name l binder_depth s (InvalidAbi binder) h (omega arith) is.0 ∙ took binder NoType (entered (l - 1) s) (invalid_function binder_depth binder) (omega arith) ∙ rw is.1 (at_tree _ _ _ (shown_steps_invalid s l binder (binder_text binder_depth binder)))
-  type_complete (Dyn binder items life) name l binder_depth s after o is h n =
+      enter_type part l binder_depth s (FunctionOf signature is.0) (omega arith) (omega arith) is.2 ∙ took signature.binder NoType e (function_rule part R binder_depth signature is.0) (omega arith) ∙ ap (function_end part R inner signature) (items_complete items part (l - 1) inner Types (codes ", ") (suc start.steps_left) true start is.1 o is.3 (omega arith) (omega arith) (omega arith) (omega arith)) ∙ ap (returned part R inner signature items (write (codes ")") first)) is.4 ∙ ap (type_as (FunctionTo signature items)) (type_complete t part (l - 1) inner (write (codes " -> ") (write (codes ")") first)) after o is.5 (omega arith) (omega arith)) ∙ at_tree _ _ _ (shown_function_to s l signature.binder (Some is.0) is.1 after (binder_text binder_depth signature.binder) (signature_text signature) (items_text s.full items (codes ", ") true inner) (codes ")") (codes " -> ") (type_text s.full t inner) (items_root items) (type_root t) (items_height items) (items_steps items) (type_height t) (type_steps t))
+  type_complete (InvalidFunction binder) part l binder_depth s after o is h n =
+      enter_type part l binder_depth s (InvalidAbi binder) h (omega arith) is.0 ∙ took binder NoType (entered (l - 1) s) (invalid_function binder_depth binder) (omega arith) ∙ rw is.1 (at_tree _ _ _ (shown_steps_invalid s l binder (binder_text binder_depth binder)))
+  type_complete (Dyn binder items life) part l binder_depth s after o is h n =
       let e = entered (l - 1) s in
-      let R = readers name (l - 1) in
+      let R = readers part (l - 1) in
       let inner = binder_depth + binder in
       let start = write (binder_text binder_depth binder) (write (codes "dyn ") (seek (Some is.0) (take binder e))) in
       let first = shown (items_text s.full items (codes " + ") true inner) (items_root items) (items_height items) (items_steps items) is.1 (l - 1) start in
-      enter_type name l binder_depth s (DynOf binder is.0) (omega arith) (omega arith) is.3 ∙ took binder NoType e (dyn_rule name R binder_depth binder is.0) (omega arith) ∙ ap (dyn_end name binder_depth binder) (items_complete items name (l - 1) inner Traits (codes " + ") (suc start.steps_left) true start is.1 o is.4 (omega arith) (omega arith) (omega arith) (omega arith)) ∙ ap (λ x. dyn_life binder_depth binder items x first) is.5 ∙ took (lifetime_steps life) NoType first (dyn_lifetime_rule binder_depth binder items (life, is.2)) (omega arith) ∙ rw is.6 (at_tree _ _ _ (shown_dyn s l binder (lifetime_steps life) (Some is.0) is.1 (required_end binder_depth life is.2) (codes "dyn ") (binder_text binder_depth binder) (items_text s.full items (codes " + ") true inner) (dyn_lifetime binder_depth life) (items_root items) (items_height items) (items_steps items)))
-  type_complete InvalidDynType name l binder_depth s after o is h n =
-      enter_type name l binder_depth s InvalidDyn h n is.0 ∙ rw is.1 (at_tree _ _ _ (shown_leaf s l None (codes "dyn ??")))
-  type_complete (Named p) name l binder_depth s after o is h n =
-      enter_type name l binder_depth s PathType (omega arith) (omega arith) is.0 ∙ ap named_type (path_complete p name (l - 1) InType binder_depth (entered (l - 1) s) after o is.1 (omega arith) (omega arith)) ∙ at_tree _ _ _ (shown_named s l after (path_text s.full p InType binder_depth) (path_root p) (path_height p) (path_steps p))
-  type_complete (BackType t) name l binder_depth s after o is h n =
+      enter_type part l binder_depth s (DynOf binder is.0) (omega arith) (omega arith) is.3 ∙ took binder NoType e (dyn_rule part R binder_depth binder is.0) (omega arith) ∙ ap (dyn_end part binder_depth binder) (items_complete items part (l - 1) inner Traits (codes " + ") (suc start.steps_left) true start is.1 o is.4 (omega arith) (omega arith) (omega arith) (omega arith)) ∙ ap (λ x. dyn_life binder_depth binder items x first) is.5 ∙ took (lifetime_steps life) NoType first (dyn_lifetime_rule binder_depth binder items (life, is.2)) (omega arith) ∙ rw is.6 (at_tree _ _ _ (shown_dyn s l binder (lifetime_steps life) (Some is.0) is.1 (required_end binder_depth life is.2) (codes "dyn ") (binder_text binder_depth binder) (items_text s.full items (codes " + ") true inner) (dyn_lifetime binder_depth life) (items_root items) (items_height items) (items_steps items)))
+  type_complete InvalidDynType part l binder_depth s after o is h n =
+      enter_type part l binder_depth s InvalidDyn h n is.0 ∙ rw is.1 (at_tree _ _ _ (shown_leaf s l None (codes "dyn ??")))
+  type_complete (Named p) part l binder_depth s after o is h n =
+      enter_type part l binder_depth s PathType (omega arith) (omega arith) is.0 ∙ ap named_type (path_complete p part (l - 1) InType binder_depth (entered (l - 1) s) after o is.1 (omega arith) (omega arith)) ∙ at_tree _ _ _ (shown_named s l after (path_text s.full p InType binder_depth) (path_root p) (path_height p) (path_steps p))
+  type_complete (BackType t) part l binder_depth s after o is h n =
       let e = entered (l - 1) s in
-      enter_type name l binder_depth s (BackToType is.0 is.1) (omega arith) (omega arith) is.3 ∙ ap (back_type is.1 s.in_back_reference) (type_complete t name (l - 1) binder_depth (into is.0 e) is.2 o is.4 (omega arith) (omega arith)) ∙ rw is.5 (at_tree _ _ _ (shown_back s l is.0 is.1 is.2 (type_text s.full t binder_depth) (type_root t) (type_height t) (type_steps t) o))
-  type_complete (TypeTarget target) name l binder_depth s after o is h n = absurd is
+      enter_type part l binder_depth s (BackToType is.0 is.1) (omega arith) (omega arith) is.3 ∙ ap (back_type is.1 s.in_back_reference) (type_complete t part (l - 1) binder_depth (into is.0 e) is.2 o is.4 (omega arith) (omega arith)) ∙ rw is.5 (at_tree _ _ _ (shown_back s l is.0 is.1 is.2 (type_text s.full t binder_depth) (type_root t) (type_height t) (type_steps t) o))
+  type_complete (TypeTarget target) part l binder_depth s after o is h n = absurd is
 
-  pub item_complete : (i : Item) (name : List ℕ) (l binder_depth : ℕ) (listed : Listed) (s : State) (after : Option ℕ) → s.limit_exceeded ≡ false → IsItem name listed i s.at binder_depth after → item_height i ≤ l → item_steps i ≤ s.steps_left → s.least_levels_left ≤ l → item_rule name (readers name l) binder_depth listed s ≡ (i, shown (item_text s.full i binder_depth) (item_root i) (item_height i) (item_steps i) after l s)
-  item_complete (LifetimeItem life) name l binder_depth Arguments s after o is h n b =
-      let one = lifetime_there name s.at is.0 life is.1 is.2 in
-      ap (λ x. argument_rule name (readers name l) binder_depth s x (stands name 75 s.at)) is.1 ∙ took 1 (LifetimeItem NoLifetime) s (lifetime_item binder_depth (lifetime name s.at)) (omega arith) ∙ rw (is.2, is.3) (at_tree _ _ _ (shown_lifetime s l (lifetime_steps life) (required_end binder_depth life is.0) (argument_lifetime binder_depth life) b one))
-  item_complete (LifetimeItem life) name l binder_depth Types s after o is h n b = absurd is
-  item_complete (LifetimeItem life) name l binder_depth Traits s after o is h n b = absurd is
-  item_complete (TypeItem t) name l binder_depth Arguments s after o is h n b =
-      ap (λ x. argument_rule name (readers name l) binder_depth s x (stands name 75 s.at)) is.0 ∙ ap (argument_rule name (readers name l) binder_depth s false) is.1 ∙ ap type_item (type_complete t name l binder_depth s after o is.2 h n)
-  item_complete (TypeItem t) name l binder_depth Types s after o is h n b =
-      ap type_item (type_complete t name l binder_depth s after o is h n)
-  item_complete (TypeItem t) name l binder_depth Traits s after o is h n b = absurd is
-  item_complete (ConstItem c) name l binder_depth Arguments s after o is h n b =
-      ap (λ x. argument_rule name (readers name l) binder_depth s x (stands name 75 s.at)) is.0 ∙ ap (argument_rule name (readers name l) binder_depth s false) is.1 ∙ ap const_item (const_complete c name l (seek (after_byte s.at) s) after o is.2 h n)
-  item_complete (ConstItem c) name l binder_depth Types s after o is h n b = absurd is
-  item_complete (ConstItem c) name l binder_depth Traits s after o is h n b = absurd is
-  item_complete (TraitItem p bindings) name l binder_depth Arguments s after o is h n b = absurd is
-  item_complete (TraitItem p bindings) name l binder_depth Types s after o is h n b = absurd is
-  item_complete (TraitItem p bindings) name l binder_depth Traits s after o is h n b =
-      let R = readers name l in
+  pub item_complete : (i : Item) (part : List ℕ) (l binder_depth : ℕ) (listed : Listed) (s : State) (after : Option ℕ) → s.limit_exceeded ≡ false → IsItem part listed i s.at binder_depth after → item_height i ≤ l → item_steps i ≤ s.steps_left → s.least_levels_left ≤ l → item_rule part (readers part l) binder_depth listed s ≡ (i, shown (item_text s.full i binder_depth) (item_root i) (item_height i) (item_steps i) after l s)
+  item_complete (LifetimeItem life) part l binder_depth Arguments s after o is h n b =
+      let one = lifetime_there part s.at is.0 life is.1 is.2 in
+      ap (λ x. argument_rule part (readers part l) binder_depth s x (stands part 75 s.at)) is.1 ∙ took 1 (LifetimeItem NoLifetime) s (lifetime_item binder_depth (lifetime part s.at)) (omega arith) ∙ rw (is.2, is.3) (at_tree _ _ _ (shown_lifetime s l (lifetime_steps life) (required_end binder_depth life is.0) (argument_lifetime binder_depth life) b one))
+  item_complete (LifetimeItem life) part l binder_depth Types s after o is h n b = absurd is
+  item_complete (LifetimeItem life) part l binder_depth Traits s after o is h n b = absurd is
+  item_complete (TypeItem t) part l binder_depth Arguments s after o is h n b =
+      ap (λ x. argument_rule part (readers part l) binder_depth s x (stands part 75 s.at)) is.0 ∙ ap (argument_rule part (readers part l) binder_depth s false) is.1 ∙ ap type_item (type_complete t part l binder_depth s after o is.2 h n)
+  item_complete (TypeItem t) part l binder_depth Types s after o is h n b =
+      ap type_item (type_complete t part l binder_depth s after o is h n)
+  item_complete (TypeItem t) part l binder_depth Traits s after o is h n b = absurd is
+  item_complete (ConstItem c) part l binder_depth Arguments s after o is h n b =
+      ap (λ x. argument_rule part (readers part l) binder_depth s x (stands part 75 s.at)) is.0 ∙ ap (argument_rule part (readers part l) binder_depth s false) is.1 ∙ ap const_item (const_complete c part l (seek (after_byte s.at) s) after o is.2 h n)
+  item_complete (ConstItem c) part l binder_depth Types s after o is h n b = absurd is
+  item_complete (ConstItem c) part l binder_depth Traits s after o is h n b = absurd is
+  item_complete (TraitItem p bindings) part l binder_depth Arguments s after o is h n b = absurd is
+  item_complete (TraitItem p bindings) part l binder_depth Types s after o is h n b = absurd is
+  item_complete (TraitItem p bindings) part l binder_depth Traits s after o is h n b =
+      let R = readers part l in
       let first = shown (path_text s.full p OpenTrait binder_depth) (path_root p) (path_height p) (path_steps p) is.0 l s in
-      ap (trait_rule name R binder_depth) (path_complete p name l OpenTrait binder_depth s is.0 o is.1 (omega arith) (omega arith)) ∙ ap (trait_item p) (bindings_complete bindings name l binder_depth (suc first.steps_left) (is_left_open p OpenTrait) first after o is.2 (omega arith) (omega arith) (omega arith) (omega arith)) ∙ at_tree _ _ _ (shown_trait s l is.0 after (path_text s.full p OpenTrait binder_depth) (bindings_text s.full bindings (is_left_open p OpenTrait) binder_depth) (path_root p) (bindings_root bindings) (path_height p) (path_steps p) (bindings_height bindings) (bindings_steps bindings))
+      ap (trait_rule part R binder_depth) (path_complete p part l OpenTrait binder_depth s is.0 o is.1 (omega arith) (omega arith)) ∙ ap (trait_item p) (bindings_complete bindings part l binder_depth (suc first.steps_left) (is_left_open p OpenTrait) first after o is.2 (omega arith) (omega arith) (omega arith) (omega arith)) ∙ at_tree _ _ _ (shown_trait s l is.0 after (path_text s.full p OpenTrait binder_depth) (bindings_text s.full bindings (is_left_open p OpenTrait) binder_depth) (path_root p) (bindings_root bindings) (path_height p) (path_steps p) (bindings_height bindings) (bindings_steps bindings))
 
-  pub items_complete : (items : Items) (name : List ℕ) (l binder_depth : ℕ) (listed : Listed) (between : List ℕ) (fuel : ℕ) (is_first : Bool) (s : State) (after : Option ℕ) → s.limit_exceeded ≡ false → AreItems name listed items s.at binder_depth after → items_height items ≤ l → items_steps items ≤ s.steps_left → items_steps items < fuel → s.least_levels_left ≤ l → items_rule name (readers name l) binder_depth listed between fuel is_first s ≡ (items, shown (items_text s.full items between is_first binder_depth) (items_root items) (items_height items) (items_steps items) after l s)
-  items_complete NoItems name l binder_depth listed between zero is_first s after o is h n f b = absurd (omega arith)
-  items_complete NoItems name l binder_depth listed between (suc fuel) is_first s after o is h n f b =
-      let R = readers name l in
-      ap (list_rule name R binder_depth listed between (items_rule name R binder_depth listed between fuel false) is_first s) is.0 ∙ rw is.1 (at_tree _ _ _ (shown_end s l (after_byte s.at) b))
-  items_complete (ItemThen i items) name l binder_depth listed between zero is_first s after o is h n f b =
+  pub items_complete : (items : Items) (part : List ℕ) (l binder_depth : ℕ) (listed : Listed) (between : List ℕ) (fuel : ℕ) (is_first : Bool) (s : State) (after : Option ℕ) → s.limit_exceeded ≡ false → AreItems part listed items s.at binder_depth after → items_height items ≤ l → items_steps items ≤ s.steps_left → items_steps items < fuel → s.least_levels_left ≤ l → items_rule part (readers part l) binder_depth listed between fuel is_first s ≡ (items, shown (items_text s.full items between is_first binder_depth) (items_root items) (items_height items) (items_steps items) after l s)
+  items_complete NoItems part l binder_depth listed between zero is_first s after o is h n f b = absurd (omega arith)
+  items_complete NoItems part l binder_depth listed between (suc fuel) is_first s after o is h n f b =
+      let R = readers part l in
+      ap (list_rule part R binder_depth listed between (items_rule part R binder_depth listed between fuel false) is_first s) is.0 ∙ rw is.1 (at_tree _ _ _ (shown_end s l (after_byte s.at) b))
+  items_complete (ItemThen i items) part l binder_depth listed between zero is_first s after o is h n f b =
       absurd (omega arith)
-  items_complete (ItemThen i items) name l binder_depth listed between (suc fuel) is_first s after o is h n f b =
-      let R = readers name l in
+  items_complete (ItemThen i items) part l binder_depth listed between (suc fuel) is_first s after o is h n f b =
+      let R = readers part l in
       let start = write (separator is_first between) s in
       let first = shown (item_text s.full i binder_depth) (item_root i) (item_height i) (item_steps i) is.0 l start in
-      let some = item_steps_some name listed i s.at binder_depth is.0 is.2 in
-      ap (list_rule name R binder_depth listed between (items_rule name R binder_depth listed between fuel false) is_first s) is.1 ∙ ap (items_after (items_rule name R binder_depth listed between fuel false)) (item_complete i name l binder_depth listed start is.0 o is.2 (omega arith) (omega arith) b) ∙ ap (item_then i) (items_complete items name l binder_depth listed between fuel false first after o is.3 (omega arith) (omega arith) (omega arith) (omega arith)) ∙ at_tree _ _ _ (shown_items s l is.0 after (separator is_first between) (item_text s.full i binder_depth) (items_text s.full items between false binder_depth) (item_root i) (items_root items) (item_height i) (item_steps i) (items_height items) (items_steps items))
+      let some = item_steps_some part listed i s.at binder_depth is.0 is.2 in
+      ap (list_rule part R binder_depth listed between (items_rule part R binder_depth listed between fuel false) is_first s) is.1 ∙ ap (items_after (items_rule part R binder_depth listed between fuel false)) (item_complete i part l binder_depth listed start is.0 o is.2 (omega arith) (omega arith) b) ∙ ap (item_then i) (items_complete items part l binder_depth listed between fuel false first after o is.3 (omega arith) (omega arith) (omega arith) (omega arith)) ∙ at_tree _ _ _ (shown_items s l is.0 after (separator is_first between) (item_text s.full i binder_depth) (items_text s.full items between false binder_depth) (item_root i) (items_root items) (item_height i) (item_steps i) (items_height items) (items_steps items))
 
-  pub bindings_complete : (bindings : Bindings) (name : List ℕ) (l binder_depth fuel : ℕ) (is_open : Bool) (s : State) (after : Option ℕ) → s.limit_exceeded ≡ false → AreBindings name bindings s.at binder_depth after → bindings_height bindings ≤ l → bindings_steps bindings ≤ s.steps_left → bindings_steps bindings < fuel → s.least_levels_left ≤ l → bindings_rule name (readers name l) binder_depth fuel is_open s ≡ (bindings, shown (bindings_text s.full bindings is_open binder_depth) (bindings_root bindings) (bindings_height bindings) (bindings_steps bindings) after l s)
-  bindings_complete NoBindings name l binder_depth zero is_open s after o is h n f b = absurd (omega arith)
-  bindings_complete NoBindings name l binder_depth (suc fuel) is_open s after o is h n f b =
-      let R = readers name l in
-      ap (binding_rule name R binder_depth (bindings_rule name R binder_depth fuel) is_open s) is.0 ∙ rw is.1 (at_tree _ _ _ (shown_bindings_end s l (close_mark is_open) b))
-  bindings_complete InvalidBinding name l binder_depth zero is_open s after o is h n f b = absurd (omega arith)
-  bindings_complete InvalidBinding name l binder_depth (suc fuel) is_open s after o is h n f b =
-      let R = readers name l in
-      ap (binding_rule name R binder_depth (bindings_rule name R binder_depth fuel) is_open s) is.0 ∙ ap (named_binding R binder_depth (bindings_rule name R binder_depth fuel) is_open s) is.1 ∙ rw is.2 (at_tree _ _ _ (shown_bindings_invalid s l (open_mark is_open) b))
-  bindings_complete (Binding i t bindings) name l binder_depth zero is_open s after o is h n f b = absurd (omega arith)
-  bindings_complete (Binding i t bindings) name l binder_depth (suc fuel) is_open s after o is h n f b =
-      let R = readers name l in
+  pub bindings_complete : (bindings : Bindings) (part : List ℕ) (l binder_depth fuel : ℕ) (is_open : Bool) (s : State) (after : Option ℕ) → s.limit_exceeded ≡ false → AreBindings part bindings s.at binder_depth after → bindings_height bindings ≤ l → bindings_steps bindings ≤ s.steps_left → bindings_steps bindings < fuel → s.least_levels_left ≤ l → bindings_rule part (readers part l) binder_depth fuel is_open s ≡ (bindings, shown (bindings_text s.full bindings is_open binder_depth) (bindings_root bindings) (bindings_height bindings) (bindings_steps bindings) after l s)
+  bindings_complete NoBindings part l binder_depth zero is_open s after o is h n f b = absurd (omega arith)
+  bindings_complete NoBindings part l binder_depth (suc fuel) is_open s after o is h n f b =
+      let R = readers part l in
+      ap (binding_rule part R binder_depth (bindings_rule part R binder_depth fuel) is_open s) is.0 ∙ rw is.1 (at_tree _ _ _ (shown_bindings_end s l (close_mark is_open) b))
+  bindings_complete InvalidBinding part l binder_depth zero is_open s after o is h n f b = absurd (omega arith)
+  bindings_complete InvalidBinding part l binder_depth (suc fuel) is_open s after o is h n f b =
+      let R = readers part l in
+      ap (binding_rule part R binder_depth (bindings_rule part R binder_depth fuel) is_open s) is.0 ∙ ap (named_binding R binder_depth (bindings_rule part R binder_depth fuel) is_open s) is.1 ∙ rw is.2 (at_tree _ _ _ (shown_bindings_invalid s l (open_mark is_open) b))
+  bindings_complete (Binding i t bindings) part l binder_depth zero is_open s after o is h n f b = absurd (omega arith)
+  bindings_complete (Binding i t bindings) part l binder_depth (suc fuel) is_open s after o is h n f b =
+      let R = readers part l in
       let start = write (codes " = ") (write (identifier_text i) (seek (Some is.0) (write (open_mark is_open) s))) in
       let first = shown (type_text s.full t binder_depth) (type_root t) (type_height t) (type_steps t) is.1 l start in
       let some = type_steps_some t in
-      ap (binding_rule name R binder_depth (bindings_rule name R binder_depth fuel) is_open s) is.2 ∙ ap (named_binding R binder_depth (bindings_rule name R binder_depth fuel) is_open s) is.3 ∙ ap (bound_type (bindings_rule name R binder_depth fuel) i) (type_complete t name l binder_depth start is.1 o is.4 (omega arith) (omega arith)) ∙ ap (binding_then i t) (bindings_complete bindings name l binder_depth fuel true first after o is.5 (omega arith) (omega arith) (omega arith) (omega arith)) ∙ at_tree _ _ _ (shown_binding s l (Some is.0) is.1 after (open_mark is_open) (identifier_text i) (codes " = ") (type_text s.full t binder_depth) (bindings_text s.full bindings true binder_depth) (type_root t) (bindings_root bindings) (type_height t) (type_steps t) (bindings_height bindings) (bindings_steps bindings))
+      ap (binding_rule part R binder_depth (bindings_rule part R binder_depth fuel) is_open s) is.2 ∙ ap (named_binding R binder_depth (bindings_rule part R binder_depth fuel) is_open s) is.3 ∙ ap (bound_type (bindings_rule part R binder_depth fuel) i) (type_complete t part l binder_depth start is.1 o is.4 (omega arith) (omega arith)) ∙ ap (binding_then i t) (bindings_complete bindings part l binder_depth fuel true first after o is.5 (omega arith) (omega arith) (omega arith) (omega arith)) ∙ at_tree _ _ _ (shown_binding s l (Some is.0) is.1 after (open_mark is_open) (identifier_text i) (codes " = ") (type_text s.full t binder_depth) (bindings_text s.full bindings true binder_depth) (type_root t) (bindings_root bindings) (type_height t) (type_steps t) (bindings_height bindings) (bindings_steps bindings))

@@ -34,39 +34,39 @@ slice_grown old more start end h = by (nat_le start (length old)) refl
         rw z refl
 
 -- what is kept stays where more is written
-pub grown : (name : List ℕ) (full : Bool) (old new more : List ℕ) (fs : List fragment.Fragment) → new ≡ old ++ more → All (IsKept name full old) fs → All (IsKept name full new) fs
-grown name full old new more fs e h =
+pub grown : (part : List ℕ) (full : Bool) (old new more : List ℕ) (fs : List fragment.Fragment) → new ≡ old ++ more → All (IsKept part full old) fs → All (IsKept part full new) fs
+grown part full old new more fs e h =
     rw e (λ k d l. let f = h k d l in record { tree = f.tree; after = f.after; is = f.is; within = omega (arith, f.within, length-append old more); text_is = slice_grown old more _ _ f.within ∙ f.text_is; steps_is = f.steps_is; height_is = f.height_is; open_is = f.open_is })
 
 -- with the least number of levels counted anew
-pub path_anew : (name : List ℕ) (levels_left : ℕ) (position : Position) (binder_depth : ℕ) (s : State) → low s.least_levels_left ((readers name levels_left).path position binder_depth (raised levels_left s)) ≡ (readers name levels_left).path position binder_depth s
-path_anew name levels_left position binder_depth s =
-    sym ((readers_low s.least_levels_left name levels_left).path position binder_depth (raised levels_left s)) ∙ ap ((readers name levels_left).path position binder_depth) (raised_lowered levels_left s)
+pub path_anew : (part : List ℕ) (levels_left : ℕ) (position : Position) (binder_depth : ℕ) (s : State) → low s.least_levels_left ((readers part levels_left).path position binder_depth (raised levels_left s)) ≡ (readers part levels_left).path position binder_depth s
+path_anew part levels_left position binder_depth s =
+    sym ((readers_low s.least_levels_left part levels_left).path position binder_depth (raised levels_left s)) ∙ ap ((readers part levels_left).path position binder_depth) (raised_lowered levels_left s)
 
-pub type_anew : (name : List ℕ) (levels_left binder_depth : ℕ) (s : State) → low s.least_levels_left ((readers name levels_left).ty binder_depth (raised levels_left s)) ≡ (readers name levels_left).ty binder_depth s
-type_anew name levels_left binder_depth s =
-    sym ((readers_low s.least_levels_left name levels_left).ty binder_depth (raised levels_left s)) ∙ ap ((readers name levels_left).ty binder_depth) (raised_lowered levels_left s)
+pub type_anew : (part : List ℕ) (levels_left binder_depth : ℕ) (s : State) → low s.least_levels_left ((readers part levels_left).ty binder_depth (raised levels_left s)) ≡ (readers part levels_left).ty binder_depth s
+type_anew part levels_left binder_depth s =
+    sym ((readers_low s.least_levels_left part levels_left).ty binder_depth (raised levels_left s)) ∙ ap ((readers part levels_left).ty binder_depth) (raised_lowered levels_left s)
 
-pub constant_anew : (name : List ℕ) (levels_left : ℕ) (s : State) → low s.least_levels_left ((readers name levels_left).constant (raised levels_left s)) ≡ (readers name levels_left).constant s
-constant_anew name levels_left s =
-    sym ((readers_low s.least_levels_left name levels_left).constant (raised levels_left s)) ∙ ap ((readers name levels_left).constant) (raised_lowered levels_left s)
+pub constant_anew : (part : List ℕ) (levels_left : ℕ) (s : State) → low s.least_levels_left ((readers part levels_left).constant (raised levels_left s)) ≡ (readers part levels_left).constant s
+constant_anew part levels_left s =
+    sym ((readers_low s.least_levels_left part levels_left).constant (raised levels_left s)) ∙ ap ((readers part levels_left).constant) (raised_lowered levels_left s)
 
 -- what a reader of a sort finds
-record Found (name : List ℕ) (production : Production) (binder_depth levels_left steps_left : ℕ) (at : Option ℕ) (limit_exceeded : Bool) (r : TreeOf production × State) : Type 0 where
-  is : Unfolds production name r.0 at binder_depth r.1.at
+record Found (part : List ℕ) (production : Production) (binder_depth levels_left steps_left : ℕ) (at : Option ℕ) (limit_exceeded : Bool) (r : TreeOf production × State) : Type 0 where
+  is : Unfolds production part r.0 at binder_depth r.1.at
   height : height_of production r.0 ≤ levels_left
   steps : r.1.steps_left + steps_of production r.0 ≡ steps_left
   before : limit_exceeded ≡ false
 
-found : (name : List ℕ) (levels_left : ℕ) (production : Production) (binder_depth : ℕ) (s : State) → (read (readers name levels_left) production binder_depth s).1.limit_exceeded ≡ false → Found name production binder_depth levels_left s.steps_left s.at s.limit_exceeded (read (readers name levels_left) production binder_depth s)
-found name levels_left (PathProduction position) binder_depth s limit_exceeded =
-    let f = (readers_sound name levels_left).path position binder_depth s limit_exceeded in
+found : (part : List ℕ) (levels_left : ℕ) (production : Production) (binder_depth : ℕ) (s : State) → (read (readers part levels_left) production binder_depth s).1.limit_exceeded ≡ false → Found part production binder_depth levels_left s.steps_left s.at s.limit_exceeded (read (readers part levels_left) production binder_depth s)
+found part levels_left (PathProduction position) binder_depth s limit_exceeded =
+    let f = (readers_sound part levels_left).path position binder_depth s limit_exceeded in
     record { is = f.is; height = f.height; steps = f.steps; before = f.before }
-found name levels_left TypeProduction binder_depth s limit_exceeded =
-    let f = (readers_sound name levels_left).ty binder_depth s limit_exceeded in
+found part levels_left TypeProduction binder_depth s limit_exceeded =
+    let f = (readers_sound part levels_left).ty binder_depth s limit_exceeded in
     record { is = f.is; height = f.height; steps = f.steps; before = f.before }
-found name levels_left ConstProduction binder_depth s limit_exceeded =
-    let f = (readers_sound name levels_left).constant s limit_exceeded in
+found part levels_left ConstProduction binder_depth s limit_exceeded =
+    let f = (readers_sound part levels_left).constant s limit_exceeded in
     record { is = f.is; height = f.height; steps = f.steps; before = f.before }
 
 abbrev root_of : (production : Production) → TreeOf production → Option UndisambiguatedIdentifier
@@ -74,21 +74,21 @@ root_of (PathProduction position) t = path_root t
 root_of TypeProduction t = type_root t
 root_of ConstProduction t = None
 
-complete : (production : Production) (t : TreeOf production) (name : List ℕ) (l binder_depth : ℕ) (s : State) (after : Option ℕ) → s.limit_exceeded ≡ false → Unfolds production name t s.at binder_depth after → height_of production t ≤ l → steps_of production t ≤ s.steps_left → read (readers name l) production binder_depth s ≡ (t, shown (text_of production s.full t binder_depth) (root_of production t) (height_of production t) (steps_of production t) after l s)
-complete (PathProduction position) t name l binder_depth s after o is h n = path_complete t name l position binder_depth s after o is h n
-complete TypeProduction t name l binder_depth s after o is h n = type_complete t name l binder_depth s after o is h n
-complete ConstProduction t name l binder_depth s after o is h n = const_complete t name l s after o is h n
+complete : (production : Production) (t : TreeOf production) (part : List ℕ) (l binder_depth : ℕ) (s : State) (after : Option ℕ) → s.limit_exceeded ≡ false → Unfolds production part t s.at binder_depth after → height_of production t ≤ l → steps_of production t ≤ s.steps_left → read (readers part l) production binder_depth s ≡ (t, shown (text_of production s.full t binder_depth) (root_of production t) (height_of production t) (steps_of production t) after l s)
+complete (PathProduction position) t part l binder_depth s after o is h n = path_complete t part l position binder_depth s after o is h n
+complete TypeProduction t part l binder_depth s after o is h n = type_complete t part l binder_depth s after o is h n
+complete ConstProduction t part l binder_depth s after o is h n = const_complete t part l s after o is h n
 
 cut_behind : (a b : List ℕ) → slice_range (a ++ b) (length a) (length (a ++ b)) ≡ b
 cut_behind a b = rw (drop_at a b (length a) refl) (take_all _ b (omega (arith, length-append a b)))
 
-to_keep : (name : List ℕ) (levels_left : ℕ) (production : Production) (binder_depth : ℕ) (s : State) (at after : ℕ) (r : TreeOf production × State) → r ≡ read (readers name levels_left) production binder_depth s → s.at ≡ Some at → r.1.at ≡ Some after → levels_left ≤ s.least_levels_left → r.1.limit_exceeded ≡ false → r.1.muted ≡ false → Kept name r.1.full r.1.text production at binder_depth (length s.text) (length r.1.text) (s.steps_left - r.1.steps_left) (levels_left - r.1.least_levels_left) (left_open_of production r.0)
-to_keep name levels_left production binder_depth s at after r er e ea high limit_exceeded muted =
-    let known : (read (readers name levels_left) production binder_depth s).1.limit_exceeded ≡ false = rw (← er) limit_exceeded in
-    let f : Found name production binder_depth levels_left s.steps_left s.at s.limit_exceeded r = rw er (found name levels_left production binder_depth s known) in
+to_keep : (part : List ℕ) (levels_left : ℕ) (production : Production) (binder_depth : ℕ) (s : State) (at after : ℕ) (r : TreeOf production × State) → r ≡ read (readers part levels_left) production binder_depth s → s.at ≡ Some at → r.1.at ≡ Some after → levels_left ≤ s.least_levels_left → r.1.limit_exceeded ≡ false → r.1.muted ≡ false → Kept part r.1.full r.1.text production at binder_depth (length s.text) (length r.1.text) (s.steps_left - r.1.steps_left) (levels_left - r.1.least_levels_left) (left_open_of production r.0)
+to_keep part levels_left production binder_depth s at after r er e ea high limit_exceeded muted =
+    let known : (read (readers part levels_left) production binder_depth s).1.limit_exceeded ≡ false = rw (← er) limit_exceeded in
+    let f : Found part production binder_depth levels_left s.steps_left s.at s.limit_exceeded r = rw er (found part levels_left production binder_depth s known) in
     let t = r.0 in
     let text = text_of production s.full t binder_depth in
-    let same = er ∙ complete production t name levels_left binder_depth s r.1.at f.before f.is f.height (omega (arith, f.steps)) in
+    let same = er ∙ complete production t part levels_left binder_depth s r.1.at f.before f.is f.height (omega (arith, f.steps)) in
     let hears : s.muted ≡ false = sym (ap (λ x. x.1.muted) same) ∙ muted in
     let full : r.1.full ≡ s.full = ap (λ x. x.1.full) same in
     let written : r.1.text ≡ s.text ++ text = ap (λ x. x.1.text) same ∙ rw hears refl in
@@ -107,20 +107,20 @@ to_keep name levels_left production binder_depth s at after r er e ea high limit
 high_enough : (levels_left least_levels_left : ℕ) → levels_left ≤ max least_levels_left levels_left
 high_enough levels_left least_levels_left = omega arith
 
-pub may_be_kept : (production : Production) (levels_left binder_depth : ℕ) (p q r : Printing) (m : mark.Mark) (left_open : Bool) → IsMark p.state m → q ≡ with_state (raised levels_left p.state) p → r ≡ with_state (read (readers q.name levels_left) production binder_depth q.state).1 q → left_open ≡ left_open_of production (read (readers q.name levels_left) production binder_depth q.state).0 → MayKeep r.name r.state m levels_left binder_depth production left_open
+pub may_be_kept : (production : Production) (levels_left binder_depth : ℕ) (p q r : Printing) (m : mark.Mark) (left_open : Bool) → IsMark p.state m → q ≡ with_state (raised levels_left p.state) p → r ≡ with_state (read (readers q.part levels_left) production binder_depth q.state).1 q → left_open ≡ left_open_of production (read (readers q.part levels_left) production binder_depth q.state).0 → MayKeep r.part r.state m levels_left binder_depth production left_open
 may_be_kept production levels_left binder_depth p q r m left_open is eq er eo =
-    rw (er, eo, eq) (λ after ea limit_exceeded muted. rw (is.1, is.2) (to_keep p.name levels_left production binder_depth (raised levels_left p.state) m.at after _ refl is.0 ea (high_enough levels_left p.state.least_levels_left) limit_exceeded muted))
+    rw (er, eo, eq) (λ after ea limit_exceeded muted. rw (is.1, is.2) (to_keep p.part levels_left production binder_depth (raised levels_left p.state) m.at after _ refl is.0 ea (high_enough levels_left p.state.least_levels_left) limit_exceeded muted))
 
 -- what is kept is what would be printed again
-again : (name : List ℕ) (levels_left : ℕ) (production : Production) (binder_depth : ℕ) (s : State) (target start end steps height : ℕ) (left_open : Bool) → s.limit_exceeded ≡ false → Kept name s.full s.text production target binder_depth start end steps height left_open → height ≤ levels_left → steps ≤ s.steps_left → ((read (readers name levels_left) production binder_depth (into target s)).1 ≡ record s { at = (read (readers name levels_left) production binder_depth (into target s)).1.at; steps_left = s.steps_left - steps; least_levels_left = min s.least_levels_left (levels_left - height); text = s.text ++ heard s.muted (slice_range s.text start end); in_back_reference = true }) × (left_open_of production (read (readers name levels_left) production binder_depth (into target s)).0 ≡ left_open)
-again name levels_left production binder_depth s target start end steps height left_open limit_exceeded k h n =
-    let same = complete production k.tree name levels_left binder_depth (into target s) (Some k.after) limit_exceeded k.is (omega (arith, k.height_is, h)) (omega (arith, k.steps_is, n)) in
+again : (part : List ℕ) (levels_left : ℕ) (production : Production) (binder_depth : ℕ) (s : State) (target start end steps height : ℕ) (left_open : Bool) → s.limit_exceeded ≡ false → Kept part s.full s.text production target binder_depth start end steps height left_open → height ≤ levels_left → steps ≤ s.steps_left → ((read (readers part levels_left) production binder_depth (into target s)).1 ≡ record s { at = (read (readers part levels_left) production binder_depth (into target s)).1.at; steps_left = s.steps_left - steps; least_levels_left = min s.least_levels_left (levels_left - height); text = s.text ++ heard s.muted (slice_range s.text start end); in_back_reference = true }) × (left_open_of production (read (readers part levels_left) production binder_depth (into target s)).0 ≡ left_open)
+again part levels_left production binder_depth s target start end steps height left_open limit_exceeded k h n =
+    let same = complete production k.tree part levels_left binder_depth (into target s) (Some k.after) limit_exceeded k.is (omega (arith, k.height_is, h)) (omega (arith, k.steps_is, n)) in
     (rw (same, k.text_is, ← k.steps_is, ← k.height_is) refl, ap (λ x. left_open_of production x.0) same ∙ k.open_is)
 
 -- the same of a printer, behind the back reference
-pub kept_again : (production : Production) (levels_left binder_depth : ℕ) (p : Printing) (target after start end steps height : ℕ) (left_open : Bool) → p.state.limit_exceeded ≡ false → Kept p.name p.state.full p.state.text production target binder_depth start end steps height left_open → height ≤ levels_left → steps ≤ p.state.steps_left → (with_state (record p.state { at = Some after; steps_left = p.state.steps_left - steps; least_levels_left = min p.state.least_levels_left (levels_left - height); text = p.state.text ++ heard p.state.muted (slice_range p.state.text start end) }) p ≡ with_state (back_to after p.state.in_back_reference (read (readers p.name levels_left) production binder_depth (into target p.state)).1) p) × (left_open ≡ left_open_of production (read (readers p.name levels_left) production binder_depth (into target p.state)).0)
+pub kept_again : (production : Production) (levels_left binder_depth : ℕ) (p : Printing) (target after start end steps height : ℕ) (left_open : Bool) → p.state.limit_exceeded ≡ false → Kept p.part p.state.full p.state.text production target binder_depth start end steps height left_open → height ≤ levels_left → steps ≤ p.state.steps_left → (with_state (record p.state { at = Some after; steps_left = p.state.steps_left - steps; least_levels_left = min p.state.least_levels_left (levels_left - height); text = p.state.text ++ heard p.state.muted (slice_range p.state.text start end) }) p ≡ with_state (back_to after p.state.in_back_reference (read (readers p.part levels_left) production binder_depth (into target p.state)).1) p) × (left_open ≡ left_open_of production (read (readers p.part levels_left) production binder_depth (into target p.state)).0)
 kept_again production levels_left binder_depth p target after start end steps height left_open limit_exceeded k h n =
-    let e = again p.name levels_left production binder_depth p.state target start end steps height left_open limit_exceeded k h n in
+    let e = again p.part levels_left production binder_depth p.state target start end steps height left_open limit_exceeded k h n in
     (rw (e.0, limit_exceeded) refl, sym e.1)
 
 -- one more fragment, where there was room for it

@@ -12,17 +12,17 @@ one_le_suc l = grind (arith, nat_tests)
 suc-one : (l : ℕ) → suc l - 1 ≡ l
 suc-one l = omega arith
 
-pub constant_at : (name : List ℕ) (levels_left : ℕ) (s : State) → (readers name levels_left).constant s ≡ (if nat_le 1 levels_left && nat_le 1 s.steps_left then const_rule (readers name (levels_left - 1)) (entered (levels_left - 1) s) (const_form name s.at) else (NoConst, stopped s))
+pub constant_at : (part : List ℕ) (levels_left : ℕ) (s : State) → (readers part levels_left).constant s ≡ (if nat_le 1 levels_left && nat_le 1 s.steps_left then const_rule (readers part (levels_left - 1)) (entered (levels_left - 1) s) (const_form part s.at) else (NoConst, stopped s))
 unfolding readers
-constant_at name zero s = refl
-constant_at name (suc l) s = rw (one_le_suc l, suc-one l) refl
+constant_at part zero s = refl
+constant_at part (suc l) s = rw (one_le_suc l, suc-one l) refl
 
-pub type_at : (name : List ℕ) (levels_left binder_depth : ℕ) (s : State) → (readers name levels_left).ty binder_depth s ≡ (if nat_le 1 levels_left && nat_le 1 s.steps_left then type_rule name (readers name (levels_left - 1)) binder_depth (entered (levels_left - 1) s) (type_form name s.at) else (NoType, stopped s))
+pub type_at : (part : List ℕ) (levels_left binder_depth : ℕ) (s : State) → (readers part levels_left).ty binder_depth s ≡ (if nat_le 1 levels_left && nat_le 1 s.steps_left then type_rule part (readers part (levels_left - 1)) binder_depth (entered (levels_left - 1) s) (type_form part s.at) else (NoType, stopped s))
 unfolding readers
-type_at name zero binder_depth s = refl
-type_at name (suc l) binder_depth s = rw (one_le_suc l, suc-one l) refl
+type_at part zero binder_depth s = refl
+type_at part (suc l) binder_depth s = rw (one_le_suc l, suc-one l) refl
 
-pub path_at : (name : List ℕ) (levels_left : ℕ) (position : Position) (binder_depth : ℕ) (s : State) → (readers name levels_left).path position binder_depth s ≡ (if nat_le 1 levels_left && nat_le 1 s.steps_left then path_rule name (readers name (levels_left - 1)) position binder_depth (entered (levels_left - 1) s) (path_form name s.at) else (NoPath, stopped s))
+pub path_at : (part : List ℕ) (levels_left : ℕ) (position : Position) (binder_depth : ℕ) (s : State) → (readers part levels_left).path position binder_depth s ≡ (if nat_le 1 levels_left && nat_le 1 s.steps_left then path_rule part (readers part (levels_left - 1)) position binder_depth (entered (levels_left - 1) s) (path_form part s.at) else (NoPath, stopped s))
 unfolding readers
-path_at name zero position binder_depth s = refl
-path_at name (suc l) position binder_depth s = rw (one_le_suc l, suc-one l) refl
+path_at part zero position binder_depth s = refl
+path_at part (suc l) position binder_depth s = rw (one_le_suc l, suc-one l) refl

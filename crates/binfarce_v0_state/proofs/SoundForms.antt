@@ -10,69 +10,69 @@ use Rattle.binfarce_v0_grammar.specs.Unfolding.{IsPath, IsType}
 use Rattle.binfarce_v0_state.specs.machine.Printing.{State, Readers, write, seek, stopped, take, entered, into, set_muted, entering, named_tree, named_state, returned, function_rule, dyn_lifetime_rule, dyn_end, dyn_rule, reference_rule, invalid_reference, invalid_function, type_rule, path_rule, const_rule, readers}
 use Rattle.binfarce_v0_state.proofs.Sound.{Sound, PathFound, TypeFound, ConstFound, ItemsFound, taken, true_not_false, back_target, const_sound, items_sound}
 
-returned_sound : (name : List ℕ) (levels_left : ℕ) (R : Readers) → Sound name levels_left R → (binder_depth steps_left : ℕ) (at : Option ℕ) (signature : Signature) (q : ℕ) (r : Items × State) (limit_exceeded : Bool) (b : Bool) → type_form name at ≡ FunctionOf signature q → stands name 117 r.1.at ≡ b → (r.1.limit_exceeded ≡ false → ItemsFound name Types (binder_depth + signature.binder) levels_left (steps_left - signature.binder) (Some q) limit_exceeded r) → signature.binder ≤ steps_left → (returned name R (binder_depth + signature.binder) signature r.0 (write (codes ")") r.1) b).1.limit_exceeded ≡ false → TypeFound name binder_depth (suc levels_left) (suc steps_left) at limit_exceeded (returned name R (binder_depth + signature.binder) signature r.0 (write (codes ")") r.1) b)
+returned_sound : (part : List ℕ) (levels_left : ℕ) (R : Readers) → Sound part levels_left R → (binder_depth steps_left : ℕ) (at : Option ℕ) (signature : Signature) (q : ℕ) (r : Items × State) (limit_exceeded : Bool) (b : Bool) → type_form part at ≡ FunctionOf signature q → stands part 117 r.1.at ≡ b → (r.1.limit_exceeded ≡ false → ItemsFound part Types (binder_depth + signature.binder) levels_left (steps_left - signature.binder) (Some q) limit_exceeded r) → signature.binder ≤ steps_left → (returned part R (binder_depth + signature.binder) signature r.0 (write (codes ")") r.1) b).1.limit_exceeded ≡ false → TypeFound part binder_depth (suc levels_left) (suc steps_left) at limit_exceeded (returned part R (binder_depth + signature.binder) signature r.0 (write (codes ")") r.1) b)
 unfolding IsType type_height type_steps
-returned_sound name levels_left R H binder_depth steps_left at signature q r limit_exceeded true e eb I n o =
+returned_sound part levels_left R H binder_depth steps_left at signature q r limit_exceeded true e eb I n o =
     let f = I o in
     record { is = (q, r.1.at, e, f.is, eb, refl); height = omega arith; steps = omega arith; before = f.before }
-returned_sound name levels_left R H binder_depth steps_left at signature q r limit_exceeded false e eb I n o =
+returned_sound part levels_left R H binder_depth steps_left at signature q r limit_exceeded false e eb I n o =
     let t = H.ty (binder_depth + signature.binder) (write (codes " -> ") (write (codes ")") r.1)) o in
     let f = I t.before in
     record { is = (q, r.1.at, e, f.is, eb, t.is); height = omega arith; steps = omega arith; before = f.before }
 
-dyn_sound : (name : List ℕ) (levels_left binder_depth steps_left : ℕ) (at : Option ℕ) (binder q : ℕ) (r : Items × State) (limit_exceeded : Bool) → type_form name at ≡ DynOf binder q → (r.1.limit_exceeded ≡ false → ItemsFound name Traits (binder_depth + binder) levels_left (steps_left - binder) (Some q) limit_exceeded r) → binder ≤ steps_left → (dyn_end name binder_depth binder r).1.limit_exceeded ≡ false → TypeFound name binder_depth (suc levels_left) (suc steps_left) at limit_exceeded (dyn_end name binder_depth binder r)
+dyn_sound : (part : List ℕ) (levels_left binder_depth steps_left : ℕ) (at : Option ℕ) (binder q : ℕ) (r : Items × State) (limit_exceeded : Bool) → type_form part at ≡ DynOf binder q → (r.1.limit_exceeded ≡ false → ItemsFound part Traits (binder_depth + binder) levels_left (steps_left - binder) (Some q) limit_exceeded r) → binder ≤ steps_left → (dyn_end part binder_depth binder r).1.limit_exceeded ≡ false → TypeFound part binder_depth (suc levels_left) (suc steps_left) at limit_exceeded (dyn_end part binder_depth binder r)
 unfolding IsType type_height type_steps
-dyn_sound name levels_left binder_depth steps_left at binder q r limit_exceeded e I n o =
-    taken (λ x. TypeFound name binder_depth (suc levels_left) (suc steps_left) at limit_exceeded x) (lifetime_steps (lifetime name r.1.at).0) NoType r.1 (dyn_lifetime_rule binder_depth binder r.0 (lifetime name r.1.at)) here o
+dyn_sound part levels_left binder_depth steps_left at binder q r limit_exceeded e I n o =
+    taken (λ x. TypeFound part binder_depth (suc levels_left) (suc steps_left) at limit_exceeded x) (lifetime_steps (lifetime part r.1.at).0) NoType r.1 (dyn_lifetime_rule binder_depth binder r.0 (lifetime part r.1.at)) here o
   where
-    here : lifetime_steps (lifetime name r.1.at).0 ≤ r.1.steps_left → r.1.limit_exceeded ≡ false → TypeFound name binder_depth (suc levels_left) (suc steps_left) at limit_exceeded (dyn_lifetime_rule binder_depth binder r.0 (lifetime name r.1.at) (take (lifetime_steps (lifetime name r.1.at).0) r.1))
+    here : lifetime_steps (lifetime part r.1.at).0 ≤ r.1.steps_left → r.1.limit_exceeded ≡ false → TypeFound part binder_depth (suc levels_left) (suc steps_left) at limit_exceeded (dyn_lifetime_rule binder_depth binder r.0 (lifetime part r.1.at) (take (lifetime_steps (lifetime part r.1.at).0) r.1))
     here m p =
         let f = I p in
         record {
-          is = (q, r.1.at, (lifetime name r.1.at).1, e, f.is, refl, refl);
+          is = (q, r.1.at, (lifetime part r.1.at).1, e, f.is, refl, refl);
           height = omega arith;
           steps = omega arith;
           before = f.before;
         }
 
-reference_sound : (name : List ℕ) (levels_left : ℕ) (R : Readers) → Sound name levels_left R → (binder_depth : ℕ) (s : State) (mutable : Bool) (life : Lifetime) (q : ℕ) → type_form name s.at ≡ ReferenceTo mutable life q → lifetime_steps life ≤ s.steps_left → (reference_rule R binder_depth mutable life q (take (lifetime_steps life) s)).1.limit_exceeded ≡ false → TypeFound name binder_depth (suc levels_left) (suc s.steps_left) s.at s.limit_exceeded (reference_rule R binder_depth mutable life q (take (lifetime_steps life) s))
+reference_sound : (part : List ℕ) (levels_left : ℕ) (R : Readers) → Sound part levels_left R → (binder_depth : ℕ) (s : State) (mutable : Bool) (life : Lifetime) (q : ℕ) → type_form part s.at ≡ ReferenceTo mutable life q → lifetime_steps life ≤ s.steps_left → (reference_rule R binder_depth mutable life q (take (lifetime_steps life) s)).1.limit_exceeded ≡ false → TypeFound part binder_depth (suc levels_left) (suc s.steps_left) s.at s.limit_exceeded (reference_rule R binder_depth mutable life q (take (lifetime_steps life) s))
 unfolding IsType type_height type_steps
-reference_sound name levels_left R H binder_depth s mutable life q e n o =
+reference_sound part levels_left R H binder_depth s mutable life q e n o =
     let f = H.ty binder_depth _ o in
     record { is = (q, e, f.is); height = omega arith; steps = omega arith; before = f.before }
 
-type_sound : (name : List ℕ) (levels_left : ℕ) (R : Readers) → Sound name levels_left R → (binder_depth : ℕ) (s : State) (form : TypeForm) → type_form name s.at ≡ form → (type_rule name R binder_depth s form).1.limit_exceeded ≡ false → TypeFound name binder_depth (suc levels_left) (suc s.steps_left) s.at s.limit_exceeded (type_rule name R binder_depth s form)
+type_sound : (part : List ℕ) (levels_left : ℕ) (R : Readers) → Sound part levels_left R → (binder_depth : ℕ) (s : State) (form : TypeForm) → type_form part s.at ≡ form → (type_rule part R binder_depth s form).1.limit_exceeded ≡ false → TypeFound part binder_depth (suc levels_left) (suc s.steps_left) s.at s.limit_exceeded (type_rule part R binder_depth s form)
 unfolding type_rule IsType type_height type_steps
-type_sound name levels_left R H binder_depth s NoTypeForm e o =
+type_sound part levels_left R H binder_depth s NoTypeForm e o =
     record { is = (e, refl); height = omega arith; steps = omega arith; before = o }
-type_sound name levels_left R H binder_depth s (BasicType text q) e o =
+type_sound part levels_left R H binder_depth s (BasicType text q) e o =
     record { is = (q, e, refl); height = omega arith; steps = omega arith; before = o }
-type_sound name levels_left R H binder_depth s (ReferenceTo mutable life q) e o =
-    taken (λ x. TypeFound name binder_depth (suc levels_left) (suc s.steps_left) s.at s.limit_exceeded x) (lifetime_steps life) NoType s (reference_rule R binder_depth mutable life q) (λ n p. reference_sound name levels_left R H binder_depth s mutable life q e n p) o
-type_sound name levels_left R H binder_depth s InvalidReference e o =
-    taken (λ x. TypeFound name binder_depth (suc levels_left) (suc s.steps_left) s.at s.limit_exceeded x) 1 NoType s invalid_reference (λ n p. record { is = (e, refl); height = omega arith; steps = omega arith; before = p }) o
-type_sound name levels_left R H binder_depth s (PointerTo mutable q) e o =
+type_sound part levels_left R H binder_depth s (ReferenceTo mutable life q) e o =
+    taken (λ x. TypeFound part binder_depth (suc levels_left) (suc s.steps_left) s.at s.limit_exceeded x) (lifetime_steps life) NoType s (reference_rule R binder_depth mutable life q) (λ n p. reference_sound part levels_left R H binder_depth s mutable life q e n p) o
+type_sound part levels_left R H binder_depth s InvalidReference e o =
+    taken (λ x. TypeFound part binder_depth (suc levels_left) (suc s.steps_left) s.at s.limit_exceeded x) 1 NoType s invalid_reference (λ n p. record { is = (e, refl); height = omega arith; steps = omega arith; before = p }) o
+type_sound part levels_left R H binder_depth s (PointerTo mutable q) e o =
     let f = H.ty binder_depth _ o in
     record { is = (q, e, f.is); height = omega arith; steps = omega arith; before = f.before }
-type_sound name levels_left R H binder_depth s (SliceOf q) e o =
+type_sound part levels_left R H binder_depth s (SliceOf q) e o =
     let f = H.ty binder_depth _ o in
     record { is = (q, e, f.is); height = omega arith; steps = omega arith; before = f.before }
-type_sound name levels_left R H binder_depth s (ArrayOf q) e o =
+type_sound part levels_left R H binder_depth s (ArrayOf q) e o =
     let c = H.constant _ o in
     let f = H.ty binder_depth _ c.before in
     record { is = (q, _, e, f.is, c.is); height = omega arith; steps = omega arith; before = f.before }
-type_sound name levels_left R H binder_depth s (TupleOf q) e o =
-    let f = items_sound name levels_left R H binder_depth Types _ _ _ _ o in
+type_sound part levels_left R H binder_depth s (TupleOf q) e o =
+    let f = items_sound part levels_left R H binder_depth Types _ _ _ _ o in
     record { is = (q, e, f.is); height = omega arith; steps = omega arith; before = f.before }
-type_sound name levels_left R H binder_depth s (FunctionOf signature q) e o =
-    taken (λ x. TypeFound name binder_depth (suc levels_left) (suc s.steps_left) s.at s.limit_exceeded x) signature.binder NoType s (function_rule name R binder_depth signature q) (λ n p. returned_sound name levels_left R H binder_depth s.steps_left s.at signature q _ s.limit_exceeded (stands name 117 _) e refl (items_sound name levels_left R H (binder_depth + signature.binder) Types _ _ _ _) n p) o
-type_sound name levels_left R H binder_depth s (InvalidAbi binder) e o =
-    taken (λ x. TypeFound name binder_depth (suc levels_left) (suc s.steps_left) s.at s.limit_exceeded x) binder NoType s (invalid_function binder_depth binder) (λ n p. record { is = (e, refl); height = omega arith; steps = omega arith; before = p }) o
-type_sound name levels_left R H binder_depth s (DynOf binder q) e o =
-    taken (λ x. TypeFound name binder_depth (suc levels_left) (suc s.steps_left) s.at s.limit_exceeded x) binder NoType s (dyn_rule name R binder_depth binder q) (λ n p. dyn_sound name levels_left binder_depth s.steps_left s.at binder q _ s.limit_exceeded e (items_sound name levels_left R H (binder_depth + binder) Traits _ _ _ _) n p) o
-type_sound name levels_left R H binder_depth s InvalidDyn e o =
+type_sound part levels_left R H binder_depth s (FunctionOf signature q) e o =
+    taken (λ x. TypeFound part binder_depth (suc levels_left) (suc s.steps_left) s.at s.limit_exceeded x) signature.binder NoType s (function_rule part R binder_depth signature q) (λ n p. returned_sound part levels_left R H binder_depth s.steps_left s.at signature q _ s.limit_exceeded (stands part 117 _) e refl (items_sound part levels_left R H (binder_depth + signature.binder) Types _ _ _ _) n p) o
+type_sound part levels_left R H binder_depth s (InvalidAbi binder) e o =
+    taken (λ x. TypeFound part binder_depth (suc levels_left) (suc s.steps_left) s.at s.limit_exceeded x) binder NoType s (invalid_function binder_depth binder) (λ n p. record { is = (e, refl); height = omega arith; steps = omega arith; before = p }) o
+type_sound part levels_left R H binder_depth s (DynOf binder q) e o =
+    taken (λ x. TypeFound part binder_depth (suc levels_left) (suc s.steps_left) s.at s.limit_exceeded x) binder NoType s (dyn_rule part R binder_depth binder q) (λ n p. dyn_sound part levels_left binder_depth s.steps_left s.at binder q _ s.limit_exceeded e (items_sound part levels_left R H (binder_depth + binder) Traits _ _ _ _) n p) o
+type_sound part levels_left R H binder_depth s InvalidDyn e o =
     record { is = (e, refl); height = omega arith; steps = omega arith; before = o }
-type_sound name levels_left R H binder_depth s (BackToType target q) e o =
+type_sound part levels_left R H binder_depth s (BackToType target q) e o =
     let f = H.ty binder_depth (into target s) o in
     record {
       is = (target, q, (R.ty binder_depth (into target s)).1.at, e, f.is, back_target (R.ty binder_depth (into target s)).1.limit_exceeded q o);
@@ -80,45 +80,45 @@ type_sound name levels_left R H binder_depth s (BackToType target q) e o =
       steps = omega arith;
       before = f.before;
     }
-type_sound name levels_left R H binder_depth s PathType e o =
+type_sound part levels_left R H binder_depth s PathType e o =
     let f = H.path InType binder_depth s o in
     record { is = (e, f.is); height = omega arith; steps = omega arith; before = f.before }
 
-nested_sound : (name : List ℕ) (levels_left binder_depth steps_left : ℕ) (at : Option ℕ) (limit_exceeded : Bool) (namespace q : ℕ) (r : PathTree × State) (l : Option (Identifier × ℕ)) → path_form name at ≡ NestedIn namespace q → identifier_at name r.1.at ≡ l → (r.1.limit_exceeded ≡ false → PathFound name binder_depth levels_left steps_left (Some q) limit_exceeded r) → (named_state namespace r.1 l).limit_exceeded ≡ false → PathFound name binder_depth (suc levels_left) (suc steps_left) at limit_exceeded (named_tree namespace r.0 l, named_state namespace r.1 l)
+nested_sound : (part : List ℕ) (levels_left binder_depth steps_left : ℕ) (at : Option ℕ) (limit_exceeded : Bool) (namespace q : ℕ) (r : PathTree × State) (l : Option (Identifier × ℕ)) → path_form part at ≡ NestedIn namespace q → identifier_at part r.1.at ≡ l → (r.1.limit_exceeded ≡ false → PathFound part binder_depth levels_left steps_left (Some q) limit_exceeded r) → (named_state namespace r.1 l).limit_exceeded ≡ false → PathFound part binder_depth (suc levels_left) (suc steps_left) at limit_exceeded (named_tree namespace r.0 l, named_state namespace r.1 l)
 unfolding IsPath path_height path_steps
-nested_sound name levels_left binder_depth steps_left at limit_exceeded namespace q r None e el I o =
+nested_sound part levels_left binder_depth steps_left at limit_exceeded namespace q r None e el I o =
     let f = I o in
     record { is = (namespace, q, r.1.at, e, f.is, el, refl); height = omega arith; steps = omega arith; before = f.before }
-nested_sound name levels_left binder_depth steps_left at limit_exceeded namespace q r (Some l) e el I o =
+nested_sound part levels_left binder_depth steps_left at limit_exceeded namespace q r (Some l) e el I o =
     let f = I o in
     record { is = (q, r.1.at, l.1, e, f.is, el, refl); height = omega arith; steps = omega arith; before = f.before }
 
-path_sound : (name : List ℕ) (levels_left : ℕ) (R : Readers) → Sound name levels_left R → (position : Position) (binder_depth : ℕ) (s : State) (form : PathForm) → path_form name s.at ≡ form → (path_rule name R position binder_depth s form).1.limit_exceeded ≡ false → PathFound name binder_depth (suc levels_left) (suc s.steps_left) s.at s.limit_exceeded (path_rule name R position binder_depth s form)
+path_sound : (part : List ℕ) (levels_left : ℕ) (R : Readers) → Sound part levels_left R → (position : Position) (binder_depth : ℕ) (s : State) (form : PathForm) → path_form part s.at ≡ form → (path_rule part R position binder_depth s form).1.limit_exceeded ≡ false → PathFound part binder_depth (suc levels_left) (suc s.steps_left) s.at s.limit_exceeded (path_rule part R position binder_depth s form)
 unfolding path_rule IsPath path_height path_steps
-path_sound name levels_left R H position binder_depth s NoPathForm e o =
+path_sound part levels_left R H position binder_depth s NoPathForm e o =
     record { is = (e, refl); height = omega arith; steps = omega arith; before = o }
-path_sound name levels_left R H position binder_depth s (CrateRoot root q) e o =
+path_sound part levels_left R H position binder_depth s (CrateRoot root q) e o =
     record { is = (q, e, refl); height = omega arith; steps = omega arith; before = o }
-path_sound name levels_left R H position binder_depth s (NestedIn namespace q) e o =
-    nested_sound name levels_left binder_depth s.steps_left s.at s.limit_exceeded namespace q _ _ e refl (H.path (parent_position position) binder_depth (seek (Some q) s)) o
-path_sound name levels_left R H position binder_depth s (InherentImpl q) e o =
+path_sound part levels_left R H position binder_depth s (NestedIn namespace q) e o =
+    nested_sound part levels_left binder_depth s.steps_left s.at s.limit_exceeded namespace q _ _ e refl (H.path (parent_position position) binder_depth (seek (Some q) s)) o
+path_sound part levels_left R H position binder_depth s (InherentImpl q) e o =
     let t = H.ty binder_depth _ o in
     let f = H.path (parent_position position) binder_depth (set_muted true (seek (Some q) s)) t.before in
     record { is = (q, _, e, f.is, t.is); height = omega arith; steps = omega arith; before = f.before }
-path_sound name levels_left R H position binder_depth s (TraitImpl q) e o =
+path_sound part levels_left R H position binder_depth s (TraitImpl q) e o =
     let u = H.path InType binder_depth _ o in
     let t = H.ty binder_depth _ u.before in
     let f = H.path (parent_position position) binder_depth (set_muted true (seek (Some q) s)) t.before in
     record { is = (q, _, _, e, f.is, t.is, u.is); height = omega arith; steps = omega arith; before = f.before }
-path_sound name levels_left R H position binder_depth s (TraitDefinition q) e o =
+path_sound part levels_left R H position binder_depth s (TraitDefinition q) e o =
     let u = H.path InType binder_depth _ o in
     let t = H.ty binder_depth _ u.before in
     record { is = (q, _, e, t.is, u.is); height = omega arith; steps = omega arith; before = t.before }
-path_sound name levels_left R H position binder_depth s (WithArguments q) e o =
-    let i = items_sound name levels_left R H binder_depth Arguments _ _ _ _ o in
+path_sound part levels_left R H position binder_depth s (WithArguments q) e o =
+    let i = items_sound part levels_left R H binder_depth Arguments _ _ _ _ o in
     let f = H.path (parent_position position) binder_depth (seek (Some q) s) i.before in
     record { is = (q, _, e, f.is, i.is); height = omega arith; steps = omega arith; before = f.before }
-path_sound name levels_left R H position binder_depth s (BackToPath target q) e o =
+path_sound part levels_left R H position binder_depth s (BackToPath target q) e o =
     let f = H.path position binder_depth (into target s) o in
     record {
       is = (target, q, (R.path position binder_depth (into target s)).1.at, e, f.is, back_target (R.path position binder_depth (into target s)).1.limit_exceeded q o);
@@ -138,14 +138,14 @@ entered_sound {T} P levels_left none s f h o = by (nat_le 1 s.steps_left) refl o
     by true e o = subst (λ steps_left. P steps_left (f (entered levels_left s))) (room_there s.steps_left e) (h o)
     by false e o = true_not_false o
 
-pub readers_sound : (name : List ℕ) (levels_left : ℕ) → Sound name levels_left (readers name levels_left)
+pub readers_sound : (part : List ℕ) (levels_left : ℕ) → Sound part levels_left (readers part levels_left)
 unfolding readers
-readers_sound name zero =
+readers_sound part zero =
     record { path = λ position binder_depth s o. true_not_false o; ty = λ binder_depth s o. true_not_false o; constant = λ s o. true_not_false o }
-readers_sound name (suc levels_left) =
-    let H = readers_sound name levels_left in
+readers_sound part (suc levels_left) =
+    let H = readers_sound part levels_left in
     record {
-      path = λ position binder_depth s o. entered_sound (λ steps_left r. PathFound name binder_depth (suc levels_left) steps_left s.at s.limit_exceeded r) levels_left NoPath s (λ e. path_rule name (readers name levels_left) position binder_depth e (path_form name s.at)) (λ p. path_sound name levels_left (readers name levels_left) H position binder_depth (entered levels_left s) (path_form name s.at) refl p) o;
-      ty = λ binder_depth s o. entered_sound (λ steps_left r. TypeFound name binder_depth (suc levels_left) steps_left s.at s.limit_exceeded r) levels_left NoType s (λ e. type_rule name (readers name levels_left) binder_depth e (type_form name s.at)) (λ p. type_sound name levels_left (readers name levels_left) H binder_depth (entered levels_left s) (type_form name s.at) refl p) o;
-      constant = λ s o. entered_sound (λ steps_left r. ConstFound name (suc levels_left) steps_left s.at s.limit_exceeded r) levels_left NoConst s (λ e. const_rule (readers name levels_left) e (const_form name s.at)) (λ p. const_sound name levels_left (readers name levels_left) H (entered levels_left s) (const_form name s.at) refl p) o;
+      path = λ position binder_depth s o. entered_sound (λ steps_left r. PathFound part binder_depth (suc levels_left) steps_left s.at s.limit_exceeded r) levels_left NoPath s (λ e. path_rule part (readers part levels_left) position binder_depth e (path_form part s.at)) (λ p. path_sound part levels_left (readers part levels_left) H position binder_depth (entered levels_left s) (path_form part s.at) refl p) o;
+      ty = λ binder_depth s o. entered_sound (λ steps_left r. TypeFound part binder_depth (suc levels_left) steps_left s.at s.limit_exceeded r) levels_left NoType s (λ e. type_rule part (readers part levels_left) binder_depth e (type_form part s.at)) (λ p. type_sound part levels_left (readers part levels_left) H binder_depth (entered levels_left s) (type_form part s.at) refl p) o;
+      constant = λ s o. entered_sound (λ steps_left r. ConstFound part (suc levels_left) steps_left s.at s.limit_exceeded r) levels_left NoConst s (λ e. const_rule (readers part levels_left) e (const_form part s.at)) (λ p. const_sound part levels_left (readers part levels_left) H (entered levels_left s) (const_form part s.at) refl p) o;
     }

@@ -77,8 +77,8 @@ shown_leaf s l at a = made s refl refl refl refl (root0 s.in_back_reference s.ro
 pub shown_three : (s : State) (l : ℕ) (at : Option ℕ) (a b c : List ℕ) → write c (write b (write a (seek at (entered (l - 1) s)))) ≡ shown (a ++ (b ++ c)) None 1 1 at l s
 shown_three s l at a b c = made s refl refl refl (heard3 s.muted s.text a b c) (root0 s.in_back_reference s.root)
 
-pub shown_crate : (s : State) (l : ℕ) (at : Option ℕ) (name : UndisambiguatedIdentifier) (a b : List ℕ) → write b (write a (rooted name (seek at (entered (l - 1) s)))) ≡ shown (a ++ b) (Some name) 1 1 at l s
-shown_crate s l at name a b = made s refl refl refl (heard2 s.muted s.text a b) refl
+pub shown_crate : (s : State) (l : ℕ) (at : Option ℕ) (part : UndisambiguatedIdentifier) (a b : List ℕ) → write b (write a (rooted part (seek at (entered (l - 1) s)))) ≡ shown (a ++ b) (Some part) 1 1 at l s
+shown_crate s l at part a b = made s refl refl refl (heard2 s.muted s.text a b) refl
 
 pub shown_steps : (s : State) (l n : ℕ) (a : List ℕ) → write a (seek None (take n (entered (l - 1) s))) ≡ shown a None 1 (suc n) None l s
 shown_steps s l n a = made s refl (omega arith) refl refl (root0 s.in_back_reference s.root)

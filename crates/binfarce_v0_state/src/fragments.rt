@@ -84,15 +84,15 @@ pub fn or_forget(
 }
 
 impl Fragments {
-    /// No fragment yet, for a printing of `name`.
-    pub fn new(alloc: Global, name: &[u8]) -> Result<Fragments, AllocError>
+    /// No fragment yet, for a printing of `part`.
+    pub fn new(alloc: Global, part: &[u8]) -> Result<Fragments, AllocError>
         ensures { IfOk result (λ k. k.fragments.items ≡ []) }
     {
-        let targets = Targets::new(alloc, name)?;
+        let targets = Targets::new(alloc, part)?;
         let (fragments, bytes) = if targets.is_empty() {
             (0, 0)
         } else {
-            (FIRST_ROOM, name.len())
+            (FIRST_ROOM, part.len())
         };
         Ok(Fragments {
             targets,
@@ -161,7 +161,7 @@ impl<'a> Printer<'a> {
         production: Production,
         left_open: bool,
     ) -> Result<(), AllocError>
-        requires { MayKeep self.old.name self.old.state mark levels_left binder_depth (production_view production) left_open }
+        requires { MayKeep self.old.part self.old.state mark levels_left binder_depth (production_view production) left_open }
         ensures { OnOk result (self.new ≡ with_state (lowered mark.least_levels_left self.old.state) self.old) }
     {
         let least_levels_left = self.least_levels_left;
@@ -190,7 +190,7 @@ impl<'a> Printer<'a> {
     // The fragment of a number, where it is the one that is asked for.
     #[inline(always)]
     fn fragment_at(&self, number: usize, key: FragmentKey) -> Option<&Fragment>
-        ensures { IfSome result (λ f. IsFragmentFor self.now.name self.now.state key f.now) }
+        ensures { IfSome result (λ f. IsFragmentFor self.now.part self.now.state key f.now) }
     {
         let fragment = self.kept.fragments.get(number)?;
         let other = fragment.key;
@@ -206,7 +206,7 @@ impl<'a> Printer<'a> {
 
     // The fragment that a back reference asks for, among the first.
     fn first_fragments(&self, key: FragmentKey) -> Option<&Fragment>
-        ensures { IfSome result (λ f. IsFragmentFor self.now.name self.now.state key f.now) }
+        ensures { IfSome result (λ f. IsFragmentFor self.now.part self.now.state key f.now) }
     {
         for number in 0..self.kept.fragments.len().min(LINEAR_SEARCH) {
             let found = self.fragment_at(number, key);
@@ -219,7 +219,7 @@ impl<'a> Printer<'a> {
 
     // The fragment that a back reference asks for.
     fn fragment(&self, key: FragmentKey) -> Option<&Fragment>
-        ensures { IfSome result (λ f. IsFragmentFor self.now.name self.now.state key f.now) }
+        ensures { IfSome result (λ f. IsFragmentFor self.now.part self.now.state key f.now) }
     {
         let found = self.first_fragments(key);
         if found.is_some() || self.kept.fragments.len() <= LINEAR_SEARCH {
@@ -235,11 +235,11 @@ impl<'a> Printer<'a> {
         if self.muted {
             return Ok(true);
         }
-        let Some(part) = self.text.as_str().get(start..end) else {
+        let Some(again) = self.text.as_str().get(start..end) else {
             return Ok(false);
         };
         self.kept.copy.clear();
-        self.kept.copy.push_str(part)?;
+        self.kept.copy.push_str(again)?;
         self.text.push_str(self.kept.copy.as_str())?;
         Ok(true)
     }
@@ -252,7 +252,7 @@ impl<'a> Printer<'a> {
         key: FragmentKey,
         after: usize,
     ) -> Result<Option<bool>, AllocError>
-        ensures { IfOk result (λ r. MatchOption r (self.new ≡ self.old) (λ opened. (self.new ≡ with_state (back_to after self.old.state.in_back_reference (read (readers self.old.name levels_left) (production_view key.production) key.binder_depth (into key.at self.old.state)).1) self.old) × (opened ≡ left_open_of (production_view key.production) (read (readers self.old.name levels_left) (production_view key.production) key.binder_depth (into key.at self.old.state)).0))) }
+        ensures { IfOk result (λ r. MatchOption r (self.new ≡ self.old) (λ opened. (self.new ≡ with_state (back_to after self.old.state.in_back_reference (read (readers self.old.part levels_left) (production_view key.production) key.binder_depth (into key.at self.old.state)).1) self.old) × (opened ≡ left_open_of (production_view key.production) (read (readers self.old.part levels_left) (production_view key.production) key.binder_depth (into key.at self.old.state)).0))) }
     {
         if self.limit_exceeded {
             return Ok(None);

@@ -35,8 +35,8 @@ pub struct Printed<'a> {
 #[derive(Drop)]
 pub struct Printer<'a> {
     /// What stands after the prefix of a mangling. It is ASCII, and stays.
-    pub name: &'a str,
-    /// The position in the name, None after invalid syntax.
+    pub part: &'a str,
+    /// The position in the part, None after invalid syntax.
     pub at: Option<usize>,
     /// The steps that are left.
     pub steps_left: usize,
@@ -73,23 +73,23 @@ impl<'a> Model for Printer<'a> {
 
     ghost Value = { Printing };
 
-    ghost view = { λ p. record { name = p.name.now; state = record { at = p.at; steps_left = p.steps_left; least_levels_left = p.least_levels_left; limit_exceeded = p.limit_exceeded; text = string_bytes p.text; muted = p.muted; full = p.full; in_back_reference = p.in_back_reference; root = option_map undisambiguated_view p.root } } };
+    ghost view = { λ p. record { part = p.part.now; state = record { at = p.at; steps_left = p.steps_left; least_levels_left = p.least_levels_left; limit_exceeded = p.limit_exceeded; text = string_bytes p.text; muted = p.muted; full = p.full; in_back_reference = p.in_back_reference; root = option_map undisambiguated_view p.root } } };
 
-    ghost invariant = { λ p. IsAscii p.name.now × ((p.steps_left ≤ MAX_STEPS) × (p.least_levels_left ≤ MAX_LEVELS)) × All (IsKept p.name.now p.full (string_bytes p.text)) p.kept.fragments.items };
+    ghost invariant = { λ p. IsAscii p.part.now × ((p.steps_left ≤ MAX_STEPS) × (p.least_levels_left ≤ MAX_LEVELS)) × All (IsKept p.part.now p.full (string_bytes p.text)) p.kept.fragments.items };
 }
 
 impl<'a> Printer<'a> {
     ghost use Rattle.binfarce_v0_state.specs.machine.Outcome.{outcome_of, printed_view};
 
-    /// A printing of `name` that begins at its first position, with memory for a text of as many bytes.
-    pub fn new(alloc: Global, name: &'a str, full: bool) -> Result<Printer<'a>, AllocError>
-        requires { IsAscii name.now }
-        ensures { IfOk result (λ p. p ≡ first_printing name.entry.now full) }
+    /// A printing of `part` that begins at its first position, with memory for a text of as many bytes.
+    pub fn new(alloc: Global, part: &'a str, full: bool) -> Result<Printer<'a>, AllocError>
+        requires { IsAscii part.now }
+        ensures { IfOk result (λ p. p ≡ first_printing part.entry.now full) }
     {
-        let text = String::with_capacity(alloc, name.len())?;
-        let kept = Fragments::new(alloc, name.as_bytes())?;
+        let text = String::with_capacity(alloc, part.len())?;
+        let kept = Fragments::new(alloc, part.as_bytes())?;
         Ok(Printer {
-            name,
+            part,
             at: Some(0),
             steps_left: MAX_STEPS,
             least_levels_left: MAX_LEVELS,
@@ -109,7 +109,7 @@ impl<'a> Printer<'a> {
         ensures { MatchOption result (self.entry.state.limit_exceeded ≡ true) (λ p. (self.entry.state.limit_exceeded ≡ false) × (printed_view p ≡ outcome_of self.entry.state)) }
     {
         let Printer {
-            name: _,
+            part: _,
             at,
             steps_left,
             least_levels_left,
@@ -205,11 +205,11 @@ impl<'a> Printer<'a> {
 
     /// Writes a text.
     #[inline(always)]
-    pub fn write(&mut self, part: &str) -> Result<(), AllocError>
-        ensures { OnOk result (self.new ≡ with_state (write part.now self.old.state) self.old) }
+    pub fn write(&mut self, text: &str) -> Result<(), AllocError>
+        ensures { OnOk result (self.new ≡ with_state (write text.now self.old.state) self.old) }
     {
         if !self.muted {
-            self.text.push_str(part)?;
+            self.text.push_str(text)?;
         }
         Ok(())
     }

@@ -21,47 +21,47 @@ pub struct Targets {
 impl Targets {
     /// The targets of a name. Nothing is allocated but for those from position 256 on.
     #[inline(never)]
-    pub fn new(alloc: Global, name: &[u8]) -> Result<Targets, AllocError> {
+    pub fn new(alloc: Global, part: &[u8]) -> Result<Targets, AllocError> {
         let mut targets = Targets {
             any: 0,
             near: [0; 4],
             far: Vec::new(alloc),
         };
-        let words = name.len() / 8;
+        let words = part.len() / 8;
         for word in 0..words {
-            let flags = b_flags(name, 8 * word);
+            let flags = b_flags(part, 8 * word);
             if flags != 0 {
-                targets.add_flagged(name, 8 * word, flags)?;
+                targets.add_flagged(part, 8 * word, flags)?;
             }
         }
-        for at in 8 * words..name.len() {
-            targets.add_target(name, at)?;
+        for at in 8 * words..part.len() {
+            targets.add_target(part, at)?;
         }
         Ok(targets)
     }
 
     // Adds the targets of the flagged ones of 8 bytes.
-    fn add_flagged(&mut self, name: &[u8], start: usize, flags: u64) -> Result<(), AllocError>
-        requires { start + 8 ≤ length name.now }
+    fn add_flagged(&mut self, part: &[u8], start: usize, flags: u64) -> Result<(), AllocError>
+        requires { start + 8 ≤ length part.now }
     {
         let mut levels_left = flags;
         for _turn in 0..8 {
             if levels_left == 0 {
                 break;
             }
-            self.add_target(name, start + levels_left.trailing_zeros() as usize % 64 / 8)?;
+            self.add_target(part, start + levels_left.trailing_zeros() as usize % 64 / 8)?;
             levels_left &= levels_left - 1;
         }
         Ok(())
     }
 
     // Adds the target of a back reference, where one may stand.
-    fn add_target(&mut self, name: &[u8], at: usize) -> Result<(), AllocError> {
-        if at >= name.len() || name[at] != b'B' {
+    fn add_target(&mut self, part: &[u8], at: usize) -> Result<(), AllocError> {
+        if at >= part.len() || part[at] != b'B' {
             return Ok(());
         }
-        match back_reference(name, at) {
-            Some((target, _)) => self.add(target, name.len()),
+        match back_reference(part, at) {
+            Some((target, _)) => self.add(target, part.len()),
             None => Ok(()),
         }
     }
@@ -109,19 +109,19 @@ impl Targets {
 
 // Of 8 bytes, the highest bit of each that is `B`.
 #[inline(always)]
-fn b_flags(name: &[u8], at: usize) -> u64
-    requires { at + 8 ≤ length name.now }
+fn b_flags(part: &[u8], at: usize) -> u64
+    requires { at + 8 ≤ length part.now }
 {
     let word = u64::from_le_bytes([
-        name[at],
-        name[at + 1],
-        name[at + 2],
-        name[at + 3],
-        name[at + 4],
-        name[at + 5],
-        name[at + 6],
-        name[at + 7],
+        part[at],
+        part[at + 1],
+        part[at + 2],
+        part[at + 3],
+        part[at + 4],
+        part[at + 5],
+        part[at + 6],
+        part[at + 7],
     ]);
-    // The name is ASCII: no sum goes beyond its byte.
+    // The part is ASCII: no sum goes beyond its byte.
     !(word ^ 0x4242_4242_4242_4242).wrapping_add(0x7f7f_7f7f_7f7f_7f7f) & 0x8080_8080_8080_8080
 }

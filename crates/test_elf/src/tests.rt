@@ -2,6 +2,7 @@
 
 mod functions;
 mod headers;
+mod listed;
 mod sections;
 mod symbols;
 mod truncated;

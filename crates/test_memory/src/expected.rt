@@ -23,6 +23,11 @@ impl<'a> Expected<'a> {
         }
     }
 
+    /// A beginning of the text was written, and nothing else.
+    pub(crate) fn is_beginning(&self) -> bool {
+        !self.is_other
+    }
+
     /// The text was written, and nothing else.
     pub(crate) fn is_whole(&self) -> bool {
         self.left.is_empty() && !self.is_other

@@ -7,6 +7,7 @@
 //! to give its whole answer. The number 0 stands for a run in which no allocation fails; there `all` is every group.
 #![tactic(auto)]
 
+mod addresses;
 mod counts;
 mod expected;
 mod files;
@@ -34,7 +35,7 @@ const NONE_FAILED: u8 = 3;
 // The status where standard input names no rows, or has no number.
 const NO_ROWS: u8 = 2;
 
-const GROUPS: [&str; 13] = [
+const GROUPS: [&str; 14] = [
     "listings",
     "reports",
     "symbols",
@@ -42,6 +43,7 @@ const GROUPS: [&str; 13] = [
     "trimmed",
     "crates",
     "tuples",
+    "addresses",
     "files",
     "unfit_images",
     "refusals",
@@ -156,6 +158,7 @@ fn tally_of(alloc: Global, group: &str) -> Option<Tally> {
         "trimmed" => names::add_trimmed(alloc, &mut tally),
         "crates" => names::add_crates(alloc, &mut tally),
         "tuples" => names::add_tuples(alloc, &mut tally),
+        "addresses" => addresses::add_addresses(alloc, &mut tally),
         "files" => files::add_files(alloc, &mut tally),
         "unfit_images" => files::add_unfit_images(alloc, &mut tally),
         "refusals" => refusals::add_refusals(alloc, &mut tally),

@@ -1,5 +1,6 @@
 //! What the PE reader finds in a file, worked out by hand from the format's description.
 
+mod listed;
 mod sections;
 mod symbols;
 mod truncated;

@@ -1,5 +1,7 @@
 -- What private clauses see of the values that files of both classes are read into, and the layouts by the width of a word.
-use Rattle.std.specs.Prelude.{ℕ, ◌+◌, ◌*◌, List, Option}
+use Rattle.std.specs.Prelude.{ℕ, ◌+◌, ◌-◌, ◌*◌, List, map, min, Option, Some, None}
+use Rattle.std.specs.List.{range_with_len}
+use Rattle.binfarce_bytes.specs.Walk.{Walk, ended}
 use Rattle.binfarce_bytes.specs.Steps.{◌>>=◌}
 use Rattle.binfarce_bytes.specs.Text.{text_at}
 use Rattle.binfarce_bytes.specs.Field.{Field, field}
@@ -7,7 +9,7 @@ use Rattle.binfarce_elf.specs.declared.class.SymbolRow.{SymbolRow}
 use Rattle.binfarce_elf.specs.declared.sections.Table.{Table}
 use Rattle.binfarce_elf.specs.declared.symbols.Located.{Located}
 use Rattle.binfarce_elf.specs.Elf as elf
-use Rattle.binfarce_elf.specs.Elf.{ElfClass, Header, SectionHeader, SectionTable, names_section, contents}
+use Rattle.binfarce_elf.specs.Elf.{ElfClass, Header, SectionHeader, SectionTable, section_of, whole_headers, walk, names_section, contents}
 use Rattle.binfarce_elf.specs.ElfSymbols as symbols
 use Rattle.binfarce_elf.specs.ElfViews.{section_view}
 
@@ -49,6 +51,18 @@ symbol_view r = record { name = r.name; value = r.value; size = r.size; info = r
 
 abbrev pub table_view : Table → SectionTable
 table_view t = record { order = t.byte_order; file = t.data.now; shoff = t.shoff; shnum = t.shnum; shstrndx = t.shstrndx }
+
+-- how many sections there are
+abbrev pub section_count : ElfClass → SectionTable → ℕ
+section_count class table = min table.shnum (whole_headers class table)
+
+-- the walk from the section of this index on; after a refusal nothing is left
+abbrev pub walk_from : ElfClass → SectionTable → Option ℕ → Walk elf.Section
+walk_from class table None = ended None
+walk_from class table (Some k) = record {
+  items = map (section_of class table) (range_with_len k (section_count class table - k));
+  refusal = (walk class table).refusal;
+}
 
 -- where the symbols are
 abbrev pub located_view : {C : Type 0} → (C → ℕ) → Located C → symbols.Located

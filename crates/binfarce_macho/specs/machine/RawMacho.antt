@@ -1,14 +1,17 @@
 -- What private clauses see of the values that `macho` reads.
-use Rattle.std.specs.Prelude.{◌≡◌, ℕ, Option, Some, None, Result, Ok, Err}
+use Rattle.std.specs.Prelude.{◌≡◌, ℕ, ◌-◌, ◌≤◌, List, length, min, nat_le, Option, Some, None, Result, Ok, Err, if◌then◌else◌}
+use Rattle.std.specs.List.{range_with_len, filter_map}
 use Rattle.binfarce_macho.specs.declared.commands.Command.{Command}
 use Rattle.binfarce_macho.specs.declared.commands.Damage.{Damage}
 use Rattle.binfarce_macho.specs.declared.commands.Damage.TheVariants.{Malformed, Truncated}
 use Rattle.binfarce_macho.specs.declared.commands.LoadCommands.{LoadCommands}
+use Rattle.binfarce_macho.specs.declared.sections.Segment.{Segment}
+use Rattle.binfarce_macho.specs.declared.sections.Left.{Left}
 use Rattle.binfarce_macho.specs.declared.symbols.Located.{Located}
 use Rattle.binfarce_macho.specs.declared.symbols.SymbolRow.{SymbolRow}
 use Rattle.binfarce_macho.specs.declared.symbols.SymbolTable.{SymbolTable}
 use Rattle.binfarce_bytes.specs.Refusal.{Refusal, malformed_input, unexpected_eof}
-use Rattle.binfarce_bytes.specs.Walk.{Walk, ended, ahead_of}
+use Rattle.binfarce_bytes.specs.Walk.{Walk, ended, and_then, YieldsNext}
 use Rattle.binfarce_macho.specs.Macho as macho
 use Rattle.binfarce_macho.specs.MachoSymbols as symbols
 
@@ -23,11 +26,40 @@ damage_refusal Truncated = unexpected_eof
 abbrev pub commands_left : LoadCommands → Walk macho.Command
 commands_left it = macho.commands_from it.bytes.now it.left it.offset
 
--- what the command iterator gives of a walk, and what is left then: the first command, or the refusal, after which nothing is left
+-- what the command iterator gives of a walk, and what is left then
 abbrev pub Takes : Walk macho.Command → Option (Result Command Damage) → Walk macho.Command → Type 0
-Takes walk None left = (walk ≡ ended None) × (left ≡ ended None)
-Takes walk (Some (Ok command)) left = walk ≡ ahead_of (command_view command) left
-Takes walk (Some (Err damage)) left = (walk ≡ ended (Some (damage_refusal damage))) × (left ≡ ended None)
+Takes = YieldsNext damage_refusal command_view
+
+-- how many sections a segment has that are whole
+abbrev pub section_count : List ℕ → Segment → ℕ
+section_count file segment = min segment.count (macho.whole_headers file segment.body)
+
+-- the walk over the sections that a segment has left
+abbrev pub segment_from : List ℕ → Segment → Walk macho.Section
+segment_from file segment = record {
+  items = filter_map (λ i. macho.section_at file (macho.section_offset segment.body i)) (range_with_len segment.next (section_count file segment - segment.next));
+  refusal = if nat_le segment.count (macho.whole_headers file segment.body) then None else Some unexpected_eof;
+}
+
+-- the sections of a segment, and after them those of the commands that are left
+abbrev pub sections_from : List ℕ → Segment → Walk macho.Command → Walk macho.Section
+sections_from file segment commands =
+    and_then (segment_from file segment).items (segment_from file segment).refusal (macho.sections_of file commands.items commands.refusal)
+
+-- what the search for the next segment command gives of the sections that commands have left, and the commands that are left then
+abbrev pub StepsSegment : List ℕ → Walk macho.Command → Option (Result Segment Damage) → Walk macho.Command → Type 0
+StepsSegment file commands None left = (macho.sections_of file commands.items commands.refusal ≡ ended None) × (left ≡ ended None)
+StepsSegment file commands (Some (Ok segment)) left =
+    (segment.body ≤ length file) × (segment.next ≡ 0) × (macho.sections_of file commands.items commands.refusal ≡ sections_from file segment left)
+StepsSegment file commands (Some (Err damage)) left = macho.sections_of file commands.items commands.refusal ≡ ended (Some (damage_refusal damage))
+
+-- what an iterator over sections has left
+abbrev pub sections_left : Left → Walk macho.Section
+sections_left left = sections_from left.commands.bytes.now left.segment (commands_left left.commands)
+
+-- its segment's body begins in the file, and its structures so far were whole
+abbrev pub IsWithin : Left → Type 0
+IsWithin left = (left.segment.body ≤ length left.commands.bytes.now) × (left.segment.next ≤ section_count left.commands.bytes.now left.segment)
 
 abbrev pub located_view : Located → symbols.Located
 located_view l = record { text_end = l.text_end; text_size = l.text_size; strings = l.strings.now; rows = l.rows.now }

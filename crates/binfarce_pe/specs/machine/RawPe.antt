@@ -1,9 +1,12 @@
 -- Definitions that only private contracts cite: what they see of the values that a PE file is read into.
-use Rattle.std.specs.Prelude.{◌≡◌, ℕ, ◌+◌, List, [], ◌∷◌, Some, get_or}
-use Rattle.std.specs.List.{AllZip}
+use Rattle.std.specs.Prelude.{◌≡◌, ℕ, ◌+◌, ◌-◌, List, [], ◌∷◌, Option, Some, None, min, get_or}
+use Rattle.std.specs.List.{AllZip, range_with_len, filter_map}
+use Rattle.binfarce_bytes.specs.Walk.{Walk, ended}
+use Rattle.binfarce_pe.specs.declared.sections.Table.{Table}
 use Rattle.binfarce_pe.specs.declared.symbols.SymbolRow.{SymbolRow}
 use Rattle.binfarce_pe.specs.declared.symbols.SymbolTable.{SymbolTable}
 use Rattle.binfarce_pe.specs.declared.symbols.Located.{Located}
+use Rattle.binfarce_pe.specs.Pe as pe
 use Rattle.binfarce_pe.specs.PeSymbols as symbols
 use Rattle.binfarce_pe.specs.PeViews.{section_view}
 use Rattle.binfarce_symbols.specs.Sizes.{RowAddress, addresses_of}
@@ -14,6 +17,22 @@ symbol_view r = record { zeroes = r.zeroes; offset = r.offset; value = r.value; 
 
 abbrev pub table_view : SymbolTable → symbols.SymbolTable
 table_view t = record { rows = t.rows.now; strings = t.strings.now }
+
+-- where the file's section table begins, and the count of its header
+abbrev pub IsTable : Table → Type 0
+IsTable t = (t.offset ≡ pe.sections_offset t.file.now) × (t.count ≡ (pe.header_of t.file.now).number_of_sections)
+
+-- how many section headers there are
+abbrev pub header_count : List ℕ → ℕ
+header_count file = min (pe.header_of file).number_of_sections (pe.whole_headers file)
+
+-- the walk from the section header of this index on; after a refusal nothing is left
+abbrev pub walk_from : List ℕ → Option ℕ → Walk pe.Section
+walk_from file None = ended None
+walk_from file (Some k) = record {
+  items = filter_map (pe.section_of file) (range_with_len k (header_count file - k));
+  refusal = (pe.walk file).refusal;
+}
 
 abbrev pub located_view : Located → symbols.Located
 located_view l = record { text = section_view l.text; table = table_view l.table }

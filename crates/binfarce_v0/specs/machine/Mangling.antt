@@ -7,5 +7,5 @@ use Rattle.binfarce_v0.specs.Mangling.{is_upper_at}
 
 -- the position after the paths of a name
 abbrev pub paths_end : List ℕ → Option ℕ
-paths_end name =
-    (ends name MAX_LEVELS).path 0 >>= λ mid. (if is_upper_at name mid then (ends name MAX_LEVELS).path mid else Some mid)
+paths_end part =
+    (ends part MAX_LEVELS).path 0 >>= λ mid. (if is_upper_at part mid then (ends part MAX_LEVELS).path mid else Some mid)

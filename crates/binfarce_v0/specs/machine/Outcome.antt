@@ -10,18 +10,18 @@ use Rattle.binfarce_v0_state.specs.machine.Outcome.{Outcome}
 
 -- where a position is known, the first path of a name reads up to it
 abbrev pub ReadsUpTo : List ℕ → Option ℕ → Type 0
-ReadsUpTo name None = ⊤
-ReadsUpTo name (Some after) = PathStands name 0 after
+ReadsUpTo part None = ⊤
+ReadsUpTo part (Some after) = PathStands part 0 after
 
 -- they are the text, the crate root, the levels and the steps of the tree that a name unfolds to within the limits
-pub record IsOutcome (name : List ℕ) (full : Bool) (outcome : Outcome) : Type 0 where
+pub record IsOutcome (part : List ℕ) (full : Bool) (outcome : Outcome) : Type 0 where
   pub tree : PathTree
-  pub unfolds : UnfoldsTo name tree
+  pub unfolds : UnfoldsTo part tree
   pub text_is : outcome.text ≡ name_text full tree
   pub root_is : outcome.root ≡ path_root tree
   pub levels_are : outcome.levels ≡ path_height tree
   pub steps_are : outcome.steps ≡ path_steps tree
-  pub reads : ReadsUpTo name outcome.after
+  pub reads : ReadsUpTo part outcome.after
 
 -- text is a v0 mangling that unfolds to a tree within the limits
 pub record HasTree (text : List ℕ) (tree : PathTree) : Type 0 where

@@ -8,7 +8,7 @@ ghost use Rattle.binfarce_v0_grammar.specs.Forms.{is_signed, const_type, has_sig
 ghost use Rattle.binfarce_v0_grammar.specs.machine.View.{value_view, const_view};
 
 use super::basic_type;
-use crate::identifiers::part;
+use crate::identifiers::ascii_slice;
 use crate::numbers::{back_reference, byte_at, hex_end, hex_number};
 
 /// The value of a const.
@@ -39,14 +39,14 @@ pub enum ConstForm<'a> {
 
 /// The form of a const that stands at a position, where there is one.
 #[tactic(auto, unfolding(crate::specs::Forms::const_form))]
-pub fn const_form<'a>(name: &'a str, at: Option<usize>) -> ConstForm<'a>
-    requires ascii { IsAscii name.now }
-    ensures { const_view result ≡ const_form name.now at }
+pub fn const_form<'a>(part: &'a str, at: Option<usize>) -> ConstForm<'a>
+    requires ascii { IsAscii part.now }
+    ensures { const_view result ≡ const_form part.now at }
 {
     let Some(at) = at else {
         return ConstForm::Nothing;
     };
-    let bytes = name.as_bytes();
+    let bytes = part.as_bytes();
     let tag = byte_at(bytes, at);
     match tag {
         b'B' => match back_reference(bytes, at) {
@@ -55,7 +55,7 @@ pub fn const_form<'a>(name: &'a str, at: Option<usize>) -> ConstForm<'a>
         },
         b'p' => ConstForm::UntypedPlaceholder(at + 1),
         _ => match const_type(tag) {
-            Some(type_name) => typed_form(name, tag, at + 1, type_name),
+            Some(type_name) => typed_form(part, tag, at + 1, type_name),
             None => ConstForm::Nothing,
         },
     }
@@ -76,16 +76,16 @@ fn const_type(letter: u8) -> Option<&'static str>
 }
 
 // The form of a const of a type, after the type's letter.
-fn typed_form<'a>(name: &'a str, letter: u8, at: usize, type_name: &'static str) -> ConstForm<'a>
-    requires ascii { IsAscii name.now }
-    ensures { const_view result ≡ typed_form name.now letter at (Some type_name.now) }
+fn typed_form<'a>(part: &'a str, letter: u8, at: usize, type_name: &'static str) -> ConstForm<'a>
+    requires ascii { IsAscii part.now }
+    ensures { const_view result ≡ typed_form part.now letter at (Some type_name.now) }
 {
-    let bytes = name.as_bytes();
+    let bytes = part.as_bytes();
     if byte_at(bytes, at) == b'p' {
         return ConstForm::Placeholder(type_name, at + 1);
     }
     let negative = has_sign(bytes, letter, at);
-    match const_value(name, letter, negative, at) {
+    match const_value(part, letter, negative, at) {
         Some((value, after)) => ConstForm::Value(type_name, value, after),
         None => ConstForm::Invalid(negative, type_name),
     }
@@ -100,39 +100,39 @@ fn is_signed(letter: u8) -> bool
 
 // The sign of a signed integer.
 #[tactic(auto, unfolding(crate::specs::Forms::has_sign))]
-fn has_sign(name: &[u8], letter: u8, at: usize) -> bool
-    ensures value { result ≡ has_sign name.now letter at }
-    ensures within { IsTrue result → at < length name.now }
+fn has_sign(part: &[u8], letter: u8, at: usize) -> bool
+    ensures value { result ≡ has_sign part.now letter at }
+    ensures within { IsTrue result → at < length part.now }
 {
-    is_signed(letter) && byte_at(name, at) == b'n'
+    is_signed(letter) && byte_at(part, at) == b'n'
 }
 
 // `<const-data>`, and the position after it.
 #[tactic(auto, unfolding(crate::specs::Forms::const_value))]
 fn const_value<'a>(
-    name: &'a str,
+    part: &'a str,
     letter: u8,
     negative: bool,
     at: usize,
 ) -> Option<(ConstValue<'a>, usize)>
-    requires ascii { IsAscii name.now }
-    requires within { IsTrue negative → at < length name.now }
-    ensures { option_map (λ v. (value_view v.0, v.1)) result ≡ const_value name.now letter negative at }
+    requires ascii { IsAscii part.now }
+    requires within { IsTrue negative → at < length part.now }
+    ensures { option_map (λ v. (value_view v.0, v.1)) result ≡ const_value part.now letter negative at }
 {
     let start = if negative { at + 1 } else { at };
-    let (digits, after) = hex_digits(name, start)?;
+    let (digits, after) = hex_digits(part, start)?;
     let value = value_of(letter, negative, digits)?;
     Some((value, after))
 }
 
 // Hexadecimal digits, and the position after their `_`.
 #[tactic(auto, using(crate::proofs::NumberLemmas::hex_digits_step))]
-fn hex_digits<'a>(name: &'a str, at: usize) -> Option<(&'a str, usize)>
-    requires ascii { IsAscii name.now }
-    ensures { option_map (λ d. (d.0.now, d.1)) result ≡ hex_digits name.now at }
+fn hex_digits<'a>(part: &'a str, at: usize) -> Option<(&'a str, usize)>
+    requires ascii { IsAscii part.now }
+    ensures { option_map (λ d. (d.0.now, d.1)) result ≡ hex_digits part.now at }
 {
-    let end = hex_end(name.as_bytes(), at)?;
-    Some((part(name, at, end), end + 1))
+    let end = hex_end(part.as_bytes(), at)?;
+    Some((ascii_slice(part, at, end), end + 1))
 }
 
 // What digits write as a value of a type.

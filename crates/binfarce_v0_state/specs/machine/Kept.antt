@@ -28,9 +28,9 @@ TreeOf TypeProduction = TypeTree
 TreeOf ConstProduction = ConstTree
 
 abbrev pub Unfolds : (production : Production) → List ℕ → TreeOf production → Option ℕ → ℕ → Option ℕ → Type 0
-Unfolds (PathProduction position) name t at binder_depth after = IsPath name t at binder_depth after
-Unfolds TypeProduction name t at binder_depth after = IsType name t at binder_depth after
-Unfolds ConstProduction name t at binder_depth after = IsConst name t at after
+Unfolds (PathProduction position) part t at binder_depth after = IsPath part t at binder_depth after
+Unfolds TypeProduction part t at binder_depth after = IsType part t at binder_depth after
+Unfolds ConstProduction part t at binder_depth after = IsConst part t at after
 
 abbrev pub text_of : (production : Production) → Bool → TreeOf production → ℕ → List ℕ
 text_of (PathProduction position) full t binder_depth = path_text full t position binder_depth
@@ -59,10 +59,10 @@ read R TypeProduction binder_depth s = R.ty binder_depth s
 read R ConstProduction binder_depth s = R.constant s
 
 -- the text from `start` to `end` is that of the tree that a position unfolds to, without invalid syntax at its end
-pub record Kept (name : List ℕ) (full : Bool) (text : List ℕ) (production : Production) (at binder_depth start end steps height : ℕ) (left_open : Bool) : Type 0 where
+pub record Kept (part : List ℕ) (full : Bool) (text : List ℕ) (production : Production) (at binder_depth start end steps height : ℕ) (left_open : Bool) : Type 0 where
   pub tree : TreeOf production
   pub after : ℕ
-  pub is : Unfolds production name tree (Some at) binder_depth (Some after)
+  pub is : Unfolds production part tree (Some at) binder_depth (Some after)
   pub within : end ≤ length text
   pub text_is : slice_range text start end ≡ text_of production full tree binder_depth
   pub steps_is : steps_of production tree ≡ steps
@@ -71,13 +71,13 @@ pub record Kept (name : List ℕ) (full : Bool) (text : List ℕ) (production : 
 
 -- what a fragment says of itself holds
 abbrev pub IsKept : List ℕ → Bool → List ℕ → fragment.Fragment → Type 0
-IsKept name full text f =
-    Kept name full text (production_view f.key.production) f.key.at f.key.binder_depth f.start f.end f.steps f.height f.left_open
+IsKept part full text f =
+    Kept part full text (production_view f.key.production) f.key.at f.key.binder_depth f.start f.end f.steps f.height f.left_open
 
 -- a fragment is what a back reference asks for
 abbrev pub IsFragmentFor : List ℕ → State → key.FragmentKey → fragment.Fragment → Type 0
-IsFragmentFor name s a f =
-    Kept name s.full s.text (production_view a.production) a.at a.binder_depth f.start f.end f.steps f.height f.left_open
+IsFragmentFor part s a f =
+    Kept part s.full s.text (production_view a.production) a.at a.binder_depth f.start f.end f.steps f.height f.left_open
 
 -- the least number of levels is counted anew from a number of levels on, and the old one joins
 abbrev pub raised : ℕ → State → State
@@ -92,5 +92,5 @@ IsMark s m = (s.at ≡ Some m.at) × (m.start ≡ length s.text) × (m.steps_lef
 
 -- what was printed since a mark may be kept
 abbrev pub MayKeep : List ℕ → State → mark.Mark → ℕ → ℕ → Production → Bool → Type 0
-MayKeep name s m levels_left binder_depth production left_open =
-    (after : ℕ) → s.at ≡ Some after → s.limit_exceeded ≡ false → s.muted ≡ false → Kept name s.full s.text production m.at binder_depth m.start (length s.text) (m.steps_left - s.steps_left) (levels_left - s.least_levels_left) left_open
+MayKeep part s m levels_left binder_depth production left_open =
+    (after : ℕ) → s.at ≡ Some after → s.limit_exceeded ≡ false → s.muted ≡ false → Kept part s.full s.text production m.at binder_depth m.start (length s.text) (m.steps_left - s.steps_left) (levels_left - s.least_levels_left) left_open

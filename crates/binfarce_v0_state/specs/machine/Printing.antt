@@ -117,10 +117,10 @@ abbrev pub type_item : TypeTree × State → Item × State
 type_item r = (TypeItem r.0, r.1)
 
 abbrev pub argument_rule : List ℕ → Readers → ℕ → State → Bool → Bool → Item × State
-argument_rule name R binder_depth s true is_const =
-    taking 1 (LifetimeItem NoLifetime) s (lifetime_item binder_depth (lifetime name s.at))
-argument_rule name R binder_depth s false true = const_item (R.constant (seek (after_byte s.at) s))
-argument_rule name R binder_depth s false false = type_item (R.ty binder_depth s)
+argument_rule part R binder_depth s true is_const =
+    taking 1 (LifetimeItem NoLifetime) s (lifetime_item binder_depth (lifetime part s.at))
+argument_rule part R binder_depth s false true = const_item (R.constant (seek (after_byte s.at) s))
+argument_rule part R binder_depth s false false = type_item (R.ty binder_depth s)
 
 -- the bindings of a trait
 abbrev pub binding_then : UndisambiguatedIdentifier → TypeTree → Bindings × State → Bindings × State
@@ -135,26 +135,26 @@ named_binding R binder_depth more is_open s (Some i) =
     bound_type more i.0 (R.ty binder_depth (write (codes " = ") (write (identifier_text i.0) (seek (Some i.1) (write (open_mark is_open) s)))))
 
 abbrev pub binding_rule : List ℕ → Readers → ℕ → (Bool → State → Bindings × State) → Bool → State → Bool → Bindings × State
-binding_rule name R binder_depth more is_open s true =
-    named_binding R binder_depth more is_open s (undisambiguated_at name (after_byte s.at))
-binding_rule name R binder_depth more is_open s false = (NoBindings, write (close_mark is_open) s)
+binding_rule part R binder_depth more is_open s true =
+    named_binding R binder_depth more is_open s (undisambiguated_at part (after_byte s.at))
+binding_rule part R binder_depth more is_open s false = (NoBindings, write (close_mark is_open) s)
 
 unfoldable pub bindings_rule : List ℕ → Readers → ℕ → ℕ → Bool → State → Bindings × State
-bindings_rule name R binder_depth zero is_open s = (NoBindings, stopped s)
-bindings_rule name R binder_depth (suc n) is_open s =
-    binding_rule name R binder_depth (bindings_rule name R binder_depth n) is_open s (stands name 'p' s.at)
+bindings_rule part R binder_depth zero is_open s = (NoBindings, stopped s)
+bindings_rule part R binder_depth (suc n) is_open s =
+    binding_rule part R binder_depth (bindings_rule part R binder_depth n) is_open s (stands part 'p' s.at)
 
 abbrev pub trait_item : PathTree → Bindings × State → Item × State
 trait_item p r = (TraitItem p r.0, r.1)
 
 abbrev pub trait_rule : List ℕ → Readers → ℕ → PathTree × State → Item × State
-trait_rule name R binder_depth r =
-    trait_item r.0 (bindings_rule name R binder_depth (suc r.1.steps_left) (is_left_open r.0 OpenTrait) r.1)
+trait_rule part R binder_depth r =
+    trait_item r.0 (bindings_rule part R binder_depth (suc r.1.steps_left) (is_left_open r.0 OpenTrait) r.1)
 
 unfoldable pub item_rule : List ℕ → Readers → ℕ → Listed → State → Item × State
-item_rule name R binder_depth Arguments s = argument_rule name R binder_depth s (stands name 'L' s.at) (stands name 'K' s.at)
-item_rule name R binder_depth Types s = type_item (R.ty binder_depth s)
-item_rule name R binder_depth Traits s = trait_rule name R binder_depth (R.path OpenTrait binder_depth s)
+item_rule part R binder_depth Arguments s = argument_rule part R binder_depth s (stands part 'L' s.at) (stands part 'K' s.at)
+item_rule part R binder_depth Types s = type_item (R.ty binder_depth s)
+item_rule part R binder_depth Traits s = trait_rule part R binder_depth (R.path OpenTrait binder_depth s)
 
 abbrev pub item_then : Item → Items × State → Items × State
 item_then i r = (ItemThen i r.0, r.1)
@@ -163,14 +163,14 @@ abbrev pub items_after : (State → Items × State) → Item × State → Items 
 items_after more r = item_then r.0 (more r.1)
 
 abbrev pub list_rule : List ℕ → Readers → ℕ → Listed → List ℕ → (State → Items × State) → Bool → State → Bool → Items × State
-list_rule name R binder_depth listed between more is_first s true =
-    items_after more (item_rule name R binder_depth listed (write (separator is_first between) s))
-list_rule name R binder_depth listed between more is_first s false = (NoItems, seek (after_byte s.at) s)
+list_rule part R binder_depth listed between more is_first s true =
+    items_after more (item_rule part R binder_depth listed (write (separator is_first between) s))
+list_rule part R binder_depth listed between more is_first s false = (NoItems, seek (after_byte s.at) s)
 
 unfoldable pub items_rule : List ℕ → Readers → ℕ → Listed → List ℕ → ℕ → Bool → State → Items × State
-items_rule name R binder_depth listed between zero is_first s = (NoItems, stopped s)
-items_rule name R binder_depth listed between (suc n) is_first s =
-    list_rule name R binder_depth listed between (items_rule name R binder_depth listed between n false) is_first s (list_goes_on name s.at)
+items_rule part R binder_depth listed between zero is_first s = (NoItems, stopped s)
+items_rule part R binder_depth listed between (suc n) is_first s =
+    list_rule part R binder_depth listed between (items_rule part R binder_depth listed between n false) is_first s (list_goes_on part s.at)
 
 abbrev pub items_count : Items → ℕ
 items_count NoItems = 0
@@ -178,7 +178,7 @@ items_count (ItemThen i items) = suc (items_count items)
 
 -- a list, of no more items than there are steps left
 abbrev pub items_from : List ℕ → Readers → ℕ → Listed → List ℕ → State → Items × State
-items_from name R binder_depth listed between s = items_rule name R binder_depth listed between (suc s.steps_left) true s
+items_from part R binder_depth listed between s = items_rule part R binder_depth listed between (suc s.steps_left) true s
 
 -- Types
 
@@ -198,17 +198,17 @@ abbrev pub tuple_end : Items × State → TypeTree × State
 tuple_end r = (Tuple r.0, write (codes ")") (write (single_mark r.0) r.1))
 
 abbrev pub returned : List ℕ → Readers → ℕ → Signature → Items → State → Bool → TypeTree × State
-returned name R binder_depth signature items s true = (Function signature items, seek (after_byte s.at) s)
-returned name R binder_depth signature items s false =
+returned part R binder_depth signature items s true = (Function signature items, seek (after_byte s.at) s)
+returned part R binder_depth signature items s false =
     type_as (FunctionTo signature items) (R.ty binder_depth (write (codes " -> ") s))
 
 abbrev pub function_end : List ℕ → Readers → ℕ → Signature → Items × State → TypeTree × State
-function_end name R binder_depth signature r =
-    returned name R binder_depth signature r.0 (write (codes ")") r.1) (stands name 'u' r.1.at)
+function_end part R binder_depth signature r =
+    returned part R binder_depth signature r.0 (write (codes ")") r.1) (stands part 'u' r.1.at)
 
 abbrev pub function_rule : List ℕ → Readers → ℕ → Signature → ℕ → State → TypeTree × State
-function_rule name R binder_depth signature q s =
-    function_end name R (binder_depth + signature.binder) signature (items_from name R (binder_depth + signature.binder) Types (codes ", ") (write (signature_text signature) (write (binder_text binder_depth signature.binder) (seek (Some q) s))))
+function_rule part R binder_depth signature q s =
+    function_end part R (binder_depth + signature.binder) signature (items_from part R (binder_depth + signature.binder) Types (codes ", ") (write (signature_text signature) (write (binder_text binder_depth signature.binder) (seek (Some q) s))))
 
 abbrev pub dyn_lifetime_rule : ℕ → ℕ → Items → Lifetime × Option ℕ → State → TypeTree × State
 dyn_lifetime_rule binder_depth binder items l s =
@@ -219,11 +219,11 @@ dyn_life binder_depth binder items l s =
     taking (lifetime_steps l.0) NoType s (dyn_lifetime_rule binder_depth binder items l)
 
 abbrev pub dyn_end : List ℕ → ℕ → ℕ → Items × State → TypeTree × State
-dyn_end name binder_depth binder r = dyn_life binder_depth binder r.0 (lifetime name r.1.at) r.1
+dyn_end part binder_depth binder r = dyn_life binder_depth binder r.0 (lifetime part r.1.at) r.1
 
 abbrev pub dyn_rule : List ℕ → Readers → ℕ → ℕ → ℕ → State → TypeTree × State
-dyn_rule name R binder_depth binder q s =
-    dyn_end name binder_depth binder (items_from name R (binder_depth + binder) Traits (codes " + ") (write (binder_text binder_depth binder) (write (codes "dyn ") (seek (Some q) s))))
+dyn_rule part R binder_depth binder q s =
+    dyn_end part binder_depth binder (items_from part R (binder_depth + binder) Traits (codes " + ") (write (binder_text binder_depth binder) (write (codes "dyn ") (seek (Some q) s))))
 
 abbrev pub reference_rule : Readers → ℕ → Bool → Lifetime → ℕ → State → TypeTree × State
 reference_rule R binder_depth mutable life q s =
@@ -242,24 +242,24 @@ abbrev pub invalid_function : ℕ → ℕ → State → TypeTree × State
 invalid_function binder_depth binder s = (InvalidFunction binder, after_invalid_syntax (write (binder_text binder_depth binder) s))
 
 unfoldable pub type_rule : List ℕ → Readers → ℕ → State → TypeForm → TypeTree × State
-type_rule name R binder_depth s NoTypeForm = (NoType, after_invalid_syntax s)
-type_rule name R binder_depth s (BasicType text q) = (Basic text, write text (seek (Some q) s))
-type_rule name R binder_depth s (ReferenceTo mutable life q) =
+type_rule part R binder_depth s NoTypeForm = (NoType, after_invalid_syntax s)
+type_rule part R binder_depth s (BasicType text q) = (Basic text, write text (seek (Some q) s))
+type_rule part R binder_depth s (ReferenceTo mutable life q) =
     taking (lifetime_steps life) NoType s (reference_rule R binder_depth mutable life q)
-type_rule name R binder_depth s InvalidReference = taking 1 NoType s invalid_reference
-type_rule name R binder_depth s (PointerTo mutable q) =
+type_rule part R binder_depth s InvalidReference = taking 1 NoType s invalid_reference
+type_rule part R binder_depth s (PointerTo mutable q) =
     type_as (Pointer mutable) (R.ty binder_depth (write (mutable_text mutable (codes "*mut ") (codes "*const ")) (seek (Some q) s)))
-type_rule name R binder_depth s (SliceOf q) = type_then (codes "]") Slice (R.ty binder_depth (write (codes "[") (seek (Some q) s)))
-type_rule name R binder_depth s (ArrayOf q) = array_rule R (R.ty binder_depth (write (codes "[") (seek (Some q) s)))
-type_rule name R binder_depth s (TupleOf q) =
-    tuple_end (items_from name R binder_depth Types (codes ", ") (write (codes "(") (seek (Some q) s)))
-type_rule name R binder_depth s (FunctionOf signature q) =
-    taking signature.binder NoType s (function_rule name R binder_depth signature q)
-type_rule name R binder_depth s (InvalidAbi binder) = taking binder NoType s (invalid_function binder_depth binder)
-type_rule name R binder_depth s (DynOf binder q) = taking binder NoType s (dyn_rule name R binder_depth binder q)
-type_rule name R binder_depth s InvalidDyn = (InvalidDynType, write (codes "dyn ??") (seek None s))
-type_rule name R binder_depth s (BackToType target q) = back_type q s.in_back_reference (R.ty binder_depth (into target s))
-type_rule name R binder_depth s PathType = named_type (R.path InType binder_depth s)
+type_rule part R binder_depth s (SliceOf q) = type_then (codes "]") Slice (R.ty binder_depth (write (codes "[") (seek (Some q) s)))
+type_rule part R binder_depth s (ArrayOf q) = array_rule R (R.ty binder_depth (write (codes "[") (seek (Some q) s)))
+type_rule part R binder_depth s (TupleOf q) =
+    tuple_end (items_from part R binder_depth Types (codes ", ") (write (codes "(") (seek (Some q) s)))
+type_rule part R binder_depth s (FunctionOf signature q) =
+    taking signature.binder NoType s (function_rule part R binder_depth signature q)
+type_rule part R binder_depth s (InvalidAbi binder) = taking binder NoType s (invalid_function binder_depth binder)
+type_rule part R binder_depth s (DynOf binder q) = taking binder NoType s (dyn_rule part R binder_depth binder q)
+type_rule part R binder_depth s InvalidDyn = (InvalidDynType, write (codes "dyn ??") (seek None s))
+type_rule part R binder_depth s (BackToType target q) = back_type q s.in_back_reference (R.ty binder_depth (into target s))
+type_rule part R binder_depth s PathType = named_type (R.path InType binder_depth s)
 
 -- Paths
 
@@ -272,8 +272,8 @@ named_state namespace s None = after_invalid_syntax s
 named_state namespace s (Some l) = write (nested_text namespace l.0) (seek (Some l.1) s)
 
 abbrev pub nested_rule : List ℕ → ℕ → PathTree × State → PathTree × State
-nested_rule name namespace r =
-    (named_tree namespace r.0 (identifier_at name r.1.at), named_state namespace r.1 (identifier_at name r.1.at))
+nested_rule part namespace r =
+    (named_tree namespace r.0 (identifier_at part r.1.at), named_state namespace r.1 (identifier_at part r.1.at))
 
 -- the path of an impl is read and not written
 abbrev pub unmuted : Bool → PathTree × State → PathTree × State
@@ -298,8 +298,8 @@ abbrev pub generic_end : Position → PathTree → Items × State → PathTree �
 generic_end position p r = (Generic p r.0, write (closing position) r.1)
 
 abbrev pub generic_rule : List ℕ → Readers → Position → ℕ → PathTree × State → PathTree × State
-generic_rule name R position binder_depth r =
-    generic_end position r.0 (items_from name R binder_depth Arguments (codes ", ") (write (codes "<") (write (value_mark position) r.1)))
+generic_rule part R position binder_depth r =
+    generic_end position r.0 (items_from part R binder_depth Arguments (codes ", ") (write (codes "<") (write (value_mark position) r.1)))
 
 abbrev pub back_path : ℕ → Bool → PathTree × State → PathTree × State
 back_path q in_back_reference r = (BackPath r.0, back_to q in_back_reference r.1)
@@ -314,19 +314,19 @@ crate_state None s = after_invalid_syntax s
 crate_state (Some l) s = (crate_rule l.0 (seek (Some l.1) s)).1
 
 unfoldable pub path_rule : List ℕ → Readers → Position → ℕ → State → PathForm → PathTree × State
-path_rule name R position binder_depth s NoPathForm = (NoPath, after_invalid_syntax s)
-path_rule name R position binder_depth s (CrateRoot root q) = crate_rule root (seek (Some q) s)
-path_rule name R position binder_depth s (NestedIn namespace q) =
-    nested_rule name namespace (R.path (parent_position position) binder_depth (seek (Some q) s))
-path_rule name R position binder_depth s (InherentImpl q) =
+path_rule part R position binder_depth s NoPathForm = (NoPath, after_invalid_syntax s)
+path_rule part R position binder_depth s (CrateRoot root q) = crate_rule root (seek (Some q) s)
+path_rule part R position binder_depth s (NestedIn namespace q) =
+    nested_rule part namespace (R.path (parent_position position) binder_depth (seek (Some q) s))
+path_rule part R position binder_depth s (InherentImpl q) =
     of_type_rule R binder_depth (unmuted s.muted (R.path (parent_position position) binder_depth (set_muted true (seek (Some q) s))))
-path_rule name R position binder_depth s (TraitImpl q) =
+path_rule part R position binder_depth s (TraitImpl q) =
     of_impl_rule R binder_depth (unmuted s.muted (R.path (parent_position position) binder_depth (set_muted true (seek (Some q) s))))
-path_rule name R position binder_depth s (TraitDefinition q) =
+path_rule part R position binder_depth s (TraitDefinition q) =
     as_trait R binder_depth OfTrait (R.ty binder_depth (write (codes "<") (seek (Some q) s)))
-path_rule name R position binder_depth s (WithArguments q) =
-    generic_rule name R position binder_depth (R.path (parent_position position) binder_depth (seek (Some q) s))
-path_rule name R position binder_depth s (BackToPath target q) =
+path_rule part R position binder_depth s (WithArguments q) =
+    generic_rule part R position binder_depth (R.path (parent_position position) binder_depth (seek (Some q) s))
+path_rule part R position binder_depth s (BackToPath target q) =
     back_path q s.in_back_reference (R.path position binder_depth (into target s))
 
 -- a type and the trait after its " as "
@@ -340,10 +340,10 @@ abbrev pub entering : {T : Type 0} → ℕ → T → State → (State → T × S
 entering levels_left none s f = if nat_le 1 s.steps_left then f (entered levels_left s) else (none, stopped s)
 
 unfoldable pub readers : List ℕ → ℕ → Readers
-readers name zero =
+readers part zero =
     record { path = λ position binder_depth s. (NoPath, stopped s); ty = λ binder_depth s. (NoType, stopped s); constant = λ s. (NoConst, stopped s) }
-readers name (suc levels_left) =
-    record { path = λ position binder_depth s. entering levels_left NoPath s (λ e. path_rule name (readers name levels_left) position binder_depth e (path_form name s.at)); ty = λ binder_depth s. entering levels_left NoType s (λ e. type_rule name (readers name levels_left) binder_depth e (type_form name s.at)); constant = λ s. entering levels_left NoConst s (λ e. const_rule (readers name levels_left) e (const_form name s.at)) }
+readers part (suc levels_left) =
+    record { path = λ position binder_depth s. entering levels_left NoPath s (λ e. path_rule part (readers part levels_left) position binder_depth e (path_form part s.at)); ty = λ binder_depth s. entering levels_left NoType s (λ e. type_rule part (readers part levels_left) binder_depth e (type_form part s.at)); constant = λ s. entering levels_left NoConst s (λ e. const_rule (readers part levels_left) e (const_form part s.at)) }
 
 -- at most `MAX_LEVELS` levels are left, and the levels above them have announced at most `MAX_STEPS` lifetimes each
 abbrev pub WithinLevels : (levels_left binder_depth : ℕ) → Type 0
@@ -354,13 +354,13 @@ abbrev pub first_state : Bool → State
 first_state full =
     record { at = Some 0; steps_left = MAX_STEPS; least_levels_left = MAX_LEVELS; limit_exceeded = false; text = []; muted = false; full = full; in_back_reference = false; root = None }
 
--- what clauses see of a printer: the name that it prints, which stays, and the state of the printing
+-- what clauses see of a printer: the part that it prints, which stays, and the state of the printing
 pub record Printing : Type 0 where
-  pub name : List ℕ
+  pub part : List ℕ
   pub state : State
 
 abbrev pub with_state : State → Printing → Printing
 with_state s p = record p { state = s }
 
 abbrev pub first_printing : List ℕ → Bool → Printing
-first_printing name full = record { name = name; state = first_state full }
+first_printing part full = record { part = part; state = first_state full }

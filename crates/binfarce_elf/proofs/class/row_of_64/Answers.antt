@@ -1,4 +1,4 @@
-use Rattle.std.proofs.Common.{◌≡◌, ◌+◌, length, ap, ◌∙◌, arith}
+use Rattle.std.proofs.Common.{◌+◌, length, ap, arith}
 use Rattle.binfarce_elf.specs.Elf.{elf64}
 use Rattle.binfarce_elf.specs.ElfSymbols.{symbol_at}
 use Rattle.binfarce_elf.proofs.Headers.{IsAt, moved, read_at}

@@ -1,6 +1,6 @@
 use Rattle.std.specs.String.{string_bytes}
 use Rattle.binfarce.specs.SymbolViews.{function_view}
-use Rattle.binfarce_tools.specs.machine.Lists.{functions_left}
+use Rattle.binfarce_tools.specs.Entries.{functions_left}
 use Rattle.binfarce_tools.proofs.Lines.{one_line, whole, is_listing}
 use Rattle.binfarce_tools.proofs.list.listing.Goals as goal
 

@@ -1,5 +1,5 @@
 use Rattle.std.specs.String.{string_bytes}
-use Rattle.binfarce_tools.specs.machine.Lists.{functions_left}
+use Rattle.binfarce_tools.specs.Entries.{functions_left}
 use Rattle.binfarce_tools.proofs.Lines.{Completes}
 use Rattle.binfarce_tools.proofs.list.listing.Given as goal
 

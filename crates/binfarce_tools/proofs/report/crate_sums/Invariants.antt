@@ -1,6 +1,6 @@
 use Rattle.std.proofs.Common.{◌≡◌, ◌+◌, ◌<◌, ◌^◌}
 use Rattle.std.specs.List.{sum_by}
-use Rattle.binfarce_tools.specs.machine.Lists.{functions_left}
+use Rattle.binfarce_tools.specs.Entries.{functions_left}
 use Rattle.binfarce_tools.proofs.CrateSums.{Completes, Fit}
 use Rattle.binfarce_tools.proofs.report.crate_sums.Given as goal
 

@@ -4,6 +4,6 @@ use Rattle.binfarce_v0_grammar.proofs.numbers.digits_62.Given as goal
 
 abbrev pub invariant-loop-at : goal.invariant-loop-at
 invariant-loop-at l = record {
-  same : number_from (drop l.start l.name) 0 l.start ≡ number_from (drop l.at l.name) l.value l.at;
+  same : number_from (drop l.start l.part) 0 l.start ≡ number_from (drop l.at l.part) l.value l.at;
   small : l.value < 62 ^ (l.at - l.start);
 }

@@ -5,11 +5,11 @@ use Rattle.binfarce_v0_grammar.proofs.reading.+reading.Given as goal
 
 abbrev pub invariant-read_items-loop-turn : goal.invariant-read_items-loop-turn
 invariant-read_items-loop-turn l =
-    items_end l.name (ends l.name l.levels_left) (listed_view l.listed) (suc (length l.name) - l._turn) l.at ≡ items_end l.name (ends l.name l.levels_left) (listed_view l.listed) (suc (length l.name)) l.start
+    items_end l.part (ends l.part l.levels_left) (listed_view l.listed) (suc (length l.part) - l._turn) l.at ≡ items_end l.part (ends l.part l.levels_left) (listed_view l.listed) (suc (length l.part)) l.start
 
 abbrev pub invariant-read_bindings-loop-turn : goal.invariant-read_bindings-loop-turn
 invariant-read_bindings-loop-turn l =
-    bindings_end l.name (ends l.name l.levels_left) (suc (length l.name) - l._turn) l.at ≡ bindings_end l.name (ends l.name l.levels_left) (suc (length l.name)) l.start
+    bindings_end l.part (ends l.part l.levels_left) (suc (length l.part) - l._turn) l.at ≡ bindings_end l.part (ends l.part l.levels_left) (suc (length l.part)) l.start
 
 abbrev pub decreases-read_path : goal.decreases-read_path
 decreases-read_path l = 10 * l.levels_left + 0

@@ -7,7 +7,7 @@ use Rattle.binfarce_v0_state.proofs.state.Printer.keep.Goals as goal
 
 pub invariant_of-self-2 : goal.invariant_of-self-2
 invariant_of-self-2 c =
-    let P = IsKept c.self.inside.name.now c.self.inside.full (string_bytes c.self.inside.text) in
+    let P = IsKept c.self.inside.part.now c.self.inside.full (string_bytes c.self.inside.text) in
     let may = rw (← c.self.view_is) at c.requires in
     let kept = may c.in-Some._after c.in-Some.is c.if-self.false c.if-self-2.false in
     let long : c.len.result ≡ length (string_bytes c.self.inside.text) = search rules in

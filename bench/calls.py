@@ -1,0 +1,135 @@
+#!/usr/bin/env python3
+"""Measures what it costs to make a name readable in Rattle, through C and through Cargo, beside the Rust crate `binfarce` and
+`rustc-demangle`: instructions by callgrind, and the least time of RUNS runs, a name.
+
+    bench/calls.py [--original LIBRARY] [--rattle PROGRAM] NAMES ..
+
+NAMES are files of names, one a line. --original is the Rust crate, compiled by `rustc -C opt-level=3` (a .rlib). --rattle is
+calls.txt, built already, and ARCHIVE=libbinfarce.a the library for C. What needs a tool that is missing is left out with a
+line. Each program reads all names once more for each round, so the cost of a name is
+the difference of two numbers of rounds: the start of a process and the reading of the names are no part of it.
+"""
+
+import argparse
+import os
+import re
+import shutil
+import subprocess
+import tempfile
+import time
+
+TOP = os.path.dirname(os.path.dirname(os.path.abspath(__file__)))
+RUNS = 9
+
+
+def run(*command, **more):
+    return subprocess.run(command, check=True, **more)
+
+
+def has(*tools):
+    for tool in tools:
+        if not shutil.which(tool):
+            print(f"{tool} is missing: what needs it is left out")
+            return False
+    return True
+
+
+def in_rattle(work):
+    """bench/calls.txt as a crate of a copy of the repository, over the libraries that `./list` made there."""
+    copy = f"{work}/copy"
+    os.mkdir(copy)
+    run("sh", "-c", f"tar -c -C '{TOP}' --exclude=.git --exclude=target . | tar -x -C '{copy}'")
+    os.makedirs(f"{copy}/crates/bench_calls/src")
+    shutil.copy(f"{TOP}/bench/calls.txt", f"{copy}/crates/bench_calls/src/main.rt")
+    with open(f"{copy}/crates.txt", "a", encoding="utf-8") as file:
+        file.write("bench_calls: binfarce_names\n")
+    run(f"{copy}/run", "bench_calls", stdin=subprocess.DEVNULL, stdout=subprocess.DEVNULL)
+    shutil.copy(f"{copy}/crates/bench_calls/out/run/bench_calls", f"{work}/in-rattle")
+
+
+def through_c(work, archive):
+    run("gcc", "-std=c11", "-O2", f"-I{TOP}/include", f"{TOP}/bench/calls.c", archive, "-o", f"{work}/through-c")
+
+
+def through_cargo(work, archive):
+    env = dict(os.environ, CARGO_TARGET_DIR=f"{work}/target", BINFARCE_LIB=os.path.dirname(archive))
+    run("cargo", "build", "--offline", "--quiet", "--release", "--example", "calls", cwd=f"{TOP}/bindings/rust", env=env)
+    shutil.copy(f"{work}/target/release/examples/calls", f"{work}/through-cargo")
+
+
+def by_rustc(source, made, *more):
+    run("rustc", "--edition", "2021", "-C", "opt-level=3", *more, source, "-o", made, env=dict(os.environ, RUSTC_BOOTSTRAP="1"))
+
+
+def clients(work, original, rattle):
+    """The programs, each with its call, and the words after the number of rounds."""
+    archive = os.environ.get("ARCHIVE") or run(f"{TOP}/bindings/archive.sh", stdout=subprocess.PIPE, text=True).stdout.strip()
+    archive = os.path.join(TOP, archive)
+    if rattle:
+        shutil.copy(rattle, f"{work}/in-rattle")
+    elif has("rt"):
+        in_rattle(work)
+    if os.path.exists(f"{work}/in-rattle"):
+        yield "`push_trimmed` in Rattle", [f"{work}/in-rattle"], ["trimmed"]
+    if has("gcc"):
+        through_c(work, archive)
+        yield "`binfarce_trimmed` from C", [f"{work}/through-c"], ["trimmed"]
+    if has("rustc"):
+        by_rustc(f"{TOP}/bench/calls-peer.rs", f"{work}/peer")
+        yield "`rustc-demangle`", [f"{work}/peer"], []
+    if os.path.exists(f"{work}/in-rattle"):
+        yield "`SymbolName::demangle` in Rattle", [f"{work}/in-rattle"], ["all"]
+    if os.path.exists(f"{work}/through-c"):
+        yield "`binfarce_demangle` from C", [f"{work}/through-c"], ["all"]
+    if has("cargo"):
+        through_cargo(work, archive)
+        yield "`SymbolName::demangle` of `bindings/rust`", [f"{work}/through-cargo"], []
+    if original:
+        by_rustc(f"{TOP}/bindings/rust/examples/calls.rs", f"{work}/original", "--extern", f"binfarce={original}")
+        yield "`SymbolName::demangle` of the original", [f"{work}/original"], []
+
+
+def spent(command, names, rounds, more):
+    with open(names, "rb") as file:
+        start = time.perf_counter()
+        run(*command, str(rounds), *more, stdin=file, stdout=subprocess.DEVNULL)
+        return time.perf_counter() - start
+
+
+def counted(command, names, rounds, more):
+    with open(names, "rb") as file:
+        words = ["valgrind", "--tool=callgrind", "--callgrind-out-file=/dev/null", *command, str(rounds), *more]
+        told = run(*words, stdin=file, stdout=subprocess.DEVNULL, stderr=subprocess.PIPE, text=True).stderr
+    return int(re.search(r"Collected : (\d+)", told)[1])
+
+
+def main():
+    parser = argparse.ArgumentParser()
+    parser.add_argument("--original")
+    parser.add_argument("--rattle")
+    parser.add_argument("names", nargs="+")
+    given = parser.parse_args()
+    with tempfile.TemporaryDirectory() as work:
+        programs = list(clients(work, given.original, given.rattle))
+        callgrind = has("valgrind")
+        for names in given.names:
+            with open(names, "rb") as file:
+                count = sum(1 for _ in file)
+            rounds = max(2, 200000 // count)
+            least = {}
+            for _ in range(RUNS):
+                for title, command, more in programs:
+                    for many in (1, rounds + 1):
+                        took = spent(command, names, many, more)
+                        least[title, many] = min(took, least.get((title, many), took))
+            print(f"\n{os.path.basename(names)}: {count} names\n\n| call | ns | instructions |\n|---|---|---|")
+            for title, command, more in programs:
+                took = least[title, rounds + 1] - least[title, 1]
+                nanoseconds = f"{took / rounds / count * 1e9:,.0f}"
+                told = "-"
+                if callgrind:
+                    told = f"{(counted(command, names, 3, more) - counted(command, names, 1, more)) // (2 * count):,}"
+                print(f"| {title} | {nanoseconds} | {told} |")
+
+
+main()

@@ -1,0 +1,92 @@
+-- The lines of addresses, one after the other.
+use Rattle.std.proofs.Common.{◌≡◌, ℕ, ◌+◌, ◌-◌, false, ◌<◌, ◌≤◌, List, [], ◌∷◌, ◌++◌, length, get_or, take, Option, Some, None, Result, Ok, Err, refl, sym, ap, subst, ◌∙◌, append-nil, append_assoc}
+use Rattle.std.specs.List.{AllZip, concat}
+use Rattle.std.proofs.lemmas.List.{take_more, take_all}
+use Rattle.std.specs.Io.KnownBytes.{Appends}
+use Rattle.std.specs.Result.{IsErrAnd}
+use Rattle.std.specs.Fmt.{digits}
+use Rattle.std.specs.Prelude.{codes}
+use Rattle.binfarce.specs.Name.{Name}
+use Rattle.binfarce.specs.Named.{IsNamed}
+use Rattle.binfarce.specs.Refusal.{Refusal}
+use Rattle.binfarce_tools.specs.Listing.{address_text}
+use Rattle.binfarce.specs.Symbol.{Entry, Listed}
+use Rattle.binfarce_tools.specs.declared.list.ListError.{ListError}
+use Rattle.binfarce_tools.specs.declared.list.ListError.TheVariants.{Unknown, Parse, OutOfMemory, Write}
+use Rattle.binfarce_tools.specs.ListWords.{Writes, outcome_of}
+use Rattle.binfarce_tools.specs.Writing as writing
+use Rattle.binfarce_addresses.specs.Lines.{in_file, found_at, IsTextOf, address_line, IsLineAt, AreLinesOf, AreLinesAt}
+use Rattle.binfarce_addresses.specs.PlacesViews.{IsMadeOf}
+
+pub all_zip_push : {A B : Type 0} (R : A → B → Type 0) (xs : List A) (ys : List B) (x : A) (y : B) → AllZip R xs ys → R x y → AllZip R (xs ++ x ∷ []) (ys ++ y ∷ [])
+all_zip_push R [] [] x y all r = (r, tt)
+all_zip_push R [] (b ∷ ys) x y all r = absurd all
+all_zip_push R (a ∷ xs) [] x y all r = absurd all
+all_zip_push R (a ∷ xs) (b ∷ ys) x y all r = (all.0, all_zip_push R xs ys x y all.1 r)
+
+pub concat_push : (lines : List (List ℕ)) (line : List ℕ) → concat (lines ++ line ∷ []) ≡ concat lines ++ line
+concat_push [] line = append-nil line
+concat_push (first ∷ lines) line = ap (λ (xs : List ℕ). first ++ xs) (concat_push lines line) ∙ sym (append_assoc first (concat lines) line)
+
+-- the line of one address more
+pub one_line : (entries : List Entry) (base : ℕ) (addresses : List ℕ) (i : ℕ) (line text new : List ℕ) → i < length addresses → AreLinesOf entries base (take i addresses) text → IsLineAt entries base (get_or addresses i 0) line → new ≡ text ++ line
+    → AreLinesOf entries base (take (i + 1) addresses) new
+one_line entries base addresses i line text new lt are is grown =
+    let P : List ℕ → Type 0 = λ xs. AreLinesOf entries base xs new in
+    subst P (sym (take_more addresses i 0 lt))
+    (are.0 ++ line ∷ [], all_zip_push (IsLineAt entries base) (take i addresses) are.0 (get_or addresses i 0) line are.1 is, grown ∙ ap (λ (xs : List ℕ). xs ++ line) are.2 ∙ sym (concat_push are.0 line))
+
+-- all addresses
+pub whole : (entries : List Entry) (base : ℕ) (addresses : List ℕ) (i : ℕ) (text : List ℕ) → length addresses ≤ i → AreLinesOf entries base (take i addresses) text → AreLinesOf entries base addresses text
+whole entries base addresses i text le are = let P : List ℕ → Type 0 = λ xs. AreLinesOf entries base xs text in subst P (take_all i addresses le) are
+
+-- the lines of what a file lists were written, or a beginning of them
+pub takes : (memory : Result Listed Refusal → Type 0) (answer : Option (Result Listed Refusal)) (entries : List Entry) (base : ℕ) (addresses text : List ℕ) (old new : Option (List ℕ)) (result : Result (Unit {0}) ListError)
+    → IsMadeOf memory answer (Ok entries) → AreLinesOf entries base addresses text → Writes old new text result → writing.Takes (AreLinesAt base addresses) answer old new (outcome_of result)
+takes memory None entries base addresses text old new result made are wrote = absurd made
+takes memory (Some (Err refusal)) entries base addresses text old new result made are wrote = absurd made
+takes memory (Some (Ok listed)) entries base addresses text old new (Ok x) made are wrote = let P : List Entry → Type 0 = λ es. AreLinesOf es base addresses text in (text, subst P made are, wrote)
+takes memory (Some (Ok listed)) entries base addresses text old new (Err Write) made are wrote = let P : List Entry → Type 0 = λ es. AreLinesOf es base addresses text in (text, subst P made are, wrote.1)
+takes memory (Some (Ok listed)) entries base addresses text old new (Err Unknown) made are wrote = let e = wrote.0 in absurd cc
+takes memory (Some (Ok listed)) entries base addresses text old new (Err (Parse p)) made are wrote = let e = wrote.0 in absurd cc
+takes memory (Some (Ok listed)) entries base addresses text old new (Err OutOfMemory) made are wrote = let e = wrote.0 in absurd cc
+
+pub nothing : (old : Option (List ℕ)) → Appends old old []
+nothing None = tt
+nothing (Some taken) = sym (append-nil taken)
+
+-- nothing was written where an allocation failed
+pub takes_nothing : (base : ℕ) (addresses : List ℕ) (answer : Option (Result Listed Refusal)) (old : Option (List ℕ)) (result : Result (Unit {0}) ListError) → IsErrAnd result (λ e. e ≡ OutOfMemory) → writing.Takes (AreLinesAt base addresses) answer old old (outcome_of result)
+takes_nothing base addresses answer old (Ok x) is = absurd is
+takes_nothing base addresses answer old (Err e) is =
+    let P : ListError → Type 0 = λ e. writing.Takes (AreLinesAt base addresses) answer old old (outcome_of (Err e)) in subst P (sym is) (nothing old)
+
+regroup : (t a b n p d e : List ℕ) → ((t ++ (a ++ b)) ++ n) ++ (p ++ (d ++ e)) ≡ t ++ (a ++ (b ++ ((n ++ (p ++ d)) ++ e)))
+regroup t a b n p d e = simp append_assoc
+
+regroup_unknown : (t a b u : List ℕ) → (t ++ (a ++ b)) ++ u ≡ t ++ (a ++ (b ++ u))
+regroup_unknown t a b u = simp append_assoc
+
+-- the line of an address that an entry holds
+pub shown_line : (entries : List Entry) (base address offset : ℕ) (entry : Entry) (name : Name) (text addressed named new : List ℕ) → found_at entries (in_file base address) ≡ Some entry → offset ≡ address - base - entry.address → IsNamed entry.name name
+    → addressed ≡ text ++ (address_text address ++ codes " ") → named ≡ addressed ++ name.trimmed → new ≡ named ++ (codes "+0x" ++ (digits 16 false offset ++ codes "\n"))
+    → (line : List ℕ) × IsLineAt entries base address line × (new ≡ text ++ line)
+shown_line entries base address offset entry name text addressed named new found is names a b c =
+    let shown = name.trimmed ++ (codes "+0x" ++ digits 16 false (address - base - entry.address)) in
+    let P : Option Entry → Type 0 = λ o. IsTextOf o (address - base) shown in (
+      address_line address shown,
+      (shown, subst P (sym found) (name, names, refl), refl),
+      c ∙ ap (λ (xs : List ℕ). xs ++ (codes "+0x" ++ (digits 16 false offset ++ codes "\n"))) (b ∙ ap (λ (xs : List ℕ). xs ++ name.trimmed) a)
+          ∙ ap (λ (n : ℕ). ((text ++ (address_text address ++ codes " ")) ++ name.trimmed) ++ (codes "+0x" ++ (digits 16 false n ++ codes "\n"))) is
+          ∙ regroup text (address_text address) (codes " ") name.trimmed (codes "+0x") (digits 16 false (address - base - entry.address)) (codes "\n"),
+    )
+
+-- and of one that none holds
+pub unknown_line : (entries : List Entry) (base address : ℕ) (text addressed new : List ℕ) → found_at entries (in_file base address) ≡ None → addressed ≡ text ++ (address_text address ++ codes " ") → new ≡ addressed ++ codes "??\n"
+    → (line : List ℕ) × IsLineAt entries base address line × (new ≡ text ++ line)
+unknown_line entries base address text addressed new found a b =
+    let P : Option Entry → Type 0 = λ o. IsTextOf o (address - base) (codes "??") in (
+      address_line address (codes "??"),
+      (codes "??", subst P (sym found) refl, refl),
+      b ∙ ap (λ (xs : List ℕ). xs ++ codes "??\n") a ∙ regroup_unknown text (address_text address) (codes " ") (codes "??\n"),
+    )

@@ -1,0 +1,6 @@
+pub mod Numbers
+pub mod Names
+pub mod Shown
+pub mod AddressLines
+pub mod Streams
+pub mod Answering

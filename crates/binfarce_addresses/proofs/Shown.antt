@@ -1,0 +1,198 @@
+-- The range that is found at an address is that of the entry which the address is shown by.
+use Rattle.std.proofs.Common.{◌≡◌, ℕ, zero, suc, ◌+◌, ◌-◌, ◌<◌, ◌≤◌, ◌⊎◌, inl, inr, Bool, true, false, cond, ◌&&◌, max, List, [], ◌∷◌, map, filter, length, get_or, Option, Some, None, SomeIff, MatchOption, refl, sym, ap, subst, ◌∙◌, arith, nat_lt, nat_le}
+use Rattle.std.proofs.lemmas.Bool.Decides.{nat_tests}
+use Rattle.std.proofs.lemmas.List.{get_or-map, length-map}
+use Rattle.std.proofs.lemmas.List.Elements.{All-head, All-tail}
+use Rattle.binfarce.specs.Symbol.{Entry}
+use Rattle.binfarce.specs.SymbolViews.{function_view}
+use Rattle.binfarce.specs.declared.FunctionSymbol.{FunctionSymbol}
+use Rattle.binfarce_ranges.specs.declared.ranges.AddressRange.{AddressRange}
+use Rattle.binfarce_ranges.specs.Range.{Holds, NoneHolds, IsFoundAt}
+use Rattle.binfarce_addresses.specs.Found.{holds, higher_of, highest, entry_at}
+use Rattle.binfarce_addresses.specs.Lines.{in_file, found_at}
+use Rattle.binfarce_addresses.specs.machine.Places.{range_of, ranges_of, StandsAt}
+
+lies_in : (low high address : ℕ) → low ≤ address → address < high → (nat_le low address && nat_lt address high) ≡ true
+lies_in low high address a b = grind (arith, nat_tests)
+
+lies_in_tells : (low high address : ℕ) → (nat_le low address && nat_lt address high) ≡ true → (low ≤ address) × (address < high)
+lies_in_tells low high address e = grind (arith, nat_tests)
+
+-- the test says whether the range holds the address
+held : (address : ℕ) (entry : Entry) → Holds (range_of entry) address → holds address entry ≡ true
+held address entry h = lies_in entry.address (entry.address + max entry.size 1) address h.0 h.1
+
+held_tells : (address : ℕ) (entry : Entry) → holds address entry ≡ true → Holds (range_of entry) address
+held_tells address entry e = lies_in_tells entry.address (entry.address + max entry.size 1) address e
+
+-- there is none, or its address isn't above the bound
+abbrev NotAbove : ℕ → Option Entry → Type 0
+NotAbove bound None = Unit {0}
+NotAbove bound (Some entry) = entry.address ≤ bound
+
+abbrev AllNotAbove : ℕ → List Entry → Type 0
+AllNotAbove bound [] = Unit {0}
+AllNotAbove bound (entry ∷ others) = (entry.address ≤ bound) × AllNotAbove bound others
+
+not_above_if : (bound : ℕ) (b : Bool) (x y : Entry) → x.address ≤ bound → y.address ≤ bound → (cond b x y).address ≤ bound
+not_above_if bound true x y p q = p
+not_above_if bound false x y p q = q
+
+higher_not_above : (bound : ℕ) (entry : Entry) (other : Option Entry) → entry.address ≤ bound → NotAbove bound other → (higher_of entry other).address ≤ bound
+higher_not_above bound entry None low lows = low
+higher_not_above bound entry (Some other) low lows = not_above_if bound (nat_lt entry.address other.address) other entry lows low
+
+highest_not_above : (bound : ℕ) (entries : List Entry) → AllNotAbove bound entries → NotAbove bound (highest entries)
+unfolding highest
+highest_not_above bound [] low = tt
+highest_not_above bound (entry ∷ others) low = higher_not_above bound entry (highest others) low.0 (highest_not_above bound others low.1)
+
+-- no other is above it
+stays : (entry : Entry) (other : Option Entry) → NotAbove entry.address other → higher_of entry other ≡ entry
+stays entry None low = refl
+stays entry (Some other) low = rw (not_less entry.address other.address low) refl
+  where
+    not_less : (a b : ℕ) → b ≤ a → nat_lt a b ≡ false
+    not_less a b le = grind (arith, nat_tests)
+
+-- another is above it
+gives_way : (entry other : Entry) → entry.address < other.address → higher_of entry (Some other) ≡ other
+gives_way entry other lt = rw (less entry.address other.address lt) refl
+  where
+    less : (a b : ℕ) → a < b → nat_lt a b ≡ true
+    less a b lt = grind (arith, nat_tests)
+
+kept_not_above : (bound : ℕ) (b : Bool) (entry : Entry) (others : List Entry) → (b ≡ true → entry.address ≤ bound) → AllNotAbove bound others → AllNotAbove bound (cond b (entry ∷ others) others)
+kept_not_above bound true entry others low lows = (low refl, lows)
+kept_not_above bound false entry others low lows = lows
+
+-- those of a list that hold the address
+all_not_above : (bound address : ℕ) (entries : List Entry) (d : AddressRange) → ((k : ℕ) → k < length entries → Holds (get_or (map range_of entries) k d) address → (get_or (map range_of entries) k d).address ≤ bound)
+    → AllNotAbove bound (filter (holds address) entries)
+all_not_above bound address [] d low = tt
+all_not_above bound address (entry ∷ others) d low =
+    kept_not_above bound (holds address entry) entry (filter (holds address) others) (λ e. low 0 (omega arith) (held_tells address entry e))
+    (all_not_above bound address others d (λ k lt h. low (suc k) (omega arith) h))
+
+-- what is found among the others is found among all, where it is above the first or the first doesn't hold the address
+found_behind : (b : Bool) (entry shown : Entry) (others : List Entry) → highest others ≡ Some shown → (b ≡ true → entry.address < shown.address) → highest (cond b (entry ∷ others) others) ≡ Some shown
+unfolding highest
+found_behind true entry shown others is above = ap Some (ap (higher_of entry) is ∙ gives_way entry shown (above refl))
+found_behind false entry shown others is above = is
+
+length_ranges : (entries : List Entry) → length (map range_of entries) ≡ length entries
+length_ranges entries = length-map entries range_of
+
+-- the entry at the place that is found
+pub shown : (entries : List Entry) (address place : ℕ) (d : Entry) → IsFoundAt (map range_of entries) address place → entry_at entries address ≡ Some (get_or entries place d)
+unfolding entry_at highest
+shown [] address place d found = absurd (omega (arith, found.within))
+shown (entry ∷ others) address zero d found =
+    let here : holds address entry ≡ true = held address entry (found.holds (range_of entry)) in
+    let low = all_not_above entry.address address others (range_of entry) (λ k lt h. not_above (found.first (suc k) (range_of entry) (omega (arith, length_ranges others)) h)) in
+    ap (λ (b : Bool). highest (cond b (entry ∷ filter (holds address) others) (filter (holds address) others))) here
+    ∙ ap Some (stays entry (highest (filter (holds address) others)) (highest_not_above entry.address (filter (holds address) others) low))
+  where
+    not_above : {a b p q : ℕ} → (a < b) ⊎ ((a ≡ b) × (p ≤ q)) → a ≤ b
+    not_above (inl lt) = omega arith
+    not_above (inr is) = omega (arith, is.0)
+shown (entry ∷ others) address (suc place) d found =
+    let behind : highest (filter (holds address) others) ≡ Some (get_or others place d) = shown others address place d (record {
+      within = omega (arith, found.within);
+      holds = found.holds;
+      first = λ other e lt h. lower (found.first (suc other) e (omega arith) h);
+    }) in
+    found_behind (holds address entry) entry (get_or others place d) (filter (holds address) others) behind
+    (λ e. above (found.first 0 (range_of d) (omega arith) (held_tells address entry e)))
+  where
+    lower : {a b p q : ℕ} → (a < b) ⊎ ((a ≡ b) × (suc p ≤ suc q)) → (a < b) ⊎ ((a ≡ b) × (p ≤ q))
+    lower (inl lt) = inl lt
+    lower (inr is) = inr (is.0, omega (arith, is.1))
+
+    above : (entry.address < (get_or (map range_of others) place (range_of d)).address) ⊎ ((entry.address ≡ (get_or (map range_of others) place (range_of d)).address) × (suc place ≤ 0)) → entry.address < (get_or others place d).address
+    above (inl lt) = omega (arith, ap (λ (r : AddressRange). r.address) (get_or-map range_of others place d (range_of d) (omega (arith, found.within, length_ranges others))))
+    above (inr is) = absurd (omega (arith, is.1))
+
+none_kept : (b : Bool) (entry : Entry) (others : List Entry) → b ≡ false → highest others ≡ None → highest (cond b (entry ∷ others) others) ≡ None
+none_kept true entry others e none = absurd cc
+none_kept false entry others e none = none
+
+not_held : (address : ℕ) (entry : Entry) → ¬ (Holds (range_of entry) address) → holds address entry ≡ false
+not_held address entry h = by_test (holds address entry) (λ e. h (held_tells address entry e))
+  where
+    by_test : (b : Bool) → ¬ (b ≡ true) → b ≡ false
+    by_test true h = absurd (h refl)
+    by_test false h = refl
+
+-- where no range holds the address, it is shown by none
+pub not_shown : (entries : List Entry) (address : ℕ) → NoneHolds (map range_of entries) address → entry_at entries address ≡ None
+unfolding entry_at highest
+not_shown [] address none = refl
+not_shown (entry ∷ others) address none =
+    none_kept (holds address entry) entry (filter (holds address) others)
+    (not_held address entry (All-head (λ range. ¬ (Holds range address)) (range_of entry) (map range_of others) none))
+    (not_shown others address (All-tail (λ range. ¬ (Holds range address)) (range_of entry) (map range_of others) none))
+
+-- the ranges of function symbols are those of their entries
+pub ranges_view : (functions : List FunctionSymbol) → ranges_of functions ≡ map range_of (map function_view functions)
+ranges_view [] = refl
+ranges_view (f ∷ functions) = ap (λ (rs : List AddressRange). range_of (function_view f) ∷ rs) (ranges_view functions)
+
+-- an address from the base on is in the file
+pub is_in_file : (base address x : ℕ) → base ≤ address → x ≡ address - base → in_file base address ≡ Some x
+is_in_file base address x le is = rw (not_less base address le) (ap Some (sym is))
+  where
+    not_less : (a b : ℕ) → a ≤ b → nat_lt b a ≡ false
+    not_less a b le = grind (arith, nat_tests)
+
+-- what holds where nothing is found
+pub at_none : {T : Type 0} (r : Option T) (P : Type 0) (Q : T → Type 0) → r ≡ None → P → MatchOption r P Q
+at_none None P Q is p = p
+at_none (Some x) P Q is p = absurd cc
+
+-- what is left once the base is taken off
+pub without_base : (base address x : ℕ) (r : Option ℕ) → SomeIff r (base ≤ address) (address - base) → r ≡ Some x → in_file base address ≡ Some x
+without_base base address x r left is =
+    let P : Option ℕ → Type 0 = λ o. SomeIff o (base ≤ address) (address - base) in
+    let holds = subst P is left in
+    is_in_file base address x holds.0 holds.1
+
+pub taken_off : (base address x : ℕ) (r : Option ℕ) → SomeIff r (base ≤ address) (address - base) → r ≡ Some x → x ≡ address - base
+taken_off base address x r left is =
+    let P : Option ℕ → Type 0 = λ o. SomeIff o (base ≤ address) (address - base) in
+    (subst P is left).1
+
+module _ (functions : List FunctionSymbol) (ranges : List AddressRange) (entries : List Entry) (are : ranges ≡ ranges_of functions) (seen : map function_view functions ≡ entries) (base address x : ℕ) (inside : in_file base address ≡ Some x) where
+  same : ranges ≡ map range_of entries
+  same = are ∙ ranges_view functions ∙ ap (map range_of) seen
+
+  -- where no range holds what is left of the address
+  pub found_none : NoneHolds ranges x → found_at entries (in_file base address) ≡ None
+  found_none none = let P : List AddressRange → Type 0 = λ rs. NoneHolds rs x in ap (found_at entries) inside ∙ not_shown entries x (subst P same none)
+
+  -- the range that is found is that of the function symbol at its place
+  range_is : (place : ℕ) (f : FunctionSymbol) → IsFoundAt ranges x place → f ≡ get_or functions place f → get_or ranges place (range_of (function_view f)) ≡ range_of (function_view f)
+  range_is place f found is =
+      ap (λ (rs : List AddressRange). get_or rs place (range_of (function_view f))) are
+      ∙ get_or-map (λ (g : FunctionSymbol). range_of (function_view g)) functions place f (range_of (function_view f)) (omega (arith, found.within, ap (length {A = AddressRange}) are, length-map functions (λ (g : FunctionSymbol). range_of (function_view g))))
+      ∙ ap (λ (g : FunctionSymbol). range_of (function_view g)) (sym is)
+
+  -- it doesn't begin behind the address
+  pub begins_before : (place : ℕ) (f : FunctionSymbol) → IsFoundAt ranges x place → f ≡ get_or functions place f → f.address ≤ x
+  begins_before place f found is = omega (arith, (found.holds (range_of (function_view f))).0, ap (λ (r : AddressRange). r.address) (range_is place f found is))
+
+  -- the address is shown by that function symbol
+  pub found_some : (place : ℕ) (f : FunctionSymbol) → IsFoundAt ranges x place → f ≡ get_or functions place f → found_at entries (in_file base address) ≡ Some (function_view f)
+  found_some place f found is =
+      let P : List AddressRange → Type 0 = λ rs. IsFoundAt rs x place in
+      let lt : place < length functions = omega (arith, found.within, ap (length {A = AddressRange}) are, length-map functions (λ (g : FunctionSymbol). range_of (function_view g))) in
+      ap (found_at entries) inside ∙ shown entries x place (function_view f) (subst P same found)
+      ∙ ap Some (ap (λ (es : List Entry). get_or es place (function_view f)) (sym seen) ∙ get_or-map function_view functions place f (function_view f) lt ∙ ap function_view (sym is))
+
+  -- and stands at that place
+  pub stands_at : (place : ℕ) (f : FunctionSymbol) → IsFoundAt ranges x place → f ≡ get_or functions place f → StandsAt entries place (function_view f)
+  stands_at place f found is =
+      let lt : place < length functions = omega (arith, found.within, ap (length {A = AddressRange}) are, length-map functions (λ (g : FunctionSymbol). range_of (function_view g))) in (
+        omega (arith, lt, ap (length {A = Entry}) seen, length-map functions function_view),
+        ap (λ (es : List Entry). get_or es place (function_view f)) (sym seen) ∙ get_or-map function_view functions place f (function_view f) lt ∙ ap function_view (sym is),
+      )

@@ -1,0 +1,7 @@
+pub use Rattle.binfarce_ranges.specs.Address
+pub mod Found
+pub mod Lines
+pub mod PlacesViews
+pub mod Stream
+pub mod Answered
+pub mod machine

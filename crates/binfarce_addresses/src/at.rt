@@ -1,0 +1,229 @@
+//! What stands at addresses in an executable, a line each.
+
+ghost use Rattle.std.specs.Prelude.{◌≡◌, ◌++◌, ◌-◌, ℕ, List, Some, None, map, IfOk, MatchOption, OnOk};
+ghost use Rattle.binfarce.specs.Format.{format_of};
+ghost use Rattle.binfarce.specs.Name.{Name};
+ghost use Rattle.binfarce.specs.Named.{IsNamed};
+ghost use Rattle.binfarce.specs.Symbol.{Entry};
+ghost use Rattle.binfarce.specs.SymbolViews.{function_view};
+ghost use Rattle.binfarce_tools.specs.Answer.{symbols_answer, NeedsMemory};
+ghost use Rattle.binfarce_tools.specs.Entries.{functions_left};
+ghost use Rattle.binfarce_tools.specs.Listing.{ListingFits};
+ghost use Rattle.binfarce_tools.specs.ListWords.{outcome_of};
+ghost use Rattle.binfarce_tools.specs.Writing.{Tells, Takes, Fails, Leaves};
+ghost use Rattle.binfarce_addresses.specs.Lines.{in_file, found_at, IsLineAt, AreLinesOf, AreLinesAt};
+ghost use Rattle.binfarce_addresses.specs.PlacesViews.{IsMadeOf};
+ghost use Rattle.binfarce_addresses.specs.machine.Places.{ArePlacesOf, AreNamesOf, IsNameOf, StandsAt};
+
+use crate::digits::{push_address, push_offset};
+use binfarce::FunctionSymbol;
+use binfarce::demangle::push_trimmed;
+use binfarce_ranges::ranges::{AddressRange, Ranges};
+use binfarce_tools::functions::{Functions, functions_of_file};
+use binfarce_tools::list::{ListError, Sink};
+use binfarce_tools::writing::write_whole;
+use std::alloc::{AllocError, Global};
+use std::marker::Model;
+
+/// The function symbols of a file, arranged so that what stands at an address takes a search.
+///
+/// Clauses see the entries in their order.
+#[derive(Drop)]
+pub struct Places<'a> {
+    functions: Vec<FunctionSymbol<'a>>,
+    ranges: Ranges,
+    // The trimmed names of the first function symbols.
+    names: Vec<String>,
+}
+
+impl<'a> Model for Places<'a> {
+    ghost Value = { List Entry };
+
+    ghost view = { λ s. map function_view s.functions.items };
+
+    ghost invariant = { λ s. ArePlacesOf s.functions.items s.ranges s.names.items };
+}
+
+impl<'a> Places<'a> {
+    /// The places of a file's function symbols: of an ELF file those of the section.
+    ///
+    /// # Errors
+    ///
+    /// As `list`, but for `Write`.
+    pub fn of_file(alloc: Global, data: &'a [u8], section: &str) -> Result<Places<'a>, ListError>
+        ensures { IsMadeOf (NeedsMemory (format_of data.entry.now) data.entry.now) (symbols_answer (format_of data.entry.now) data.entry.now section.now) result }
+    {
+        let (functions, _) = functions_of_file(alloc, data, section)?;
+        let places = places_of(alloc, functions)?;
+        Ok(places)
+    }
+
+    /// Makes each name readable and keeps it: lines of many addresses take less time then.
+    ///
+    /// # Errors
+    ///
+    /// `AllocError` where an allocation failed.
+    pub fn keep_names(&mut self, alloc: Global) -> Result<(), AllocError>
+        ensures { self.new ≡ self.old }
+    {
+        self.names = names_of(alloc, &self.functions)?;
+        Ok(())
+    }
+
+    /// The function symbol that an address is shown by once the base is taken off, and the offset into it.
+    pub fn find(&self, base: u64, address: u64) -> Option<(FunctionSymbol<'a>, u64)>
+        ensures { MatchOption result (found_at self.now (in_file base address) ≡ None)
+            (λ f. (found_at self.now (in_file base address) ≡ Some (function_view f.0)) × (f.1 ≡ address - base - f.0.address)) }
+    {
+        let (_, function, offset) = self.find_place(base, address)?;
+        Some((function, offset))
+    }
+
+    // Its place, itself, and the offset into it.
+    fn find_place(&self, base: u64, address: u64) -> Option<(usize, FunctionSymbol<'a>, u64)>
+        ensures { MatchOption result (found_at self.now (in_file base address) ≡ None)
+            (λ f. (found_at self.now (in_file base address) ≡ Some (function_view f.1)) × (f.2 ≡ address - base - f.1.address) × StandsAt self.now f.0 (function_view f.1)) }
+    {
+        let in_file = address.checked_sub(base)?;
+        let place = self.ranges.find(in_file)?;
+        let function = self.functions[place];
+        Some((place, function, in_file - function.address))
+    }
+
+    /// Writes the line of an address after the text: the address, the symbol that it is shown by once the base is taken
+    /// off, and the offset into that; or `??` where there is none.
+    ///
+    /// # Errors
+    ///
+    /// `AllocError` where an allocation failed.
+    pub fn push_line(
+        &self,
+        alloc: Global,
+        text: &mut Vec<u8>,
+        base: u64,
+        address: u64,
+    ) -> Result<(), AllocError>
+        ensures { OnOk result ((line : List ℕ) × IsLineAt self.now base address line × (text.new.items ≡ text.old.items ++ line)) }
+    {
+        push_address(text, address)?;
+        match self.find_place(base, address) {
+            Some((place, function, offset)) => {
+                self.push_name(alloc, text, place, function)?;
+                push_offset(text, offset)?;
+                Ok(())
+            }
+            None => {
+                text.extend_from_slice(b"??\n")?;
+                Ok(())
+            }
+        }
+    }
+
+    // Writes the trimmed name of the function symbol at a place after the text.
+    fn push_name(
+        &self,
+        alloc: Global,
+        text: &mut Vec<u8>,
+        place: usize,
+        function: FunctionSymbol<'a>,
+    ) -> Result<(), AllocError>
+        requires { StandsAt self.now place (function_view function) }
+        ensures { OnOk result ((name : Name) × IsNamed (function_view function.entry).name name × (text.new.items ≡ text.old.items ++ name.trimmed)) }
+    {
+        if place < self.names.len() {
+            let name = &self.names[place];
+            text.extend_from_slice(name.as_bytes())?;
+            return Ok(());
+        }
+        let name = name_of(alloc, function)?;
+        text.extend_from_slice(name.as_bytes())?;
+        Ok(())
+    }
+}
+
+// The trimmed names of function symbols.
+fn names_of(alloc: Global, functions: &Vec<FunctionSymbol<'_>>) -> Result<Vec<String>, AllocError>
+    ensures { IfOk result (λ v. AreNamesOf functions.now.items v.items) }
+{
+    let mut names = Vec::new(alloc);
+    for place in 0..functions.len() {
+        let function = functions[place];
+        let name = name_of(alloc, function)?;
+        names.push(name)?;
+    }
+    Ok(names)
+}
+
+// The trimmed name of a function symbol.
+fn name_of(alloc: Global, function: FunctionSymbol<'_>) -> Result<String, AllocError>
+    ensures { IfOk result (λ t. IsNameOf function.entry t) }
+{
+    let mut name = String::new(alloc);
+    push_trimmed(alloc, &mut name, function.name)?;
+    Ok(name)
+}
+
+// The places of function symbols.
+fn places_of(alloc: Global, functions: Functions<'_>) -> Result<Places<'_>, AllocError>
+    ensures { IfOk result (λ p. p ≡ functions_left functions.entry) }
+{
+    let mut kept = Vec::new(alloc);
+    let mut ranges = Vec::new(alloc);
+    for function in functions {
+        ranges.push(AddressRange {
+            address: function.address,
+            size: function.size,
+        })?;
+        kept.push(function)?;
+    }
+    Ok(Places {
+        functions: kept,
+        ranges: Ranges::new(alloc, ranges)?,
+        names: Vec::new(alloc),
+    })
+}
+
+/// Writes what stands at each of the addresses in an executable: a line each, in their order.
+///
+/// The format and the section are as `list` has them. A line is `{address:016x} {trimmed}+0x{offset:x}`: the address, the
+/// trimmed name of the function symbol that it is shown by, and the offset into that. The base is taken off first. A symbol
+/// holds the addresses of its range, of size 0 its own; of several that hold an address it is shown by the one of greatest
+/// address, and of these by the first in the order of the listing. `{address:016x} ??` stands for an address that none holds,
+/// and for one below the base.
+///
+/// # Errors
+///
+/// As `list`; only `Write` can leave a beginning of the lines written.
+pub fn at<S: Sink>(
+    alloc: Global,
+    data: &[u8],
+    section: &str,
+    base: u64,
+    addresses: &[u64],
+    out: &mut S,
+) -> Result<(), ListError>
+    ensures tells { Tells ListingFits (NeedsMemory (format_of data.now) data.now) (symbols_answer (format_of data.now) data.now section.now) (outcome_of result) }
+    ensures takes { Takes (AreLinesAt base addresses.now) (symbols_answer (format_of data.now) data.now section.now) (S.taken out.old) (S.taken out.new) (outcome_of result) }
+    ensures fails { Fails (S.has_failed out.old) (S.has_failed out.new) (outcome_of result) }
+    ensures leaves { Leaves out.old out.new (outcome_of result) }
+{
+    let places = Places::of_file(alloc, data, section)?;
+    let text = lines(alloc, &places, base, addresses)?;
+    write_whole(out, text.as_slice())
+}
+
+// The lines of the addresses.
+fn lines(
+    alloc: Global,
+    places: &Places<'_>,
+    base: u64,
+    addresses: &[u64],
+) -> Result<Vec<u8>, AllocError>
+    ensures { IfOk result (λ t. AreLinesOf places.now base addresses.now t.items) }
+{
+    let mut text = Vec::new(alloc);
+    for address in addresses {
+        places.push_line(alloc, &mut text, base, *address)?;
+    }
+    Ok(text)
+}

@@ -1,0 +1,58 @@
+//! Numbers in hexadecimal digits.
+
+ghost use Rattle.std.specs.Prelude.{◌≡◌, ◌<◌, ◌++◌, OnOk, false, codes, drop, replicate};
+ghost use Rattle.std.specs.Fmt.{digits, digit_glyph};
+ghost use Rattle.binfarce_tools.specs.Listing.{address_text};
+
+use std::alloc::AllocError;
+
+/// Writes an address and a blank after the text.
+pub(crate) fn push_address(text: &mut Vec<u8>, address: u64) -> Result<(), AllocError>
+    ensures { OnOk result (text.new.items ≡ text.old.items ++ (address_text address ++ codes " ")) }
+{
+    let mut shown = [b'0'; 16];
+    put_digits(&mut shown, address);
+    text.extend_from_slice(&shown)?;
+    text.push(b' ')?;
+    Ok(())
+}
+
+/// Writes an offset and a line feed after the text.
+pub(crate) fn push_offset(text: &mut Vec<u8>, offset: u64) -> Result<(), AllocError>
+    ensures { OnOk result (text.new.items ≡ text.old.items ++ (codes "+0x" ++ (digits 16 false offset ++ codes "\n"))) }
+{
+    let mut shown = [b'0'; 16];
+    let at = put_digits(&mut shown, offset);
+    text.extend_from_slice(b"+0x")?;
+    text.extend_from_slice(&shown[at..])?;
+    text.push(b'\n')?;
+    Ok(())
+}
+
+// Puts a number in the last of 16 zeros, and gives where it begins.
+fn put_digits(shown: &mut [u8], number: u64) -> usize
+    requires { shown.old ≡ replicate 16 48 }
+    ensures within { result < 16 }
+    ensures address { shown.new ≡ address_text number }
+    ensures number { drop result shown.new ≡ digits 16 false number }
+{
+    let mut rest = number;
+    let mut at = 15;
+    while rest >= 16 {
+        shown[at] = hex_digit(rest % 16);
+        rest /= 16;
+        at -= 1;
+    }
+    shown[at] = hex_digit(rest);
+    at
+}
+
+// A lower-case hexadecimal digit.
+#[inline(always)]
+fn hex_digit(value: u64) -> u8
+    requires { value < 16 }
+    ensures { result ≡ digit_glyph false value }
+{
+    const DIGITS: [u8; 16] = *b"0123456789abcdef";
+    DIGITS[value as usize]
+}

@@ -1,0 +1,249 @@
+//! Addresses that come as the lines of a text.
+
+ghost use Rattle.std.specs.Prelude.{◌≡◌, ◌<◌, ◌++◌, ◌∷◌, ℕ, List, length, MatchOption, IfOk};
+ghost use Rattle.binfarce_addresses.specs.Answered.{AnswersOf};
+ghost use Rattle.binfarce_addresses.specs.Stream.{IsPart, Streams};
+ghost use Rattle.binfarce_addresses.specs.machine.Answering.{AnswersAll, AnswersLast, AnswersPart, AnswersUpTo, WritesAll};
+
+use crate::at::Places;
+use binfarce_ranges::address::parse_address;
+use binfarce_tools::list::Sink;
+use binfarce_tools::writing::write_whole;
+use std::alloc::{AllocError, Global};
+use std::error::Error;
+use std::fmt;
+use std::io::{ErrorKind, Read};
+
+// How many bytes are asked for at once.
+const CHUNK: usize = 1 << 16;
+
+// The most bytes of a line that writes an address: `0x` and 16 digits.
+const LONGEST: usize = 18;
+
+/// Why the lines of a text were not answered to its end.
+#[derive(Debug, Clone, Copy, PartialEq, Drop)]
+pub enum LinesError {
+    /// The reader failed.
+    Read,
+    /// A line writes no address.
+    Address,
+    /// An allocation failed.
+    OutOfMemory,
+    /// A write of the sink failed.
+    Write,
+}
+
+impl fmt::Display for LinesError {
+    ghost use Rattle.std.specs.Prelude.{Some};
+    ghost use Rattle.binfarce_addresses.specs.Stream.{lines_words};
+
+    ghost output = { λ e. Some (lines_words e) };
+
+    fn fmt<W: fmt::Write>(&self, f: &mut fmt::Formatter<W>) -> fmt::Result {
+        match self {
+            LinesError::Read => write!(f, "read failed"),
+            LinesError::Address => write!(f, "not an address"),
+            LinesError::OutOfMemory => write!(f, "out of memory"),
+            LinesError::Write => write!(f, "write failed"),
+        }
+    }
+}
+
+impl Error for LinesError {}
+
+impl From<AllocError> for LinesError {
+    ghost use Rattle.binfarce_addresses.specs.declared.stream.LinesError.TheVariants.{OutOfMemory};
+
+    ghost from_gives = { λ _ e. e ≡ OutOfMemory };
+
+    fn from(_: AllocError) -> Self {
+        LinesError::OutOfMemory
+    }
+}
+
+/// What was answered of a text.
+#[derive(Debug, Clone, Copy, PartialEq)]
+pub struct Answered {
+    /// How many bytes the lines have that were answered, with their line feeds.
+    pub len: usize,
+    /// The line behind them writes no address.
+    pub wrong: bool,
+}
+
+/// Writes after `text` the lines of the addresses that the whole lines of `bytes` write, up to the first line that writes
+/// none. A line of more than 18 bytes writes none, also before its line feed has come.
+///
+/// # Errors
+///
+/// `AllocError` where an allocation failed.
+pub fn push_lines(
+    alloc: Global,
+    places: &Places<'_>,
+    base: u64,
+    bytes: &[u8],
+    text: &mut Vec<u8>,
+) -> Result<Answered, AllocError>
+    ensures { IfOk result (AnswersOf places.now base bytes.now text.old.items text.new.items) }
+{
+    let mut len = 0;
+    while let Some(line) = first_line(&bytes[len..]) {
+        match parse_address(line) {
+            Some(address) => places.push_line(alloc, text, base, address)?,
+            None => return Ok(Answered { len, wrong: true }),
+        }
+        len += line.len() + 1;
+    }
+    let wrong = bytes.len() - len > LONGEST;
+    Ok(Answered { len, wrong })
+}
+
+// The bytes before the first line feed.
+fn first_line(bytes: &[u8]) -> Option<&[u8]>
+    ensures { MatchOption result (IsPart bytes.now) (λ line. IsPart line.now × ((others : List ℕ) × (bytes.now ≡ line.now ++ 10 ∷ others))) }
+{
+    for (len, byte) in bytes.iter().enumerate() {
+        if *byte == b'\n' {
+            return Some(&bytes[..len]);
+        }
+    }
+    None
+}
+
+/// Tells what stands at the addresses that the lines of `input` write, until it ends: what came is answered before more is
+/// read. The last line may have no line feed. A read that was interrupted is tried again.
+///
+/// # Errors
+///
+/// `Address` where a line writes no address, and `Read` where the reader fails: the lines before are answered. `Write` where
+/// a write failed, and `OutOfMemory` where an allocation did: a beginning was written.
+pub fn answer_lines<R: Read, S: Sink>(
+    alloc: Global,
+    places: &Places<'_>,
+    base: u64,
+    input: &mut R,
+    out: &mut S,
+) -> Result<(), LinesError>
+    ensures { Streams places.now base (R.remaining input.old) (R.remaining input.new) (S.taken out.old) (S.taken out.new) result }
+{
+    let mut line = Vec::new(alloc);
+    answer_all(alloc, places, base, &mut line, input, out)?;
+    answer_last(alloc, places, base, line.as_slice(), out)
+}
+
+// Answers the whole lines of what the reader gives, and keeps the last one.
+fn answer_all<R: Read, S: Sink>(
+    alloc: Global,
+    places: &Places<'_>,
+    base: u64,
+    line: &mut Vec<u8>,
+    input: &mut R,
+    out: &mut S,
+) -> Result<(), LinesError>
+    requires { IsPart line.old.items }
+    ensures { AnswersAll places.now base line.old.items line.new.items (R.remaining input.old) (R.remaining input.new) (S.taken out.old) (S.taken out.new) result }
+{
+    let mut chunk = new_chunk(alloc)?;
+    answer_chunks(alloc, places, base, line, chunk.as_mut_slice(), input, out)
+}
+
+// Room for the bytes of a read.
+fn new_chunk(alloc: Global) -> Result<Vec<u8>, AllocError>
+    ensures { IfOk result (λ chunk. 0 < length chunk.items) }
+{
+    vec![in alloc; 0; CHUNK]
+}
+
+// The same, with room for the bytes of a read.
+fn answer_chunks<R: Read, S: Sink>(
+    alloc: Global,
+    places: &Places<'_>,
+    base: u64,
+    line: &mut Vec<u8>,
+    chunk: &mut [u8],
+    input: &mut R,
+    out: &mut S,
+) -> Result<(), LinesError>
+    requires part { IsPart line.old.items }
+    requires room { 0 < length chunk.now }
+    ensures { AnswersAll places.now base line.old.items line.new.items (R.remaining input.old) (R.remaining input.new) (S.taken out.old) (S.taken out.new) result }
+{
+    for _ in 0..u64::MAX {
+        match input.read(chunk) {
+            Ok(0) => return Ok(()),
+            Ok(n) => answer_part(alloc, places, base, line, &chunk[..n], out)?,
+            Err(e) => {
+                if e.kind() != ErrorKind::Interrupted {
+                    return Err(LinesError::Read);
+                }
+            }
+        }
+    }
+    Err(LinesError::Read)
+}
+
+// Answers the whole lines of what was kept and of the next part of the text, and keeps what is left.
+fn answer_part<S: Sink>(
+    alloc: Global,
+    places: &Places<'_>,
+    base: u64,
+    line: &mut Vec<u8>,
+    part: &[u8],
+    out: &mut S,
+) -> Result<(), LinesError>
+    ensures { AnswersPart places.now base (line.old.items ++ part.now) line.new.items (S.taken out.old) (S.taken out.new) result }
+{
+    line.extend_from_slice(part)?;
+    let len = answer(alloc, places, base, line.as_slice(), out)?;
+    let left = Vec::from_slice(alloc, &line[len..])?;
+    *line = left;
+    Ok(())
+}
+
+// Answers the whole lines of the bytes, and gives their length.
+fn answer<S: Sink>(
+    alloc: Global,
+    places: &Places<'_>,
+    base: u64,
+    bytes: &[u8],
+    out: &mut S,
+) -> Result<usize, LinesError>
+    ensures { AnswersUpTo places.now base bytes.now (S.taken out.old) (S.taken out.new) result }
+{
+    let mut text = Vec::new(alloc);
+    let answered = push_lines(alloc, places, base, bytes, &mut text)?;
+    write_all(out, text.as_slice())?;
+    if answered.wrong {
+        return Err(LinesError::Address);
+    }
+    Ok(answered.len)
+}
+
+// Answers the last line, if there is one.
+fn answer_last<S: Sink>(
+    alloc: Global,
+    places: &Places<'_>,
+    base: u64,
+    line: &[u8],
+    out: &mut S,
+) -> Result<(), LinesError>
+    ensures { AnswersLast places.now base line.now (S.taken out.old) (S.taken out.new) result }
+{
+    if line.is_empty() {
+        return Ok(());
+    }
+    match parse_address(line) {
+        Some(address) => {
+            let mut text = Vec::new(alloc);
+            places.push_line(alloc, &mut text, base, address)?;
+            write_all(out, text.as_slice())
+        }
+        None => Err(LinesError::Address),
+    }
+}
+
+// Writes the bytes in as many calls as the sink needs.
+fn write_all<S: Sink>(out: &mut S, bytes: &[u8]) -> Result<(), LinesError>
+    ensures { WritesAll (S.taken out.old) (S.taken out.new) bytes.now result }
+{
+    write_whole(out, bytes).map_err(|_| LinesError::Write)
+}

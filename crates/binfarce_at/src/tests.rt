@@ -1,0 +1,102 @@
+// Each request for memory is refused in turn by `bench/refuse-memory.sh`: the program prints the usage, `out of memory`
+// or all lines.
+
+use crate::arguments::read_arguments;
+use crate::program::{Fault, run};
+use binfarce_tools::list::Out;
+use std::alloc::{AllocError, Global};
+use test_streams::{READERS, Source, ended_with, failed_with, large_file};
+
+const USAGE: &str = "usage: binfarce-at [--base ADDRESS] FILE [ADDRESS..]";
+
+// Arguments that ask nothing.
+const WRONG: [&[&str]; 8] = [
+    &[],
+    &["--base"],
+    &["--base", "10"],
+    &["--base", "file", "10"],
+    &["file", "0x"],
+    &["file", "10", "1g"],
+    &["file", "-1"],
+    &["file", "10000000000000000"],
+];
+
+fn strings(alloc: Global, words: &[&str]) -> Result<Vec<String>, AllocError> {
+    let mut strings = Vec::new(alloc);
+    for word in words {
+        strings.push(String::from_str(alloc, word)?)?;
+    }
+    Ok(strings)
+}
+
+fn is_usage(alloc: Global, words: &[&str]) -> Result<bool, AllocError> {
+    let arguments = strings(alloc, words)?;
+    let given = read_arguments(alloc, &arguments)
+        .map(|_| ())
+        .map_err(Fault::from);
+    ended_with(alloc, given, USAGE, 2)
+}
+
+#[test]
+fn refuses_wrong_arguments(rt: HostRuntime) -> Result<(), AllocError> {
+    for words in &WRONG {
+        assert!(&rt; is_usage(rt.alloc(), words)?);
+    }
+    Ok(())
+}
+
+// Whether these arguments ask for the base, the path and the addresses.
+fn asks(
+    alloc: Global,
+    words: &[&str],
+    base: u64,
+    path: &str,
+    addresses: &[u64],
+) -> Result<bool, AllocError> {
+    let arguments = strings(alloc, words)?;
+    match read_arguments(alloc, &arguments) {
+        Ok(asked) => {
+            let same = asked.base == base && asked.path == path;
+            Ok(same && asked.addresses.as_slice() == addresses)
+        }
+        Err(_) => Ok(false),
+    }
+}
+
+#[test]
+fn takes_a_base_and_addresses(rt: HostRuntime) -> Result<(), AllocError> {
+    let words = ["file", "10", "0xFfffffffffffffff", "0x00a"];
+    let addresses = [0x10, u64::MAX, 10];
+    assert!(&rt; asks(rt.alloc(), &words, 0, "file", &addresses)?);
+    let words = ["--base", "0x400000", "file", "400010"];
+    assert!(&rt; asks(rt.alloc(), &words, 0x40_0000, "file", &[0x40_0010])?);
+    assert!(&rt; asks(rt.alloc(), &["file"], 0, "file", &[])?);
+    Ok(())
+}
+
+#[test]
+fn tells_why_nothing_is_told(rt: HostRuntime) -> Result<(), AllocError> {
+    for (label, bytes, end, want) in &READERS {
+        let mut out = Out::new(Vec::new(rt.alloc()));
+        let mut source = Source {
+            end: *end,
+            ..Source::of(bytes)
+        };
+        let told = run(rt.alloc(), &mut source, 0, &[0x10], &mut out);
+        let is_told = failed_with(rt.alloc(), told, "binfarce-at", want)?;
+        assert!(&rt; is_told, "{label}");
+        assert!(&rt; out.into_inner().is_empty(), "{label}");
+    }
+    Ok(())
+}
+
+#[test]
+fn reads_a_large_file(rt: HostRuntime) -> Result<(), AllocError> {
+    let bytes = large_file(rt.alloc())?;
+    let mut out = Out::new(Vec::new(rt.alloc()));
+    let mut source = Source::of(&bytes);
+    let told = run(rt.alloc(), &mut source, 0, &[0x10], &mut out);
+    let want = "symbols section is missing";
+    assert!(&rt; failed_with(rt.alloc(), told, "binfarce-at", want)?);
+    Ok(())
+}

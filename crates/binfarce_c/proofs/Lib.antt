@@ -1,0 +1,2 @@
+mod Drained
+mod Sought

@@ -1,0 +1,41 @@
+-- What the exports on a file's format and header give.
+use Rattle.std.specs.Prelude.{◌≡◌, ◌⊎◌, ◌+◌, ◌<◌, ◌≤◌, ℕ, List, Bool, true, false, length}
+use Rattle.binfarce.specs.declared.ByteOrder.{ByteOrder}
+use Rattle.binfarce.specs.declared.ByteOrder.TheVariants.{LittleEndian, BigEndian}
+use Rattle.binfarce.specs.declared.Format.{Format}
+use Rattle.binfarce.specs.declared.Format.TheVariants.{Elf32, Elf64, Macho, PE, Unknown}
+use Rattle.binfarce.specs.Elf as elf
+use Rattle.binfarce.specs.Refusal.{unexpected_eof}
+use Rattle.binfarce_c.specs.declared.headers.ElfHeader.{ElfHeader}
+use Rattle.binfarce_c.specs.Status.{ok, status_of}
+
+-- the byte order that a caller names
+abbrev pub order_of : (big_endian : Bool) → ByteOrder
+order_of true = BigEndian
+order_of false = LittleEndian
+
+abbrev pub order_number : ByteOrder → ℕ
+order_number LittleEndian = 0
+order_number BigEndian = 1
+
+-- `enum binfarce_format`
+abbrev pub format_number : Format → ℕ
+format_number Unknown = 0
+format_number (Elf32 order) = 1 + order_number order
+format_number (Elf64 order) = 3 + order_number order
+format_number Macho = 5
+format_number PE = 6
+
+-- an ELF header of either class
+abbrev pub header_view : ElfHeader → elf.Header ℕ
+header_view h = record { elf_type = h.elf_type; machine = h.machine; version = h.version; entry = h.entry; phoff = h.phoff; shoff = h.shoff; flags = h.flags; ehsize = h.ehsize; phentsize = h.phentsize; phnum = h.phnum; shentsize = h.shentsize; shnum = h.shnum; shstrndx = h.shstrndx }
+
+-- the header was given where the file has as many bytes, and else refused
+abbrev pub GivesHeader : (class : elf.ElfClass) (order : ByteOrder) (file : List ℕ) (old : ElfHeader) (new : ElfHeader) (status : ℕ) → Type 0
+GivesHeader class order file old new status =
+    ((class.header_length ≤ length file) × (status ≡ ok) × (header_view new ≡ elf.header_of class order file))
+    ⊎ ((length file < class.header_length) × (status ≡ status_of unexpected_eof) × (new ≡ old))
+
+-- a file that has as many bytes as its header needs is told to be right
+abbrev pub TellsHeader : (least : ℕ) (file : List ℕ) (status : ℕ) → Type 0
+TellsHeader least file status = ((least ≤ length file) × (status ≡ ok)) ⊎ ((length file < least) × (status ≡ status_of unexpected_eof))

@@ -1,0 +1,88 @@
+//! Listings and reports of files.
+
+ghost use Rattle.std.specs.Prelude.{◌≡◌, Err};
+ghost use Rattle.binfarce.specs.Format.{format_of};
+ghost use Rattle.binfarce_tools.specs.Answer.{symbols_answer, NeedsMemory};
+ghost use Rattle.binfarce_tools.specs.Listing.{IsListingOf, ListingFits};
+ghost use Rattle.binfarce_tools.specs.ListWords as listing;
+ghost use Rattle.binfarce_tools.specs.Report.{IsReportOf, ReportFits};
+ghost use Rattle.binfarce_tools.specs.ReportWords as reporting;
+ghost use Rattle.binfarce_c.specs.Texts.{GivesText, no_text};
+
+use crate::buffer::{Text, give};
+use crate::names::none;
+use crate::status::{NOT_UTF8, OUT_OF_MEMORY, TOO_LARGE, UNKNOWN_FORMAT, detail_of, status_of};
+use binfarce_tools::list::{ListError, Out, list};
+use binfarce_tools::report::{ReportError, report};
+use std::alloc::Global;
+use std::str;
+
+/// The listing of a file's function symbols, in a buffer.
+#[unsafe(no_mangle)]
+#[tactic(auto, unfolding(crate::specs::Texts::GivesText))]
+pub extern "C" fn binfarce_list(alloc: Global, file: &[u8], section: &[u8], out: &mut [u8]) -> Text
+    ensures { GivesText ListingFits (NeedsMemory (format_of file.now) file.now) IsListingOf section.now (symbols_answer (format_of file.now) file.now section.now) out.old out.new result }
+{
+    let section = match str::from_utf8(section) {
+        Ok(section) => section,
+        Err(_) => return none(NOT_UTF8),
+    };
+    let mut sink = Out::new(Vec::new(alloc));
+    match list(alloc, file, section, &mut sink) {
+        Ok(()) => give(sink.into_inner().as_slice(), out),
+        Err(e) => no_listing(e),
+    }
+}
+
+/// The report of how much of a file each crate takes, in a buffer.
+#[unsafe(no_mangle)]
+#[tactic(auto, unfolding(crate::specs::Texts::GivesText))]
+pub extern "C" fn binfarce_report(
+    alloc: Global,
+    file: &[u8],
+    section: &[u8],
+    out: &mut [u8],
+) -> Text
+    ensures { GivesText ReportFits (NeedsMemory (format_of file.now) file.now) IsReportOf section.now (symbols_answer (format_of file.now) file.now section.now) out.old out.new result }
+{
+    let section = match str::from_utf8(section) {
+        Ok(section) => section,
+        Err(_) => return none(NOT_UTF8),
+    };
+    let mut sink = Out::new(Vec::new(alloc));
+    match report(alloc, file, section, &mut sink) {
+        Ok(()) => give(sink.into_inner().as_slice(), out),
+        Err(e) => no_report(e),
+    }
+}
+
+fn no_listing(error: ListError) -> Text
+    ensures { result ≡ no_text (listing.outcome_of (Err error)) }
+{
+    match error {
+        ListError::Unknown => none(UNKNOWN_FORMAT),
+        ListError::Parse(e) => Text {
+            status: status_of(e),
+            detail: detail_of(e),
+            length: 0,
+        },
+        ListError::OutOfMemory => none(OUT_OF_MEMORY),
+        ListError::Write => none(OUT_OF_MEMORY),
+    }
+}
+
+fn no_report(error: ReportError) -> Text
+    ensures { result ≡ no_text (reporting.outcome_of (Err error)) }
+{
+    match error {
+        ReportError::Unknown => none(UNKNOWN_FORMAT),
+        ReportError::Parse(e) => Text {
+            status: status_of(e),
+            detail: detail_of(e),
+            length: 0,
+        },
+        ReportError::OutOfMemory => none(OUT_OF_MEMORY),
+        ReportError::TooLarge => none(TOO_LARGE),
+        ReportError::Write => none(OUT_OF_MEMORY),
+    }
+}

@@ -1,0 +1,49 @@
+//! What a reader and a section hold: the file's bytes, and the values of a section header.
+
+ghost use Rattle.std.specs.Prelude.{◌≡◌};
+ghost use Rattle.binfarce_elf.specs.ElfViews.{section_view};
+
+use crate::class::{Class, Word};
+use crate::elf::Elf;
+use crate::sections::Section;
+
+impl<'a, C: Class> Elf<'a, C> {
+    /// The file's bytes, as they were given to `parse`.
+    pub fn data(&self) -> &'a [u8]
+        ensures { result.now ≡ self.now.bytes }
+    {
+        self.data
+    }
+}
+
+impl<C: Class> Section<C> {
+    /// What the section holds (`sh_type`): 1 for code and data (`SHT_PROGBITS`), 2 for the symbol table (`SHT_SYMTAB`),
+    /// 3 for a string table (`SHT_STRTAB`), 8 where it has no bytes in the file (`SHT_NOBITS`).
+    pub fn section_type(&self) -> Word
+        ensures { result ≡ (section_view C.number_of self.now).kind }
+    {
+        self.kind
+    }
+
+    /// The address of the section's first byte in memory (`sh_addr`); 0 where it has none.
+    pub fn address(&self) -> C
+        ensures { C.number_of result ≡ (section_view C.number_of self.now).address }
+    {
+        self.address
+    }
+
+    /// Where the section's bytes begin in the file (`sh_offset`), as the file states it.
+    pub fn offset(&self) -> C
+        ensures { C.number_of result ≡ (section_view C.number_of self.now).offset }
+    {
+        self.offset
+    }
+
+    /// The section's size in bytes (`sh_size`), as the file states it. A section of type `SHT_NOBITS` has this size in
+    /// memory and no bytes in the file.
+    pub fn size(&self) -> C
+        ensures { C.number_of result ≡ (section_view C.number_of self.now).size }
+    {
+        self.size
+    }
+}

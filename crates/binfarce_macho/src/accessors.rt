@@ -1,0 +1,53 @@
+//! What a reader and a section hold: the file's bytes, and the values of a section's structure.
+
+ghost use Rattle.std.specs.Prelude.{◌≡◌};
+ghost use Rattle.binfarce_macho.specs.MachoViews.{section_view};
+
+use crate::macho::Macho;
+use crate::sections::Section;
+
+impl<'a> Macho<'a> {
+    /// The file's bytes, as they were given to `parse`.
+    pub fn data(&self) -> &'a [u8]
+        ensures { result.now ≡ self.now }
+    {
+        self.data
+    }
+}
+
+impl<'a> Section<'a> {
+    /// The section's name (`sectname`), a part of the file, as `__text`.
+    pub fn name(&self) -> &'a str
+        ensures { result.now ≡ (section_view self.now).section_name }
+    {
+        self.section_name
+    }
+
+    /// The name of the segment that the section belongs to (`segname`), a part of the file, as `__TEXT`.
+    pub fn segment_name(&self) -> &'a str
+        ensures { result.now ≡ (section_view self.now).segment_name }
+    {
+        self.segment_name
+    }
+
+    /// The address of the section's first byte in memory (`addr`).
+    pub fn address(&self) -> u64
+        ensures { result ≡ (section_view self.now).address }
+    {
+        self.address
+    }
+
+    /// Where the section's bytes begin in the file (`offset`); 0 where it has none there, as `__bss`.
+    pub fn offset(&self) -> u32
+        ensures { result ≡ (section_view self.now).offset }
+    {
+        self.offset
+    }
+
+    /// The section's size in bytes (`size`).
+    pub fn size(&self) -> u64
+        ensures { result ≡ (section_view self.now).size }
+    {
+        self.size
+    }
+}

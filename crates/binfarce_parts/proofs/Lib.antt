@@ -1,0 +1,4 @@
+mod Slices
+mod Tables
+mod Same
+mod Decided

@@ -1,0 +1,56 @@
+//! What a reader and a section hold: the file's bytes, and the values of a section header.
+
+ghost use Rattle.std.specs.Prelude.{◌≡◌};
+ghost use Rattle.binfarce_pe.specs.PeViews.{section_view};
+
+use crate::pe::Pe;
+use crate::sections::Section;
+
+impl<'a> Pe<'a> {
+    /// The file's bytes, as they were given to `parse`.
+    pub fn data(&self) -> &'a [u8]
+        ensures { result.now ≡ self.now }
+    {
+        self.data
+    }
+}
+
+impl<'a> Section<'a> {
+    /// The name (`Name`), a part of the file: the 8 bytes up to the first NUL, or all. It may be empty.
+    ///
+    /// A name of the form `/4` stands for an offset in the string table, where the whole name is; it is given as it stands.
+    pub fn name(&self) -> &'a str
+        ensures { result.now ≡ (section_view self.now).name }
+    {
+        self.name
+    }
+
+    /// The address of the section's first byte in memory (`VirtualAddress`), counted from the image base; in an object
+    /// file mostly 0.
+    pub fn address(&self) -> u32
+        ensures { result ≡ (section_view self.now).virtual_address }
+    {
+        self.virtual_address
+    }
+
+    /// The section's size in memory in bytes (`VirtualSize`); in an object file 0.
+    pub fn virtual_size(&self) -> u32
+        ensures { result ≡ (section_view self.now).virtual_size }
+    {
+        self.virtual_size
+    }
+
+    /// Where the section's bytes begin in the file (`PointerToRawData`); 0 where it has none there.
+    pub fn offset(&self) -> u32
+        ensures { result ≡ (section_view self.now).pointer_to_raw_data }
+    {
+        self.pointer_to_raw_data
+    }
+
+    /// How many bytes the section has in the file (`SizeOfRawData`).
+    pub fn size(&self) -> u32
+        ensures { result ≡ (section_view self.now).size_of_raw_data }
+    {
+        self.size_of_raw_data
+    }
+}

@@ -1,0 +1,103 @@
+-- Rows in the order of a sort.
+use Rattle.std.proofs.Common.{◌≡◌, ℕ, ◌+◌, ◌<◌, ◌≤◌, Bool, true, false, ◌&&◌, ◌||◌, List, [], ◌∷◌, ◌++◌, length, length-append, get_or, ◌⊎◌, inl, inr, sym, ap, ◌∙◌, arith, nat_lt, nat_eq, nat_cmp, is_lt, IsPermutation}
+use Rattle.std.specs.Cmp.{IsStrictWeakOrder}
+use Rattle.std.specs.List.{Contains}
+use Rattle.std.specs.List.Sorted.{IsSortedBy, IsNonDecreasingBy}
+use Rattle.std.specs.Ordering.{ordering_then}
+use Rattle.std.proofs.lemmas.Bool.Decides.{nat_tests}
+use Rattle.std.proofs.Math.ListN.{get_or-append}
+use Rattle.std.proofs.Math.Seq.{get_or-append_seam}
+use Rattle.std.proofs.lemmas.Bool.{cases_lt}
+use Rattle.std.proofs.lemmas.List.{get_or_default}
+use Rattle.std.proofs.lemmas.List.Elements.{All-get_or, All-from_get_or, Contains-get_or}
+use Rattle.std.proofs.lemmas.List.Sorted.{sorted_far, All-permutation, Contains-permutation}
+use Rattle.binfarce_ranges.specs.declared.ranges.AddressRange.{AddressRange}
+use Rattle.binfarce_ranges.specs.declared.ranges.Row.{Row}
+use Rattle.binfarce_ranges.specs.machine.Index.{AreRowsOf, NotBehind, range_at, row_at, no_row}
+
+-- by address, and at equal addresses from the last place to the first
+abbrev pub comes_before : Row → Row → Bool
+comes_before x y = nat_lt x.address y.address || (nat_eq x.address y.address && nat_lt y.place.0 x.place.0)
+
+not_before_tells : (a b r s : ℕ) → (nat_lt a b || (nat_eq a b && nat_lt r s)) ≡ false → (b < a) ⊎ ((a ≡ b) × (s ≤ r))
+not_before_tells a b r s e = grind (arith, nat_tests)
+
+before_tells : (a b r s : ℕ) → (nat_lt a b || (nat_eq a b && nat_lt r s)) ≡ true → (a < b) ⊎ ((a ≡ b) × (r < s))
+before_tells a b r s e = grind (arith, nat_tests)
+
+not_before_from : (a b r s : ℕ) → (b < a) ⊎ ((a ≡ b) × (s ≤ r)) → (nat_lt a b || (nat_eq a b && nat_lt r s)) ≡ false
+not_before_from a b r s h = grind (arith, nat_tests)
+
+-- the derived comparison is the test
+pub lt_is : (x y : Row) → is_lt (ordering_then (nat_cmp x.address y.address) (nat_cmp y.place.0 x.place.0)) ≡ comes_before x y
+lt_is x y = lt_is_at x.address y.address y.place.0 x.place.0
+  where
+    lt_is_at : (a b r s : ℕ) → is_lt (ordering_then (nat_cmp a b) (nat_cmp r s)) ≡ (nat_lt a b || (nat_eq a b && nat_lt r s))
+    lt_is_at a b r s = grind (arith, nat_tests)
+
+one_way : (x y : Row) → comes_before x y ≡ true → comes_before y x ≡ false
+one_way x y e = not_before_from y.address x.address x.place.0 y.place.0 (elim (before_tells x.address y.address y.place.0 x.place.0 e) [ inl lt ↦ inl lt | inr same ↦ inr (sym same.0, omega (arith, same.1)) ])
+
+chain : (x y z : Row) → comes_before x y ≡ false → comes_before y z ≡ false → comes_before x z ≡ false
+chain x y z e f = not_before_from x.address z.address z.place.0 x.place.0 (chained (not_before_tells x.address y.address y.place.0 x.place.0 e) (not_before_tells y.address z.address z.place.0 y.place.0 f))
+  where
+    chained : (y.address < x.address) ⊎ ((x.address ≡ y.address) × (x.place.0 ≤ y.place.0)) → (z.address < y.address) ⊎ ((y.address ≡ z.address) × (y.place.0 ≤ z.place.0)) → (z.address < x.address) ⊎ ((x.address ≡ z.address) × (x.place.0 ≤ z.place.0))
+    chained (inl p) (inl q) = inl (omega arith)
+    chained (inl p) (inr q) = inl (omega (arith, q.0))
+    chained (inr p) (inl q) = inl (omega (arith, p.0))
+    chained (inr p) (inr q) = inr (p.0 ∙ q.0, omega (arith, p.1, q.1))
+
+is_order : IsStrictWeakOrder comes_before
+is_order = record { one_way = one_way; chain = chain }
+
+-- rows as they are made, one for each range before a place
+pub record AreMade (ranges : List AddressRange) (rows : List Row) (place : ℕ) : Type 0 where
+  pub count : length rows ≡ place
+  pub each : (k : ℕ) → k < place → ((row_at rows k).address ≡ (range_at ranges k).address) × ((row_at rows k).place.0 ≡ k)
+
+-- one row more
+pub made_more : (ranges : List AddressRange) (rows new : List Row) (place : ℕ) (row : Row) → AreMade ranges rows place → new ≡ rows ++ row ∷ [] → row.address ≡ (range_at ranges place).address → row.place.0 ≡ place → AreMade ranges new (place + 1)
+made_more ranges rows new place row made is address at = record {
+  count = omega (arith, ap (length {A = Row}) is, length-append rows (row ∷ []), made.count);
+  each = λ k lt. elim (cases_lt k place) [
+    | inl old ↦
+        let here : row_at new k ≡ row_at rows k = ap (λ (xs : List Row). row_at xs k) is ∙ get_or-append rows (row ∷ []) no_row k (omega (arith, made.count)) in
+        let was = made.each k old in
+        (ap (λ (r : Row). r.address) here ∙ was.0, ap (λ (r : Row). r.place.0) here ∙ was.1)
+    | inr ge ↦
+        let last : k ≡ place = omega arith in
+        let here : row_at new k ≡ row = ap (λ (xs : List Row). row_at xs k) is ∙ ap (λ (n : ℕ). row_at (rows ++ row ∷ []) n) (last ∙ sym made.count) ∙ get_or-append_seam rows row [] no_row in
+        (ap (λ (r : Row). r.address) here ∙ address ∙ ap (λ (n : ℕ). (range_at ranges n).address) (sym last), ap (λ (r : Row). r.place.0) here ∙ at ∙ sym last)
+  ];
+}
+
+-- the row is that of a range
+abbrev IsRow : List AddressRange → Row → Type 0
+IsRow ranges row = (row.place.0 < length ranges) × (row.address ≡ (range_at ranges row.place.0).address)
+
+made_row : (ranges : List AddressRange) (rows : List Row) (k : ℕ) → AreMade ranges rows (length ranges) → k < length rows → IsRow ranges (row_at rows k)
+made_row ranges rows k made lt =
+    let here = made.each k (omega (arith, made.count)) in
+    (omega (arith, here.1, made.count), here.0 ∙ ap (λ (n : ℕ). (range_at ranges n).address) (sym here.1))
+
+-- the same rows in the order of a sort
+pub arranged_rows : (ranges : List AddressRange) (rows sorted : List Row) → AreMade ranges rows (length ranges) → IsPermutation rows sorted → IsSortedBy comes_before sorted → AreRowsOf ranges sorted
+arranged_rows ranges rows sorted made same up = record {
+  row_is = λ k lt. All-get_or (IsRow ranges) sorted k no_row lt (All-permutation (IsRow ranges) rows sorted same (All-from_get_or (IsRow ranges) rows no_row (λ i within. made_row ranges rows i made within)));
+  has_row = λ place lt.
+      let row = row_at rows place in
+      let found : Contains sorted row = Contains-permutation rows sorted row same (Contains-get_or rows place no_row (omega (arith, made.count))) in
+      (found.0, found.1, ap (λ (r : Row). r.place.0) (get_or_default sorted found.0 no_row row found.1 ∙ found.2) ∙ (made.each place lt).1);
+  rise = λ i j le lt. not_behind (row_at sorted i) (row_at sorted j) (sorted_far comes_before is_order sorted up i j no_row le lt);
+}
+  where
+    not_behind : (x y : Row) → comes_before y x ≡ false → NotBehind x y
+    not_behind x y e = elim (not_before_tells y.address x.address x.place.0 y.place.0 e) [ inl lt ↦ inl lt | inr is ↦ inr (sym is.0, is.1) ]
+
+-- the addresses of rows in order don't fall
+pub addresses_rise : (ranges : List AddressRange) (rows : List Row) → AreRowsOf ranges rows → IsNonDecreasingBy (λ r. r.address) rows
+addresses_rise ranges rows are i j d le lt =
+    let low : row_at rows i ≡ get_or rows i d = get_or_default rows i no_row d (omega arith) in
+    let high : row_at rows j ≡ get_or rows j d = get_or_default rows j no_row d lt in
+    let rise : (row_at rows i).address ≤ (row_at rows j).address = elim (are.rise i j le lt) [ inl lower ↦ omega arith | inr same ↦ omega (arith, same.0) ] in
+    omega (arith, ap (λ (r : Row). r.address) low, ap (λ (r : Row). r.address) high, rise)

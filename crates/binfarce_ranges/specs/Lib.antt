@@ -1,0 +1,3 @@
+pub mod Address
+pub mod Range
+pub mod machine

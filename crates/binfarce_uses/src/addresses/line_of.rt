@@ -1,0 +1,21 @@
+ghost use Rattle.std.specs.Prelude.{◌≡◌, IfOk, Ok, Some, codes};
+ghost use Rattle.binfarce.specs.Format.{format_of};
+ghost use Rattle.binfarce.specs.Symbol.{Listed};
+ghost use Rattle.binfarce_addresses.specs.Lines.{IsLineAt};
+ghost use Rattle.binfarce_tools.specs.Answer.{symbols_answer};
+
+use binfarce_addresses::at::Places;
+use binfarce_tools::list::ListError;
+use std::alloc::Global;
+
+/// The line of an address.
+pub fn line_of(alloc: Global, file: &[u8], address: u64) -> Result<Vec<u8>, ListError>
+    ensures { IfOk result (λ line. (listed : Listed) × (symbols_answer (format_of file.now) file.now (codes ".text") ≡ Some (Ok listed))
+        × IsLineAt listed.entries 0 address line.items) }
+{
+    let mut places = Places::of_file(alloc, file, ".text")?;
+    places.keep_names(alloc)?;
+    let mut line = Vec::new(alloc);
+    places.push_line(alloc, &mut line, 0, address)?;
+    Ok(line)
+}

@@ -1,0 +1,13 @@
+//! ELF files.
+
+pub mod bytes_of;
+pub mod entry_address;
+pub mod first_function;
+pub mod first_section;
+pub mod first_with_entries;
+pub mod has_name;
+pub mod holds_data;
+pub mod length;
+pub mod next_section;
+pub mod section_range;
+pub mod text_symbols;

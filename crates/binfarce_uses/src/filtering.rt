@@ -1,0 +1,5 @@
+//! Names in text.
+
+pub mod copy_readable;
+pub mod readable;
+pub mod readable_halves;

@@ -1,0 +1,14 @@
+//! One use of each public call, as a caller writes it: the examples of `docs/API.md`, each with a contract that follows from
+//! the contracts of what it calls.
+#![tactic(auto)]
+
+pub mod addresses;
+pub mod elf;
+pub mod filtering;
+pub mod image;
+pub mod is_big_endian_elf;
+pub mod macho;
+pub mod names;
+pub mod parts;
+pub mod pe;
+pub mod tools;

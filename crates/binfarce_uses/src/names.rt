@@ -1,0 +1,7 @@
+//! Names of symbols.
+
+pub mod full_name;
+pub mod in_quotes;
+pub mod is_of_core;
+pub mod kept;
+pub mod mangled_part;

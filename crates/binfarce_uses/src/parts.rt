@@ -1,0 +1,3 @@
+//! Which bytes of a file matter.
+
+pub mod cite;

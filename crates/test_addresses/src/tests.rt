@@ -1,0 +1,4 @@
+mod addresses;
+mod lines;
+mod ranges;
+mod streams;

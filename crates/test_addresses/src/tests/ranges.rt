@@ -1,0 +1,132 @@
+//! Which of several ranges is found at an address.
+
+use binfarce_ranges::ranges::{AddressRange, Ranges};
+use std::alloc::{AllocError, Global};
+
+fn ranges_of(alloc: Global, ranges: &[(u64, u64)]) -> Result<Ranges, AllocError> {
+    let mut all = Vec::new(alloc);
+    for (address, size) in ranges {
+        all.push(AddressRange {
+            address: *address,
+            size: *size,
+        })?;
+    }
+    Ranges::new(alloc, all)
+}
+
+// Ranges by address and size, and at addresses the place that is found.
+type Row = (
+    &'static str,
+    &'static [(u64, u64)],
+    &'static [(u64, Option<usize>)],
+);
+
+const TABLE: [Row; 9] = [
+    ("none", &[], &[(0, None), (u64::MAX, None)]),
+    (
+        "one",
+        &[(0x10, 0x10)],
+        &[(0xf, None), (0x10, Some(0)), (0x1f, Some(0)), (0x20, None)],
+    ),
+    (
+        "out of order, with a gap",
+        &[(0x40, 0x10), (0x10, 0x10)],
+        &[(0x10, Some(1)), (0x20, None), (0x40, Some(0)), (0x50, None)],
+    ),
+    (
+        "size 0 holds its own address",
+        &[(0x10, 0)],
+        &[(0xf, None), (0x10, Some(0)), (0x11, None)],
+    ),
+    (
+        "of one address the first that holds it",
+        &[(0x10, 4), (0x10, 8), (0x10, 8)],
+        &[
+            (0x13, Some(0)),
+            (0x14, Some(1)),
+            (0x17, Some(1)),
+            (0x18, None),
+        ],
+    ),
+    (
+        "nested",
+        &[(0, 100), (10, 80), (20, 60), (30, 5), (40, 0)],
+        &[
+            (9, Some(0)),
+            (15, Some(1)),
+            (29, Some(2)),
+            (34, Some(3)),
+            (35, Some(2)),
+            (40, Some(4)),
+            (41, Some(2)),
+            (80, Some(1)),
+            (90, Some(0)),
+            (100, None),
+        ],
+    ),
+    (
+        "behind many that have ended",
+        &[
+            (0, 1000),
+            (1, 1),
+            (2, 1),
+            (3, 1),
+            (4, 500),
+            (5, 1),
+            (6, 1),
+            (7, 1),
+        ],
+        &[
+            (8, Some(4)),
+            (503, Some(4)),
+            (504, Some(0)),
+            (999, Some(0)),
+            (1000, None),
+        ],
+    ),
+    (
+        "past 64 bits",
+        &[(u64::MAX - 1, 100), (5, u64::MAX), (u64::MAX, 0)],
+        &[
+            (4, None),
+            (u64::MAX - 2, Some(1)),
+            (u64::MAX - 1, Some(0)),
+            (u64::MAX, Some(2)),
+        ],
+    ),
+    (
+        "all addresses",
+        &[(0, u64::MAX)],
+        &[(0, Some(0)), (u64::MAX - 1, Some(0)), (u64::MAX, None)],
+    ),
+];
+
+#[test]
+fn finds_the_range(rt: HostRuntime) -> Result<(), AllocError> {
+    for (label, ranges, places) in &TABLE {
+        let ranges = ranges_of(rt.alloc(), ranges)?;
+        for (address, place) in places.iter() {
+            assert!(&rt; ranges.find(*address) == *place, "{label}: {address:x}");
+        }
+    }
+    Ok(())
+}
+
+// Each of `count` ranges lies within the one before it, and each address is behind the ends of all but a few. A walk from
+// range to range would take more steps than a test has time for.
+#[test]
+fn searches_nested_ranges(rt: HostRuntime) -> Result<(), AllocError> {
+    let count = 200_000u64;
+    let mut all = Vec::new(rt.alloc());
+    for k in 0..count {
+        all.push(AddressRange {
+            address: k,
+            size: 2 * (count - k),
+        })?;
+    }
+    let ranges = Ranges::new(rt.alloc(), all)?;
+    for k in 0..count {
+        assert!(&rt; ranges.find(2 * count - 1 - k) == Some(k as usize), "{k}");
+    }
+    Ok(())
+}

@@ -1,0 +1,268 @@
+/*
+ * binfarce: readable names of Rust symbols, and the function symbols of ELF, Mach-O and PE files.
+ *
+ * The library behind this header is proved: for every name and every file, what a call gives is what the written
+ * definitions say. What a caller owes is assumed by the proof and checked by nothing:
+ *
+ * - Pointers. Each pointer goes to as many readable (where it isn't const: writable) bytes as the length after it says,
+ *   for the whole call. None may be NULL, also where its length is 0: any other address will do then (`""`, or the
+ *   address of a variable). No length is above PTRDIFF_MAX.
+ * - Overlap. What a call writes to overlaps nothing else that the call is given.
+ * - Alignment. A pointer to a struct is aligned as C aligns it; bytes need no alignment.
+ * - Enough stack. A call nests as deep as a name does, at most 500 levels; the deepest names tried took less than 256 KiB,
+ *   and no proof says more of it.
+ *
+ * Ownership. The library keeps nothing between calls, and no pointer after a call: there is nothing to be freed. What is
+ * written is the caller's buffer. A `struct binfarce_function` and a `struct binfarce_section` point into the caller's own
+ * file, and a `struct binfarce_mangling` into the caller's own name.
+ *
+ * Texts are UTF-8, without a NUL at the end: their length is returned. A name may hold any character, also line feeds.
+ *
+ * Lengths. A call that gives a text writes as much of it as the buffer has room for, and leaves what is behind it as
+ * it was. It always returns the whole length: where that is more than the buffer's, the caller grows the buffer and calls
+ * again. A text may be cut within a character. A call that gives no text (status isn't BINFARCE_OK) leaves the buffer as
+ * it was, and its lengths are 0. Arrays of functions follow the same rule.
+ *
+ * Memory. The calls that say so allocate by malloc and realloc while they run, and free all of it before
+ * they return. Where malloc fails they return BINFARCE_OUT_OF_MEMORY. malloc has to align blocks as the C library's does.
+ *
+ * Threads. There is no global state: calls may run on any threads at once, as long as no buffer is shared. They don't lock
+ * and don't block. A call that allocates may not come from a signal handler, nor from a child forked of a process with
+ * threads.
+ *
+ * Not there: the header fields of Mach-O and PE files, which the readers show only as debug text.
+ *
+ * A 64-bit x86 machine (x86-64-v2) with the System V calling convention. Link libbinfarce.a.
+ */
+#ifndef BINFARCE_H
+#define BINFARCE_H
+
+#include <stdbool.h>
+#include <stddef.h>
+#include <stdint.h>
+
+#ifdef __cplusplus
+extern "C" {
+#endif
+
+/* How a call ended. binfarce_status_text has the words. */
+enum binfarce_status {
+    BINFARCE_OK = 0,
+    BINFARCE_NONE = 1,           /* what was asked for isn't there: the name tells no crate, the file has no such section */
+    BINFARCE_NOT_UTF8 = 2,       /* a name that was passed isn't UTF-8 */
+    BINFARCE_OUT_OF_MEMORY = 3,  /* an allocation failed */
+    BINFARCE_UNKNOWN_FORMAT = 4, /* the file's first bytes name no format that is read */
+    BINFARCE_TOO_LARGE = 5,      /* the sum of all sizes is 2^64 or more */
+    /* Why a reader refuses a file. */
+    BINFARCE_SYMBOLS_SECTION_IS_MISSING = 6, /* no section has the name that was asked for */
+    BINFARCE_SYMTAB_IS_MISSING = 7,          /* an ELF file has no symbol table */
+    BINFARCE_STRTAB_IS_MISSING = 8,          /* its symbol table links to no section */
+    BINFARCE_UNEXPECTED_SECTION_TYPE = 9,    /* that section's type isn't 3 (SHT_STRTAB): `detail` has it */
+    BINFARCE_MALFORMED_INPUT = 10,           /* a number in the file fits nothing that it could mean */
+    BINFARCE_UNEXPECTED_EOF = 11             /* the file ends before what it should hold */
+};
+
+/* How a name is mangled. */
+enum binfarce_kind {
+    BINFARCE_KIND_UNKNOWN = 0, /* not at all, in a form that isn't read, or beyond the limits: the name stays unchanged */
+    BINFARCE_KIND_LEGACY = 1,  /* _ZN and the elements of a path */
+    BINFARCE_KIND_V0 = 2       /* _R and a path, as RFC 2603 says */
+};
+
+/* What a call that gives a text returns. */
+struct binfarce_text {
+    uint32_t status; /* enum binfarce_status */
+    uint32_t detail; /* of BINFARCE_UNEXPECTED_SECTION_TYPE the type that was found, and else 0 */
+    size_t length;   /* the whole length of the text in bytes */
+};
+
+/* What binfarce_demangle returns. */
+struct binfarce_name {
+    uint32_t status;        /* BINFARCE_OK, BINFARCE_NOT_UTF8, BINFARCE_OUT_OF_MEMORY */
+    uint32_t kind;          /* enum binfarce_kind */
+    size_t complete_length; /* the whole lengths of the texts in bytes */
+    size_t trimmed_length;
+    size_t crate_length; /* 0 where has_crate is false; a crate's name may be empty too */
+    bool has_crate;
+};
+
+/*
+ * The words of a status, as the programs print them; `expected section type 3 but found N` is "unexpected section type".
+ * Returns their length. Does not allocate.
+ */
+size_t binfarce_status_text(uint32_t status, uint8_t *out, size_t out_length);
+
+/*
+ * All of a name's readable form. The complete text has the disambiguators of crates, or of a legacy name its hash; the
+ * trimmed one doesn't. The crate is that of a v0 name's first crate root. A name that isn't mangled stays unchanged in
+ * both texts, and so does a v0 name that nests deeper than 500 levels or takes more than 65,536 steps. A buffer whose text
+ * isn't wanted has the length 0. Allocates.
+ */
+struct binfarce_name binfarce_demangle(const uint8_t *name, size_t name_length,
+                                       uint8_t *complete, size_t complete_length,
+                                       uint8_t *trimmed, size_t trimmed_length,
+                                       uint8_t *crate_name, size_t crate_length);
+
+/* The trimmed text of a name alone. BINFARCE_NOT_UTF8, BINFARCE_OUT_OF_MEMORY. Allocates. */
+struct binfarce_text binfarce_trimmed(const uint8_t *name, size_t name_length, uint8_t *out, size_t out_length);
+
+/*
+ * The crate that a name tells: of a v0 name as binfarce_demangle gives it, and of a legacy name the first part of its path,
+ * unless that begins with `<`. BINFARCE_NONE where there is none; BINFARCE_NOT_UTF8, BINFARCE_OUT_OF_MEMORY. Allocates.
+ */
+struct binfarce_text binfarce_crate_of(const uint8_t *name, size_t name_length, uint8_t *out, size_t out_length);
+
+/* How a name is mangled, and the part of it that is kept. */
+struct binfarce_mangling {
+    const uint8_t *part; /* what stands after the mangling's prefix, in the caller's name, without the `.llvm.` suffix; all of a
+                            name that isn't mangled. NULL where it is empty */
+    size_t part_length;  /* in bytes */
+    uint32_t kind;       /* enum binfarce_kind */
+};
+
+/*
+ * How a name is mangled, decided without printing it: a v0 name whose text would pass the limits is BINFARCE_KIND_V0 here, and
+ * BINFARCE_KIND_UNKNOWN in binfarce_demangle. Returns BINFARCE_OK, or BINFARCE_NOT_UTF8 and leaves `out` as it was then.
+ * Does not allocate.
+ */
+uint32_t binfarce_mangling(const uint8_t *name, size_t name_length, struct binfarce_mangling *out);
+
+/*
+ * The listing of a file's function symbols: a line for each, `{address:016x} {size:>10} {trimmed name}`, and last
+ * `text {size of the section}`. The section is that of an ELF file (usually ".text"); of a Mach-O or PE file it is the
+ * text, whatever is asked for. BINFARCE_NOT_UTF8 for the section's name, BINFARCE_UNKNOWN_FORMAT, a reader's refusal, or
+ * BINFARCE_OUT_OF_MEMORY. Allocates, among other things twice the text's length.
+ */
+struct binfarce_text binfarce_list(const uint8_t *file, size_t file_length,
+                                   const uint8_t *section, size_t section_length,
+                                   uint8_t *out, size_t out_length);
+
+/*
+ * The report of how much of a file each crate takes: a line for each, `{sum of sizes:>10} {crate}`, in the order of their
+ * bytes; then `sum {of all sizes}` and `text {size of the section}`. Refused as binfarce_list refuses, and with
+ * BINFARCE_TOO_LARGE. Allocates.
+ */
+struct binfarce_text binfarce_report(const uint8_t *file, size_t file_length,
+                                     const uint8_t *section, size_t section_length,
+                                     uint8_t *out, size_t out_length);
+
+/* The format that a file's first 8 bytes name. */
+enum binfarce_format {
+    BINFARCE_FORMAT_UNKNOWN = 0,
+    BINFARCE_FORMAT_ELF32_LITTLE = 1,
+    BINFARCE_FORMAT_ELF32_BIG = 2,
+    BINFARCE_FORMAT_ELF64_LITTLE = 3,
+    BINFARCE_FORMAT_ELF64_BIG = 4,
+    BINFARCE_FORMAT_MACHO = 5,
+    BINFARCE_FORMAT_PE = 6
+};
+
+/* Names the format of a file: enum binfarce_format. The readers below never look at a magic number. Does not allocate. */
+uint32_t binfarce_detect_format(const uint8_t *file, size_t file_length);
+
+/* The file header of an ELF file of either class, without its identification (System V gABI, "ELF Header"). */
+struct binfarce_elf_header {
+    uint16_t elf_type;
+    uint16_t machine;
+    uint32_t version;
+    uint64_t entry;
+    uint64_t phoff;
+    uint64_t shoff;
+    uint32_t flags;
+    uint16_t ehsize;
+    uint16_t phentsize;
+    uint16_t phnum;
+    uint16_t shentsize;
+    uint16_t shnum;
+    uint16_t shstrndx;
+};
+
+/*
+ * Reads the file header in the given byte order. Returns BINFARCE_OK, or BINFARCE_UNEXPECTED_EOF for fewer than 52 or 64
+ * bytes, and leaves `out` as it was then. Does not allocate.
+ */
+uint32_t binfarce_elf32_header(const uint8_t *file, size_t file_length, bool big_endian, struct binfarce_elf_header *out);
+uint32_t binfarce_elf64_header(const uint8_t *file, size_t file_length, bool big_endian, struct binfarce_elf_header *out);
+
+/* Whether the file has its header: BINFARCE_OK or BINFARCE_UNEXPECTED_EOF. Does not allocate. */
+uint32_t binfarce_macho_header(const uint8_t *file, size_t file_length);
+uint32_t binfarce_pe_header(const uint8_t *file, size_t file_length);
+
+/* A function symbol. */
+struct binfarce_function {
+    const uint8_t *name; /* the name as it is stored, in the caller's file: its offset there is `name - file`. NULL where it is empty */
+    size_t name_length;  /* in bytes; the name is UTF-8, and what follows is no part of it */
+    uint64_t address;    /* as the file stores it; in a PE file the offset in the section */
+    uint64_t size;       /* in bytes */
+};
+
+/* What a call that gives function symbols returns. */
+struct binfarce_functions {
+    uint32_t status;       /* enum binfarce_status */
+    uint32_t detail;       /* of BINFARCE_UNEXPECTED_SECTION_TYPE the type that was found, and else 0 */
+    size_t count;          /* how many there are, however many of them the array has room for */
+    uint64_t section_size; /* the size of their section in bytes */
+};
+
+/*
+ * The function symbols of a file in the order of its listing, in the caller's array: of an ELF file those of the section
+ * with this name, of a Mach-O or PE file those of the text. Refused as the file's reader refuses, and with
+ * BINFARCE_NOT_UTF8 for the section's name or BINFARCE_OUT_OF_MEMORY. They allocate for each symbol.
+ */
+struct binfarce_functions binfarce_elf32_functions(const uint8_t *file, size_t file_length, bool big_endian,
+                                                   const uint8_t *section, size_t section_length,
+                                                   struct binfarce_function *out, size_t out_length);
+struct binfarce_functions binfarce_elf64_functions(const uint8_t *file, size_t file_length, bool big_endian,
+                                                   const uint8_t *section, size_t section_length,
+                                                   struct binfarce_function *out, size_t out_length);
+struct binfarce_functions binfarce_macho_functions(const uint8_t *file, size_t file_length,
+                                                   struct binfarce_function *out, size_t out_length);
+struct binfarce_functions binfarce_pe_functions(const uint8_t *file, size_t file_length,
+                                                struct binfarce_function *out, size_t out_length);
+
+/* A section of a file. */
+struct binfarce_section {
+    const uint8_t *name;    /* its name, in the caller's file. NULL where has_name is false, or the name is empty */
+    size_t name_length;     /* in bytes; the name is UTF-8, and what follows is no part of it */
+    const uint8_t *segment; /* in a Mach-O file the name of its segment, there too; in other formats NULL */
+    size_t segment_length;
+    uint64_t address;      /* of its first byte in memory; in a PE file counted from the image base */
+    uint32_t kind;         /* in ELF its type (sh_type), in other formats 0 */
+    uint32_t range_status; /* BINFARCE_OK; BINFARCE_MALFORMED_INPUT where its end passes 64 bits: start and end are 0 then */
+    size_t start;          /* where its bytes begin in the file; nothing says that they lie in it */
+    size_t end;            /* the offset behind the last one */
+    uint64_t entries;      /* in ELF how many entries of its entry size it has, 0 where that is 0; in other formats 0 */
+    bool has_name;         /* false for an ELF section whose name isn't in the file, or isn't UTF-8; a name may be empty too */
+};
+
+/*
+ * The first section with this name, in a Mach-O file of this segment. Returns BINFARCE_OK, or leaves `out` as it was and
+ * returns BINFARCE_NONE where there is none, a reader's refusal, or BINFARCE_NOT_UTF8 for a name. Does not allocate.
+ */
+uint32_t binfarce_elf32_section(const uint8_t *file, size_t file_length, bool big_endian,
+                                const uint8_t *name, size_t name_length, struct binfarce_section *out);
+uint32_t binfarce_elf64_section(const uint8_t *file, size_t file_length, bool big_endian,
+                                const uint8_t *name, size_t name_length, struct binfarce_section *out);
+uint32_t binfarce_macho_section(const uint8_t *file, size_t file_length,
+                                const uint8_t *segment, size_t segment_length,
+                                const uint8_t *name, size_t name_length, struct binfarce_section *out);
+uint32_t binfarce_pe_section(const uint8_t *file, size_t file_length,
+                             const uint8_t *name, size_t name_length, struct binfarce_section *out);
+
+/*
+ * The section with this number, counted from 0 in file order; in a Mach-O or PE file those are counted whose names are valid.
+ * Returns BINFARCE_OK, or leaves `out` as it was and returns BINFARCE_NONE past the last one, or a reader's refusal in place
+ * of the first that can't be read. Each call reads the headers before it. Does not allocate.
+ */
+uint32_t binfarce_elf32_section_at(const uint8_t *file, size_t file_length, bool big_endian, size_t index,
+                                   struct binfarce_section *out);
+uint32_t binfarce_elf64_section_at(const uint8_t *file, size_t file_length, bool big_endian, size_t index,
+                                   struct binfarce_section *out);
+uint32_t binfarce_macho_section_at(const uint8_t *file, size_t file_length, size_t index, struct binfarce_section *out);
+uint32_t binfarce_pe_section_at(const uint8_t *file, size_t file_length, size_t index, struct binfarce_section *out);
+
+#ifdef __cplusplus
+}
+#endif
+
+#endif

@@ -1,0 +1,2 @@
+# Completion for binfarce-filter: its one option.
+complete -W --full binfarce-filter

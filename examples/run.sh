@@ -83,7 +83,7 @@ if has python3 "the hostile files are"; then
     compare "$work/symbols-checked" "$work/hostile-files/names"
     for file in $(ls -d "$work/hostile-files"/* | head -n 1000); do
         "$work/sections-checked" "$file" >"$work/given" 2>&1 || [ "$?" -eq 1 ] || fail "sections ends otherwise for $file"
-        ! grep -q "by its name" "$work/given" || fail "$(cat "$work/given") in $file"
+        ! grep -q "isn.t found by its" "$work/given" || fail "$(cat "$work/given") in $file"
     done
     echo "examples: so they do with $files hostile files and $files times ten hostile names"
 fi

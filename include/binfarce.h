@@ -21,7 +21,8 @@
  * Lengths. A call that gives a text writes as much of it as the buffer has room for, and leaves what is behind it as
  * it was. It always returns the whole length: where that is more than the buffer's, the caller grows the buffer and calls
  * again. A text may be cut within a character. A call that gives no text (status isn't BINFARCE_OK) leaves the buffer as
- * it was, and its lengths are 0. Arrays of functions follow the same rule.
+ * it was, and its lengths are 0. Arrays of functions follow the same rule; of sections those before a refusal are given
+ * with it.
  *
  * Memory. The calls that say so allocate by malloc and realloc while they run, and free all of it before
  * they return. Where malloc fails they return BINFARCE_OUT_OF_MEMORY. malloc has to align blocks as the C library's does.
@@ -32,7 +33,8 @@
  *
  * Not there: the header fields of Mach-O and PE files, which the readers show only as debug text.
  *
- * A 64-bit x86 machine (x86-64-v2) with the System V calling convention. Link libbinfarce.a.
+ * A 64-bit x86 machine (x86-64-v2) with the System V calling convention. Link libbinfarce.a; where it is installed,
+ * `pkg-config --cflags --libs binfarce` tells how.
  */
 #ifndef BINFARCE_H
 #define BINFARCE_H
@@ -252,7 +254,8 @@ uint32_t binfarce_pe_section(const uint8_t *file, size_t file_length,
 /*
  * The section with this number, counted from 0 in file order; in a Mach-O or PE file those are counted whose names are valid.
  * Returns BINFARCE_OK, or leaves `out` as it was and returns BINFARCE_NONE past the last one, or a reader's refusal in place
- * of the first that can't be read. Each call reads the headers before it. Does not allocate.
+ * of the first that can't be read. Each call reads the headers before it: for all sections take the calls below. Does not
+ * allocate.
  */
 uint32_t binfarce_elf32_section_at(const uint8_t *file, size_t file_length, bool big_endian, size_t index,
                                    struct binfarce_section *out);
@@ -260,6 +263,25 @@ uint32_t binfarce_elf64_section_at(const uint8_t *file, size_t file_length, bool
                                    struct binfarce_section *out);
 uint32_t binfarce_macho_section_at(const uint8_t *file, size_t file_length, size_t index, struct binfarce_section *out);
 uint32_t binfarce_pe_section_at(const uint8_t *file, size_t file_length, size_t index, struct binfarce_section *out);
+
+/* What a call that gives all sections returns. */
+struct binfarce_sections {
+    uint32_t status; /* BINFARCE_OK, or the refusal of what stands behind the last of them */
+    size_t count;    /* how many there are, however many of them the array has room for */
+};
+
+/*
+ * All sections of a file in file order, in the caller's array: those that the calls above give by their numbers, in one walk.
+ * Where one can't be read, those before it are given, and its refusal. These calls don't allocate.
+ */
+struct binfarce_sections binfarce_elf32_sections(const uint8_t *file, size_t file_length, bool big_endian,
+                                                 struct binfarce_section *out, size_t out_length);
+struct binfarce_sections binfarce_elf64_sections(const uint8_t *file, size_t file_length, bool big_endian,
+                                                 struct binfarce_section *out, size_t out_length);
+struct binfarce_sections binfarce_macho_sections(const uint8_t *file, size_t file_length,
+                                                 struct binfarce_section *out, size_t out_length);
+struct binfarce_sections binfarce_pe_sections(const uint8_t *file, size_t file_length,
+                                              struct binfarce_section *out, size_t out_length);
 
 #ifdef __cplusplus
 }

@@ -42,9 +42,11 @@ done
 echo "$what: as it must be"
 
 top="$scratch/the sources"
-mkdir -p "$top/tools" "$top/man"
+mkdir -p "$top/tools" "$top/man" "$top/include" "$top/bindings/rust"
 cp install uninstall "$top"
 cp man/* "$top/man"
+cp include/binfarce.h "$top/include"
+cp bindings/rust/Cargo.toml "$top/bindings/rust"
 cat >"$top/tools/build-program" <<'END'
 #!/bin/sh
 top=$(dirname "$(dirname "$0")")
@@ -54,14 +56,23 @@ made="$top/crates/$1/out/run"
 [ ! -e "$top/wrong" ] || { echo "build-program: $1 is wrong" >&2; exit 1; }
 mkdir -p "$made" && echo "echo $1" >"$made/$1" && chmod +x "$made/$1"
 END
-chmod +x "$top/tools/build-program"
+cat >"$top/bindings/archive.sh" <<'END'
+#!/bin/sh
+cd "$(dirname "$0")/.."
+[ -x crates/binfarce_c/out/run/binfarce_c ] || exit 1
+echo "an archive" >bindings/archive.a 2>/dev/null || [ -e bindings/archive.a ] || exit 1
+echo bindings/archive.a
+END
+chmod +x "$top/tools/build-program" "$top/bindings/archive.sh"
 programs=$(cd man && ls ./*.1 | sed 's|^./||; s|\.1$||')
 # All files that are installed, below a prefix.
 files() {
     for shown in $programs; do
         printf '%s\n' "$1/bin/$shown" "$1/share/man/man1/$shown.1"
         [ ! -e "man/$shown.bash" ] || echo "$1/share/bash-completion/completions/$shown"
-    done | LC_ALL=C sort
+    done >"$scratch/files"
+    printf '%s\n' "$1/include/binfarce.h" "$1/lib/libbinfarce.a" "$1/lib/pkgconfig/binfarce.pc" >>"$scratch/files"
+    LC_ALL=C sort "$scratch/files"
 }
 found() {
     find "$1" -type f | LC_ALL=C sort
@@ -91,6 +102,14 @@ for shown in $programs; do
     [ "$(sh "$prefix/bin/$shown")" = "$(echo "$shown" | tr - _)" ] || fail "$shown is another program"
     cmp "man/$shown.1" "$prefix/share/man/man1/$shown.1"
 done
+cmp include/binfarce.h "$prefix/include/binfarce.h"
+[ "$(cat "$prefix/lib/libbinfarce.a")" = "an archive" ] || fail "the library is another file"
+if command -v pkg-config >/dev/null; then
+    # As a shell reads what it prints.
+    eval "set -- $(PKG_CONFIG_PATH="$prefix/lib/pkgconfig" pkg-config --cflags --libs binfarce)"
+    [ "$*" = "-I$prefix/include -L$prefix/lib -lbinfarce" ] || fail "pkg-config says $*"
+    PKG_CONFIG_PATH="$prefix/lib/pkgconfig" pkg-config --validate binfarce || fail "pkg-config finds something wrong"
+fi
 what="the same again"
 runs 0 "" "$top/install" "$prefix"
 [ "$(found "$prefix")" = "$(files "$prefix")" ] || fail "other files than those of the programs"
@@ -103,6 +122,7 @@ runs 0 "" "$top/uninstall" "$prefix"
 what="below DESTDIR, the default prefix"
 DESTDIR="$scratch/package" runs 0 "" "$top/install"
 [ "$(found "$scratch/package")" = "$(files "$scratch/package/usr/local")" ] || fail "other files: $(found "$scratch/package")"
+[ "$(sed q "$scratch/package/usr/local/lib/pkgconfig/binfarce.pc")" = "prefix=/usr/local" ] || fail "the pkg-config file names another prefix"
 what="sources that can't be written to, all built"
 chmod -R a-w "$top"
 runs 0 "" "$top/install" "$prefix"
@@ -130,6 +150,13 @@ what="a program that can't be built"
 runs 1 "build-program: $(echo "$programs" | head -n 1 | tr - _) is wrong" "$top/install" "$scratch/none"
 [ ! -e "$scratch/none" ] || fail "something is installed"
 rm "$top/wrong"
+what="an archive that can't be made"
+chmod -x "$top/bindings/archive.sh"
+ended=0
+"$top/install" "$scratch/none" >"$scratch/output" 2>&1 || ended=$?
+[ "$ended" -eq 126 ] || fail "status $ended, and must be 126"
+[ ! -e "$scratch/none" ] || fail "something is installed"
+chmod +x "$top/bindings/archive.sh"
 
 # The builder ends too, a second signal changes nothing, and nothing is installed.
 for signal in HUP INT TERM; do

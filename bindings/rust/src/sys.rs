@@ -74,6 +74,12 @@ struct RawSection {
     has_name: bool,
 }
 
+#[repr(C)]
+struct RawSections {
+    status: u32,
+    count: usize,
+}
+
 // Each pointer is followed by how many items stand there.
 extern "C" {
     fn binfarce_demangle(
@@ -127,6 +133,10 @@ extern "C" {
     fn binfarce_elf64_section_at(file: *const u8, length: usize, big: bool, index: usize, out: *mut RawSection) -> u32;
     fn binfarce_macho_section_at(file: *const u8, length: usize, index: usize, out: *mut RawSection) -> u32;
     fn binfarce_pe_section_at(file: *const u8, length: usize, index: usize, out: *mut RawSection) -> u32;
+    fn binfarce_elf32_sections(file: *const u8, length: usize, big: bool, out: *mut RawSection, room: usize) -> RawSections;
+    fn binfarce_elf64_sections(file: *const u8, length: usize, big: bool, out: *mut RawSection, room: usize) -> RawSections;
+    fn binfarce_macho_sections(file: *const u8, length: usize, out: *mut RawSection, room: usize) -> RawSections;
+    fn binfarce_pe_sections(file: *const u8, length: usize, out: *mut RawSection, room: usize) -> RawSections;
     fn binfarce_elf32_functions(
         file: *const u8,
         length: usize,
@@ -321,17 +331,49 @@ fn section_at(sections: Sections, file: &[u8], index: usize) -> Result<Option<Se
     found(status, file, &out)
 }
 
-/// The first section that is accepted, or the status of the refusal. Each is asked for by its number, and such a call reads
-/// the headers before it.
+/// The most sections that are asked for at once. ELF and PE files have no more, and a Mach-O file only one that is made up.
+const MOST_AT_ONCE: usize = 1 << 16;
+
+/// The first sections of a file, how many there are in all, and how they end.
+fn first_sections(sections: Sections, file: &[u8]) -> (Vec<RawSection>, RawSections) {
+    let mut first = vec![no_section(); 64];
+    loop {
+        let (at, room) = (first.as_mut_ptr(), first.len());
+        let (data, length) = (file.as_ptr(), file.len());
+        let is_big = |order: ByteOrder| order == ByteOrder::BigEndian;
+        // SAFETY: each pointer and the length after it are those of one slice or vector, which is borrowed for the call.
+        let given = unsafe {
+            match sections {
+                Sections::Elf32(order) => binfarce_elf32_sections(data, length, is_big(order), at, room),
+                Sections::Elf64(order) => binfarce_elf64_sections(data, length, is_big(order), at, room),
+                Sections::Macho => binfarce_macho_sections(data, length, at, room),
+                Sections::Pe => binfarce_pe_sections(data, length, at, room),
+            }
+        };
+        if given.count <= room || room == MOST_AT_ONCE {
+            first.truncate(given.count);
+            return (first, given);
+        }
+        first.resize(given.count.min(MOST_AT_ONCE), no_section());
+    }
+}
+
+/// The first section that is accepted, or the status of the refusal.
 pub fn find_section<F: Fn(Section) -> bool>(sections: Sections, file: &[u8], accepts: F) -> Result<Option<Section>, u32> {
-    let mut index = 0;
-    while let Some(section) = section_at(sections, file, index)? {
+    let (first, given) = first_sections(sections, file);
+    for raw in &first {
+        let section = seen(file, raw);
         if accepts(section) {
             return Ok(Some(section));
         }
-        index += 1;
     }
-    Ok(None)
+    for index in first.len()..given.count {
+        match section_at(sections, file, index)? {
+            Some(section) if accepts(section) => return Ok(Some(section)),
+            _ => (),
+        }
+    }
+    if given.status == OK { Ok(None) } else { Err(given.status) }
 }
 
 fn no_section() -> RawSection {
@@ -350,18 +392,22 @@ fn no_section() -> RawSection {
     }
 }
 
-fn found(status: u32, file: &[u8], raw: &RawSection) -> Result<Option<Section>, u32> {
+fn seen(file: &[u8], raw: &RawSection) -> Section {
     // The name is a part of the file; an empty one has no pointer.
     let start = if raw.name.is_null() { 0 } else { raw.name as usize - file.as_ptr() as usize };
+    Section {
+        range: match raw.range_status {
+            OK => Ok((raw.start, raw.end)),
+            refused => Err(refused),
+        },
+        entries: raw.entries,
+        name: raw.has_name.then_some((start, raw.name_length)),
+    }
+}
+
+fn found(status: u32, file: &[u8], raw: &RawSection) -> Result<Option<Section>, u32> {
     match status {
-        OK => Ok(Some(Section {
-            range: match raw.range_status {
-                OK => Ok((raw.start, raw.end)),
-                refused => Err(refused),
-            },
-            entries: raw.entries,
-            name: raw.has_name.then_some((start, raw.name_length)),
-        })),
+        OK => Ok(Some(seen(file, raw))),
         NONE => Ok(None),
         status => Err(status),
     }

@@ -10,6 +10,7 @@ pub use Rattle.binfarce_bytes.specs.Refusal
 pub use Rattle.binfarce_bytes.specs.Walk
 pub use Rattle.binfarce_symbols.specs.Symbol
 pub use Rattle.binfarce_symbols.specs.SymbolViews
+pub use Rattle.binfarce_symbols.specs.Found
 pub use Rattle.binfarce_symbols.specs.Sizes
 pub use Rattle.binfarce_elf.specs.Elf
 pub use Rattle.binfarce_elf.specs.ElfSymbols

@@ -9,7 +9,7 @@ pub use binfarce_elf::{elf32, elf64};
 pub use binfarce_macho::macho;
 pub use binfarce_names::demangle;
 pub use binfarce_pe::pe;
-pub use binfarce_symbols::functions::FunctionSymbol;
+pub use binfarce_symbols::functions::{FunctionSymbol, symbol_at};
 
 /// The format that a file's first bytes name.
 #[derive(PartialEq, Eq, Hash, Debug, Drop)]

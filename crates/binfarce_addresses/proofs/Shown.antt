@@ -8,7 +8,7 @@ use Rattle.binfarce.specs.SymbolViews.{function_view}
 use Rattle.binfarce.specs.declared.FunctionSymbol.{FunctionSymbol}
 use Rattle.binfarce_ranges.specs.declared.ranges.AddressRange.{AddressRange}
 use Rattle.binfarce_ranges.specs.Range.{Holds, NoneHolds, IsFoundAt}
-use Rattle.binfarce_addresses.specs.Found.{holds, higher_of, highest, entry_at}
+use Rattle.binfarce.specs.Found.{holds, higher_of, highest, entry_at}
 use Rattle.binfarce_addresses.specs.Lines.{in_file, found_at}
 use Rattle.binfarce_addresses.specs.machine.Places.{range_of, ranges_of, StandsAt}
 

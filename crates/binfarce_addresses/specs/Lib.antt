@@ -1,5 +1,4 @@
 pub use Rattle.binfarce_ranges.specs.Address
-pub mod Found
 pub mod Lines
 pub mod PlacesViews
 pub mod Stream

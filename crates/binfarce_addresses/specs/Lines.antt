@@ -6,7 +6,7 @@ use Rattle.binfarce.specs.Name.{Name}
 use Rattle.binfarce.specs.Named.{IsNamed}
 use Rattle.binfarce.specs.Symbol.{Entry, Listed}
 use Rattle.binfarce_tools.specs.Listing.{address_text}
-use Rattle.binfarce_addresses.specs.Found.{entry_at}
+use Rattle.binfarce.specs.Found.{entry_at}
 
 -- the address in the file, once the base is taken off; an address below the base has none
 abbrev pub in_file : ℕ → ℕ → Option ℕ

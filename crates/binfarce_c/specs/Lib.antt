@@ -5,4 +5,5 @@ pub mod Texts
 pub mod Headers
 pub mod Functions
 pub mod Sections
+pub mod AllSections
 pub mod machine

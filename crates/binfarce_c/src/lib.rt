@@ -4,6 +4,7 @@
 //! buffers.
 #![tactic(auto)]
 
+mod all_sections;
 mod buffer;
 mod functions;
 mod headers;

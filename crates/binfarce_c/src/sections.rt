@@ -209,7 +209,7 @@ fn nth_32(file: &elf32::Elf32<'_>, index: usize) -> Result<Option<elf32::Section
     }
 }
 
-fn shown_32(file: &elf32::Elf32<'_>, section: elf32::Section) -> Section
+pub(crate) fn shown_32(file: &elf32::Elf32<'_>, section: elf32::Section) -> Section
     ensures { IsSection (elf_told elf.elf32 (elf.section_table elf.elf32 file.now) (elf_view.section_view (λ n. n) section)) result }
 {
     section_of(
@@ -268,7 +268,7 @@ fn nth_64(file: &elf64::Elf64<'_>, index: usize) -> Result<Option<elf64::Section
     }
 }
 
-fn shown_64(file: &elf64::Elf64<'_>, section: elf64::Section) -> Section
+pub(crate) fn shown_64(file: &elf64::Elf64<'_>, section: elf64::Section) -> Section
     ensures { IsSection (elf_told elf.elf64 (elf.section_table elf.elf64 file.now) (elf_view.section_view (λ n. n) section)) result }
 {
     section_of(
@@ -312,7 +312,7 @@ fn nth_macho<'a>(
     }
 }
 
-fn shown_macho(section: macho::Section<'_>) -> Section
+pub(crate) fn shown_macho(section: macho::Section<'_>) -> Section
     ensures { IsSection (macho_told (macho_view.section_view section.entry)) result }
 {
     section_of(
@@ -353,7 +353,7 @@ fn nth_pe<'a>(file: &pe::Pe<'a>, index: usize) -> Result<Option<pe::Section<'a>>
     }
 }
 
-fn shown_pe(section: pe::Section<'_>) -> Section
+pub(crate) fn shown_pe(section: pe::Section<'_>) -> Section
     ensures { IsSection (pe_told (pe_view.section_view section.entry)) result }
 {
     section_of(

@@ -12,6 +12,8 @@ use Rattle.binfarce_names.specs.declared.demangle.SymbolData.{SymbolData}
 use Rattle.binfarce_symbols.specs.declared.functions.FunctionSymbol.{FunctionSymbol}
 use Rattle.binfarce_symbols.specs.Symbol.{Entry, AreSymbolsOf}
 use Rattle.binfarce_symbols.specs.SymbolViews.{function_view}
+use Rattle.binfarce_symbols.specs.Found.{entry_at}
+use Rattle.binfarce_symbols.proofs.FoundLaws as FoundLaws
 use Rattle.binfarce_symbols.proofs.Made.{drained}
 
 -- row k has none
@@ -41,3 +43,12 @@ entry_is strings index row read name same is =
 pub symbols_are : {C : Type 0} (class : ElfClass) (functions : Functions C) (given : List FunctionSymbol) (symbols : List SymbolData) → Drains (YieldsFirstBy function_view (functions_left class)) functions given
     → AreSymbolsOf (map function_view given) symbols → AreSymbolsOf (functions_left class functions) symbols
 symbols_are class functions given symbols drains are = subst (λ (entries : List Entry). AreSymbolsOf entries symbols) (drained function_view (functions_left class) functions given drains) are
+
+-- before any came, none is found
+pub none_at_first : (address : ℕ) → None ≡ entry_at [] address
+none_at_first = FoundLaws.none_at_first
+
+-- what is found among the functions that came is found among what was left
+pub shown_is : {C : Type 0} (class : ElfClass) (functions : Functions C) (given : List FunctionSymbol) (address : ℕ) (shown : Option Entry) → Drains (YieldsFirstBy function_view (functions_left class)) functions given
+    → shown ≡ entry_at (map function_view given) address → shown ≡ entry_at (functions_left class functions) address
+shown_is class functions given address shown drains is = is ∙ ap (λ (entries : List Entry). entry_at entries address) (drained function_view (functions_left class) functions given drains)

@@ -5,6 +5,7 @@ ghost use Rattle.std.specs.Option.{option_map};
 ghost use Rattle.binfarce_bytes.specs.Refusal.{Gives, refusal_of, unexpected_eof, symbols_section_is_missing, section_is_missing};
 ghost use Rattle.binfarce_bytes.specs.Walk.{first};
 ghost use Rattle.binfarce_symbols.specs.SymbolViews.{function_view};
+ghost use Rattle.binfarce_symbols.specs.Found.{entry_at};
 ghost use Rattle.binfarce_elf.specs.Elf.{walk, name_of};
 ghost use Rattle.binfarce_elf.specs.ElfSymbols.{is_named, sought, string_table_kind, whole_rows, located, elf_answer, entries_from, function_name};
 ghost use Rattle.binfarce_elf.specs.ElfViews.{section_view, functions_left, functions_view};
@@ -14,7 +15,7 @@ use crate::class::{Class, Half, SymbolRow, Word};
 use crate::sections::{Section, Table, first_section, section_data, section_with_name};
 use binfarce_bytes::parser::{UnexpectedEof, parse_null_string};
 use binfarce_bytes::{ByteOrder, ParseError};
-use binfarce_symbols::functions::FunctionSymbol;
+use binfarce_symbols::functions::{FunctionSymbol, found_with};
 use std::marker::PhantomData;
 
 /// `SHT_SYMTAB`.
@@ -146,6 +147,22 @@ pub struct Functions<'a, C> {
 }
 
 impl<'a, C: Class> Functions<'a, C> {
+    /// Of the function symbols that are left the one that an address is shown by: of those whose range holds it the one of
+    /// greatest address, and of these the first. `None` where none holds it.
+    ///
+    /// A range begins at the symbol's address (`st_value`) and has its size in bytes. Each row that is left is read once;
+    /// nothing is allocated or copied.
+    #[tactic(auto, using(crate::proofs::RowsLeft::shown_is, crate::proofs::RowsLeft::none_at_first))]
+    pub fn symbol_at(self, address: u64) -> Option<FunctionSymbol<'a>>
+        ensures { option_map function_view result ≡ entry_at (functions_left C.table self.entry) address }
+    {
+        let mut found = None;
+        for function in self {
+            found = found_with(found, function, address);
+        }
+        found
+    }
+
     // The functions of the section `index` in whole rows.
     fn new(rows: &'a [u8], strings: &'a [u8], byte_order: ByteOrder, index: Half) -> Self
         ensures { functions_left C.table result ≡ entries_from C.table byte_order strings.entry.now index rows.entry.now 0 }

@@ -4,12 +4,8 @@ use Rattle.std.specs.declared.iter.Copied.{Copied}
 use Rattle.std.specs.declared.slice.Iter.{Iter}
 use Rattle.std.specs.Option.{option_copied}
 use Rattle.std.specs.Global.{Vec}
-use Rattle.std.specs.Iterator.{Drains}
 use Rattle.std.specs.Iterator.Adapters.{copied_source, copied_steps}
 use Rattle.std.specs.Slice.Iter.{iter_rest, iter_steps}
-use Rattle.std.proofs.lemmas.Iterator.{items_from_drains}
-use Rattle.std.proofs.lemmas.Iterator.Consumers.{YieldsList-from_copied, YieldsList-from_shown}
-use Rattle.std.proofs.lemmas.List.{map-id}
 use Rattle.binfarce_bytes.specs.declared.error.ParseError.{ParseError}
 use Rattle.binfarce_bytes.specs.declared.error.ParseError.TheVariants.{OutOfMemory}
 use Rattle.binfarce_bytes.specs.Refusal.{◌>>=◌, Refusal, refusal_of}
@@ -92,12 +88,6 @@ module _ (file : List ℕ) where
       by_location (Ok (Some found)) e is = record { found = found; is_located = e; some = by_rows found (row_addresses found.rows) refl is }
 
 module _ {A : Type 0} where
-  -- what comes of a slice's copies is the slice
-  pub copies_are : (s : Copied (Iter A)) (given : List A) → Drains (copied_steps iter_steps) s given → given ≡ iter_rest (copied_source s)
-  copies_are s given d =
-      sym (map-id given)
-      ∙ items_from_drains given (d.1.0, d.1.1, λ _. (d.0, d.1.2)) (YieldsList-from_copied (YieldsList-from_shown iter_steps (λ y. y.now) iter_rest (λ t u h. h.0) (λ t x u h. h) (copied_source s)))
-
   -- where a copy comes, the slice isn't empty
   pub copy_of : (s t : Copied (Iter A)) (x : A) → copied_steps iter_steps s (Some x) t → (first : A) × (others : List A) × (iter_rest (copied_source s) ≡ first ∷ others)
   copy_of s t x step = by_case step.0 step.1 step.2

@@ -1,5 +1,6 @@
 pub mod Rows
 pub mod Made
+pub mod FoundLaws
 pub mod Arranging
 pub mod Arrangement
 pub mod Above

@@ -1,7 +1,14 @@
 -- Symbols made of function symbols, one after the other.
 use Rattle.std.proofs.Common.{◌≡◌, ℕ, List, [], ◌∷◌, ◌++◌, map, Option, Some, Result, Ok, Err, sym, ap, subst, ◌∙◌}
 use Rattle.std.specs.Global.{Vec}
+use Rattle.std.specs.declared.iter.Copied.{Copied}
+use Rattle.std.specs.declared.slice.Iter.{Iter}
 use Rattle.std.specs.Iterator.{Yields, YieldsFirstBy, Drains}
+use Rattle.std.specs.Iterator.Adapters.{copied_source, copied_steps}
+use Rattle.std.specs.Slice.Iter.{iter_rest, iter_steps}
+use Rattle.std.proofs.lemmas.Iterator.{items_from_drains}
+use Rattle.std.proofs.lemmas.Iterator.Consumers.{YieldsList-from_copied, YieldsList-from_shown}
+use Rattle.std.proofs.lemmas.List.{map-id}
 use Rattle.binfarce_names.specs.declared.demangle.SymbolData.{SymbolData}
 use Rattle.binfarce_symbols.specs.declared.functions.FunctionSymbol.{FunctionSymbol}
 use Rattle.binfarce_bytes.specs.Refusal.{Refusal}
@@ -28,6 +35,12 @@ drained view rest s [] d = sym (ap rest d.1.1 ∙ d.1.2.0)
 drained {B = B} view rest s (x ∷ given) d =
     let yields = d.1.1 in
     ap (λ (ys : List B). view x ∷ ys) (drained view rest yields.0 given (d.0, (d.1.0, yields.2, d.1.2))) ∙ sym yields.1
+
+-- what comes of a slice's copies is the slice
+pub copies_are : {A : Type 0} (s : Copied (Iter A)) (given : List A) → Drains (copied_steps iter_steps) s given → given ≡ iter_rest (copied_source s)
+copies_are s given d =
+    sym (map-id given)
+    ∙ items_from_drains given (d.1.0, d.1.1, λ _. (d.0, d.1.2)) (YieldsList-from_copied (YieldsList-from_shown iter_steps (λ y. y.now) iter_rest (λ t u h. h.0) (λ t x u h. h) (copied_source s)))
 
 -- where function symbols are an answer, the symbols of all of them are that answer
 pub symbols_held : (Needs : Result Listed Refusal → Type 0) (answer : Result Listed Refusal) (functions : Vec FunctionSymbol) (size : ℕ) (given : List FunctionSymbol) (symbols : Vec SymbolData)

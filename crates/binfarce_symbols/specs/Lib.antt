@@ -1,4 +1,5 @@
 pub mod Symbol
 pub mod SymbolViews
+pub mod Found
 pub mod Sizes
 pub mod RowViews

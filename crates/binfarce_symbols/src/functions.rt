@@ -1,8 +1,10 @@
-//! The function symbols that a file stores, and the symbols that they become.
+//! The function symbols that a file stores, the symbols that they become, and which of them an address is shown by.
 
-ghost use Rattle.std.specs.Prelude.{List, Some, map, IfOk, OnErr};
+ghost use Rattle.std.specs.Prelude.{◌≡◌, List, [], ◌∷◌, ◌++◌, Some, map, IfOk, OnErr};
 ghost use Rattle.std.specs.Iterator.{IsFinite, Drains};
-ghost use Rattle.binfarce_symbols.specs.Symbol.{IsSymbolOf, AreSymbolsOf};
+ghost use Rattle.std.specs.Option.{option_map};
+ghost use Rattle.binfarce_symbols.specs.Found.{holds, higher_of, entry_at};
+ghost use Rattle.binfarce_symbols.specs.Symbol.{Entry, IsSymbolOf, AreSymbolsOf};
 ghost use Rattle.binfarce_symbols.specs.SymbolViews.{function_view};
 ghost use Rattle.binfarce_symbols.specs.declared.functions.FunctionSymbol.{FunctionSymbol};
 
@@ -48,4 +50,60 @@ fn symbol_of(alloc: Global, function: FunctionSymbol<'_>) -> Result<SymbolData, 
         address: function.address,
         size: function.size,
     })
+}
+
+/// The function symbol of a list that an address is shown by: of those whose range holds it the one of greatest address, and
+/// of these the first. `None` where none holds it.
+///
+/// A range begins at the symbol's address and has its size in bytes; a symbol of size 0 holds its own address alone. The
+/// address is one as the file stores it, in a PE file the offset in the section. The whole list is looked at, and nothing is
+/// allocated.
+#[tactic(auto, using(crate::proofs::FoundLaws::none_at_first))]
+pub fn symbol_at<'a>(functions: &[FunctionSymbol<'a>], address: u64) -> Option<FunctionSymbol<'a>>
+    ensures { option_map function_view result ≡ entry_at (map function_view functions.now) address }
+{
+    let mut found = None;
+    for function in functions.iter().copied() {
+        found = found_with(found, function, address);
+    }
+    found
+}
+
+/// The function symbol that an address is shown by, where one was found among those before and now another one comes.
+#[inline(always)]
+pub fn found_with<'a>(
+    found: Option<FunctionSymbol<'a>>,
+    function: FunctionSymbol<'a>,
+    address: u64,
+) -> Option<FunctionSymbol<'a>>
+    ensures { (before : List Entry) → option_map function_view found.entry ≡ entry_at before address
+        → option_map function_view result ≡ entry_at (before ++ function_view function.entry ∷ []) address }
+{
+    if !holds(function, address) {
+        return found;
+    }
+    match found {
+        None => Some(function),
+        Some(first) => Some(higher_of(first, function)),
+    }
+}
+
+// Whether its range holds the address. The end of the range may lie past 64 bits.
+#[inline(always)]
+fn holds(function: FunctionSymbol<'_>, address: u64) -> bool
+    ensures { result ≡ holds address (function_view function.entry) }
+{
+    function.address <= address && address - function.address < function.size.max(1)
+}
+
+// The first, or the other one where that has a greater address.
+#[inline(always)]
+fn higher_of<'a>(first: FunctionSymbol<'a>, other: FunctionSymbol<'a>) -> FunctionSymbol<'a>
+    ensures { function_view result ≡ higher_of (function_view first.entry) (Some (function_view other.entry)) }
+{
+    if other.address > first.address {
+        other
+    } else {
+        first
+    }
 }

@@ -5,6 +5,7 @@ pub mod entry_address;
 pub mod first_function;
 pub mod first_section;
 pub mod first_with_entries;
+pub mod function_there;
 pub mod has_name;
 pub mod holds_data;
 pub mod length;

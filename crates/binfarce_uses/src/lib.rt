@@ -8,6 +8,7 @@ pub mod filtering;
 pub mod image;
 pub mod is_big_endian_elf;
 pub mod macho;
+pub mod name_at;
 pub mod names;
 pub mod parts;
 pub mod pe;

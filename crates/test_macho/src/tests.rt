@@ -6,6 +6,7 @@ mod symbols;
 mod truncated;
 
 use binfarce::macho::parse;
+use binfarce::symbol_at;
 use std::alloc::{AllocError, Global};
 use std::test::Fail;
 use test_samples::Patch;
@@ -72,5 +73,30 @@ fn stored(alloc: Global, file: &[u8]) -> Result<String, Fail> {
 #[test]
 fn functions(rt: HostRuntime) -> Result<(), Fail> {
     assert_eq!(rt; stored(rt.alloc(), &MACHO)?.as_str(), LISTING);
+    Ok(())
+}
+
+// The names of what addresses are shown by, and a point for each that is shown by none.
+fn shown(alloc: Global, file: &[u8], addresses: &[u64]) -> Result<String, Fail> {
+    let (functions, _size) = parse(file)?.functions(alloc)?;
+    let mut names = String::new(alloc);
+    for address in addresses {
+        match symbol_at(&functions, *address) {
+            Some(function) => names.push_str(function.name)?,
+            None => names.push('.')?,
+        }
+    }
+    Ok(names)
+}
+
+// Two symbols stand at 0x1000.
+#[test]
+fn symbols_at_addresses(rt: HostRuntime) -> Result<(), Fail> {
+    let names = shown(
+        rt.alloc(),
+        &MACHO,
+        &[0xfff, 0x1000, 0x103f, 0x1040, 0x10ff, 0x1100],
+    )?;
+    assert_eq!(rt; names.as_str(), ".aacc.");
     Ok(())
 }

@@ -5,7 +5,7 @@ mod sections;
 mod symbols;
 mod truncated;
 
-use binfarce::pe;
+use binfarce::{pe, symbol_at};
 use std::alloc::{AllocError, Global};
 use std::test::Fail;
 use test_samples::Patch;
@@ -69,5 +69,30 @@ fn stored(alloc: Global, file: &[u8]) -> Result<String, Fail> {
 #[test]
 fn functions(rt: HostRuntime) -> Result<(), Fail> {
     assert_eq!(rt; stored(rt.alloc(), &PE)?.as_str(), LISTING);
+    Ok(())
+}
+
+// The names of what offsets in the section are shown by, and a point for each that is shown by none.
+fn shown(alloc: Global, file: &[u8], offsets: &[u64]) -> Result<String, Fail> {
+    let (functions, _size) = pe::parse(file)?.functions(alloc)?;
+    let mut names = String::new(alloc);
+    for offset in offsets {
+        match symbol_at(&functions, *offset) {
+            Some(function) => names.push_str(function.name)?,
+            None => names.push('.')?,
+        }
+    }
+    Ok(names)
+}
+
+// Two symbols stand at 0, and the last one has no size.
+#[test]
+fn symbols_at_offsets(rt: HostRuntime) -> Result<(), Fail> {
+    let names = shown(
+        rt.alloc(),
+        &PE,
+        &[0, 0x3f, 0x40, 0xff, 0x100, 0x17f, 0x180, 0x181],
+    )?;
+    assert_eq!(rt; names.as_str(), "bbcceea.");
     Ok(())
 }

@@ -44,3 +44,35 @@ fn functions(rt: HostRuntime) -> Result<(), Fail> {
     }
     Ok(())
 }
+
+// The name of what an address is shown by among the function symbols of `.text`.
+fn shown(layout: Layout, address: u64) -> Result<Option<&'static str>, ParseError> {
+    let shown = match class_of(layout) {
+        Class::Elf32 => {
+            let file = elf32::parse(layout.bytes(), order_of(layout))?;
+            let (functions, _size) = file.functions(".text")?;
+            functions.symbol_at(address)
+        }
+        Class::Elf64 => {
+            let file = elf64::parse(layout.bytes(), order_of(layout))?;
+            let (functions, _size) = file.functions(".text")?;
+            functions.symbol_at(address)
+        }
+    };
+    match shown {
+        Some(function) => Ok(Some(function.name)),
+        None => Ok(None),
+    }
+}
+
+// The symbol stands at 0x1000 and has 16 bytes.
+#[test]
+fn symbol_at(rt: HostRuntime) -> Result<(), Fail> {
+    for layout in LAYOUTS {
+        assert_eq!(rt; shown(layout, 0xfff)?, None);
+        assert_eq!(rt; shown(layout, 0x1000)?, Some("_ZN3foo3barE"));
+        assert_eq!(rt; shown(layout, 0x100f)?, Some("_ZN3foo3barE"));
+        assert_eq!(rt; shown(layout, 0x1010)?, None);
+    }
+    Ok(())
+}

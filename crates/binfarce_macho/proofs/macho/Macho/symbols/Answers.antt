@@ -1,8 +1,8 @@
 use Rattle.std.proofs.Common.{◌≡◌, ◌∙◌, sym, ap}
 use Rattle.binfarce_symbols.specs.Symbol.{HoldsSymbols}
-use Rattle.binfarce_symbols.proofs.Made.{symbols_held}
+use Rattle.binfarce_symbols.proofs.Made.{symbols_held, copies_are}
 use Rattle.binfarce_macho.specs.MachoSymbols.{HasAddress, macho_answer}
-use Rattle.binfarce_macho.proofs.MachoAnswers.{out_of_memory_answers, functions_need_address, copies_are, copy_of}
+use Rattle.binfarce_macho.proofs.MachoAnswers.{out_of_memory_answers, functions_need_address, copy_of}
 use Rattle.binfarce_macho.proofs.macho.Macho.symbols.Goals as goal
 
 pub returns-in_err-symbols-clause-answer : goal.returns-in_err-symbols-clause-answer

@@ -1,0 +1,175 @@
+//! All sections of a file, in a caller's array.
+
+ghost use Rattle.binfarce.specs.Elf as elf;
+ghost use Rattle.binfarce.specs.Macho as macho;
+ghost use Rattle.binfarce.specs.Pe as pe;
+ghost use Rattle.binfarce_c.specs.AllSections.{GivesWalk, walk_of};
+ghost use Rattle.binfarce_c.specs.Headers.{order_of};
+ghost use Rattle.binfarce_c.specs.Sections.{elf_told, elf_table, macho_told, pe_told};
+ghost use Rattle.binfarce_c.specs.machine.Filled.{OneMore};
+
+use crate::headers::order_of;
+use crate::sections::{Section, shown_32, shown_64, shown_macho, shown_pe};
+use crate::status::{OK, status_of};
+use binfarce::{elf32, elf64, macho, pe};
+
+/// What a call that gives sections returns: `struct binfarce_sections`.
+#[repr(C)]
+#[derive(Drop)]
+pub struct Sections {
+    /// `BINFARCE_OK`, or the refusal of what stands behind the last section.
+    pub status: u32,
+    /// How many sections there are, however many of them the array had room for.
+    pub count: usize,
+}
+
+/// All sections of a 32-bit ELF file.
+#[unsafe(no_mangle)]
+#[tactic(auto, using(crate::proofs::Drained::of_32_bits))]
+pub extern "C" fn binfarce_elf32_sections(
+    file: &[u8],
+    big_endian: bool,
+    out: &mut [Section],
+) -> Sections
+    ensures { let table = elf_table elf.elf32 (order_of big_endian) file.now in
+        GivesWalk (elf_told elf.elf32 table) (walk_of elf.elf32.header_length file.now (elf.walk elf.elf32 table)) out.old out.new result }
+{
+    match elf32::parse(file, order_of(big_endian)) {
+        Ok(file) => fill_32(&file, out),
+        Err(e) => Sections {
+            status: status_of(e),
+            count: 0,
+        },
+    }
+}
+
+/// All sections of a 64-bit ELF file.
+#[unsafe(no_mangle)]
+#[tactic(auto, using(crate::proofs::Drained::of_64_bits))]
+pub extern "C" fn binfarce_elf64_sections(
+    file: &[u8],
+    big_endian: bool,
+    out: &mut [Section],
+) -> Sections
+    ensures { let table = elf_table elf.elf64 (order_of big_endian) file.now in
+        GivesWalk (elf_told elf.elf64 table) (walk_of elf.elf64.header_length file.now (elf.walk elf.elf64 table)) out.old out.new result }
+{
+    match elf64::parse(file, order_of(big_endian)) {
+        Ok(file) => fill_64(&file, out),
+        Err(e) => Sections {
+            status: status_of(e),
+            count: 0,
+        },
+    }
+}
+
+/// All sections of a Mach-O file.
+#[unsafe(no_mangle)]
+pub extern "C" fn binfarce_macho_sections(file: &[u8], out: &mut [Section]) -> Sections
+    ensures { GivesWalk macho_told (walk_of macho.least_length file.now (macho.walk file.now)) out.old out.new result }
+{
+    match macho::parse(file) {
+        Ok(file) => fill_macho(&file, out),
+        Err(e) => Sections {
+            status: status_of(e),
+            count: 0,
+        },
+    }
+}
+
+/// All sections of a PE file.
+#[unsafe(no_mangle)]
+pub extern "C" fn binfarce_pe_sections(file: &[u8], out: &mut [Section]) -> Sections
+    ensures { GivesWalk pe_told (walk_of (pe.least_length file.now) file.now (pe.walk file.now)) out.old out.new result }
+{
+    match pe::parse(file) {
+        Ok(file) => fill_pe(&file, out),
+        Err(e) => Sections {
+            status: status_of(e),
+            count: 0,
+        },
+    }
+}
+
+fn fill_32(file: &elf32::Elf32<'_>, out: &mut [Section]) -> Sections
+    ensures { let table = elf.section_table elf.elf32 file.now in GivesWalk (elf_told elf.elf32 table) (elf.walk elf.elf32 table) out.old out.new result }
+{
+    let mut count = 0;
+    for section in file.sections() {
+        match section {
+            Ok(section) => count = place(shown_32(file, section), count, out),
+            Err(e) => {
+                return Sections {
+                    status: status_of(e),
+                    count,
+                };
+            }
+        }
+    }
+    Sections { status: OK, count }
+}
+
+fn fill_64(file: &elf64::Elf64<'_>, out: &mut [Section]) -> Sections
+    ensures { let table = elf.section_table elf.elf64 file.now in GivesWalk (elf_told elf.elf64 table) (elf.walk elf.elf64 table) out.old out.new result }
+{
+    let mut count = 0;
+    for section in file.sections() {
+        match section {
+            Ok(section) => count = place(shown_64(file, section), count, out),
+            Err(e) => {
+                return Sections {
+                    status: status_of(e),
+                    count,
+                };
+            }
+        }
+    }
+    Sections { status: OK, count }
+}
+
+fn fill_macho(file: &macho::Macho<'_>, out: &mut [Section]) -> Sections
+    ensures { GivesWalk macho_told (macho.walk file.now) out.old out.new result }
+{
+    let mut count = 0;
+    for section in file.sections() {
+        match section {
+            Ok(section) => count = place(shown_macho(section), count, out),
+            Err(e) => {
+                return Sections {
+                    status: status_of(e),
+                    count,
+                };
+            }
+        }
+    }
+    Sections { status: OK, count }
+}
+
+fn fill_pe(file: &pe::Pe<'_>, out: &mut [Section]) -> Sections
+    ensures { GivesWalk pe_told (pe.walk file.now) out.old out.new result }
+{
+    let mut count = 0;
+    for section in file.sections() {
+        match section {
+            Ok(section) => count = place(shown_pe(section), count, out),
+            Err(e) => {
+                return Sections {
+                    status: status_of(e),
+                    count,
+                };
+            }
+        }
+    }
+    Sections { status: OK, count }
+}
+
+// Puts a section into the array behind those that came before it, where it has room, and gives how many came then.
+fn place(section: Section, count: usize, out: &mut [Section]) -> usize
+    ensures { OneMore section count out.old out.new result }
+{
+    let room = out.len();
+    if count < room {
+        out[count] = section;
+    }
+    count.saturating_add(1)
+}

@@ -96,10 +96,11 @@ beside_the_gate() {
     tests/install.sh
     must_not_compile
     crates/test_memory/refused.sh
+    crates/test_memory/refused.sh test_sections
 }
 
 # The programs that the gate builds are those that `run` would build: it is given them, with what they were made of.
-run_by_name="binfarce_list binfarce_size binfarce_filter binfarce_at"
+run_by_name="binfarce_list binfarce_size binfarce_filter binfarce_at binfarce_section"
 made_of() {
     for name in $run_by_name; do
         tools/build-program --sources "$name" >"$scratch/$name"

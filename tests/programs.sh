@@ -56,6 +56,25 @@ for name in list size; do
     ends 2 /dev/null "usage: $shown FILE [SECTION]" "$program" "$sample" .text more
 done
 
+# Sections: their lines, the bytes of one, a file without its end, a full device and a closed pipe.
+program=binfarce_section shown=binfarce-section
+run "$program" "$sample" .text >/dev/full
+told 1 "$(cat "$scratch/ended")" "$shown: write failed" "$program" "$sample" .text
+{ sleep 0.5; run "$program" "$sample"; } | :
+told 1 "$(cat "$scratch/ended")" "$shown: write failed" "$program" "$sample"
+ends 0 "crates/$program/stdout" "" "$program" "$sample"
+printf '\0_ZN3foo3barE\0bad\0' >"$scratch/strings"
+ends 0 "$scratch/strings" "" "$program" "$scratch/large" .strtab
+ends 1 /dev/null "$shown: no section of this name" "$program" "$sample" .data
+head -c 395 "$sample" >"$scratch/truncated"
+printf '%016x %10d %10d \n' 0 64 0 0 64 32 >"$scratch/lines"
+ends 1 "$scratch/lines" "$shown: unexpected end of file" "$program" "$scratch/truncated"
+ends 1 /dev/null "$shown: cannot read file" "$program" "$scratch"
+ends 1 /dev/null "$shown: cannot read file" "$program" "$scratch/missing" .text
+ends 1 /dev/null "$shown: unknown file format" "$program" /dev/null .text
+ends 2 /dev/null "usage: $shown FILE [SECTION]" "$program"
+ends 2 /dev/null "usage: $shown FILE [SECTION]" "$program" "$sample" .text more
+
 # The filter: a full device, a closed pipe, a folder for standard input, other arguments, and a line that has to be there
 # while its writer still waits.
 program=binfarce_filter shown=binfarce-filter names=crates/binfarce_filter/stdin

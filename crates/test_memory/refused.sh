@@ -5,8 +5,11 @@
 #
 # The program is built once, with checks, and not proved; each of its runs is a file that names a group of rows and the
 # number of the allocation that fails.
+#
+# Usage: ./refused.sh [CRATE], of the crates test_memory, which is the default, and test_sections
 set -eu
-cd "$(dirname "$0")"
+crate=${1:-test_memory}
+cd "$(dirname "$0")/../$crate"
 scratch=$(mktemp -d)
 trying=
 trap '[ -z "$trying" ] || kill "$trying" 2>/dev/null || true; rm -rf "$scratch"' EXIT
@@ -29,6 +32,7 @@ refusals 18
 truncated 7
 counts 8
 without_allocation 1"
+[ "$crate" = test_memory ] || rows="sections 60"
 
 # The files of a group.
 runs() {

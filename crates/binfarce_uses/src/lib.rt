@@ -12,4 +12,5 @@ pub mod name_at;
 pub mod names;
 pub mod parts;
 pub mod pe;
+pub mod sections;
 pub mod tools;

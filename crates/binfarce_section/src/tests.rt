@@ -1,0 +1,133 @@
+// bench/refuse-memory.sh lets each of the program's allocations fail in turn: it prints the usage, `out of memory` or all
+// that is due.
+
+use crate::program::{run, words};
+use binfarce_tools::list::Out;
+use std::alloc::{AllocError, Global};
+use std::io::ErrorKind;
+use test_streams::{READERS, Source, Target, ended_with, failed_with, large_file};
+
+const USAGE: &str = "usage: binfarce-section FILE [SECTION]";
+
+#[test]
+fn needs_a_file(rt: HostRuntime) -> Result<(), AllocError> {
+    let given = words(&[]).map(|_| ());
+    assert!(&rt; ended_with(rt.alloc(), given, USAGE, 2)?);
+    Ok(())
+}
+
+fn strings(alloc: Global, words: &[&str]) -> Result<Vec<String>, AllocError> {
+    let mut strings = Vec::new(alloc);
+    for word in words {
+        strings.push(String::from_str(alloc, word)?)?;
+    }
+    Ok(strings)
+}
+
+// Whether these arguments give the file `file` and this section.
+fn gives(alloc: Global, given: &[&str], section: Option<&str>) -> Result<bool, AllocError> {
+    let given = strings(alloc, given)?;
+    match words(&given) {
+        Ok((path, name)) => Ok(path == "file" && name == section),
+        Err(_) => Ok(false),
+    }
+}
+
+#[test]
+fn takes_a_file_and_a_section(rt: HostRuntime) -> Result<(), AllocError> {
+    assert!(&rt; gives(rt.alloc(), &["file"], None)?);
+    assert!(&rt; gives(rt.alloc(), &["file", ".text"], Some(".text"))?);
+    assert!(&rt; gives(rt.alloc(), &["file", ""], Some(""))?);
+    let given = strings(rt.alloc(), &["file", ".text", "more"])?;
+    let refused = words(&given).map(|_| ());
+    assert!(&rt; ended_with(rt.alloc(), refused, USAGE, 2)?);
+    Ok(())
+}
+
+#[test]
+fn tells_why_nothing_is_written(rt: HostRuntime) -> Result<(), AllocError> {
+    for name in [None, Some(".text")] {
+        for (label, bytes, end, want) in &READERS {
+            let mut out = Out::new(Vec::new(rt.alloc()));
+            let mut source = Source {
+                end: *end,
+                ..Source::of(bytes)
+            };
+            let written = run(rt.alloc(), &mut source, name, &mut out);
+            let is_told = failed_with(rt.alloc(), written, "binfarce-section", want)?;
+            assert!(&rt; is_told, "{label}");
+            assert!(&rt; out.into_inner().is_empty(), "{label}");
+        }
+    }
+    Ok(())
+}
+
+// A Mach-O file without load commands has no sections.
+#[test]
+fn reads_a_large_file(rt: HostRuntime) -> Result<(), AllocError> {
+    let bytes = large_file(rt.alloc())?;
+    let mut out = Out::new(Vec::new(rt.alloc()));
+    let written = run(
+        rt.alloc(),
+        &mut Source::of(&bytes),
+        Some("__text"),
+        &mut out,
+    );
+    let want = "no section of this name";
+    assert!(&rt; failed_with(rt.alloc(), written, "binfarce-section", want)?);
+    let listed = run(rt.alloc(), &mut Source::of(&bytes), None, &mut out);
+    assert!(&rt; listed.is_ok());
+    assert!(&rt; out.into_inner().is_empty());
+    Ok(())
+}
+
+// A PE file with one section `.dep-v0`, whose 5 bytes stand at its end.
+const PE: &[u8] =
+    b"MZ\0\0\0\0\0\0\0\0\0\0\0\0\0\0\0\0\0\0\0\0\0\0\0\0\0\0\0\0\0\0\0\0\0\0\0\0\0\0\0\0\0\0\0\0\0\0\0\0\0\0\0\0\0\0\0\0\0\0\x40\0\0\0\
+    PE\0\0\x64\x86\x01\0\0\0\0\0\0\0\0\0\0\0\0\0\0\0\0\0\
+    .dep-v0\0\0\0\0\0\0\x10\0\0\x05\0\0\0\x80\0\0\0\0\0\0\0\0\0\0\0\0\0\0\0\0\0\0\0bytes";
+
+#[test]
+fn writes_a_section_by_few_bytes(rt: HostRuntime) -> Result<(), AllocError> {
+    for most in 1..6 {
+        let mut out = Out::new(Target {
+            taken: Vec::new(rt.alloc()),
+            left: 5,
+            most,
+            end: Some(ErrorKind::Other),
+        });
+        let mut source = Source {
+            most,
+            ..Source::of(PE)
+        };
+        let written = run(rt.alloc(), &mut source, Some(".dep-v0"), &mut out);
+        assert!(&rt; written.is_ok(), "{most}");
+        assert!(&rt;
+            out.into_inner().taken.as_slice() == b"bytes".as_slice(),
+            "{most}"
+        );
+    }
+    Ok(())
+}
+
+#[test]
+fn tells_a_failed_write(rt: HostRuntime) -> Result<(), AllocError> {
+    for name in [None, Some(".dep-v0")] {
+        for left in 0..5 {
+            let mut out = Out::new(Target {
+                taken: Vec::new(rt.alloc()),
+                left,
+                most: 2,
+                end: None,
+            });
+            let written = run(rt.alloc(), &mut Source::of(PE), name, &mut out);
+            let want = "write failed";
+            assert!(&rt;
+                failed_with(rt.alloc(), written, "binfarce-section", want)?,
+                "{left}"
+            );
+            assert!(&rt; out.into_inner().taken.len() == left, "{left}");
+        }
+    }
+    Ok(())
+}

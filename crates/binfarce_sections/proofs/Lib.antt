@@ -1,0 +1,4 @@
+pub mod FullNames
+pub mod Opening
+pub mod Pads
+pub mod Searching

@@ -1,0 +1,49 @@
+-- The search for the first section of a name, and what a call returns that can't go on.
+use Rattle.std.proofs.Common.{◌≡◌, ℕ, List, [], Option, Some, None, Result, Ok, Err, refl, sym, ap, subst, append-nil}
+use Rattle.std.specs.Io.KnownBytes.{Appends}
+use Rattle.std.specs.Result.{IsErrAnd}
+use Rattle.binfarce.specs.Refusal.{refusal_of}
+use Rattle.binfarce.specs.Walk.{Walk, first}
+use Rattle.binfarce_sections.specs.declared.error.SectionError.{SectionError}
+use Rattle.binfarce_sections.specs.declared.error.SectionError.TheVariants.{Unknown, Parse, NoSection, NoBytes, PastEnd, OutOfMemory, Write}
+use Rattle.binfarce_sections.specs.Named.{is_named, bytes_found, bytes_named, unknown_format, refused}
+use Rattle.binfarce_sections.specs.Section.{Section}
+use Rattle.binfarce_sections.specs.Telling.{Hands, TakesLines}
+use Rattle.binfarce_sections.specs.declared.sections.Sections.{Sections}
+use Rattle.binfarce_sections.specs.Views.{Opens}
+use Rattle.binfarce_sections.specs.machine.Found.{Finds}
+
+-- what is found in the whole walk is what is found in what is left of it
+abbrev pub GoesOn : Option (Walk Section) → List ℕ → Walk Section → Type 0
+GoesOn None word left = ⊥
+GoesOn (Some walk) word left = first (is_named word) walk ≡ first (is_named word) left
+
+found_not : {X : Type 0} (view : X → List ℕ) (walk : Option (Walk Section)) (file word : List ℕ) (e : SectionError) → Finds walk word (Err e) → Hands view (bytes_named walk file word) (Err e)
+unfolding bytes_named
+found_not view None file word e is = rw is (unknown_format, refl, refl)
+found_not view (Some walk) file word Unknown is = absurd is
+found_not view (Some walk) file word (Parse e) is = (refused (refusal_of e), ap (bytes_found file) is, refl)
+found_not view (Some walk) file word NoSection is = absurd is
+found_not view (Some walk) file word NoBytes is = absurd is
+found_not view (Some walk) file word PastEnd is = absurd is
+found_not view (Some walk) file word OutOfMemory is = absurd is
+found_not view (Some walk) file word Write is = absurd is
+
+-- where no section is found, why is handed on
+pub hands_on : {X : Type 0} (view : X → List ℕ) (walk : Option (Walk Section)) (file word : List ℕ) (e : SectionError) (result : Result X SectionError)
+    → Finds walk word (Err e) → IsErrAnd result (λ f. f ≡ e) → Hands view (bytes_named walk file word) result
+hands_on view walk file word e (Ok x) found is = absurd is
+hands_on {X = X} view walk file word e (Err f) found is =
+    let P : SectionError → Type 0 = λ (g : SectionError). Hands {X = X} view (bytes_named walk file word) (Err g) in
+    subst P (sym is) (found_not view walk file word e found)
+
+nothing : (taken : Option (List ℕ)) → Appends taken taken []
+nothing None = tt
+nothing (Some bytes) = sym (append-nil bytes)
+
+-- where an allocation fails before the first write, nothing was taken
+pub untaken : (walk : Option (Walk Section)) (sections : Sections) (taken : Option (List ℕ)) (result : Result (Unit {0}) SectionError)
+    → Opens walk (Ok sections) → IsErrAnd result (λ f. f ≡ OutOfMemory) → TakesLines walk taken taken result
+untaken None sections taken result opened is = absurd opened
+untaken (Some walk) sections taken (Ok x) opened is = absurd is
+untaken (Some walk) sections taken (Err e) opened is = subst (λ (f : SectionError). TakesLines (Some walk) taken taken (Err f)) (sym is) (nothing taken)

@@ -1,0 +1,24 @@
+-- The text that lists sections.
+use Rattle.std.specs.Prelude.{ℕ, List, [], ◌∷◌, ◌++◌, codes, Option, Some, None}
+use Rattle.std.specs.List.{flat_map}
+use Rattle.binfarce_tools.specs.Listing.{address_text, size_text}
+use Rattle.binfarce_sections.specs.Section.{Section}
+use Rattle.binfarce_sections.specs.Named.{full_name}
+
+-- the name as it is stored, in Mach-O behind the segment's; nothing for a section without one
+abbrev pub name_text : Option (List ℕ) → Option (List ℕ) → List ℕ
+name_text segment None = []
+name_text None (Some name) = name
+name_text (Some segment) (Some name) = full_name segment name
+
+-- `{address:016x} {offset:>10} {size:>10} `, which stands before the name
+abbrev pub line_head : ℕ → ℕ → ℕ → List ℕ
+line_head address offset size = address_text address ++ (codes " " ++ (size_text offset ++ (codes " " ++ (size_text size ++ codes " "))))
+
+-- the numbers of a section and its name, and a line feed
+abbrev pub section_line : Section → List ℕ
+section_line s = line_head s.address s.offset s.size ++ (name_text s.segment s.name ++ 10 ∷ [])
+
+-- a line for each section, in order
+abbrev pub section_lines : List Section → List ℕ
+section_lines sections = flat_map section_line sections

@@ -1,0 +1,81 @@
+-- The sections of a file of any format.
+use Rattle.std.specs.Prelude.{ℕ, Bool, ◌&&◌, List, length, map, Option, Some, None, nat_eq, nat_lt, not, min, if◌then◌else◌}
+use Rattle.binfarce.specs.declared.ByteOrder.{ByteOrder}
+use Rattle.binfarce.specs.declared.Format.{Format}
+use Rattle.binfarce.specs.declared.Format.TheVariants.{Elf32, Elf64, Macho, PE, Unknown}
+use Rattle.binfarce.specs.Refusal.{unexpected_eof}
+use Rattle.binfarce.specs.Walk.{Walk, ended}
+use Rattle.binfarce.specs.Elf as elf
+use Rattle.binfarce.specs.Elf.{elf32, elf64}
+use Rattle.binfarce.specs.Macho as macho
+use Rattle.binfarce.specs.Pe as pe
+
+-- a section: its segment's name in Mach-O, its own name, which an ELF section may lack, its address in memory, where it begins in the file, its size in bytes, and whether it has bytes in the file
+pub record Section : Type 0 where
+  pub segment : Option (List ℕ)
+  pub name : Option (List ℕ)
+  pub address : ℕ
+  pub offset : ℕ
+  pub size : ℕ
+  pub has_bytes : Bool
+
+-- of an ELF section: a section of type 8 (SHT_NOBITS) has no bytes in the file (gABI, "Sections")
+abbrev pub elf_section : elf.ElfClass → elf.SectionTable → elf.Section → Section
+elf_section class table s = record {
+  segment = None;
+  name = elf.name_of class table s;
+  address = s.address;
+  offset = s.offset;
+  size = s.size;
+  has_bytes = not (nat_eq s.kind 8);
+}
+
+-- of a Mach-O section: one whose offset is 0, as that of a section that is filled with zeros, has no bytes in the file
+abbrev pub macho_section : macho.Section → Section
+macho_section s = record {
+  segment = Some s.segment_name;
+  name = Some s.section_name;
+  address = s.address;
+  offset = s.offset;
+  size = s.size;
+  has_bytes = not (nat_eq s.offset 0);
+}
+
+-- the size of a PE section: the one that is given, and where both are the smaller one. Of an image SizeOfRawData is rounded up, and an object file gives VirtualSize as 0
+abbrev pub pe_size : ℕ → ℕ → ℕ
+pe_size virtual raw = if nat_eq virtual 0 then raw else if nat_eq raw 0 then virtual else min virtual raw
+
+-- of a PE section: one without raw data has no bytes in the file (PE Format, "Section Table")
+abbrev pub pe_section : pe.Section → Section
+pe_section s = record {
+  segment = None;
+  name = Some s.name;
+  address = s.virtual_address;
+  offset = s.pointer_to_raw_data;
+  size = pe_size s.virtual_size s.size_of_raw_data;
+  has_bytes = not (nat_eq s.pointer_to_raw_data 0) && not (nat_eq s.size_of_raw_data 0);
+}
+
+-- a walk over what each item is
+abbrev pub mapped : {S T : Type 0} → (S → T) → Walk S → Walk T
+mapped f walk = record { items = map f walk.items; refusal = walk.refusal }
+
+-- the sections of an ELF file: one that is too short for its header ends before what it should hold
+abbrev pub elf_sections : elf.ElfClass → ByteOrder → List ℕ → Walk Section
+elf_sections class order file =
+    let table = elf.section_table class (record { order = order; bytes = file }) in
+    if nat_lt (length file) class.header_length then ended (Some unexpected_eof) else mapped (elf_section class table) (elf.walk class table)
+
+abbrev pub macho_sections : List ℕ → Walk Section
+macho_sections file = if nat_lt (length file) macho.least_length then ended (Some unexpected_eof) else mapped macho_section (macho.walk file)
+
+abbrev pub pe_sections : List ℕ → Walk Section
+pe_sections file = if nat_lt (length file) (pe.least_length file) then ended (Some unexpected_eof) else mapped pe_section (pe.walk file)
+
+-- the sections of a file of this format, in file order; no reader reads an unknown one
+unfoldable pub sections_of : Format → List ℕ → Option (Walk Section)
+sections_of (Elf32 order) file = Some (elf_sections elf32 order file)
+sections_of (Elf64 order) file = Some (elf_sections elf64 order file)
+sections_of Macho file = Some (macho_sections file)
+sections_of PE file = Some (pe_sections file)
+sections_of Unknown file = None

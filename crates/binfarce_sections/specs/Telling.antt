@@ -1,0 +1,56 @@
+-- What the calls return, and what their sink has taken then.
+use Rattle.std.specs.Prelude.{◌≡◌, ℕ, List, [], Bool, true, codes, Option, Some, None, Result, Ok, Err}
+use Rattle.std.specs.Io.KnownBytes.{Appends}
+use Rattle.binfarce.specs.Refusal.{refusal_of, words}
+use Rattle.binfarce.specs.Walk.{Walk}
+use Rattle.binfarce_tools.specs.Writing.{AppendsBeginning}
+use Rattle.binfarce_sections.specs.declared.error.SectionError.{SectionError}
+use Rattle.binfarce_sections.specs.declared.error.SectionError.TheVariants.{Unknown, Parse, NoSection, NoBytes, PastEnd, OutOfMemory, Write}
+use Rattle.binfarce_sections.specs.Lines.{section_lines}
+use Rattle.binfarce_sections.specs.Named.{Lack, unknown_format, refused, no_section, no_bytes, past_end}
+use Rattle.binfarce_sections.specs.Section.{Section}
+
+-- what is printed
+abbrev pub section_words : SectionError → List ℕ
+section_words Unknown = codes "unknown file format"
+section_words (Parse e) = words (refusal_of e)
+section_words NoSection = codes "no section of this name"
+section_words NoBytes = codes "section has no bytes in the file"
+section_words PastEnd = codes "section reaches past the end of the file"
+section_words OutOfMemory = codes "out of memory"
+section_words Write = codes "write failed"
+
+-- the error is that the bytes can't be had, for this reason
+abbrev pub IsLack : Lack → SectionError → Type 0
+IsLack lack Unknown = lack ≡ unknown_format
+IsLack lack (Parse e) = lack ≡ refused (refusal_of e)
+IsLack lack NoSection = lack ≡ no_section
+IsLack lack NoBytes = lack ≡ no_bytes
+IsLack lack PastEnd = lack ≡ past_end
+IsLack lack OutOfMemory = ⊥
+IsLack lack Write = ⊥
+
+-- a call gives these bytes, or tells why they can't be had
+abbrev pub Hands : {X : Type 0} → (X → List ℕ) → Result (List ℕ) Lack → Result X SectionError → Type 0
+Hands view answer (Ok x) = answer ≡ Ok (view x)
+Hands view answer (Err e) = (lack : Lack) × (answer ≡ Err lack) × IsLack lack e
+
+-- bytes were taken whole; where a write failed, a beginning of them; and else none, and it is told why there are none
+abbrev pub TakesBytes : Result (List ℕ) Lack → Option (List ℕ) → Option (List ℕ) → Result (Unit {0}) SectionError → Type 0
+TakesBytes answer old new (Ok x) = (bytes : List ℕ) × (answer ≡ Ok bytes) × Appends old new bytes
+TakesBytes answer old new (Err Write) = (bytes : List ℕ) × (answer ≡ Ok bytes) × AppendsBeginning old new bytes
+TakesBytes answer old new (Err e) = (lack : Lack) × (answer ≡ Err lack) × IsLack lack e × Appends old new []
+
+-- the lines of the sections were taken, and then the walk's refusal is told, if it has one; where a write failed a beginning of the lines; and where an allocation failed, or the format is unknown, nothing
+abbrev pub TakesLines : Option (Walk Section) → Option (List ℕ) → Option (List ℕ) → Result (Unit {0}) SectionError → Type 0
+TakesLines None old new result = (result ≡ Err Unknown) × Appends old new []
+TakesLines (Some walk) old new (Ok x) = (walk.refusal ≡ None) × Appends old new (section_lines walk.items)
+TakesLines (Some walk) old new (Err (Parse e)) = (walk.refusal ≡ Some (refusal_of e)) × Appends old new (section_lines walk.items)
+TakesLines (Some walk) old new (Err OutOfMemory) = Appends old new []
+TakesLines (Some walk) old new (Err Write) = AppendsBeginning old new (section_lines walk.items)
+TakesLines (Some walk) old new (Err e) = ⊥
+
+-- whether the sink has failed afterwards: where a write failed; anything else leaves it as it was
+abbrev pub Fails : Bool → Bool → Result (Unit {0}) SectionError → Type 0
+Fails old new (Err Write) = new ≡ true
+Fails old new result = new ≡ old

@@ -1,0 +1,40 @@
+-- What clauses see of sections and of what is left of them.
+use Rattle.std.specs.Prelude.{◌≡◌, Option, Some, None, Result, Ok, Err}
+use Rattle.std.specs.Option.{option_map}
+use Rattle.binfarce.specs.declared.ParseError.{ParseError}
+use Rattle.binfarce.specs.Refusal.{refusal_of}
+use Rattle.binfarce.specs.Walk.{Walk, ended}
+use Rattle.binfarce.specs.Elf.{elf32, elf64, section_table}
+use Rattle.binfarce_sections.specs.declared.sections.Section as code
+use Rattle.binfarce_sections.specs.declared.sections.Elf32Sections.{Elf32Sections}
+use Rattle.binfarce_sections.specs.declared.sections.Elf64Sections.{Elf64Sections}
+use Rattle.binfarce_sections.specs.declared.sections.Sections.{Sections}
+use Rattle.binfarce_sections.specs.declared.sections.Sections.TheVariants as variants
+use Rattle.binfarce_sections.specs.declared.error.SectionError.{SectionError}
+use Rattle.binfarce_sections.specs.declared.error.SectionError.TheVariants.{Unknown, Parse}
+use Rattle.binfarce_sections.specs.Section.{Section, elf_section, macho_section, pe_section, mapped}
+
+-- a `Section`
+abbrev pub section_view : code.Section → Section
+section_view s = record { segment = option_map (λ t. t.now) s.segment; name = option_map (λ t. t.now) s.name; address = s.address; offset = s.offset; size = s.size; has_bytes = s.has_bytes }
+
+-- the sections that an ELF file has left
+abbrev pub elf32_left : Elf32Sections → Walk Section
+elf32_left s = mapped (elf_section elf32 (section_table elf32 s.file)) s.left
+
+abbrev pub elf64_left : Elf64Sections → Walk Section
+elf64_left s = mapped (elf_section elf64 (section_table elf64 s.file)) s.left
+
+-- the sections that an iterator has left
+abbrev pub sections_left : Sections → Walk Section
+sections_left (variants.Elf32 sections) = elf32_left sections
+sections_left (variants.Elf64 sections) = elf64_left sections
+sections_left (variants.Macho left) = mapped macho_section left
+sections_left (variants.Pe left) = mapped pe_section left
+
+-- what a call returns that gives the sections of a file: all of them; or the refusal that comes before any
+abbrev pub Opens : Option (Walk Section) → Result Sections SectionError → Type 0
+Opens (Some walk) (Ok sections) = sections_left sections ≡ walk
+Opens (Some walk) (Err e) = (p : ParseError) × (walk ≡ ended (Some (refusal_of p))) × (e ≡ Parse p)
+Opens None (Ok sections) = ⊥
+Opens None (Err e) = e ≡ Unknown

@@ -1,0 +1,19 @@
+-- What is found before its bytes are cut.
+use Rattle.std.specs.Prelude.{◌≡◌, ℕ, List, Option, Some, None, Result, Ok, Err}
+use Rattle.std.specs.Option.{option_map}
+use Rattle.binfarce.specs.Refusal.{refusal_of}
+use Rattle.binfarce.specs.Walk.{Walk, first}
+use Rattle.binfarce_sections.specs.declared.error.SectionError.{SectionError}
+use Rattle.binfarce_sections.specs.declared.error.SectionError.TheVariants.{Unknown, Parse}
+use Rattle.binfarce_sections.specs.declared.sections.Section as code
+use Rattle.binfarce_sections.specs.Named.{is_named}
+use Rattle.binfarce_sections.specs.Section.{Section}
+use Rattle.binfarce_sections.specs.Views.{section_view}
+
+-- the first section that the word names, or why the walk doesn't come to it
+abbrev pub Finds : Option (Walk Section) → List ℕ → Result (Option code.Section) SectionError → Type 0
+Finds (Some walk) word (Ok found) = first (is_named word) walk ≡ Ok (option_map section_view found)
+Finds (Some walk) word (Err (Parse e)) = first (is_named word) walk ≡ Err (refusal_of e)
+Finds (Some walk) word (Err e) = ⊥
+Finds None word (Ok found) = ⊥
+Finds None word (Err e) = e ≡ Unknown

@@ -1,0 +1,111 @@
+//! The bytes of the first section of a name.
+
+ghost use Rattle.std.specs.Prelude.{◌≡◌, ◌∷◌};
+ghost use Rattle.std.specs.Str.{bytes_eq};
+ghost use Rattle.binfarce.specs.Format.{format_of};
+ghost use Rattle.binfarce_sections.specs.Named.{full_name, is_named, bytes_of, bytes_named};
+ghost use Rattle.binfarce_sections.specs.Section.{sections_of};
+ghost use Rattle.binfarce_sections.specs.Telling.{Hands, TakesBytes, Fails};
+ghost use Rattle.binfarce_sections.specs.Views.{section_view};
+ghost use Rattle.binfarce_sections.specs.machine.Found.{Finds};
+
+use crate::error::SectionError;
+use crate::sections::{Section, sections_of};
+use binfarce_tools::list::Sink;
+use binfarce_tools::writing::write_whole;
+
+/// The bytes of the first section of this name, a part of the file; nothing is copied or allocated.
+///
+/// The format is the one that the file's first bytes name. In a Mach-O file the name is `SEGMENT,SECTION`, as
+/// `__TEXT,__text`, or a section's name alone, which is then the first of that name in any segment. In a PE file a name of
+/// more than 8 bytes stands in the string table, and the section's own name is as `/4`.
+///
+/// # Errors
+///
+/// `Unknown` where the format isn't one that is read; `Parse` where the reader refuses the file before the section is
+/// found; `NoSection` where no section has the name; `NoBytes` where the section has no bytes in the file (`SHT_NOBITS`,
+/// in Mach-O an offset of 0, in PE no raw data); `PastEnd` where its bytes end past the file.
+#[tactic(auto, unfolding(crate::specs::Named::bytes_named))]
+pub fn section_bytes<'a>(data: &'a [u8], name: &str) -> Result<&'a [u8], SectionError>
+    ensures { Hands (λ b. b.now) (bytes_named (sections_of (format_of data.entry.now) data.entry.now) data.entry.now name.now) result }
+{
+    match first_section(data, name)? {
+        Some(section) => bytes_of(data, section),
+        None => Err(SectionError::NoSection),
+    }
+}
+
+/// Writes the bytes of the first section of this name to the sink, as `section_bytes` gives them; none is copied on the way.
+///
+/// # Errors
+///
+/// As `section_bytes`, before anything is written; `Write` where a write failed, which alone can leave a beginning of the
+/// bytes written.
+pub fn write_section<S: Sink>(data: &[u8], name: &str, out: &mut S) -> Result<(), SectionError>
+    ensures takes { TakesBytes (bytes_named (sections_of (format_of data.now) data.now) data.now name.now) (S.taken out.old) (S.taken out.new) result }
+    ensures fails { Fails (S.has_failed out.old) (S.has_failed out.new) result }
+{
+    let bytes = section_bytes(data, name)?;
+    write_whole(out, bytes).map_err(|_| SectionError::Write)
+}
+
+// The first section of this name.
+fn first_section<'a>(data: &'a [u8], name: &str) -> Result<Option<Section<'a>>, SectionError>
+    ensures { Finds (sections_of (format_of data.entry.now) data.entry.now) name.now result }
+{
+    for section in sections_of(data)? {
+        let section = section?;
+        if is_named(&section, name) {
+            return Ok(Some(section));
+        }
+    }
+    Ok(None)
+}
+
+// The bytes of a section, a part of the file.
+#[tactic(auto, unfolding(crate::specs::Named::bytes_of))]
+fn bytes_of<'a>(data: &'a [u8], section: Section<'_>) -> Result<&'a [u8], SectionError>
+    ensures { Hands (λ b. b.now) (bytes_of data.entry.now (section_view section.entry)) result }
+{
+    if !section.has_bytes {
+        return Err(SectionError::NoBytes);
+    }
+    let start = section.offset as usize;
+    let end = start
+        .checked_add(section.size as usize)
+        .ok_or(SectionError::PastEnd)?;
+    data.get(start..end).ok_or(SectionError::PastEnd)
+}
+
+// Whether the word names the section.
+fn is_named(section: &Section<'_>, word: &str) -> bool
+    ensures { result ≡ is_named word.now (section_view section.now) }
+{
+    match section.name {
+        None => false,
+        Some(name) => match section.segment {
+            None => word == name,
+            Some(segment) => word == name || is_full_name(word, segment, name),
+        },
+    }
+}
+
+// Whether the word is a segment's name, a comma and a section's name.
+fn is_full_name(word: &str, segment: &str, name: &str) -> bool
+    ensures { result ≡ bytes_eq word.now (full_name segment.now name.now) }
+{
+    match word.as_bytes().strip_prefix(segment.as_bytes()) {
+        Some(rest) => is_after_comma(rest, name.as_bytes()),
+        None => false,
+    }
+}
+
+// Whether the bytes are a comma and the name.
+fn is_after_comma(bytes: &[u8], name: &[u8]) -> bool
+    ensures { result ≡ bytes_eq bytes.now (44 ∷ name.now) }
+{
+    match bytes {
+        [b',', rest @ ..] => *rest == *name,
+        _ => false,
+    }
+}

@@ -1,0 +1,67 @@
+//! Why no sections or no bytes of one are given.
+
+ghost use Rattle.std.specs.Prelude.{◌≡◌, Some};
+
+use binfarce::ParseError;
+use std::alloc::AllocError;
+use std::error::Error;
+use std::fmt;
+
+/// Why the sections of a file were not listed, or the bytes of one not given.
+#[derive(Debug, PartialEq, Drop)]
+pub enum SectionError {
+    /// The file's first bytes name no format that is read.
+    Unknown,
+    /// The reader of the file's format refused it before the section was found, or before the last one was listed.
+    Parse(ParseError),
+    /// The file has no section of this name.
+    NoSection,
+    /// The section has no bytes in the file.
+    NoBytes,
+    /// The section's bytes end past the file.
+    PastEnd,
+    /// An allocation failed.
+    OutOfMemory,
+    /// A write of the sink failed. What it took before is a beginning of what was due.
+    Write,
+}
+
+impl fmt::Display for SectionError {
+    ghost use Rattle.binfarce_sections.specs.Telling.{section_words};
+
+    ghost output = { λ e. Some (section_words e) };
+
+    fn fmt<W: fmt::Write>(&self, f: &mut fmt::Formatter<W>) -> fmt::Result {
+        match self {
+            SectionError::Unknown => write!(f, "unknown file format"),
+            SectionError::Parse(e) => write!(f, "{e}"),
+            SectionError::NoSection => write!(f, "no section of this name"),
+            SectionError::NoBytes => write!(f, "section has no bytes in the file"),
+            SectionError::PastEnd => write!(f, "section reaches past the end of the file"),
+            SectionError::OutOfMemory => write!(f, "out of memory"),
+            SectionError::Write => write!(f, "write failed"),
+        }
+    }
+}
+
+impl Error for SectionError {}
+
+impl From<ParseError> for SectionError {
+    ghost use Rattle.binfarce_sections.specs.declared.error.SectionError.TheVariants.{Parse};
+
+    ghost from_gives = { λ e s. s ≡ Parse e };
+
+    fn from(e: ParseError) -> Self {
+        SectionError::Parse(e)
+    }
+}
+
+impl From<AllocError> for SectionError {
+    ghost use Rattle.binfarce_sections.specs.declared.error.SectionError.TheVariants.{OutOfMemory};
+
+    ghost from_gives = { λ _ s. s ≡ OutOfMemory };
+
+    fn from(_: AllocError) -> Self {
+        SectionError::OutOfMemory
+    }
+}

@@ -1,0 +1,96 @@
+//! Lists the sections of an executable, a line each.
+
+ghost use Rattle.std.specs.Prelude.{◌≡◌, ◌++◌, OnOk, IfOk};
+ghost use Rattle.std.specs.Option.{option_map};
+ghost use Rattle.std.specs.String.{string_bytes};
+ghost use Rattle.binfarce.specs.Format.{format_of};
+ghost use Rattle.binfarce_sections.specs.Lines.{section_line, line_head, name_text};
+ghost use Rattle.binfarce_sections.specs.Section.{sections_of};
+ghost use Rattle.binfarce_sections.specs.Telling.{TakesLines, Fails};
+ghost use Rattle.binfarce_sections.specs.Views.{section_view, sections_left};
+ghost use Rattle.binfarce_sections.specs.machine.Listed.{Lists};
+
+use crate::error::SectionError;
+use crate::sections::{Section, Sections, sections_of};
+use binfarce::ParseError;
+use binfarce_tools::list::Sink;
+use binfarce_tools::writing::write_whole;
+use std::alloc::{AllocError, Global};
+use std::fmt::Write;
+
+/// Lists the sections of a file in file order, a line each, as far as they can be read.
+///
+/// The format is the one that the file's first bytes name. A line is `{address:016x} {offset:>10} {size:>10} {name}`, with
+/// the offset in the file and the size in bytes; in a Mach-O file the name is `SEGMENT,SECTION`. Names are written as they
+/// are stored, whatever characters they hold. All lines are made before the first byte is written.
+///
+/// # Errors
+///
+/// `Unknown` where the format isn't one that is read, and `OutOfMemory` where an allocation failed: nothing is written then.
+/// `Parse` where the reader refuses to go on: the lines of the sections before are written. `Write` where a write failed,
+/// which can leave a beginning of the lines written.
+pub fn list_sections<S: Sink>(alloc: Global, data: &[u8], out: &mut S) -> Result<(), SectionError>
+    ensures takes { TakesLines (sections_of (format_of data.now) data.now) (S.taken out.old) (S.taken out.new) result }
+    ensures fails { Fails (S.has_failed out.old) (S.has_failed out.new) result }
+{
+    let sections = match sections_of(data) {
+        Ok(sections) => sections,
+        Err(e) => return Err(e),
+    };
+    let (text, refusal) = lines_of(alloc, sections)?;
+    write_whole(out, text.as_bytes()).map_err(|_| SectionError::Write)?;
+    match refusal {
+        Some(e) => Err(SectionError::Parse(e)),
+        None => Ok(()),
+    }
+}
+
+// The lines of all sections that are left, and the refusal that ends them.
+fn lines_of(
+    alloc: Global,
+    sections: Sections<'_>,
+) -> Result<(String, Option<ParseError>), AllocError>
+    ensures { IfOk result (Lists (sections_left sections.entry)) }
+{
+    let mut text = String::new(alloc);
+    for section in sections {
+        match section {
+            Ok(section) => push_line(&mut text, section)?,
+            Err(e) => return Ok((text, Some(e))),
+        }
+    }
+    Ok((text, None))
+}
+
+// Writes the line of a section after the text.
+fn push_line(text: &mut String, section: Section<'_>) -> Result<(), AllocError>
+    ensures { OnOk result (string_bytes text.new ≡ string_bytes text.old ++ section_line (section_view section.entry)) }
+{
+    push_head(text, section.address, section.offset, section.size)?;
+    push_name(text, section.segment, section.name)?;
+    text.push_str("\n")
+}
+
+// Writes what stands before a section's name.
+#[tactic(auto, using(crate::proofs::Pads::address_padded, crate::proofs::Pads::size_padded))]
+fn push_head(text: &mut String, address: u64, offset: u64, size: u64) -> Result<(), AllocError>
+    ensures { OnOk result (string_bytes text.new ≡ string_bytes text.old ++ line_head address offset size) }
+{
+    write!(text, "{address:016x} {offset:>10} {size:>10} ")
+}
+
+// Writes a section's name, in Mach-O behind its segment's.
+fn push_name(text: &mut String, segment: Option<&str>, name: Option<&str>) -> Result<(), AllocError>
+    ensures { OnOk result (string_bytes text.new ≡ string_bytes text.old ++ name_text (option_map (λ t. t.now) segment.entry) (option_map (λ t. t.now) name.entry)) }
+{
+    match name {
+        None => Ok(()),
+        Some(name) => {
+            if let Some(segment) = segment {
+                text.push_str(segment)?;
+                text.push_str(",")?;
+            }
+            text.push_str(name)
+        }
+    }
+}

@@ -1,0 +1,247 @@
+//! The sections of a file of any format, one after the other.
+
+ghost use Rattle.std.specs.Prelude.{◌≡◌};
+ghost use Rattle.binfarce.specs.Elf as elf;
+ghost use Rattle.binfarce.specs.ElfViews as elf_views;
+ghost use Rattle.binfarce.specs.Format.{format_of};
+ghost use Rattle.binfarce.specs.MachoViews as macho_views;
+ghost use Rattle.binfarce.specs.PeViews as pe_views;
+ghost use Rattle.binfarce.specs.Refusal.{refusal_of};
+ghost use Rattle.binfarce.specs.Walk.{YieldsNext};
+ghost use Rattle.binfarce_sections.specs.Section.{elf_section, macho_section, pe_section, pe_size, mapped, sections_of, elf_sections, macho_sections, pe_sections};
+ghost use Rattle.binfarce_sections.specs.Views.{section_view, elf32_left, elf64_left, Opens};
+ghost use Rattle.binfarce_sections.specs.machine.Opened.{OpensWalk};
+
+use crate::error::SectionError;
+use binfarce::{ByteOrder, Format, ParseError, detect_format, elf32, elf64, macho, pe};
+
+/// A section of a file of any format. Its names are parts of the file; nothing is copied.
+#[derive(Debug, Clone, Copy)]
+pub struct Section<'a> {
+    /// In a Mach-O file the name of its segment (`segname`), as `__TEXT`; elsewhere `None`.
+    pub segment: Option<&'a str>,
+    /// Its name as it is stored; `None` for an ELF section without one.
+    pub name: Option<&'a str>,
+    /// The address of its first byte in memory (`sh_addr`, `addr`); in a PE file counted from the image base
+    /// (`VirtualAddress`).
+    pub address: u64,
+    /// Where its bytes begin in the file (`sh_offset`, `offset`, `PointerToRawData`), as the file states it.
+    pub offset: u64,
+    /// Its size in bytes (`sh_size`, `size`), as the file states it; of `VirtualSize` and `SizeOfRawData` of a PE file the
+    /// one that isn't 0, and else the smaller one.
+    pub size: u64,
+    /// Whether it has bytes in the file: not in ELF where its type is `SHT_NOBITS`, not in Mach-O where its offset is 0,
+    /// and not in PE where `PointerToRawData` or `SizeOfRawData` is 0.
+    pub has_bytes: bool,
+}
+
+/// The sections of a file that are left, in file order. It borrows the file's bytes.
+///
+/// A section is read when it is asked for. A refusal comes in the place of one that can't be read, and after it nothing.
+#[must_use = "iterators are lazy and do nothing unless consumed"]
+#[derive(Drop)]
+pub enum Sections<'a> {
+    Elf32(Elf32Sections<'a>),
+    Elf64(Elf64Sections<'a>),
+    Macho(macho::Sections<'a>),
+    Pe(pe::Sections<'a>),
+}
+
+/// The sections of a 32-bit ELF file that are left, and the file, which has their names.
+#[derive(Drop)]
+pub struct Elf32Sections<'a> {
+    file: elf32::Elf32<'a>,
+    left: elf32::Sections<'a>,
+}
+
+/// The sections of a 64-bit ELF file that are left, and the file, which has their names.
+#[derive(Drop)]
+pub struct Elf64Sections<'a> {
+    file: elf64::Elf64<'a>,
+    left: elf64::Sections<'a>,
+}
+
+impl<'a> Iterator for Sections<'a> {
+    ghost use Rattle.binfarce.specs.Refusal.{refusal_of};
+    ghost use Rattle.binfarce.specs.Walk.{YieldsNext, walk_count};
+    ghost use Rattle.binfarce_sections.specs.Views.{section_view, sections_left};
+
+    type Item = Result<Section<'a>, ParseError>;
+
+    ghost next_gives = { λ before item after. YieldsNext refusal_of section_view (sections_left before) item (sections_left after) };
+
+    ghost remaining = { λ s. walk_count (sections_left s) };
+
+    fn next(&mut self) -> Option<Result<Section<'a>, ParseError>> {
+        match self {
+            Sections::Elf32(sections) => sections.next(),
+            Sections::Elf64(sections) => sections.next(),
+            Sections::Macho(left) => next_macho(left),
+            Sections::Pe(left) => next_pe(left),
+        }
+    }
+}
+
+/// The sections of a file, whose format is the one that its first bytes name. Nothing is allocated.
+///
+/// # Errors
+///
+/// `Unknown` where the format isn't one that is read; `Parse` where the file is too short for its header.
+#[tactic(auto, unfolding(crate::specs::Section::sections_of))]
+pub fn sections_of(data: &[u8]) -> Result<Sections<'_>, SectionError>
+    ensures { Opens (sections_of (format_of data.entry.now) data.entry.now) result }
+{
+    match detect_format(data) {
+        Format::Elf32 { byte_order } => Ok(open_elf32(data, byte_order)?),
+        Format::Elf64 { byte_order } => Ok(open_elf64(data, byte_order)?),
+        Format::Macho => Ok(open_macho(data)?),
+        Format::PE => Ok(open_pe(data)?),
+        Format::Unknown => Err(SectionError::Unknown),
+    }
+}
+
+#[tactic(auto, using(crate::proofs::Opening::of_32_bits))]
+fn open_elf32(data: &[u8], byte_order: ByteOrder) -> Result<Sections<'_>, ParseError>
+    ensures { OpensWalk (elf_sections elf.elf32 byte_order data.entry.now) result }
+{
+    let file = elf32::parse(data, byte_order)?;
+    let left = file.sections();
+    Ok(Sections::Elf32(Elf32Sections { file, left }))
+}
+
+#[tactic(auto, using(crate::proofs::Opening::of_64_bits))]
+fn open_elf64(data: &[u8], byte_order: ByteOrder) -> Result<Sections<'_>, ParseError>
+    ensures { OpensWalk (elf_sections elf.elf64 byte_order data.entry.now) result }
+{
+    let file = elf64::parse(data, byte_order)?;
+    let left = file.sections();
+    Ok(Sections::Elf64(Elf64Sections { file, left }))
+}
+
+fn open_macho(data: &[u8]) -> Result<Sections<'_>, ParseError>
+    ensures { OpensWalk (macho_sections data.entry.now) result }
+{
+    let file = macho::parse(data)?;
+    Ok(Sections::Macho(file.sections()))
+}
+
+fn open_pe(data: &[u8]) -> Result<Sections<'_>, ParseError>
+    ensures { OpensWalk (pe_sections data.entry.now) result }
+{
+    let file = pe::parse(data)?;
+    Ok(Sections::Pe(file.sections()))
+}
+
+impl<'a> Elf32Sections<'a> {
+    // The first section that is left, or why it can't be read.
+    fn next(&mut self) -> Option<Result<Section<'a>, ParseError>>
+        ensures { YieldsNext refusal_of section_view (elf32_left self.old) result (elf32_left self.new) }
+    {
+        match self.left.next() {
+            Some(Ok(section)) => Some(Ok(elf32_section(&self.file, section))),
+            Some(Err(e)) => Some(Err(e)),
+            None => None,
+        }
+    }
+}
+
+impl<'a> Elf64Sections<'a> {
+    // The first section that is left, or why it can't be read.
+    fn next(&mut self) -> Option<Result<Section<'a>, ParseError>>
+        ensures { YieldsNext refusal_of section_view (elf64_left self.old) result (elf64_left self.new) }
+    {
+        match self.left.next() {
+            Some(Ok(section)) => Some(Ok(elf64_section(&self.file, section))),
+            Some(Err(e)) => Some(Err(e)),
+            None => None,
+        }
+    }
+}
+
+fn next_macho<'a>(left: &mut macho::Sections<'a>) -> Option<Result<Section<'a>, ParseError>>
+    ensures { YieldsNext refusal_of section_view (mapped macho_section left.old) result (mapped macho_section left.new) }
+{
+    match left.next() {
+        Some(Ok(section)) => Some(Ok(macho_section(section))),
+        Some(Err(e)) => Some(Err(e)),
+        None => None,
+    }
+}
+
+fn next_pe<'a>(left: &mut pe::Sections<'a>) -> Option<Result<Section<'a>, ParseError>>
+    ensures { YieldsNext refusal_of section_view (mapped pe_section left.old) result (mapped pe_section left.new) }
+{
+    match left.next() {
+        Some(Ok(section)) => Some(Ok(pe_section(section))),
+        Some(Err(e)) => Some(Err(e)),
+        None => None,
+    }
+}
+
+fn elf32_section<'a>(file: &elf32::Elf32<'a>, section: elf32::Section) -> Section<'a>
+    ensures { section_view result ≡ elf_section elf.elf32 (elf.section_table elf.elf32 file.now) (elf_views.section_view (λ n. n) section) }
+{
+    Section {
+        segment: None,
+        name: section.name(file),
+        address: u64::from(section.address()),
+        offset: u64::from(section.offset()),
+        size: u64::from(section.size()),
+        has_bytes: section.section_type() != SHT_NOBITS,
+    }
+}
+
+fn elf64_section<'a>(file: &elf64::Elf64<'a>, section: elf64::Section) -> Section<'a>
+    ensures { section_view result ≡ elf_section elf.elf64 (elf.section_table elf.elf64 file.now) (elf_views.section_view (λ n. n) section) }
+{
+    Section {
+        segment: None,
+        name: section.name(file),
+        address: section.address(),
+        offset: section.offset(),
+        size: section.size(),
+        has_bytes: section.section_type() != SHT_NOBITS,
+    }
+}
+
+fn macho_section(section: macho::Section<'_>) -> Section<'_>
+    ensures { section_view result ≡ macho_section (macho_views.section_view section.entry) }
+{
+    Section {
+        segment: Some(section.segment_name()),
+        name: Some(section.name()),
+        address: section.address(),
+        offset: u64::from(section.offset()),
+        size: section.size(),
+        has_bytes: section.offset() != 0,
+    }
+}
+
+fn pe_section(section: pe::Section<'_>) -> Section<'_>
+    ensures { section_view result ≡ pe_section (pe_views.section_view section.entry) }
+{
+    Section {
+        segment: None,
+        name: Some(section.name()),
+        address: u64::from(section.address()),
+        offset: u64::from(section.offset()),
+        size: u64::from(pe_size(section.virtual_size(), section.size())),
+        has_bytes: section.offset() != 0 && section.size() != 0,
+    }
+}
+
+// Of `VirtualSize` and `SizeOfRawData` the one that isn't 0, and else the smaller one.
+fn pe_size(virtual_size: u32, raw_size: u32) -> u32
+    ensures { result ≡ pe_size virtual_size raw_size }
+{
+    if virtual_size == 0 {
+        raw_size
+    } else if raw_size == 0 {
+        virtual_size
+    } else {
+        virtual_size.min(raw_size)
+    }
+}
+
+// A section of this type has no bytes in the file (gABI, "Sections").
+const SHT_NOBITS: u32 = 8;

@@ -1,0 +1,156 @@
+//! Files, their lines, and the bytes of one of their sections.
+
+use crate::expected::Expected;
+use binfarce_sections::bytes::write_section;
+use binfarce_sections::error::SectionError;
+use binfarce_sections::list::list_sections;
+use binfarce_tools::list::Out;
+use std::alloc::{AllocError, Global};
+use test_samples::elf::Layout;
+use test_samples::macho::{self, MACHO};
+use test_samples::pe::{self, PE};
+use test_samples::{Patch, patched};
+
+/// A sample, or a few bytes.
+#[derive(Clone, Copy)]
+pub(crate) enum File {
+    Elf(Layout),
+    Macho,
+    Pe,
+    Bytes(&'static [u8]),
+}
+
+impl File {
+    pub(crate) fn bytes(self) -> &'static [u8] {
+        match self {
+            File::Elf(layout) => layout.bytes(),
+            File::Macho => &MACHO,
+            File::Pe => &PE,
+            File::Bytes(bytes) => bytes,
+        }
+    }
+}
+
+/// A file, what is changed in it, its lines as `readelf -SW` and `llvm-readobj --sections` show such a file's sections, the name
+/// of a section, and its bytes.
+pub(crate) type Row = (
+    &'static str,
+    File,
+    &'static [Patch<'static>],
+    &'static str,
+    &'static str,
+    &'static [u8],
+);
+
+/// The lines of the sample in 32 bits.
+const LINES_32: &str = "\
+0000000000000000         52          0 
+0000000000000000         52         32 .text
+0000000000000000         84         80 .symtab
+0000000000000000        164         18 .strtab
+0000000000000000        182         33 .shstrtab
+";
+
+/// The lines of the sample in 64 bits.
+const LINES_64: &str = "\
+0000000000000000         64          0 
+0000000000000000         64         32 .text
+0000000000000000         96        120 .symtab
+0000000000000000        216         18 .strtab
+0000000000000000        234         33 .shstrtab
+";
+
+const STRINGS: &[u8] = b"\0_ZN3foo3barE\0bad\0";
+
+/// The samples. Those of Mach-O and PE have no bytes for their section, until it is given the offset of others.
+pub(crate) const ROWS: [Row; 6] = [
+    (
+        "ELF32, little endian",
+        File::Elf(Layout::Elf32Little),
+        &[],
+        LINES_32,
+        ".strtab",
+        STRINGS,
+    ),
+    (
+        "ELF32, big endian",
+        File::Elf(Layout::Elf32Big),
+        &[],
+        LINES_32,
+        ".strtab",
+        STRINGS,
+    ),
+    (
+        "ELF64, little endian",
+        File::Elf(Layout::Elf64Little),
+        &[],
+        LINES_64,
+        ".strtab",
+        STRINGS,
+    ),
+    (
+        "ELF64, big endian",
+        File::Elf(Layout::Elf64Big),
+        &[],
+        LINES_64,
+        ".strtab",
+        STRINGS,
+    ),
+    (
+        "Mach-O",
+        File::Macho,
+        &[macho::MAGIC, (144, &[8, 0]), (152, &[16, 1])],
+        "0000000000001000        272          8 __TEXT,__text\n",
+        "__text",
+        b"\0a\0b\0c\0d",
+    ),
+    (
+        "PE",
+        File::Pe,
+        &[pe::MAGIC, (104, &[10, 0, 0, 0, 200])],
+        "0000000000000000        200         10 .text\n",
+        ".text",
+        b"e\0\0\0\0\0\0\0\0\x01",
+    ),
+];
+
+/// What rows gave: how many their whole answer, how many were out of memory, and one that gave neither.
+#[derive(Drop)]
+pub(crate) struct Rows {
+    pub(crate) whole: usize,
+    pub(crate) out_of_memory: usize,
+    pub(crate) wrong: Option<&'static str>,
+}
+
+/// What the samples give.
+pub(crate) fn given_by_samples(alloc: Global) -> Rows {
+    let mut given = Rows {
+        whole: 0,
+        out_of_memory: 0,
+        wrong: None,
+    };
+    for row in &ROWS {
+        match is_right(alloc, row) {
+            Ok(true) => given.whole = given.whole.saturating_add(1),
+            Ok(false) => given.wrong = Some(row.0),
+            Err(_) => given.out_of_memory = given.out_of_memory.saturating_add(1),
+        }
+    }
+    given
+}
+
+fn is_right(alloc: Global, row: &Row) -> Result<bool, AllocError> {
+    let (_, sample, patches, lines, name, bytes) = row;
+    let file = patched(alloc, sample.bytes(), patches)?;
+    let mut out = Out::new(Expected::new(bytes));
+    let written = write_section(&file, name, &mut out);
+    if written.is_err() || !out.into_inner().is_whole() {
+        return Ok(false);
+    }
+    let mut out = Out::new(Expected::new(lines.as_bytes()));
+    match list_sections(alloc, &file, &mut out) {
+        Ok(()) => Ok(out.into_inner().is_whole()),
+        Err(SectionError::OutOfMemory) if out.into_inner().is_empty => Err(AllocError),
+        Err(_) => Ok(false),
+    }
+}

@@ -100,7 +100,7 @@ beside_the_gate() {
 }
 
 # The programs that the gate builds are those that `run` would build: it is given them, with what they were made of.
-run_by_name="binfarce_list binfarce_size binfarce_filter binfarce_at binfarce_section"
+run_by_name="binfarce_list binfarce_size binfarce_map binfarce_filter binfarce_at binfarce_section"
 made_of() {
     for name in $run_by_name; do
         tools/build-program --sources "$name" >"$scratch/$name"

@@ -2,7 +2,7 @@
 # Lets each of a program's allocations fail in turn and says how it ends: it may print the usage (the arguments are
 # texts too), `out of memory`, or all that it prints of the file; anything else is shown as WRONG, and ends with status 1.
 #
-#   PROGRAM  (optional) the program: binfarce_list, binfarce_size, or binfarce_at
+#   PROGRAM  (optional) the program: binfarce_list, binfarce_size, binfarce_map, or binfarce_at
 #   WORDS    (optional) what follows the file: the addresses of binfarce_at
 #   LAST     (optional) the last allocation that fails, 30; from some number on there is none left
 #

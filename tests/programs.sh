@@ -40,7 +40,7 @@ run() {
     echo "$ended" >"$scratch/ended"
 }
 
-for name in list size; do
+for name in list size map; do
     program=binfarce_$name shown=binfarce-$name
     run "$program" "$sample" >/dev/full
     told 1 "$(cat "$scratch/ended")" "$shown: write failed" "$program" "$sample"

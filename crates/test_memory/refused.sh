@@ -19,7 +19,7 @@ trap 'exit 130' INT TERM HUP
 # The groups, and more allocations than they make: their last run must end with none failed. What is called in the last
 # four doesn't allocate, so of these the number is that of the rows' files and one more.
 rows="listings 40
-reports 120
+reports 145
 symbols 70
 names 95
 trimmed 75

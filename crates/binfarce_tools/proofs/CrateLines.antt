@@ -17,9 +17,9 @@ use Rattle.std.proofs.lemmas.Map.Keys.{IsDistinct-from_sorted}
 use Rattle.std.proofs.lemmas.Map.Text.{is_eq-slice_cmp}
 use Rattle.std.proofs.lemmas.Map.Views.{Contains-from_any, list_any-from_Contains, lookup-from_Contains}
 use Rattle.binfarce_tools.specs.Listing.{size_line}
-use Rattle.binfarce_tools.specs.Report.{Share, IsReportOfShares, crate_line, crate_lines, sum_of, total_line}
+use Rattle.binfarce_tools.specs.Report.{Share, AreCratesOf, IsReportOfShares, crate_line, crate_lines, sum_of, total_line}
 use Rattle.binfarce_tools.specs.declared.report.CrateSums.{CrateSums}
-use Rattle.binfarce_tools.specs.machine.Shares.{AreSumsOf, occurs}
+use Rattle.binfarce_tools.specs.Sums.{AreSumsOf, occurs}
 
 abbrev names_of : List Share → List (List ℕ)
 names_of shares = map (λ (s : Share). s.name) shares
@@ -30,7 +30,7 @@ occurs_is (s ∷ others) name = rw (nat_list_eq_equiv.symm s.name name, occurs_i
 
 module _ {Y : Type 0} where
   -- the keys of a map, as their bytes
-  abbrev texts_of : List (String Y × ℕ) → List (List ℕ)
+  abbrev pub texts_of : List (String Y × ℕ) → List (List ℕ)
   texts_of entries = map (λ (e : String Y × ℕ). string_bytes e.0) entries
 
   -- the lines of a map's entries
@@ -58,32 +58,47 @@ module _ {Y : Type 0} where
   texts_rise [] rises = tt
   texts_rise (e ∷ others) rises = (all_above e.0 others rises.0, texts_rise others rises.1)
 
-  lines_are : (shares : List Share) (entries : List (String Y × ℕ)) → AllByRecursion (λ (e : String Y × ℕ). sum_of shares (string_bytes e.0) ≡ e.1) entries → crate_lines shares (texts_of entries) ≡ entry_lines entries
+  -- each entry of a map has the sum of its crate
+  abbrev pub HaveSums : List Share → List (String Y × ℕ) → Type 0
+  HaveSums shares entries = AllByRecursion (λ (e : String Y × ℕ). sum_of shares (string_bytes e.0) ≡ e.1) entries
+
+  lines_are : (shares : List Share) (entries : List (String Y × ℕ)) → HaveSums shares entries → crate_lines shares (texts_of entries) ≡ entry_lines entries
   lines_are shares [] all = refl
   lines_are shares (e ∷ others) all =
       ap (λ (n : ℕ). crate_line (string_bytes e.0) n ++ crate_lines shares (texts_of others)) all.0
       ∙ ap (λ (text : List ℕ). crate_line (string_bytes e.0) e.1 ++ text) (lines_are shares others all.1)
 
--- the sums of shares are the report's
-pub is_report : (shares : List Share) (sums : CrateSums) (size : ℕ) (text : List ℕ) → AreSumsOf shares sums → IsOrdered string_cmp sums.crates
-    → text ≡ entry_lines sums.crates.entries ++ (total_line sums.total ++ size_line size) → IsReportOfShares shares size text
-is_report shares sums size text are ordered is =
-    let entries = sums.crates.entries in
-    let laws = eq_by_cmp_equiv string_cmp_total in
-    let names = texts_of entries in
-    let same : (name : List ℕ) → list_any (bytes_eq name) (names_of shares) ≡ list_any (bytes_eq name) names = λ name.
-    sym (occurs_is shares name) ∙ are.crates_are name ∙ found_is entries name in
-    let exact : (x y : List ℕ) → bytes_eq x y ≡ true → x ≡ y = λ x y. (bytes_decides x y).0 in
-    let sum_is : (e : String Global × ℕ) → Contains entries e → sum_of shares (string_bytes e.0) ≡ e.1 = λ e h.
-    are.sums_are (string_bytes e.0) ∙ ap (λ o. unwrap_or o 0) (lookup-from_Contains laws e.0 e.1 entries (IsDistinct-from_sorted string_cmp (keys_of entries) ordered) h) in
-    let lines = lines_are shares entries (recursion_from_All (λ (e : String Global × ℕ). sum_of shares (string_bytes e.0) ≡ e.1) entries
-    (All-weaker (Contains entries) (λ (e : String Global × ℕ). sum_of shares (string_bytes e.0) ≡ e.1) sum_is entries (All-contains_itself entries))) in (
-      names,
+module _ (shares : List Share) (sums : CrateSums) (are : AreSumsOf shares sums) (ordered : IsOrdered string_cmp sums.crates) where
+  same : (name : List ℕ) → list_any (bytes_eq name) (names_of shares) ≡ list_any (bytes_eq name) (texts_of sums.crates.entries)
+  same name = sym (occurs_is shares name) ∙ are.crates_are name ∙ found_is sums.crates.entries name
+
+  -- the entries' names are those of the crates
+  pub are_crates : AreCratesOf shares (texts_of sums.crates.entries)
+  are_crates =
+      let names = texts_of sums.crates.entries in
+      let exact : (x y : List ℕ) → bytes_eq x y ≡ true → x ≡ y = λ x y. (bytes_decides x y).0 in
       record {
-        rises = texts_rise entries ordered;
+        rises = texts_rise sums.crates.entries ordered;
         every = All-weaker (Contains (names_of shares)) (Contains names) (λ n h. Contains-from_any exact n names (sym (same n) ∙ list_any-from_Contains nat_list_eq_equiv n (names_of shares) h)) (names_of shares) (All-contains_itself (names_of shares));
         occurs = All-weaker (Contains names) (Contains (names_of shares)) (λ n h. Contains-from_any exact n (names_of shares) (same n ∙ list_any-from_Contains nat_list_eq_equiv n names h)) names (All-contains_itself names);
-      },
-      is ∙ ap (λ (x : List ℕ). x ++ (total_line sums.total ++ size_line size)) (sym lines)
-          ∙ ap (λ (n : ℕ). crate_lines shares names ++ (total_line n ++ size_line size)) (sym are.total_is),
-    )
+      }
+
+  -- and each has its crate's sum
+  pub have_sums : HaveSums shares sums.crates.entries
+  have_sums =
+      let entries = sums.crates.entries in
+      let laws = eq_by_cmp_equiv string_cmp_total in
+      let sum_is : (e : String Global × ℕ) → Contains entries e → sum_of shares (string_bytes e.0) ≡ e.1 = λ e h.
+      are.sums_are (string_bytes e.0) ∙ ap (λ o. unwrap_or o 0) (lookup-from_Contains laws e.0 e.1 entries (IsDistinct-from_sorted string_cmp (keys_of entries) ordered) h) in
+      recursion_from_All (λ (e : String Global × ℕ). sum_of shares (string_bytes e.0) ≡ e.1) entries
+      (All-weaker (Contains entries) (λ (e : String Global × ℕ). sum_of shares (string_bytes e.0) ≡ e.1) sum_is entries (All-contains_itself entries))
+
+  -- the sums of shares are the report's
+  pub is_report : (size : ℕ) (text : List ℕ) → text ≡ entry_lines sums.crates.entries ++ (total_line sums.total ++ size_line size) → IsReportOfShares shares size text
+  is_report size text is =
+      let names = texts_of sums.crates.entries in (
+        names,
+        are_crates,
+        is ∙ ap (λ (x : List ℕ). x ++ (total_line sums.total ++ size_line size)) (sym (lines_are shares sums.crates.entries have_sums))
+            ∙ ap (λ (n : ℕ). crate_lines shares names ++ (total_line n ++ size_line size)) (sym are.total_is),
+      )

@@ -9,9 +9,10 @@ use Rattle.std.specs.Str.{bytes_eq}
 use Rattle.std.proofs.lemmas.List.Sums.{sum_by-cons}
 use Rattle.binfarce.specs.Symbol.{Entry}
 use Rattle.binfarce_tools.specs.Report.{Share, IsShareOf, total, sum_of}
-use Rattle.binfarce_tools.specs.machine.Shares.{sum_at, Adds, occurs}
+use Rattle.binfarce_tools.specs.Sums.{sum_at, occurs}
+use Rattle.binfarce_tools.specs.machine.Shares.{Adds}
 
-total-cons : (s : Share) (others : List Share) → total (s ∷ others) ≡ s.size + total others
+pub total-cons : (s : Share) (others : List Share) → total (s ∷ others) ≡ s.size + total others
 total-cons s others = sum_by-cons (λ (s : Share). s.size) s others
 
 -- the sum of all sizes of shares is that of their entries
@@ -52,7 +53,7 @@ kept : (b : Bool) (s : Share) (others : List Share) → total (if b then s ∷ o
 kept true s others = total-cons s others
 kept false s others = let none : total others ≡ 0 + total others = omega arith in none
 
-sum_of-cons : (s : Share) (others : List Share) (name : List ℕ) → sum_of (s ∷ others) name ≡ added s name + sum_of others name
+pub sum_of-cons : (s : Share) (others : List Share) (name : List ℕ) → sum_of (s ∷ others) name ≡ added s name + sum_of others name
 sum_of-cons s others name = kept (bytes_eq s.name name) s (filter (λ (s : Share). bytes_eq s.name name) others)
 
 swapped : (a b c : Bool) → (a || (b || c)) ≡ ((b || a) || c)

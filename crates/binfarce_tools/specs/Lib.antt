@@ -6,4 +6,5 @@ pub mod Listing
 pub mod ListWords
 pub mod Report
 pub mod ReportWords
+pub mod Sums
 pub mod machine

@@ -13,7 +13,8 @@ ghost use Rattle.binfarce_tools.specs.ReportWords.{outcome_of};
 ghost use Rattle.binfarce_tools.specs.Writing.{Tells, Takes, Fails, Leaves};
 ghost use Rattle.binfarce_tools.specs.declared.report.ReportError.TheVariants.{OutOfMemory, TooLarge};
 ghost use Rattle.binfarce_tools.specs.Entries.{functions_left};
-ghost use Rattle.binfarce_tools.specs.machine.Shares.{Adds, AreSumsOf, sum_at};
+ghost use Rattle.binfarce_tools.specs.Sums.{AreSumsOf, GetsSums, sum_at};
+ghost use Rattle.binfarce_tools.specs.machine.Shares.{Adds};
 
 use crate::functions::{Functions, functions_of_file};
 use crate::list::{ListError, Sink};
@@ -111,24 +112,43 @@ pub fn report<S: Sink>(
     ensures fails { Fails (S.has_failed out.old) (S.has_failed out.new) (outcome_of result) }
     ensures leaves { Leaves out.old out.new (outcome_of result) }
 {
-    let (functions, size) = functions_of_file(alloc, data, section)?;
-    let sums = crate_sums(alloc, functions)?;
-    let text = report_text(alloc, &sums, size)?;
+    let sums = sums_of_file(alloc, data, section)?;
+    let text = report_text(alloc, &sums)?;
     write_whole(out, text.as_bytes())?;
     Ok(())
 }
 
-// The sum of the sizes of each crate's functions, by its name, and the sum of all.
+/// How many bytes the function symbols of a file's section take, by crate.
 #[derive(Drop)]
-struct CrateSums {
-    crates: BTreeMap<String, u64>,
-    total: u64,
+pub struct CrateSums {
+    /// The sum of the sizes of each crate's symbols, by the crate's name.
+    pub crates: BTreeMap<String, u64>,
+    /// The sum of all sizes.
+    pub total: u64,
+    /// The section's size.
+    pub section_size: u64,
 }
 
-// The sums of the functions. `TooLarge` where the sum of all doesn't fit.
-fn crate_sums(alloc: Global, functions: Functions<'_>) -> Result<CrateSums, ReportError>
+/// The sums that `report` shows.
+///
+/// # Errors
+///
+/// As `report`, but for `Write`.
+pub fn sums_of_file(alloc: Global, data: &[u8], section: &str) -> Result<CrateSums, ReportError>
+    ensures { GetsSums (NeedsMemory (format_of data.now) data.now) (symbols_answer (format_of data.now) data.now section.now) result }
+{
+    let (functions, size) = functions_of_file(alloc, data, section)?;
+    crate_sums(alloc, functions, size)
+}
+
+// The sums of the functions, beside the section's size. `TooLarge` where the sum of all doesn't fit.
+fn crate_sums(
+    alloc: Global,
+    functions: Functions<'_>,
+    section_size: u64,
+) -> Result<CrateSums, ReportError>
     ensures { MatchResult result
-        (λ s. (shares : List Share) × AllZip IsShareOf (functions_left functions.entry) shares × AreSumsOf shares s)
+        (λ s. (s.section_size ≡ section_size) × ((shares : List Share) × AllZip IsShareOf (functions_left functions.entry) shares × AreSumsOf shares s))
         (λ e. (e ≡ OutOfMemory) ⊎ ((e ≡ TooLarge) × (2 ^ 64 ≤ sum_by (λ f. f.size) (functions_left functions.entry)))) }
 {
     let mut crates = BTreeMap::new(alloc);
@@ -139,7 +159,11 @@ fn crate_sums(alloc: Global, functions: Functions<'_>) -> Result<CrateSums, Repo
             .ok_or(ReportError::TooLarge)?;
         add_function(alloc, &mut crates, function)?;
     }
-    Ok(CrateSums { crates, total })
+    Ok(CrateSums {
+        crates,
+        total,
+        section_size,
+    })
 }
 
 // Adds a function's size to the sum of its crate.
@@ -175,15 +199,15 @@ fn crate_text(alloc: Global, name: &str) -> Result<String, AllocError>
 }
 
 // The whole report.
-fn report_text(alloc: Global, sums: &CrateSums, section_size: u64) -> Result<String, AllocError>
-    ensures { IfOk result (λ t. (shares : List Share) → AreSumsOf shares sums.now → IsReportOfShares shares section_size (string_bytes t)) }
+fn report_text(alloc: Global, sums: &CrateSums) -> Result<String, AllocError>
+    ensures { IfOk result (λ t. (shares : List Share) → AreSumsOf shares sums.now → IsReportOfShares shares sums.now.section_size (string_bytes t)) }
 {
     let mut text = String::new(alloc);
     for (name, sum) in sums.crates.iter() {
         push_crate_line(&mut text, name.as_str(), *sum)?;
     }
     writeln!(text, "sum {}", sums.total)?;
-    writeln!(text, "text {section_size}")?;
+    writeln!(text, "text {}", sums.section_size)?;
     Ok(text)
 }
 

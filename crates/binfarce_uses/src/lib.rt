@@ -9,6 +9,7 @@ pub mod image;
 pub mod is_big_endian_elf;
 pub mod macho;
 pub mod name_at;
+pub mod mapping;
 pub mod names;
 pub mod parts;
 pub mod pe;

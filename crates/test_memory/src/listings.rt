@@ -1,10 +1,11 @@
-//! Listings and reports: the whole text, or `OutOfMemory` and nothing written.
+//! Listings, reports and pictures: the whole text, or `OutOfMemory` and nothing written.
 
 use crate::expected::Expected;
 use crate::readers::{FILES, File, bytes_of, magic_of};
 use crate::tally::{Row, Tally};
 use binfarce::ParseError;
 use binfarce_image::image::ImageError;
+use binfarce_mapping::map;
 use binfarce_tools::list::{ListError, Out, list};
 use binfarce_tools::report::{ReportError, report};
 use std::alloc::{AllocError, Global};
@@ -54,23 +55,29 @@ pub(crate) fn add_listings(alloc: Global, tally: &mut Tally) {
     tally.add("a symbol past the text", is_past_the_text(alloc));
 }
 
-// The text of a report, or its refusal.
+// The text of a report or of its picture, or the refusal of both.
 #[derive(Clone, Copy)]
 enum Reported {
     Text(&'static str),
+    Picture(&'static str),
     TooLarge,
 }
 
 fn is_reported(alloc: Global, file: &[u8], expected: Reported) -> Row {
     let text = match expected {
         Reported::Text(text) => text,
+        Reported::Picture(text) => text,
         Reported::TooLarge => "",
     };
     let mut out = Out::new(Expected::new(text));
-    let result = report(alloc, file, ".text", &mut out);
+    let result = match expected {
+        Reported::Picture(_) => map(alloc, file, ".text", &mut out),
+        _ => report(alloc, file, ".text", &mut out),
+    };
     let written = out.into_inner();
     match (result, expected) {
         (Ok(()), Reported::Text(_)) => Ok(written.is_whole()),
+        (Ok(()), Reported::Picture(_)) => Ok(written.is_whole()),
         (Err(ReportError::TooLarge), Reported::TooLarge) => Ok(written.is_empty),
         (Err(ReportError::OutOfMemory), _) if written.is_empty => Err(AllocError),
         _ => Ok(false),
@@ -83,9 +90,14 @@ fn is_reported_of(alloc: Global, file: File) -> Row {
     is_reported(alloc, &bytes, Reported::Text(text))
 }
 
-// The name of a function that stands before `foo::bar`, and the report of both; `TooLarge` where the first function's
-// size, which stands at 112, is 2^64 - 1.
-const REPORTS: [(&str, Reported); 3] = [
+// The picture of two crates.
+const PICTURE: &str =
+    "<svg xmlns=\"http://www.w3.org/2000/svg\" width=\"800\" height=\"96\" viewBox=\"0 0 800 96\" font-family=\"sans-serif\" font-size=\"14\">\n<title>Size by crate</title>\n<rect width=\"800\" height=\"100%\" fill=\"#fff\"/>\n<text x=\"8\" y=\"25\">sum 32, text 32: bytes and share of the sum by crate</text>\n<svg y=\"40\" height=\"24\"><svg width=\"236\"><text x=\"8\" y=\"17\">123foo</text></svg><svg x=\"240\" width=\"360\"><rect y=\"3\" width=\"100%\" height=\"18\" fill=\"#e6e6e6\"/><rect y=\"3\" width=\"50.00%\" height=\"18\" fill=\"#245\"/></svg><text x=\"672\" y=\"17\" text-anchor=\"end\">50.00%</text><text x=\"792\" y=\"17\" text-anchor=\"end\">16</text></svg>\n<svg y=\"64\" height=\"24\"><svg width=\"236\"><text x=\"8\" y=\"17\">foo</text></svg><svg x=\"240\" width=\"360\"><rect y=\"3\" width=\"100%\" height=\"18\" fill=\"#e6e6e6\"/><rect y=\"3\" width=\"50.00%\" height=\"18\" fill=\"#245\"/></svg><text x=\"672\" y=\"17\" text-anchor=\"end\">50.00%</text><text x=\"792\" y=\"17\" text-anchor=\"end\">16</text></svg>\n</svg>\n";
+
+// The name of a function that stands before `foo::bar`, and the report of both or its picture; `TooLarge` where the first
+// function's size, which stands at 112, is 2^64 - 1.
+const REPORTS: [(&str, Reported); 4] = [
+    ("_RNvC6_123foo3bar", Reported::Picture(PICTURE)),
     (
         "_RNvC6_123foo3bar",
         Reported::Text("        16 123foo\n        16 foo\nsum 32\ntext 32\n"),
@@ -104,11 +116,11 @@ fn is_reported_beside(alloc: Global, name: &str, expected: Reported) -> Row {
         Err(_) => return Ok(false),
     };
     match expected {
-        Reported::Text(_) => is_reported(alloc, &file, expected),
         Reported::TooLarge => {
             let file = patched(alloc, &file, &[(112, &[0xFF; 8])])?;
             is_reported(alloc, &file, expected)
         }
+        _ => is_reported(alloc, &file, expected),
     }
 }
 

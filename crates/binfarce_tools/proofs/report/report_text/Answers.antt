@@ -12,7 +12,7 @@ returns c = λ shares are.
     let text = string_bytes c.loop-name.text in
     let lines : text ≡ entry_lines sums.crates.entries =
     sym (append-nil text) ∙ ap (λ (es : List (String Global × ℕ)). text ++ entry_lines es) (sym c.in-None.ensures.steps.0) ∙ c.loop-name.invariant in
-    is_report shares sums c.args.section_size (string_bytes c.writeln-2.new.self) are c.iter-name-items.ensures.ordered
-    (c.in_ok-writeln-2.ensures.bytes ∙ ap (λ (xs : List ℕ). xs ++ size_line c.args.section_size) c.in_ok-writeln.ensures.bytes
-    ∙ append_assoc text (total_line sums.total) (size_line c.args.section_size)
-    ∙ ap (λ (xs : List ℕ). xs ++ (total_line sums.total ++ size_line c.args.section_size)) lines)
+    is_report shares sums are c.iter-name-items.ensures.ordered sums.section_size (string_bytes c.writeln-2.new.self)
+    (c.in_ok-writeln-2.ensures.bytes ∙ ap (λ (xs : List ℕ). xs ++ size_line sums.section_size) c.in_ok-writeln.ensures.bytes
+    ∙ append_assoc text (total_line sums.total) (size_line sums.section_size)
+    ∙ ap (λ (xs : List ℕ). xs ++ (total_line sums.total ++ size_line sums.section_size)) lines)

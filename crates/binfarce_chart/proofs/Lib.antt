@@ -1,0 +1,4 @@
+pub mod Lengths
+pub mod Escapes
+pub mod Rows
+pub mod Texts

@@ -1,0 +1,53 @@
+-- The bars of a picture: which are shown, and how long they are.
+use Rattle.std.specs.Prelude.{ℕ, ◌+◌, ◌-◌, ◌*◌, ◌/◌, ◌%◌, ◌<◌, ◌≤◌, List, [], ◌∷◌, ◌++◌, length, take, drop, codes, nat_le, if◌then◌else◌, slice_index_or}
+use Rattle.std.specs.Fmt.{decimal}
+use Rattle.std.specs.List.{sum_by}
+
+-- a name, and the size of what it names
+pub record Row : Type 0 where
+  pub name : List ℕ
+  pub size : ℕ
+
+abbrev pub total : List Row → ℕ
+total rows = sum_by (λ r. r.size) rows
+
+-- no size is greater than one that stands before it
+abbrev pub Falls : List Row → Type 0
+Falls rows = (i j : ℕ) (d : Row) → i ≤ j → j < length rows → (slice_index_or rows j d).size ≤ (slice_index_or rows i d).size
+
+-- `[{count} others]`
+abbrev pub others_label : ℕ → List ℕ
+others_label count = codes "[" ++ (decimal count ++ codes " others]")
+
+-- the row that stands for these
+abbrev pub others : List Row → Row
+others rows = record { name = others_label (length rows); size = total rows }
+
+-- the rows that are shown: all of up to 40, and of more the first 39 and one for the others
+abbrev pub shown : List Row → List Row
+shown rows = if nat_le (length rows) 40 then rows else (take 39 rows ++ (others (drop 39 rows) ∷ []))
+
+-- the length of all bars together: 100 per cent, in hundredths of a per cent
+abbrev pub whole : ℕ
+whole = 10000
+
+-- how much of the whole is before a point, rounded down
+abbrev pub edge : ℕ → ℕ → ℕ
+edge total before = (whole * before) / total
+
+-- the length of a bar: from its edge to the next one's
+abbrev pub bar_length : ℕ → ℕ → ℕ → ℕ
+bar_length total before size = edge total (before + size) - edge total before
+
+-- the lengths of the bars of rows, with so much before the first
+abbrev pub lengths : ℕ → ℕ → List Row → List ℕ
+lengths total before [] = []
+lengths total before (row ∷ others) = bar_length total before row.size ∷ lengths total (before + row.size) others
+
+-- the length differs by less than one unit from the row's share of the whole
+abbrev pub IsWithinOne : ℕ → Row → ℕ → Type 0
+IsWithinOne total row length = (length * total < whole * row.size + total) × (whole * row.size < (length + 1) * total)
+
+-- hundredths of a per cent, as per cents with two decimals
+unfoldable pub percents : ℕ → List ℕ
+percents n = decimal (n / 100) ++ (codes "." ++ (decimal (n / 10 % 10) ++ decimal (n % 10)))

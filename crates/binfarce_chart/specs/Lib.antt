@@ -1,0 +1,4 @@
+pub mod Chart
+pub mod Views
+pub mod Svg
+pub mod machine

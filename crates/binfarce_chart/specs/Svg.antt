@@ -1,0 +1,67 @@
+-- The text of a picture, as SVG.
+use Rattle.std.specs.Prelude.{◌≡◌, ◌≢◌, ℕ, ◌+◌, ◌*◌, ◌/◌, ◌%◌, ◌≤◌, false, ◌&&◌, List, [], ◌∷◌, ◌++◌, length, codes, nat_eq, nat_le, if◌then◌else◌, IsPermutation}
+use Rattle.std.specs.Fmt.{decimal, digit_glyph}
+use Rattle.std.specs.List.{flat_map}
+use Rattle.binfarce_chart.specs.Chart.{Row, Falls, bar_length, percents, shown, total}
+
+-- `\x` and two hexadecimal digits
+abbrev pub hex_byte : ℕ → List ℕ
+hex_byte byte = codes "\\x" ++ (digit_glyph false (byte / 16 % 16) ∷ digit_glyph false (byte % 16) ∷ [])
+
+-- a byte of a name: as an entity where it means something in XML, as itself where it is printable ASCII, and else in digits
+unfoldable pub escaped_byte : ℕ → List ℕ
+escaped_byte byte =
+    if nat_eq byte 60 then codes "&lt;"
+    else if nat_eq byte 62 then codes "&gt;"
+    else if nat_eq byte 38 then codes "&amp;"
+    else if nat_eq byte 34 then codes "&quot;"
+    else if nat_le 32 byte && nat_le byte 126 then byte ∷ []
+    else hex_byte byte
+
+unfoldable pub escaped : List ℕ → List ℕ
+escaped name = flat_map escaped_byte name
+
+-- printable ASCII, and neither `<` nor `>` nor `"`
+abbrev pub IsPlain : ℕ → Type 0
+IsPlain byte = (32 ≤ byte) × (byte ≤ 126) × (byte ≢ 60) × (byte ≢ 62) × (byte ≢ 34)
+
+-- where a row begins, so far from the top; its name ends where the bars begin
+unfoldable pub row_start : ℕ → List ℕ
+row_start top = codes "<svg y=\"" ++ (decimal top ++ codes "\" height=\"24\"><svg width=\"236\"><text x=\"8\" y=\"17\">")
+
+-- a bar of this length, over that of the whole
+unfoldable pub bar : ℕ → List ℕ
+bar n = codes "</text></svg><svg x=\"240\" width=\"360\"><rect y=\"3\" width=\"100%\" height=\"18\" fill=\"#e6e6e6\"/><rect y=\"3\" width=\"" ++ (percents n ++ codes "%\" height=\"18\" fill=\"#245\"/></svg>")
+
+-- the share and the size
+unfoldable pub figures : ℕ → ℕ → List ℕ
+figures n size = codes "<text x=\"672\" y=\"17\" text-anchor=\"end\">" ++ (percents n ++ (codes "%</text><text x=\"792\" y=\"17\" text-anchor=\"end\">" ++ (decimal size ++ codes "</text></svg>\n")))
+
+-- a row so far from the top: its name, its bar, its share and its size
+unfoldable pub row : ℕ → Row → ℕ → List ℕ
+row top r n = row_start top ++ (escaped r.name ++ (bar n ++ figures n r.size))
+
+-- the rows below each other, with so much before the first one's bar
+abbrev pub rows : ℕ → ℕ → ℕ → List Row → List ℕ
+rows total before top [] = []
+rows total before top (r ∷ others) = row top r (bar_length total before r.size) ++ rows total (before + r.size) (top + 24) others
+
+-- a document of this height
+unfoldable pub opening : ℕ → List ℕ
+opening height = codes "<svg xmlns=\"http://www.w3.org/2000/svg\" width=\"800\" height=\"" ++ (decimal height ++ (codes "\" viewBox=\"0 0 800 " ++ (decimal height ++ codes "\" font-family=\"sans-serif\" font-size=\"14\">\n")))
+
+-- a title, a white ground, and a line that tells the sum and the section's size
+unfoldable pub caption : ℕ → ℕ → List ℕ
+caption sum size = codes "<title>Size by crate</title>\n<rect width=\"800\" height=\"100%\" fill=\"#fff\"/>\n<text x=\"8\" y=\"25\">sum " ++ (decimal sum ++ (codes ", text " ++ (decimal size ++ codes ": bytes and share of the sum by crate</text>\n")))
+
+-- what stands before so many rows
+unfoldable pub head : ℕ → ℕ → ℕ → List ℕ
+head count sum size = opening (24 * count + 48) ++ caption sum size
+
+-- the picture that shows these rows
+abbrev pub picture : List Row → ℕ → ℕ → List ℕ
+picture bars sum size = head (length bars) sum size ++ (rows sum 0 40 bars ++ codes "</svg>\n")
+
+-- text is the picture of rows in falling order, and of their section's size
+abbrev pub IsChartOf : List Row → ℕ → List ℕ → Type 0
+IsChartOf all size text = (falling : List Row) × IsPermutation all falling × Falls falling × (text ≡ picture (shown falling) (total falling) size)

@@ -1,0 +1,76 @@
+//! Which bars a picture shows, in which order, and how long they are.
+
+ghost use Rattle.std.specs.Prelude.{◌≡◌, ◌+◌, ◌<◌, ◌≤◌, ◌^◌, map, IfOk, IsPermutation};
+ghost use Rattle.std.specs.String.{string_bytes};
+ghost use Rattle.binfarce_chart.specs.Chart.{Falls, bar_length, others_label, total};
+ghost use Rattle.binfarce_chart.specs.Views.{bar_view};
+
+use std::alloc::{AllocError, Global};
+
+// How many bars a picture shows at most.
+pub(crate) const MOST_BARS: usize = 40;
+
+// The length of all bars together, in hundredths of a per cent.
+const WHOLE: u128 = 10_000;
+
+/// A size, and what it is the size of.
+#[derive(Debug, Clone, Copy)]
+pub struct Bar<'a> {
+    /// The name that the bar is labelled with: any text.
+    pub name: &'a str,
+    /// The size.
+    pub size: u64,
+}
+
+// The bars in falling order.
+pub(crate) fn falling<'a>(alloc: Global, bars: &[Bar<'a>]) -> Result<Vec<Bar<'a>>, AllocError>
+    ensures same { IfOk result (λ v. IsPermutation (map bar_view bars.now) (map bar_view v.items)) }
+    ensures falls { IfOk result (λ v. Falls (map bar_view v.items)) }
+{
+    let mut sorted = Vec::from_slice(alloc, bars)?;
+    // Equal sizes keep their order, and so they do where both sides of the sort are turned round.
+    sorted.reverse();
+    sorted.sort_by_key(|bar| bar.size)?;
+    sorted.reverse();
+    Ok(sorted)
+}
+
+// The label of the bar that stands for so many others.
+pub(crate) fn others(alloc: Global, count: usize) -> Result<String, AllocError>
+    ensures { IfOk result (λ t. string_bytes t ≡ others_label count) }
+{
+    let mut label = String::new(alloc);
+    write!(label, "[{count} others]")?;
+    Ok(label)
+}
+
+// The sum of the sizes.
+pub(crate) fn size_of_all(bars: &[Bar<'_>]) -> u64
+    requires { total (map bar_view bars.now) < 2 ^ 64 }
+    ensures { result ≡ total (map bar_view bars.now) }
+{
+    let mut sum = 0;
+    for bar in bars {
+        sum += bar.size;
+    }
+    sum
+}
+
+// The length of a bar of this size, with so much before it.
+pub(crate) fn length_of(total: u64, before: u64, size: u64) -> u64
+    requires { before + size ≤ total }
+    ensures { result ≡ bar_length total before size }
+{
+    edge(total, before + size) - edge(total, before)
+}
+
+// How much of the whole is before this point.
+fn edge(total: u64, before: u64) -> u64
+    requires { before ≤ total }
+    ensures { result ≡ Rattle.binfarce_chart.specs.Chart.edge total before }
+{
+    if total == 0 {
+        return 0;
+    }
+    (WHOLE * u128::from(before) / u128::from(total)) as u64
+}

@@ -1,0 +1,29 @@
+-- What the program's functions answer.
+use Rattle.std.specs.Prelude.{Bool, true, false, Result, Ok, Err}
+use Rattle.binfarce_tools.specs.ReportWords as call
+use Rattle.binfarce_tools.specs.Writing as writing
+use Rattle.binfarce_program.specs.declared.Failure.{Failure}
+use Rattle.binfarce_program.specs.declared.Failure.TheVariants as failures
+use Rattle.binfarce_tools.specs.declared.report.ReportError.TheVariants as errors
+use Rattle.binfarce_map.specs.declared.program.Fault.{Fault}
+use Rattle.binfarce_map.specs.declared.program.Fault.TheVariants.{Usage, File, Map}
+
+-- the fault that each failure is
+abbrev pub fault_of : Failure → Fault
+fault_of failures.Usage = Usage
+fault_of failures.File = File
+fault_of failures.OutOfMemory = Map errors.OutOfMemory
+fault_of failures.Write = Map errors.Write
+
+-- whether a fault is that the arguments are wrong
+abbrev pub is_usage : Fault → Bool
+is_usage Usage = true
+is_usage File = false
+is_usage (Map e) = false
+
+-- how a program ended
+abbrev pub outcome_of : Result (Unit {0}) Fault → writing.Outcome
+outcome_of (Ok x) = call.outcome_of (Ok x)
+outcome_of (Err Usage) = writing.wrong_usage
+outcome_of (Err File) = writing.unreadable
+outcome_of (Err (Map e)) = call.outcome_of (Err e)

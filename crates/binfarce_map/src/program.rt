@@ -1,0 +1,89 @@
+//! What the program does, over any reader and any writer.
+
+ghost use Rattle.std.specs.Prelude.{◌≡◌, map, Some, None, MatchResult, IfSome};
+ghost use Rattle.std.specs.String.{string_bytes};
+ghost use Rattle.binfarce.specs.Format.{format_of};
+ghost use Rattle.binfarce_tools.specs.Answer.{symbols_answer, NeedsMemory};
+ghost use Rattle.binfarce_tools.specs.Report.{ReportFits};
+ghost use Rattle.binfarce_tools.specs.Sink.{writer_of, has_failed};
+ghost use Rattle.binfarce_tools.specs.Writing.{ProgramTells, Takes, Fails, Leaves};
+ghost use Rattle.binfarce_program.specs.Given.{words_of};
+ghost use Rattle.binfarce_mapping.specs.Map.{IsMapOf};
+ghost use Rattle.binfarce_map.specs.Program.{outcome_of};
+ghost use Rattle.binfarce_map.specs.declared.program.Fault.TheVariants.{Usage};
+
+use binfarce_mapping::map;
+use binfarce_program::{Failure, file_and_section, read_whole};
+use binfarce_tools::list::Out;
+use binfarce_tools::report::ReportError;
+use std::alloc::Global;
+use std::io::{Read, Write};
+use thiserror::Error;
+
+/// Why the program did not draw a picture of a file. Its text is the line that is printed.
+#[derive(Debug, Drop, Error)]
+pub enum Fault {
+    /// The arguments aren't a file and perhaps a section.
+    #[error("usage: binfarce-map FILE [SECTION]")]
+    Usage,
+    /// The file can't be opened, or not read to its end.
+    #[error("binfarce-map: cannot read file")]
+    File,
+    /// No picture of the file was made.
+    #[error("binfarce-map: {0}")]
+    Map(ReportError),
+}
+
+impl From<Failure> for Fault {
+    ghost use Rattle.binfarce_map.specs.Program.{fault_of};
+
+    ghost from_gives = { λ e f. f ≡ fault_of e };
+
+    fn from(e: Failure) -> Self {
+        match e {
+            Failure::Usage => Fault::Usage,
+            Failure::File => Fault::File,
+            Failure::OutOfMemory => Fault::Map(ReportError::OutOfMemory),
+            Failure::Write => Fault::Map(ReportError::Write),
+        }
+    }
+}
+
+impl binfarce_program::Fault for Fault {
+    ghost use Rattle.binfarce_map.specs.Program.{is_usage};
+
+    ghost is_usage = { is_usage };
+
+    fn is_usage(&self) -> bool {
+        matches!(self, Fault::Usage)
+    }
+}
+
+/// The file and the section that the arguments after the program's own name give. The section is by default `.text`.
+///
+/// `Usage` for none, and for more than two.
+pub fn words(arguments: &[String]) -> Result<(&str, &str), Fault>
+    ensures { let given = words_of (map string_bytes arguments.now) in MatchResult result
+        (λ w. given ≡ Some (w.0.now, w.1.now)) (λ e. (given ≡ None) × (e ≡ Usage)) }
+{
+    Ok(file_and_section(arguments)?)
+}
+
+/// Reads the file to its end, and draws how much of its section each crate takes.
+///
+/// `File` where the reader fails; `Map` where an allocation fails while it is read, and as `map` refuses.
+pub fn run<R: Read, W: Write>(
+    alloc: Global,
+    file: &mut R,
+    section: &str,
+    out: &mut Out<W>,
+) -> Result<(), Fault>
+    ensures tells { IfSome (R.remaining file.old) (λ bytes. ProgramTells ReportFits (NeedsMemory (format_of bytes) bytes) (symbols_answer (format_of bytes) bytes section.now) (outcome_of result)) }
+    ensures takes { IfSome (R.remaining file.old) (λ bytes. Takes IsMapOf (symbols_answer (format_of bytes) bytes section.now)
+        (W.contents (writer_of out.old)) (W.contents (writer_of out.new)) (outcome_of result)) }
+    ensures fails { Fails (has_failed out.old) (has_failed out.new) (outcome_of result) }
+    ensures leaves { Leaves out.old out.new (outcome_of result) }
+{
+    let bytes = read_whole(alloc, file)?;
+    map(alloc, bytes.as_slice(), section, out).map_err(Fault::Map)
+}

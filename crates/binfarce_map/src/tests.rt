@@ -1,0 +1,41 @@
+// bench/refuse-memory.sh lets each of the program's allocations fail in turn: it prints the usage, `out of memory` or the
+// whole picture.
+
+use crate::program::{run, words};
+use binfarce_tools::list::Out;
+use std::alloc::AllocError;
+use test_streams::{READERS, Source, ended_with, failed_with, large_file};
+
+#[test]
+fn needs_a_file(rt: HostRuntime) -> Result<(), AllocError> {
+    let given = words(&[]).map(|_| ());
+    let line = "usage: binfarce-map FILE [SECTION]";
+    assert!(&rt; ended_with(rt.alloc(), given, line, 2)?);
+    Ok(())
+}
+
+#[test]
+fn tells_why_no_picture_is_made(rt: HostRuntime) -> Result<(), AllocError> {
+    for (label, bytes, end, want) in &READERS {
+        let mut out = Out::new(Vec::new(rt.alloc()));
+        let mut source = Source {
+            end: *end,
+            ..Source::of(bytes)
+        };
+        let mapped = run(rt.alloc(), &mut source, ".text", &mut out);
+        let is_told = failed_with(rt.alloc(), mapped, "binfarce-map", want)?;
+        assert!(&rt; is_told, "{label}");
+        assert!(&rt; out.into_inner().is_empty(), "{label}");
+    }
+    Ok(())
+}
+
+#[test]
+fn reads_a_large_file(rt: HostRuntime) -> Result<(), AllocError> {
+    let bytes = large_file(rt.alloc())?;
+    let mut out = Out::new(Vec::new(rt.alloc()));
+    let mapped = run(rt.alloc(), &mut Source::of(&bytes), ".text", &mut out);
+    let want = "symbols section is missing";
+    assert!(&rt; failed_with(rt.alloc(), mapped, "binfarce-map", want)?);
+    Ok(())
+}

@@ -1,0 +1,19 @@
+-- The picture of how many bytes each crate takes.
+use Rattle.std.specs.Prelude.{ℕ, List, map}
+use Rattle.std.specs.List.{AllZip}
+use Rattle.binfarce.specs.Symbol.{Listed}
+use Rattle.binfarce_chart.specs.Chart.{Row}
+use Rattle.binfarce_chart.specs.Svg.{IsChartOf}
+use Rattle.binfarce_tools.specs.Report.{Share, AreCratesOf, IsShareOf, sum_of}
+
+-- a row for each of these crates, with the sum of its shares
+abbrev pub crate_rows : List Share → List (List ℕ) → List Row
+crate_rows shares names = map (λ name. record { name = name; size = sum_of shares name }) names
+
+-- text is the picture of the crates of these shares, and of their section's size
+abbrev pub IsMapOfShares : List Share → ℕ → List ℕ → Type 0
+IsMapOfShares shares size text = (names : List (List ℕ)) × AreCratesOf shares names × IsChartOf (crate_rows shares names) size text
+
+-- text is the picture of what a file holds: each entry adds its share
+abbrev pub IsMapOf : Listed → List ℕ → Type 0
+IsMapOf listed text = (shares : List Share) × AllZip IsShareOf listed.entries shares × IsMapOfShares shares listed.section_size text

@@ -1,0 +1,38 @@
+-- The sums of sizes by crate, which a report shows.
+use Rattle.std.specs.Prelude.{◌≡◌, ◌≢◌, ℕ, ◌<◌, ◌^◌, List, Bool, Option, Some, Result, Ok, Err, String}
+use Rattle.std.specs.BTreeMap.{BTreeMap, get_by_text}
+use Rattle.std.specs.List.{AllZip, list_any}
+use Rattle.std.specs.Option.{is_some, unwrap_or}
+use Rattle.std.specs.Str.{bytes_eq}
+use Rattle.binfarce.specs.Refusal.{Refusal}
+use Rattle.binfarce.specs.Symbol.{Listed}
+use Rattle.binfarce_tools.specs.declared.report.CrateSums.{CrateSums}
+use Rattle.binfarce_tools.specs.declared.report.ReportError.{ReportError}
+use Rattle.binfarce_tools.specs.declared.report.ReportError.TheVariants.{Write}
+use Rattle.binfarce_tools.specs.Report.{Share, IsShareOf, ReportFits, total, sum_of}
+use Rattle.binfarce_tools.specs.ReportWords.{outcome_of}
+use Rattle.binfarce_tools.specs.Writing.{Tells}
+
+-- the sum at a crate's name, 0 where it has none
+abbrev pub sum_at : {Y : Type 0} → BTreeMap (String Y) ℕ → List ℕ → ℕ
+sum_at crates name = unwrap_or (get_by_text crates name) 0
+
+-- a crate is among these shares
+abbrev pub occurs : List Share → List ℕ → Bool
+occurs shares name = list_any (λ s. bytes_eq s.name name) shares
+
+-- they are the sums of the crates of these shares, and of all
+pub record AreSumsOf (shares : List Share) (sums : CrateSums) : Type 0 where
+  pub sums_are : (name : List ℕ) → sum_of shares name ≡ sum_at sums.crates name
+  pub crates_are : (name : List ℕ) → occurs shares name ≡ is_some (get_by_text sums.crates name)
+  pub total_is : total shares ≡ sums.total
+  pub fits : sums.total < 2 ^ 64
+
+-- they are the sums of what a file holds, beside the size of its section
+abbrev pub AreSumsOfFile : Listed → CrateSums → Type 0
+AreSumsOfFile listed sums = (sums.section_size ≡ listed.section_size) × ((shares : List Share) × AllZip IsShareOf listed.entries shares × AreSumsOf shares sums)
+
+-- what summing by crate returns of a file whose answer is this: the sums of what it holds, or what a report tells in their place
+abbrev pub GetsSums : (Result Listed Refusal → Type 0) → Option (Result Listed Refusal) → Result CrateSums ReportError → Type 0
+GetsSums NeedsMemory answer (Ok sums) = (listed : Listed) × (answer ≡ Some (Ok listed)) × AreSumsOfFile listed sums
+GetsSums NeedsMemory answer (Err e) = (e ≢ Write) × Tells ReportFits NeedsMemory answer (outcome_of (Err e))

@@ -1,0 +1,4 @@
+//! Pictures of sizes.
+
+pub mod picture;
+pub mod two_sizes;

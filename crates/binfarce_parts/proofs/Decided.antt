@@ -1,16 +1,20 @@
 -- The law of parts, for files of every format.
 use Rattle.std.proofs.Common.{◌≡◌, ℕ, List, [], ◌∷◌, ◌++◌, length, take, drop, Some, refl, sym, ap, ◌∙◌, arith, inl, inr}
 use Rattle.std.proofs.lemmas.Bool.{cases_lt, lt-ltb}
+use Rattle.std.proofs.lemmas.List.Elements.{All-head, All-tail}
 use Rattle.std.proofs.lemmas.List.{take-append-drop, length-drop, length-take-le}
 use Rattle.binfarce.specs.declared.Format.{Format}
 use Rattle.binfarce.specs.declared.Format.TheVariants.{Elf32, Elf64, Macho, PE, Unknown}
 use Rattle.binfarce.specs.Format.{format_of}
 use Rattle.binfarce.specs.Elf.{elf32, elf64}
 use Rattle.binfarce_tools.specs.Answer.{symbols_answer}
-use Rattle.binfarce_parts.specs.Parts.{SameAt, SameFileParts, PartsDecide}
-use Rattle.binfarce_parts.proofs.Slices.{same_part}
+use Rattle.binfarce_parts.specs.Part.{SameIn, SameParts}
+use Rattle.binfarce_parts.specs.Parts.{magic, answer_parts, PartsDecide}
+use Rattle.binfarce_parts.proofs.Slices.{SameAt}
 use Rattle.binfarce_parts.proofs.Tables.{within_32, within_64}
-use Rattle.binfarce_parts.proofs.Same.{file_answer_same}
+use Rattle.binfarce_parts.proofs.Same as elf
+use Rattle.binfarce_parts.proofs.MachoSame as macho
+use Rattle.binfarce_parts.proofs.PeSame as pe
 
 -- what stands after eight bytes doesn't matter to the format
 by_eight : (first rest more : List ℕ) → length first ≡ 8 → length rest ≡ length more → format_of (first ++ rest) ≡ format_of (first ++ more)
@@ -41,23 +45,19 @@ format_same file other long same = elim (cases_lt (length file) 8) [
       ∙ ap format_of (take-append-drop 8 file)
 ]
 
+answers_same : (format : Format) (file other : List ℕ) → SameParts (answer_parts format file) file other → (section : List ℕ) → symbols_answer format other section ≡ symbols_answer format file section
+unfolding symbols_answer
+answers_same (Elf32 order) file other same section = ap Some (elf.file_answer_same elf32 order file other section within_32 same)
+answers_same (Elf64 order) file other same section = ap Some (elf.file_answer_same elf64 order file other section within_64 same)
+answers_same Macho file other same section = ap Some (macho.file_answer_same file other same)
+answers_same PE file other same section = ap Some (pe.file_answer_same file other same)
+answers_same Unknown file other same section = refl
+
 pub parts_decide : (file other : List ℕ) → PartsDecide file other
-unfolding symbols_answer elf32 elf64
-parts_decide file other same = by_format (format_of file) refl same
-  where
-    agree : (format : Format) → format_of file ≡ format → format_of other ≡ format_of file → ((section : List ℕ) → symbols_answer format other section ≡ symbols_answer format file section)
-        → (format_of other ≡ format) × ((section : List ℕ) → symbols_answer (format_of other) other section ≡ symbols_answer format file section)
-    agree format is formats answers = (formats ∙ is, λ section. ap (λ f. symbols_answer f other section) (formats ∙ is) ∙ answers section)
-
-    alike : (format : Format) → format_of file ≡ format → other ≡ file → (format_of other ≡ format) × ((section : List ℕ) → symbols_answer (format_of other) other section ≡ symbols_answer format file section)
-    alike format is same = agree format is (ap format_of same) (λ section. ap (λ bytes. symbols_answer format bytes section) same)
-
-    by_format : (format : Format) → format_of file ≡ format → SameFileParts format file other
-        → (format_of other ≡ format) × ((section : List ℕ) → symbols_answer (format_of other) other section ≡ symbols_answer format file section)
-    by_format (Elf32 order) is same = agree (Elf32 order) is (format_same file other same.lengths (same_part file other 0 52 0 8 (omega arith) same.header))
-        (λ section. ap Some (file_answer_same elf32 order file other section within_32 same))
-    by_format (Elf64 order) is same = agree (Elf64 order) is (format_same file other same.lengths (same_part file other 0 64 0 8 (omega arith) same.header))
-        (λ section. ap Some (file_answer_same elf64 order file other section within_64 same))
-    by_format Macho is same = alike Macho is same
-    by_format PE is same = alike PE is same
-    by_format Unknown is same = alike Unknown is same
+parts_decide file other same =
+    let P = SameIn file other in
+    let format = format_of file in
+    let parts = answer_parts format file in
+    let formats = format_same file other same.lengths (All-head P magic parts same.each) in
+    let those : SameParts parts file other = record { lengths = same.lengths; each = All-tail P magic parts same.each } in
+    (formats, λ section. ap (λ f. symbols_answer f other section) formats ∙ answers_same format file other those section)

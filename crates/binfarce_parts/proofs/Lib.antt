@@ -1,4 +1,9 @@
 mod Slices
+mod Split
 mod Tables
+mod ElfHeld
 mod Same
+mod MachoWalk
+mod MachoSame
+mod PeSame
 mod Decided

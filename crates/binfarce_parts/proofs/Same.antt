@@ -10,8 +10,10 @@ use Rattle.binfarce.specs.Walk.{Walk, found_or_end}
 use Rattle.binfarce.specs.Elf.{ElfClass, SectionTable, Section, walk, name_of, section_table}
 use Rattle.binfarce.specs.ElfSymbols.{Located, sought, is_named, section_data, string_table_kind, whole_rows, located, elf_answer, entries_from}
 use Rattle.binfarce_tools.specs.Answer.{elf_file_answer}
-use Rattle.binfarce_parts.specs.Parts.{SameContents, SameParts, table_of, symbol_table, string_table}
-use Rattle.binfarce_parts.proofs.Tables.{HasWithin, of_file, table_same, walk_same, names_section_same, name_same}
+use Rattle.binfarce_parts.specs.Part.{SameParts}
+use Rattle.binfarce_parts.specs.ElfParts.{table_of, symbol_table, string_table, elf_parts}
+use Rattle.binfarce_parts.proofs.Tables.{SameContents, HasWithin, of_file, table_same, walk_same, names_section_same, name_same}
+use Rattle.binfarce_parts.proofs.ElfHeld.{Held, held}
 
 -- the bytes of a section that both hold the same
 data_same : (file other : List ℕ) (section : Section) → length file ≡ length other → SameContents file other section → section_data other section ≡ section_data file section
@@ -130,7 +132,7 @@ unfolding elf_answer answer_by
 answer_is class table wanted = refl
 
 -- files that hold the same in the parts have one answer
-pub answer_same : (class : ElfClass) (order : ByteOrder) (file other wanted : List ℕ) → HasWithin class → SameParts class order file other
+answer_same : (class : ElfClass) (order : ByteOrder) (file other wanted : List ℕ) → HasWithin class → Held class order file other
     → elf_answer class (table_of class order other) wanted ≡ elf_answer class (table_of class order file) wanted
 unfolding section_table
 answer_same class order file other wanted within same =
@@ -141,8 +143,8 @@ answer_same class order file other wanted within same =
     ∙ ap (answer_by class order) (located_same class table other wanted same.lengths (walk_same class table other within same.lengths same.section_headers) (name_same class table other names_at same.names) same.symbols same.strings)
     ∙ sym (answer_is class table wanted)
 
-pub file_answer_same : (class : ElfClass) (order : ByteOrder) (file other wanted : List ℕ) → HasWithin class → SameParts class order file other
+pub file_answer_same : (class : ElfClass) (order : ByteOrder) (file other wanted : List ℕ) → HasWithin class → SameParts (elf_parts class order file) file other
     → elf_file_answer class order other wanted ≡ elf_file_answer class order file wanted
 file_answer_same class order file other wanted within same =
     ap (λ n. cond (ltb n class.header_length) (Err unexpected_eof) (elf_answer class (table_of class order other) wanted)) (sym same.lengths)
-    ∙ ap (λ a. cond (ltb (length file) class.header_length) (Err unexpected_eof) a) (answer_same class order file other wanted within same)
+    ∙ ap (λ a. cond (ltb (length file) class.header_length) (Err unexpected_eof) a) (answer_same class order file other wanted within (held class order file other same))

@@ -4,7 +4,10 @@ use Rattle.std.proofs.lemmas.List.{drop-take, drop-drop, take-take}
 use Rattle.binfarce.specs.declared.ByteOrder.{ByteOrder}
 use Rattle.binfarce.specs.Number.{bytes_at, number}
 use Rattle.binfarce.specs.Field.{Field, value_at}
-use Rattle.binfarce_parts.specs.Parts.{SameAt}
+
+-- two files hold the same in so many bytes from an offset on
+abbrev pub SameAt : List ℕ → List ℕ → ℕ → ℕ → Type 0
+SameAt file other offset size = bytes_at file offset size ≡ bytes_at other offset size
 
 pub bytes_in : (file : List ℕ) (start len k width : ℕ) → k + width ≤ len → bytes_at (bytes_at file start len) k width ≡ bytes_at file (start + k) width
 bytes_in file start len k width h =

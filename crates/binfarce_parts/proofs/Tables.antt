@@ -9,8 +9,12 @@ use Rattle.binfarce.specs.Field.{Field}
 use Rattle.binfarce.specs.Steps.{◌>>=◌}
 use Rattle.binfarce.specs.Text.{text_at}
 use Rattle.binfarce.specs.Elf.{ElfClass, SectionTable, Section, elf32, elf64, header_of, section_at, section_of, section_table, walk, whole_headers, names_section, name_of, contents}
-use Rattle.binfarce_parts.specs.Parts.{SameAt, SameContents, table_of, headers_size}
-use Rattle.binfarce_parts.proofs.Slices.{same_value, same_part}
+use Rattle.binfarce_parts.specs.ElfParts.{table_of, headers_size}
+use Rattle.binfarce_parts.proofs.Slices.{SameAt, same_value, same_part}
+
+-- two files hold the same in a section, if it lies in them
+abbrev pub SameContents : List ℕ → List ℕ → Section → Type 0
+SameContents file other section = contents file section ≡ contents other section
 
 -- a field lies within a structure of this length
 abbrev pub Within : ℕ → Field → Type 0

@@ -65,7 +65,7 @@ legacy_grows name text part rest elements old new e is grown =
     (legacy elements, named_legacy name text part rest elements (legacy elements) e is refl, grown elements rest is.reads)
 
 -- the text of a tree without disambiguators was written
-pub tree_grows : (name text part : List ℕ) (outcome : Outcome) (old new : List ℕ) → IsOther name text → IsV0 text part → IsOutcome part false outcome → new ≡ old ++ outcome.text → Grows name old new
+pub tree_grows : (name text part : List ℕ) (outcome : Outcome) (old new : List ℕ) → IsOther name text → IsV0 text part → IsOutcome part false false outcome → new ≡ old ++ outcome.text → Grows name old new
 tree_grows name text part outcome old new o v is grown =
     let has : HasTree text is.tree = record { part = part; mangling = v; unfolds = is.unfolds } in
     (v0 is.tree, named_v0 name text is.tree (v0 is.tree) o has refl, grown ∙ ap (λ (t : List ℕ). old ++ t) is.text_is)

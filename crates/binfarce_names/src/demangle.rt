@@ -133,7 +133,7 @@ pub fn push_trimmed(alloc: Global, text: &mut String, name: &str) -> Result<(), 
     if let Some(part) = legacy::mangling(stripped) {
         return legacy::push_trimmed(text, part);
     }
-    match v0::print_mangling(alloc, stripped, false)? {
+    match v0::print_mangling(alloc, stripped, false, false)? {
         Some((_, printed)) => text.push_str(printed.text.as_str()),
         None => text.push_str(name),
     }

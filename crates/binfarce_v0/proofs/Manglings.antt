@@ -20,8 +20,8 @@ use Rattle.binfarce_v0_grammar.proofs.ReadingSound.{ends_read, between}
 use Rattle.binfarce_v0_grammar.proofs.ReadingComplete.{path_ends}
 
 -- the whole printing of a name
-abbrev pub printed : List ℕ → Bool → PathTree × State
-printed part full = (readers part MAX_LEVELS).path InValue 0 (first_state full)
+abbrev pub printed : List ℕ → (full muted : Bool) → PathTree × State
+printed part full muted = (readers part MAX_LEVELS).path InValue 0 (first_state full muted)
 
 -- what is no longer left of a limit was taken
 levels_taken : (levels : ℕ) → levels ≤ MAX_LEVELS → MAX_LEVELS - min MAX_LEVELS (MAX_LEVELS - levels) ≡ levels
@@ -37,26 +37,27 @@ reads_up_to part tree (Some q) is h =
     let f = path_folds tree part 0 0 q is in record { tree = f.tree; reads = f.reads; levels = omega (arith, f.levels, h) }
 
 -- a printing that passed no limit is that of the tree that the name unfolds to
-pub printed_is_outcome : (part : List ℕ) (full : Bool) → (printed part full).1.limit_exceeded ≡ false → IsOutcome part full (outcome_of (printed part full).1)
-printed_is_outcome part full o =
+pub printed_is_outcome : (part : List ℕ) (full muted : Bool) → (printed part full muted).1.limit_exceeded ≡ false → IsOutcome part full muted (outcome_of (printed part full muted).1)
+printed_is_outcome part full muted o =
     let H = readers_sound part MAX_LEVELS in
-    let f = H.path InValue 0 (first_state full) o in
-    let within : path_steps (printed part full).0 ≤ MAX_STEPS = omega arith in
-    let same = path_complete (printed part full).0 part MAX_LEVELS InValue 0 (first_state full) (printed part full).1.at refl f.is f.height within in
+    let p = printed part full muted in
+    let f = H.path InValue 0 (first_state full muted) o in
+    let within : path_steps p.0 ≤ MAX_STEPS = omega arith in
+    let same = path_complete p.0 part MAX_LEVELS InValue 0 (first_state full muted) p.1.at refl f.is f.height within in
     record {
-      tree = (printed part full).0;
-      unfolds = record { after = (printed part full).1.at; is_path = f.is; levels = f.height; steps = within };
+      tree = p.0;
+      unfolds = record { after = p.1.at; is_path = f.is; levels = f.height; steps = within };
       text_is = ap (λ r. r.1.text) same;
       root_is = ap (λ r. r.1.root) same;
-      levels_are = ap (λ r. MAX_LEVELS - r.1.least_levels_left) same ∙ levels_taken (path_height (printed part full).0) f.height;
-      steps_are = ap (λ r. MAX_STEPS - r.1.steps_left) same ∙ steps_taken (path_steps (printed part full).0) within;
-      reads = reads_up_to part (printed part full).0 (printed part full).1.at f.is f.height;
+      levels_are = ap (λ r. MAX_LEVELS - r.1.least_levels_left) same ∙ levels_taken (path_height p.0) f.height;
+      steps_are = ap (λ r. MAX_STEPS - r.1.steps_left) same ∙ steps_taken (path_steps p.0) within;
+      reads = reads_up_to part p.0 p.1.at f.is f.height;
     }
 
-pub printed_over : (part : List ℕ) (full : Bool) → (printed part full).1.limit_exceeded ≡ true → (tree : PathTree) → UnfoldsTo part tree → ⊥
-printed_over part full o tree u =
-    let same = path_complete tree part MAX_LEVELS InValue 0 (first_state full) u.after refl u.is_path u.levels u.steps in
-    let not_over : (printed part full).1.limit_exceeded ≡ false = ap (λ r. r.1.limit_exceeded) same in
+pub printed_over : (part : List ℕ) (full muted : Bool) → (printed part full muted).1.limit_exceeded ≡ true → (tree : PathTree) → UnfoldsTo part tree → ⊥
+printed_over part full muted o tree u =
+    let same = path_complete tree part MAX_LEVELS InValue 0 (first_state full muted) u.after refl u.is_path u.levels u.steps in
+    let not_over : (printed part full muted).1.limit_exceeded ≡ false = ap (λ r. r.1.limit_exceeded) same in
     let both : true ≡ false = sym o ∙ not_over in cc
 
 -- a path that the reading reads
@@ -101,21 +102,21 @@ not_mangling text read b e part after m =
     let paths = subst (λ n. ReadsPaths n after) (sym same) m.paths in
     let found = read_paths_at read after paths in cc
 
-pub print_gives_outcome : {P : Type 0} (seen : P → Outcome) (part : List ℕ) (full : Bool) (s : State) (r : Option P) → s ≡ (printed part full).1 → MatchOption r (s.limit_exceeded ≡ true) (λ p. (s.limit_exceeded ≡ false) × (seen p ≡ outcome_of s)) → MatchOption r ((tree : PathTree) → UnfoldsTo part tree → ⊥) (λ p. IsOutcome part full (seen p))
-print_gives_outcome seen part full s None e h =
-    let limit_exceeded : (printed part full).1.limit_exceeded ≡ true = ap (λ (v : State). v.limit_exceeded) (sym e) ∙ h in printed_over part full limit_exceeded
-print_gives_outcome seen part full s (Some p) e h =
-    let on : (printed part full).1.limit_exceeded ≡ false = ap (λ (v : State). v.limit_exceeded) (sym e) ∙ h.0 in
-    subst (IsOutcome part full) (sym (h.1 ∙ ap outcome_of e)) (printed_is_outcome part full on)
+pub print_gives_outcome : {P : Type 0} (seen : P → Outcome) (part : List ℕ) (full muted : Bool) (s : State) (r : Option P) → s ≡ (printed part full muted).1 → MatchOption r (s.limit_exceeded ≡ true) (λ p. (s.limit_exceeded ≡ false) × (seen p ≡ outcome_of s)) → MatchOption r ((tree : PathTree) → UnfoldsTo part tree → ⊥) (λ p. IsOutcome part full muted (seen p))
+print_gives_outcome seen part full muted s None e h =
+    let limit_exceeded : (printed part full muted).1.limit_exceeded ≡ true = ap (λ (v : State). v.limit_exceeded) (sym e) ∙ h in printed_over part full muted limit_exceeded
+print_gives_outcome seen part full muted s (Some p) e h =
+    let on : (printed part full muted).1.limit_exceeded ≡ false = ap (λ (v : State). v.limit_exceeded) (sym e) ∙ h.0 in
+    subst (IsOutcome part full muted) (sym (h.1 ∙ ap outcome_of e)) (printed_is_outcome part full muted on)
 
 -- a name unfolds to one tree
 pub unfolds_once : (part : List ℕ) (t u : PathTree) → UnfoldsTo part t → UnfoldsTo part u → t ≡ u
 unfolds_once part t u a b =
-    let first = path_complete t part MAX_LEVELS InValue 0 (first_state true) a.after refl a.is_path a.levels a.steps in
-    let second = path_complete u part MAX_LEVELS InValue 0 (first_state true) b.after refl b.is_path b.levels b.steps in
+    let first = path_complete t part MAX_LEVELS InValue 0 (first_state true false) a.after refl a.is_path a.levels a.steps in
+    let second = path_complete u part MAX_LEVELS InValue 0 (first_state true false) b.after refl b.is_path b.levels b.steps in
     ap (λ r. r.0) (sym first ∙ second)
 
-pub are_texts : (text part : List ℕ) (complete trimmed : Outcome) (whole short : List ℕ) (crate_name : Option (List ℕ)) → IsV0 text part → IsOutcome part true complete → IsOutcome part false trimmed → whole ≡ complete.text → short ≡ trimmed.text → crate_name ≡ option_map identifier_text complete.root → AreTexts text whole short crate_name
+pub are_texts : (text part : List ℕ) (complete trimmed : Outcome) (whole short : List ℕ) (crate_name : Option (List ℕ)) → IsV0 text part → IsOutcome part true false complete → IsOutcome part false false trimmed → whole ≡ complete.text → short ≡ trimmed.text → crate_name ≡ option_map identifier_text complete.root → AreTexts text whole short crate_name
 are_texts text part complete trimmed whole short crate_name v c t w s e =
     record {
       tree = c.tree;
@@ -126,10 +127,10 @@ are_texts text part complete trimmed whole short crate_name v c t w s e =
     }
 
 -- what is printed once is printed again
-pub printed_twice : (text part : List ℕ) (outcome : Outcome) → IsOutcome part true outcome → ((tree : PathTree) → UnfoldsTo part tree → ⊥) → HasNoTree text
+pub printed_twice : (text part : List ℕ) (outcome : Outcome) → IsOutcome part true false outcome → ((tree : PathTree) → UnfoldsTo part tree → ⊥) → HasNoTree text
 printed_twice text part outcome is none = absurd (none is.tree is.unfolds)
 
-pub has_crate : (text part : List ℕ) (outcome : Outcome) (crate_name : Option (List ℕ)) → IsV0 text part → IsOutcome part false outcome → crate_name ≡ option_map identifier_text outcome.root → IsCrateName text crate_name
+pub has_crate : (text part : List ℕ) (outcome : Outcome) (crate_name : Option (List ℕ)) → IsV0 text part → IsOutcome part false true outcome → crate_name ≡ option_map identifier_text outcome.root → IsCrateName text crate_name
 has_crate text part outcome crate_name v is e =
     inl (is.tree, record { part = part; mangling = v; unfolds = is.unfolds }, e ∙ ap (option_map identifier_text) is.root_is)
 

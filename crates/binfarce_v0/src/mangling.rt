@@ -81,17 +81,19 @@ pub fn read(text: &str) -> Option<(&str, usize)>
     Some((part, after))
 }
 
-/// The text of what `part`, which stands after a prefix, unfolds to, with or without the disambiguators of crates.
-/// None where it unfolds to no tree of at most `MAX_LEVELS` levels and `MAX_STEPS` steps.
+/// The text of what `part`, which stands after a prefix, unfolds to, with or without the disambiguators of crates; muted
+/// it is read alike, and its text is empty. None where it unfolds to no tree of at most `MAX_LEVELS` levels and
+/// `MAX_STEPS` steps.
 pub fn print<'a>(
     alloc: Global,
     part: &'a str,
     full: bool,
+    muted: bool,
 ) -> Result<Option<Printed<'a>>, AllocError>
     requires { IsAscii part.now }
-    ensures { IfOk result (λ p. MatchOption p ((tree : PathTree) → UnfoldsTo part.entry.now tree → ⊥) (λ p. IsOutcome part.entry.now full (printed_view p))) }
+    ensures { IfOk result (λ p. MatchOption p ((tree : PathTree) → UnfoldsTo part.entry.now tree → ⊥) (λ p. IsOutcome part.entry.now full muted (printed_view p))) }
 {
-    let mut printer = Printer::new(alloc, part, full)?;
+    let mut printer = Printer::new(alloc, part, full, muted)?;
     print_path(&mut printer, MAX_LEVELS, 0, Position::InValue)?;
     Ok(printer.finish())
 }
@@ -116,22 +118,23 @@ fn rest_from(part: &[u8], at: usize) -> &[u8]
     if at <= part.len() { &part[at..] } else { &[] }
 }
 
-/// What stands after the prefix of the v0 mangling `text`, and the text of what it unfolds to, with or without the
-/// disambiguators of crates. None where `text` is no v0 mangling whose reading has at most `MAX_LEVELS` levels, and where it unfolds to no tree of
-/// at most `MAX_LEVELS` levels and `MAX_STEPS` steps.
+/// What stands after the prefix of the v0 mangling `text`, and what `print` gives of it. None where `text` is no v0 mangling
+/// whose reading has at most `MAX_LEVELS` levels, and where it unfolds to no tree of at most `MAX_LEVELS` levels and
+/// `MAX_STEPS` steps.
 ///
 /// What was printed without invalid syntax outside back references was read: only a second path is then still to be read.
 pub fn print_mangling<'a>(
     alloc: Global,
     text: &'a str,
     full: bool,
+    muted: bool,
 ) -> Result<Option<(&'a str, Printed<'a>)>, AllocError>
-    ensures { IfOk result (λ p. MatchOption p (HasNoTree text.entry.now) (λ p. IsV0 text.entry.now p.0.now × IsOutcome p.0.now full (printed_view p.1))) }
+    ensures { IfOk result (λ p. MatchOption p (HasNoTree text.entry.now) (λ p. IsV0 text.entry.now p.0.now × IsOutcome p.0.now full muted (printed_view p.1))) }
 {
     let Some(part) = candidate(text) else {
         return Ok(None);
     };
-    let Some(printed) = print(alloc, part, full)? else {
+    let Some(printed) = print(alloc, part, full, muted)? else {
         return Ok(None);
     };
     let Some(after) = paths_end(part, printed.after) else {
@@ -168,12 +171,12 @@ fn root_text(
 }
 
 /// The name of the first crate root of what the v0 mangling `text` unfolds to. None where the tree has no crate root, and
-/// where `text` is no v0 mangling that unfolds to a tree within the limits.
+/// where `text` is no v0 mangling that unfolds to a tree within the limits. Nothing but that name is written.
 #[tactic(auto, using(crate::proofs::Manglings::has_crate, crate::proofs::Manglings::has_no_crate))]
 pub fn crate_name(alloc: Global, text: &str) -> Result<Option<String>, AllocError>
     ensures { IfOk result (λ c. IsCrateName text.now (option_map string_bytes c)) }
 {
-    match print_mangling(alloc, text, false)? {
+    match print_mangling(alloc, text, false, true)? {
         Some((_, printed)) => root_text(alloc, printed.root),
         None => Ok(None),
     }
@@ -186,10 +189,10 @@ pub fn crate_name(alloc: Global, text: &str) -> Result<Option<String>, AllocErro
 pub fn both_texts(alloc: Global, text: &str) -> Result<Option<Texts>, AllocError>
     ensures { IfOk result (λ t. MatchOption t (HasNoTree text.now) (λ t. AreTexts text.now (string_bytes t.complete) (string_bytes t.trimmed) (option_map string_bytes t.crate_name))) }
 {
-    let Some((part, complete)) = print_mangling(alloc, text, true)? else {
+    let Some((part, complete)) = print_mangling(alloc, text, true, false)? else {
         return Ok(None);
     };
-    let Some(trimmed) = print(alloc, part, false)? else {
+    let Some(trimmed) = print(alloc, part, false, false)? else {
         return Ok(None);
     };
     let crate_name = root_text(alloc, complete.root)?;

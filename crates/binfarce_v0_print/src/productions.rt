@@ -120,6 +120,7 @@ pub fn print_target(
     if let Some(opened) = printer.print_kept(levels_left, key, after)? {
         return Ok(opened);
     }
+    printer.look_for_targets()?;
     let in_back_reference = printer.in_back_reference;
     printer.enter_target(target);
     let opened = print(printer, levels_left, binder_depth, production)?;

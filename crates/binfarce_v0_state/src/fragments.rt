@@ -29,7 +29,7 @@ pub struct FragmentKey {
 }
 
 /// A range of a printing's text, in bytes, that shows a whole path, type or const: its steps and its levels, and whether
-/// an open trait was left open.
+/// an open trait was left open. One that was muted shows nothing.
 #[derive(Clone, Copy)]
 pub struct Fragment {
     pub key: FragmentKey,
@@ -38,6 +38,7 @@ pub struct Fragment {
     pub steps: usize,
     pub height: usize,
     pub left_open: bool,
+    pub muted: bool,
 }
 
 /// Where a printing stands before what it will keep.
@@ -52,11 +53,14 @@ pub struct Mark {
 /// The fragments of a printing.
 #[derive(Drop)]
 pub struct Fragments {
+    alloc: Global,
     /// What the name's back references may mean: nothing else is kept.
     pub targets: Targets,
+    /// What is muted is kept too, and the targets are looked for only in a name that takes `MANY_VISITS`.
+    silent: bool,
     /// In the order in which they were printed.
     pub fragments: Vec<Fragment>,
-    /// Where each stands in `fragments`, but for the first `IN_SIGHT`, which are looked through.
+    /// Where each stands in `fragments`, but for the first `LINEAR_SEARCH`, which are looked through.
     index: BTreeMap<FragmentKey, usize>,
     /// What is written again, for a moment.
     copy: String,
@@ -66,6 +70,10 @@ const LINEAR_SEARCH: usize = 16;
 
 // The first room for fragments: few names have more.
 const FIRST_ROOM: usize = 4;
+
+// How much of a name is read silently before its back references' targets are looked for: most names that programs hold
+// end before.
+const MANY_VISITS: usize = 256;
 
 /// Nothing is kept of a text that an allocation was refused for.
 #[inline(always)]
@@ -95,11 +103,27 @@ impl Fragments {
             (FIRST_ROOM, part.len())
         };
         Ok(Fragments {
+            alloc,
             targets,
+            silent: false,
             fragments: Vec::with_capacity(alloc, fragments)?,
             index: BTreeMap::new(alloc),
             copy: String::with_capacity(alloc, bytes)?,
         })
+    }
+
+    /// No fragment yet, for a printing that is muted from its beginning. No memory is taken.
+    pub fn silent(alloc: Global) -> Fragments
+        ensures { result.fragments.items ≡ [] }
+    {
+        Fragments {
+            alloc,
+            targets: Targets::none(alloc),
+            silent: true,
+            fragments: Vec::new(alloc),
+            index: BTreeMap::new(alloc),
+            copy: String::new(alloc),
+        }
     }
 
     // Keeps a fragment.
@@ -132,7 +156,18 @@ impl<'a> Printer<'a> {
     // Whether what is printed from a position on may be kept.
     #[inline(never)]
     fn keeps(&self, at: usize) -> bool {
-        self.kept.targets.has(at) && !self.muted
+        self.kept.targets.has(at) && (self.kept.silent || !self.muted)
+    }
+
+    /// Looks for the targets of the name's back references where much of it was read, and they weren't looked for.
+    #[inline(always)]
+    pub fn look_for_targets(&mut self) -> Result<(), AllocError>
+        ensures { self.new ≡ self.old }
+    {
+        if self.kept.silent && self.visits >= MANY_VISITS && self.kept.targets.is_empty() {
+            self.kept.targets = Targets::new(self.kept.alloc, self.part.as_bytes())?;
+        }
+        Ok(())
     }
 
     /// Marks where a path, a type or a const begins: from here on the least number of levels is counted anew.
@@ -166,7 +201,7 @@ impl<'a> Printer<'a> {
     {
         let least_levels_left = self.least_levels_left;
         self.least_levels_left = mark.least_levels_left.min(least_levels_left);
-        if self.limit_exceeded || self.muted {
+        if self.limit_exceeded {
             return Ok(());
         }
         let Some(_after) = self.at else {
@@ -183,6 +218,7 @@ impl<'a> Printer<'a> {
             steps: mark.steps_left.saturating_sub(self.steps_left),
             height: levels_left.saturating_sub(least_levels_left),
             left_open,
+            muted: self.muted,
         };
         self.kept.keep(fragment)
     }
@@ -260,9 +296,9 @@ impl<'a> Printer<'a> {
         let Some(fragment) = self.fragment(key) else {
             return Ok(None);
         };
-        let (start, end) = (fragment.start, fragment.end);
+        let (start, end, muted) = (fragment.start, fragment.end, fragment.muted);
         let (steps, height, left_open) = (fragment.steps, fragment.height, fragment.left_open);
-        if height > levels_left || steps > self.steps_left {
+        if height > levels_left || steps > self.steps_left || (muted && !self.muted) {
             return Ok(None);
         }
         if !self.write_again(start, end)? {

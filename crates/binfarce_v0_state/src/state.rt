@@ -81,13 +81,25 @@ impl<'a> Model for Printer<'a> {
 impl<'a> Printer<'a> {
     ghost use Rattle.binfarce_v0_state.specs.machine.Outcome.{outcome_of, printed_view};
 
-    /// A printing of `part` that begins at its first position, with memory for a text of as many bytes.
-    pub fn new(alloc: Global, part: &'a str, full: bool) -> Result<Printer<'a>, AllocError>
+    /// A printing of `part` that begins at its first position, with memory for a text of as many bytes; of a muted one
+    /// nothing is written, and no memory is taken.
+    pub fn new(
+        alloc: Global,
+        part: &'a str,
+        full: bool,
+        muted: bool,
+    ) -> Result<Printer<'a>, AllocError>
         requires { IsAscii part.now }
-        ensures { IfOk result (λ p. p ≡ first_printing part.entry.now full) }
+        ensures { IfOk result (λ p. p ≡ first_printing part.entry.now full muted) }
     {
-        let text = String::with_capacity(alloc, part.len())?;
-        let kept = Fragments::new(alloc, part.as_bytes())?;
+        let (text, kept) = if muted {
+            (String::new(alloc), Fragments::silent(alloc))
+        } else {
+            (
+                String::with_capacity(alloc, part.len())?,
+                Fragments::new(alloc, part.as_bytes())?,
+            )
+        };
         Ok(Printer {
             part,
             at: Some(0),
@@ -95,7 +107,7 @@ impl<'a> Printer<'a> {
             least_levels_left: MAX_LEVELS,
             limit_exceeded: false,
             text,
-            muted: false,
+            muted,
             full,
             in_back_reference: false,
             root: None,

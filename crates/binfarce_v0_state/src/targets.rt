@@ -19,14 +19,19 @@ pub struct Targets {
 }
 
 impl Targets {
-    /// The targets of a name. Nothing is allocated but for those from position 256 on.
-    #[inline(never)]
-    pub fn new(alloc: Global, part: &[u8]) -> Result<Targets, AllocError> {
-        let mut targets = Targets {
+    /// No target.
+    pub fn none(alloc: Global) -> Targets {
+        Targets {
             any: 0,
             near: [0; 4],
             far: Vec::new(alloc),
-        };
+        }
+    }
+
+    /// The targets of a name. Nothing is allocated but for those from position 256 on.
+    #[inline(never)]
+    pub fn new(alloc: Global, part: &[u8]) -> Result<Targets, AllocError> {
+        let mut targets = Targets::none(alloc);
         let words = part.len() / 8;
         for word in 0..words {
             let flags = b_flags(part, 8 * word);

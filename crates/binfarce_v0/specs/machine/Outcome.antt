@@ -7,17 +7,18 @@ use Rattle.binfarce_v0_text.specs.TreeTexts.{name_text}
 use Rattle.binfarce_v0_grammar.specs.Unfolding.{UnfoldsTo}
 use Rattle.binfarce_v0.specs.Mangling.{PathStands, IsV0, HasNoTree}
 use Rattle.binfarce_v0_state.specs.machine.Outcome.{Outcome}
+use Rattle.binfarce_v0_state.specs.machine.Printing.{heard}
 
 -- where a position is known, the first path of a name reads up to it
 abbrev pub ReadsUpTo : List ℕ → Option ℕ → Type 0
 ReadsUpTo part None = ⊤
 ReadsUpTo part (Some after) = PathStands part 0 after
 
--- they are the text, the crate root, the levels and the steps of the tree that a name unfolds to within the limits
-pub record IsOutcome (part : List ℕ) (full : Bool) (outcome : Outcome) : Type 0 where
+-- they are the text, the crate root, the levels and the steps of the tree that a name unfolds to within the limits; no text where it was muted
+pub record IsOutcome (part : List ℕ) (full muted : Bool) (outcome : Outcome) : Type 0 where
   pub tree : PathTree
   pub unfolds : UnfoldsTo part tree
-  pub text_is : outcome.text ≡ name_text full tree
+  pub text_is : outcome.text ≡ heard muted (name_text full tree)
   pub root_is : outcome.root ≡ path_root tree
   pub levels_are : outcome.levels ≡ path_height tree
   pub steps_are : outcome.steps ≡ path_steps tree

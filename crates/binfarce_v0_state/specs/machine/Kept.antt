@@ -58,13 +58,14 @@ read R (PathProduction position) binder_depth s = R.path position binder_depth s
 read R TypeProduction binder_depth s = R.ty binder_depth s
 read R ConstProduction binder_depth s = R.constant s
 
--- the text from `start` to `end` is that of the tree that a position unfolds to, without invalid syntax at its end
-pub record Kept (part : List ℕ) (full : Bool) (text : List ℕ) (production : Production) (at binder_depth start end steps height : ℕ) (left_open : Bool) : Type 0 where
+-- the text from `start` to `end` is that of the tree that a position unfolds to, without invalid syntax at its end; where it was muted,
+-- nothing is said of that text
+pub record Kept (part : List ℕ) (full : Bool) (text : List ℕ) (production : Production) (at binder_depth start end steps height : ℕ) (left_open muted : Bool) : Type 0 where
   pub tree : TreeOf production
   pub after : ℕ
   pub is : Unfolds production part tree (Some at) binder_depth (Some after)
   pub within : end ≤ length text
-  pub text_is : slice_range text start end ≡ text_of production full tree binder_depth
+  pub text_is : muted ≡ false → slice_range text start end ≡ text_of production full tree binder_depth
   pub steps_is : steps_of production tree ≡ steps
   pub height_is : height_of production tree ≡ height
   pub open_is : left_open_of production tree ≡ left_open
@@ -72,12 +73,12 @@ pub record Kept (part : List ℕ) (full : Bool) (text : List ℕ) (production : 
 -- what a fragment says of itself holds
 abbrev pub IsKept : List ℕ → Bool → List ℕ → fragment.Fragment → Type 0
 IsKept part full text f =
-    Kept part full text (production_view f.key.production) f.key.at f.key.binder_depth f.start f.end f.steps f.height f.left_open
+    Kept part full text (production_view f.key.production) f.key.at f.key.binder_depth f.start f.end f.steps f.height f.left_open f.muted
 
 -- a fragment is what a back reference asks for
 abbrev pub IsFragmentFor : List ℕ → State → key.FragmentKey → fragment.Fragment → Type 0
 IsFragmentFor part s a f =
-    Kept part s.full s.text (production_view a.production) a.at a.binder_depth f.start f.end f.steps f.height f.left_open
+    Kept part s.full s.text (production_view a.production) a.at a.binder_depth f.start f.end f.steps f.height f.left_open f.muted
 
 -- the least number of levels is counted anew from a number of levels on, and the old one joins
 abbrev pub raised : ℕ → State → State
@@ -93,4 +94,4 @@ IsMark s m = (s.at ≡ Some m.at) × (m.start ≡ length s.text) × (m.steps_lef
 -- what was printed since a mark may be kept
 abbrev pub MayKeep : List ℕ → State → mark.Mark → ℕ → ℕ → Production → Bool → Type 0
 MayKeep part s m levels_left binder_depth production left_open =
-    (after : ℕ) → s.at ≡ Some after → s.limit_exceeded ≡ false → s.muted ≡ false → Kept part s.full s.text production m.at binder_depth m.start (length s.text) (m.steps_left - s.steps_left) (levels_left - s.least_levels_left) left_open
+    (after : ℕ) → s.at ≡ Some after → s.limit_exceeded ≡ false → Kept part s.full s.text production m.at binder_depth m.start (length s.text) (m.steps_left - s.steps_left) (levels_left - s.least_levels_left) left_open s.muted

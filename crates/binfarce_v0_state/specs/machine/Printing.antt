@@ -349,10 +349,10 @@ readers part (suc levels_left) =
 abbrev pub WithinLevels : (levels_left binder_depth : ℕ) → Type 0
 WithinLevels levels_left binder_depth = (levels_left ≤ MAX_LEVELS) × (binder_depth ≤ MAX_STEPS * (MAX_LEVELS - levels_left))
 
--- a printing at its beginning
-abbrev pub first_state : Bool → State
-first_state full =
-    record { at = Some 0; steps_left = MAX_STEPS; least_levels_left = MAX_LEVELS; limit_exceeded = false; text = []; muted = false; full = full; in_back_reference = false; root = None }
+-- a printing at its beginning, muted where all of it is to be read and nothing to be written
+abbrev pub first_state : (full muted : Bool) → State
+first_state full muted =
+    record { at = Some 0; steps_left = MAX_STEPS; least_levels_left = MAX_LEVELS; limit_exceeded = false; text = []; muted = muted; full = full; in_back_reference = false; root = None }
 
 -- what clauses see of a printer: the part that it prints, which stays, and the state of the printing
 pub record Printing : Type 0 where
@@ -362,5 +362,5 @@ pub record Printing : Type 0 where
 abbrev pub with_state : State → Printing → Printing
 with_state s p = record p { state = s }
 
-abbrev pub first_printing : List ℕ → Bool → Printing
-first_printing part full = record { part = part; state = first_state full }
+abbrev pub first_printing : List ℕ → (full muted : Bool) → Printing
+first_printing part full muted = record { part = part; state = first_state full muted }

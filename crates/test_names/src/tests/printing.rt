@@ -17,7 +17,7 @@ fn check_counts(
     steps: usize,
 ) -> Result<(), AllocError> {
     assert!(rt; name.is_ascii(), "a name is ASCII: {name}");
-    match print(alloc, name, true)? {
+    match print(alloc, name, true, false)? {
         Some(printed) => {
             assert_eq!(rt; printed.levels, levels, "levels: {name}");
             assert_eq!(rt; printed.steps, steps, "steps: {name}");
@@ -65,22 +65,23 @@ fn counts_500_levels(rt: HostRuntime) -> Result<(), AllocError> {
     check_counts(&rt, alloc, shared.as_str(), 500, 802)
 }
 
-// A printing of what stands behind a prefix reads so many paths, types, consts and lifetimes: what a back reference means
-// is read once.
+// A printing of what stands behind a prefix reads so many paths, types, consts and lifetimes.
 fn check_visits(
     rt: &impl Abort,
     alloc: Global,
     name: &str,
     full: bool,
+    muted: bool,
     visits: usize,
 ) -> Result<(), AllocError> {
     assert!(rt; name.is_ascii(), "a name is ASCII: {name}");
-    let mut printer = Printer::new(alloc, name, full)?;
+    let mut printer = Printer::new(alloc, name, full, muted)?;
     print_path(&mut printer, MAX_LEVELS, 0, Position::InValue)?;
     assert_eq!(rt; printer.visits, visits, "visits: {name}");
     Ok(())
 }
 
+// What a back reference means is read once.
 #[test]
 fn reads_each_position_once(rt: HostRuntime) -> Result<(), AllocError> {
     for (name, visits) in [
@@ -95,8 +96,24 @@ fn reads_each_position_once(rt: HostRuntime) -> Result<(), AllocError> {
             31,
         ),
     ] {
-        check_visits(&rt, rt.alloc(), name, true, visits)?;
-        check_visits(&rt, rt.alloc(), name, false, visits)?;
+        check_visits(&rt, rt.alloc(), name, true, false, visits)?;
+        check_visits(&rt, rt.alloc(), name, false, false, visits)?;
+    }
+    Ok(())
+}
+
+// Muted, a name is read as if nothing were kept up to its 256th visit, and from there on each position once.
+#[test]
+fn reads_few_positions_again_when_muted(rt: HostRuntime) -> Result<(), AllocError> {
+    for (name, visits) in [
+        ("C1a", 1),
+        ("MC0TTTTTTpB8_EB7_EB6_EB5_EB4_EB3_E", 192),
+        (
+            "MC0TTTTTTTTTTTTTTpBg_EBf_EBe_EBd_EBc_EBb_EBa_EB9_EB8_EB7_EB6_EB5_EB4_EB3_E",
+            441,
+        ),
+    ] {
+        check_visits(&rt, rt.alloc(), name, false, true, visits)?;
     }
     Ok(())
 }

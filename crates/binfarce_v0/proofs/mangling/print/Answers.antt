@@ -9,4 +9,4 @@ use Rattle.binfarce_v0.proofs.mangling.print.Goals as goal
 pub returns : goal.returns
 returns c =
     let begun = ap (λ (p : Printing). ((readers p.part MAX_LEVELS).path InValue 0 p.state).1) c.in_ok-printer.ensures in
-    print_gives_outcome printed_view c.args.part.now c.args.full _ c.finish.result (ap (λ (p : Printing). p.state) c.in_ok-print_path.ensures.printed ∙ begun) c.finish.ensures
+    print_gives_outcome printed_view c.args.part.now c.args.full c.args.muted _ c.finish.result (ap (λ (p : Printing). p.state) c.in_ok-print_path.ensures.printed ∙ begun) c.finish.ensures

@@ -9,7 +9,7 @@ pub invariant_of-self-2 : goal.invariant_of-self-2
 invariant_of-self-2 c =
     let P = IsKept c.self.inside.part.now c.self.inside.full (string_bytes c.self.inside.text) in
     let may = rw (← c.self.view_is) at c.requires in
-    let kept = may c.in-Some._after c.in-Some.is c.if-self.false c.if-self-2.false in
+    let kept = may c.in-Some._after c.in-Some.is c.if-self.false in
     let long : c.len.result ≡ length (string_bytes c.self.inside.text) = search rules in
     let least_levels_left : c.min-self-inside.result ≤ MAX_LEVELS = search rules in
     (c.self.invariant.0, (c.self.invariant.1.0, least_levels_left), rw c.keep.ensures (kept_more P _ _ _ c.self.invariant.2 (rw (long, c.saturating_sub.ensures, c.saturating_sub-2.ensures) kept)))

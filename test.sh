@@ -97,6 +97,7 @@ beside_the_gate() {
     must_not_compile
     crates/test_memory/refused.sh
     crates/test_memory/refused.sh test_sections
+    crates/test_memory/refused.sh test_reading
 }
 
 # The programs that the gate builds are those that `run` would build: it is given them, with what they were made of.

@@ -40,9 +40,9 @@ def indent(line):
 
 
 def type_of(impl):
-    """The type of an impl's first line: `impl<'a> Model for Printer<'a> {` is of Printer."""
+    """The type of an impl's first line: `impl<'a> Model for Printer<'a> {` is of Printer, `impl Source for &[u8] {` of u8."""
     head = re.sub(r"<[^<>]*>", "", re.sub(r"<[^<>]*>", "", impl)).rstrip(" {")
-    return re.split(r" for |impl ", head)[-1].strip().split("::")[-1]
+    return re.split(r" for |impl ", head)[-1].strip("&[] ").split("::")[-1]
 
 
 def held_by(lines, at):

@@ -6,7 +6,8 @@
 # The program is built once, with checks, and not proved; each of its runs is a file that names a group of rows and the
 # number of the allocation that fails.
 #
-# Usage: ./refused.sh [CRATE], of the crates test_memory, which is the default, and test_sections
+# Usage: ./refused.sh [CRATE], of the crates test_memory, which is the default, test_sections and
+# test_reading
 set -eu
 crate=${1:-test_memory}
 cd "$(dirname "$0")/../$crate"
@@ -32,7 +33,10 @@ refusals 18
 truncated 7
 counts 8
 without_allocation 1"
-[ "$crate" = test_memory ] || rows="sections 60"
+case $crate in
+    test_sections) rows="sections 60" ;;
+    test_reading) rows="reading 30" ;;
+esac
 
 # The files of a group.
 runs() {

@@ -41,7 +41,7 @@ impl<'a, C: Class> Model for Elf<'a, C> {
 }
 
 /// Reads the file header in the given order, without a look at the magic number.
-pub(crate) fn parse<C: Class>(data: &[u8], byte_order: ByteOrder) -> Result<Elf<'_, C>, ParseError>
+pub fn parse<C: Class>(data: &[u8], byte_order: ByteOrder) -> Result<Elf<'_, C>, ParseError>
     ensures { MatchResult result
         (λ e. (C.table.header_length ≤ length data.now) × (e ≡ record { order = byte_order; bytes = data.now }))
         (λ e. (length data.now < C.table.header_length) × (refusal_of e ≡ unexpected_eof)) }

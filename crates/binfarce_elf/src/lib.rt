@@ -2,11 +2,12 @@
 #![tactic(auto)]
 
 mod accessors;
-mod class;
-mod elf;
+pub mod class;
+pub mod elf;
 pub mod elf32;
 pub mod elf64;
 mod header;
 mod laws;
-mod sections;
-mod symbols;
+pub mod parts;
+pub mod sections;
+pub mod symbols;

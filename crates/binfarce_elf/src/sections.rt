@@ -75,7 +75,7 @@ pub(crate) struct Table<'a> {
 }
 
 /// The section header at `start`, of the section with this index; refused where it is truncated.
-fn section_at<C: Class>(
+pub fn section_at<C: Class>(
     bytes: &[u8],
     start: usize,
     byte_order: ByteOrder,
@@ -233,7 +233,7 @@ pub(crate) fn section_with_name<C: Class>(
     })
 }
 
-fn is_named(found: Option<&str>, name: &str) -> bool
+pub(crate) fn is_named(found: Option<&str>, name: &str) -> bool
     ensures { result ≡ is_named name.now (option_map (λ t. t.now) found.entry) }
 {
     match found {
@@ -250,7 +250,7 @@ pub(crate) fn section_name<'a, C: Class>(table: Table<'a>, section: Section<C>) 
     name_at(names_bytes::<C>(table), section.name_offset)
 }
 
-fn name_at(names: Option<&[u8]>, offset: Word) -> Option<&str>
+pub(crate) fn name_at(names: Option<&[u8]>, offset: Word) -> Option<&str>
     ensures { option_map (λ t. t.now) result ≡ name_among (option_map (λ b. b.now) names.entry) offset }
 {
     parse_null_string(names?, offset as usize)

@@ -75,7 +75,7 @@ fn named_section<C: Class>(table: Table<'_>, name: &str) -> Result<Section<C>, P
     section_with_name::<C>(table, name)?.ok_or(ParseError::SymbolsSectionIsMissing)
 }
 
-fn symbol_table<C: Class>(table: Table<'_>) -> Result<Section<C>, ParseError>
+pub(crate) fn symbol_table<C: Class>(table: Table<'_>) -> Result<Section<C>, ParseError>
     ensures { Gives refusal_of (section_view C.number_of)
         (sought (section_is_missing (codes ".symtab")) (λ s. nat_eq s.kind 2) (walk C.table (table_view table.entry))) result }
 {
@@ -92,7 +92,10 @@ fn section_of_kind<C: Class>(
     first_section::<C, _>(table, |section| section.kind == kind)
 }
 
-fn linked_section<C: Class>(table: Table<'_>, link: Word) -> Result<Section<C>, ParseError>
+pub(crate) fn linked_section<C: Class>(
+    table: Table<'_>,
+    link: Word,
+) -> Result<Section<C>, ParseError>
     ensures { Gives refusal_of (section_view C.number_of)
         (sought (section_is_missing (codes ".strtab")) (λ s. nat_eq s.index link) (walk C.table (table_view table.entry))) result }
 {
@@ -109,7 +112,7 @@ fn section_of_index<C: Class>(
     first_section::<C, _>(table, |section| u32::from(section.index) == index)
 }
 
-fn string_table<C: Class>(section: Section<C>) -> Result<Section<C>, ParseError>
+pub(crate) fn string_table<C: Class>(section: Section<C>) -> Result<Section<C>, ParseError>
     ensures { Gives refusal_of (section_view C.number_of) (string_table_kind (section_view C.number_of section)) result }
 {
     if section.kind == STRING_TABLE {
@@ -122,7 +125,8 @@ fn string_table<C: Class>(section: Section<C>) -> Result<Section<C>, ParseError>
     }
 }
 
-fn whole_rows<C: Class>(rows: &[u8]) -> Result<&[u8], ParseError>
+/// The rows of a symbol table, of which none is truncated.
+pub fn whole_rows<C: Class>(rows: &[u8]) -> Result<&[u8], ParseError>
     ensures { Gives refusal_of (λ b. b.now) (whole_rows C.table rows.now) result }
 {
     if rows.len() % C::SYMBOL_LENGTH == 0 {
@@ -164,7 +168,7 @@ impl<'a, C: Class> Functions<'a, C> {
     }
 
     // The functions of the section `index` in whole rows.
-    fn new(rows: &'a [u8], strings: &'a [u8], byte_order: ByteOrder, index: Half) -> Self
+    pub(crate) fn new(rows: &'a [u8], strings: &'a [u8], byte_order: ByteOrder, index: Half) -> Self
         ensures { functions_left C.table result ≡ entries_from C.table byte_order strings.entry.now index rows.entry.now 0 }
     {
         Functions {

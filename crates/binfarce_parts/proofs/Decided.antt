@@ -1,5 +1,6 @@
 -- The law of parts, for files of every format.
-use Rattle.std.proofs.Common.{◌≡◌, ℕ, List, [], ◌∷◌, ◌++◌, length, take, drop, Some, refl, sym, ap, ◌∙◌, arith, inl, inr}
+use Rattle.std.proofs.Common.{◌≡◌, ℕ, List, [], ◌∷◌, ◌++◌, length, take, drop, Some, Result, refl, sym, ap, subst, ◌∙◌, arith, inl, inr}
+use Rattle.std.specs.Prelude.{◌↔◌}
 use Rattle.std.proofs.lemmas.Bool.{cases_lt, lt-ltb}
 use Rattle.std.proofs.lemmas.List.Elements.{All-head, All-tail}
 use Rattle.std.proofs.lemmas.List.{take-append-drop, length-drop, length-take-le}
@@ -7,7 +8,9 @@ use Rattle.binfarce.specs.declared.Format.{Format}
 use Rattle.binfarce.specs.declared.Format.TheVariants.{Elf32, Elf64, Macho, PE, Unknown}
 use Rattle.binfarce.specs.Format.{format_of}
 use Rattle.binfarce.specs.Elf.{elf32, elf64}
-use Rattle.binfarce_tools.specs.Answer.{symbols_answer}
+use Rattle.binfarce.specs.Refusal.{Refusal}
+use Rattle.binfarce.specs.Symbol.{Listed}
+use Rattle.binfarce_tools.specs.Answer.{symbols_answer, NeedsMemory}
 use Rattle.binfarce_parts.specs.Part.{SameIn, SameParts}
 use Rattle.binfarce_parts.specs.Parts.{magic, answer_parts, PartsDecide}
 use Rattle.binfarce_parts.proofs.Slices.{SameAt}
@@ -53,6 +56,16 @@ answers_same Macho file other same section = ap Some (macho.file_answer_same fil
 answers_same PE file other same section = ap Some (pe.file_answer_same file other same)
 answers_same Unknown file other same section = refl
 
+memory_same : (format : Format) (file other : List ℕ) → SameParts (answer_parts format file) file other → (answer : Result Listed Refusal) → NeedsMemory format other answer ↔ NeedsMemory format file answer
+unfolding NeedsMemory
+memory_same (Elf32 order) file other same answer = (λ needs. needs, λ needs. needs)
+memory_same (Elf64 order) file other same answer = (λ needs. needs, λ needs. needs)
+memory_same Macho file other same answer =
+    let found = macho.located_same file other same in
+    (λ needs. macho.address_same other file (sym found) needs, λ needs. macho.address_same file other found needs)
+memory_same PE file other same answer = (λ needs. needs, λ needs. needs)
+memory_same Unknown file other same answer = (λ needs. needs, λ needs. needs)
+
 pub parts_decide : (file other : List ℕ) → PartsDecide file other
 parts_decide file other same =
     let P = SameIn file other in
@@ -60,4 +73,6 @@ parts_decide file other same =
     let parts = answer_parts format file in
     let formats = format_same file other same.lengths (All-head P magic parts same.each) in
     let those : SameParts parts file other = record { lengths = same.lengths; each = All-tail P magic parts same.each } in
-    (formats, λ section. ap (λ f. symbols_answer f other section) formats ∙ answers_same format file other those section)
+    (formats,
+      λ section. ap (λ f. symbols_answer f other section) formats ∙ answers_same format file other those section,
+      λ answer. subst (λ f. NeedsMemory f other answer ↔ NeedsMemory format file answer) (sym formats) (memory_same format file other those answer))

@@ -7,7 +7,7 @@ use Rattle.std.proofs.lemmas.List.Elements.{All-head, All-tail}
 use Rattle.binfarce.specs.Refusal.{◌>>=◌, Refusal, required, symbols_section_is_missing, unexpected_eof}
 use Rattle.binfarce.specs.Walk.{Walk, first, found_or_end}
 use Rattle.binfarce.specs.Macho.{Command, header_fields, body_of, commands, Section, walk, is_named}
-use Rattle.binfarce.specs.MachoSymbols.{SymbolTable, symbol_table_fields, symbol_table_at, symbol_table_length, symbol_length, slice_at, some_size, text_end_of, Located, located_by, located, answer_of, macho_answer}
+use Rattle.binfarce.specs.MachoSymbols.{SymbolTable, symbol_table_fields, symbol_table_at, symbol_table_length, symbol_length, slice_at, some_size, text_end_of, Located, located_by, located, answer_of, macho_answer, HasAddress}
 use Rattle.binfarce_tools.specs.Answer.{macho_file_answer}
 use Rattle.binfarce_parts.specs.Part.{Part, part, field_part, parts_if, whole_part, SameIn, SameParts}
 use Rattle.binfarce_parts.specs.MachoParts.{command_parts, segment_parts, table_command, contents_parts, table_parts, macho_parts}
@@ -98,7 +98,7 @@ from_is : (sections : Walk Section) (commands : Walk Command) (named : Section �
 unfolding located_from
 from_is sections commands named = refl
 
-located_same : (file other : List ℕ) → SameParts (macho_parts file) file other → located other ≡ located file
+pub located_same : (file other : List ℕ) → SameParts (macho_parts file) file other → located other ≡ located file
 unfolding macho_parts
 located_same file other same =
     let P : Part → Type 0 = SameIn file other in
@@ -116,6 +116,10 @@ located_same file other same =
     ∙ ap (after_text (walk file)) (fun_ext (λ text. found_same file other long text (table_command file) (commands file).refusal (back P segments table others)))
     ∙ sym (from_is (walk file) (commands file) (located_by file))
     ∙ sym (located_is file)
+
+-- where the symbols are located alike, an address of the table is one of both
+pub address_same : (file other : List ℕ) → located other ≡ located file → HasAddress file → HasAddress other
+address_same file other same has = record { found = has.found; is_located = same ∙ has.is_located; some = has.some }
 
 answer_same : (file other : List ℕ) → SameParts (macho_parts file) file other → macho_answer other ≡ macho_answer file
 unfolding macho_answer

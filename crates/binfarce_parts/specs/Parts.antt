@@ -1,10 +1,12 @@
 -- The parts of a file that its format and its answer are read from, and the law that no other byte of the file matters to them.
-use Rattle.std.specs.Prelude.{◌≡◌, ℕ, List, [], ◌∷◌}
+use Rattle.std.specs.Prelude.{◌≡◌, ◌↔◌, ℕ, List, [], ◌∷◌, Result}
 use Rattle.binfarce.specs.declared.Format.{Format}
 use Rattle.binfarce.specs.declared.Format.TheVariants.{Elf32, Elf64, Macho, PE, Unknown}
 use Rattle.binfarce.specs.Format.{format_of}
 use Rattle.binfarce.specs.Elf.{elf32, elf64}
-use Rattle.binfarce_tools.specs.Answer.{symbols_answer}
+use Rattle.binfarce.specs.Refusal.{Refusal}
+use Rattle.binfarce.specs.Symbol.{Listed}
+use Rattle.binfarce_tools.specs.Answer.{symbols_answer, NeedsMemory}
 use Rattle.binfarce_parts.specs.Part.{Part, part, SameParts}
 use Rattle.binfarce_parts.specs.ElfParts.{elf_parts}
 use Rattle.binfarce_parts.specs.MachoParts.{macho_parts}
@@ -26,8 +28,10 @@ answer_parts Unknown file = []
 abbrev pub parts_of : List ℕ → List Part
 parts_of file = magic ∷ answer_parts (format_of file) file
 
--- files of one length that hold the same in the parts of the first have one format, and one answer for each section
+-- files of one length that hold the same in the parts of the first have one format, one answer for each section, and the same answers that need memory
 abbrev pub PartsDecide : List ℕ → List ℕ → Type 0
 PartsDecide file other =
     SameParts (parts_of file) file other
-    → (format_of other ≡ format_of file) × ((section : List ℕ) → symbols_answer (format_of other) other section ≡ symbols_answer (format_of file) file section)
+    → (format_of other ≡ format_of file)
+    × ((section : List ℕ) → symbols_answer (format_of other) other section ≡ symbols_answer (format_of file) file section)
+    × ((answer : Result Listed Refusal) → NeedsMemory (format_of other) other answer ↔ NeedsMemory (format_of file) file answer)

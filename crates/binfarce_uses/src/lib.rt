@@ -13,5 +13,6 @@ pub mod mapping;
 pub mod names;
 pub mod parts;
 pub mod pe;
+pub mod reading;
 pub mod sections;
 pub mod tools;

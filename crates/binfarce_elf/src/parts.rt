@@ -1,0 +1,105 @@
+//! What the symbols of a section need, found in the section headers alone.
+
+ghost use Rattle.std.specs.Prelude.{◌≡◌};
+ghost use Rattle.std.specs.Option.{option_map};
+ghost use Rattle.binfarce_bytes.specs.Refusal.{Gives, refusal_of, unexpected_eof, symbols_section_is_missing};
+ghost use Rattle.binfarce_bytes.specs.Walk.{first};
+ghost use Rattle.binfarce_elf.specs.Elf.{walk};
+ghost use Rattle.binfarce_elf.specs.ElfParts.{headers_alone, needed, needed_view};
+ghost use Rattle.binfarce_elf.specs.ElfSymbols.{is_named, sought, entries_from};
+ghost use Rattle.binfarce_elf.specs.ElfViews.{section_view, functions_view};
+ghost use Rattle.binfarce_elf.specs.machine.RawElf.{table_view, name_among};
+
+use crate::class::{Class, Half};
+use crate::sections::{Section, Table, first_section, is_named, name_at};
+use crate::symbols::{Functions, linked_section, string_table, symbol_table};
+use binfarce_bytes::parser::UnexpectedEof;
+use binfarce_bytes::{ByteOrder, ParseError};
+
+/// The sections that the symbols of a section need: that section, the symbol table, and the section of its strings.
+#[derive(Clone, Copy)]
+pub struct Needed<C> {
+    pub section: Section<C>,
+    pub symbols: Section<C>,
+    pub strings: Section<C>,
+}
+
+/// These sections, found in `count` section headers, whose names are among `names`. Refused as `functions` of a reader
+/// is, up to the string table's kind.
+pub fn needed_sections<C: Class>(
+    headers: &[u8],
+    byte_order: ByteOrder,
+    count: Half,
+    names: Option<&[u8]>,
+    section_name: &str,
+) -> Result<Needed<C>, ParseError>
+    ensures { Gives refusal_of (needed_view C.number_of)
+        (needed C.table (headers_alone byte_order headers.now count) (option_map (λ b. b.now) names.entry) section_name.now) result }
+{
+    let table = Table {
+        data: headers,
+        byte_order,
+        shoff: 0,
+        shnum: count,
+        shstrndx: 0,
+    };
+    needed_of::<C>(table, names, section_name)
+}
+
+#[tactic(auto, unfolding(crate::specs::ElfParts::needed))]
+fn needed_of<C: Class>(
+    table: Table<'_>,
+    names: Option<&[u8]>,
+    section_name: &str,
+) -> Result<Needed<C>, ParseError>
+    ensures { Gives refusal_of (needed_view C.number_of)
+        (needed C.table (table_view table.entry) (option_map (λ b. b.now) names.entry) section_name.now) result }
+{
+    let section = named_section::<C>(table, names, section_name)?;
+    let symbols = symbol_table::<C>(table)?;
+    let linked = linked_section::<C>(table, symbols.link)?;
+    let strings = string_table(linked)?;
+    Ok(Needed {
+        section,
+        symbols,
+        strings,
+    })
+}
+
+fn named_section<C: Class>(
+    table: Table<'_>,
+    names: Option<&[u8]>,
+    name: &str,
+) -> Result<Section<C>, ParseError>
+    ensures { Gives refusal_of (section_view C.number_of)
+        (sought symbols_section_is_missing (λ s. is_named name.now (name_among (option_map (λ b. b.now) names.entry) s.name_offset)) (walk C.table (table_view table.entry))) result }
+{
+    section_named::<C>(table, names, name)?.ok_or(ParseError::SymbolsSectionIsMissing)
+}
+
+fn section_named<C: Class>(
+    table: Table<'_>,
+    names: Option<&[u8]>,
+    name: &str,
+) -> Result<Option<Section<C>>, UnexpectedEof>
+    ensures { Gives (λ _. unexpected_eof) (option_map (section_view C.number_of))
+        (first (λ s. is_named name.now (name_among (option_map (λ b. b.now) names.entry) s.name_offset)) (walk C.table (table_view table.entry))) result }
+{
+    first_section::<C, _>(table, |section| {
+        is_named(name_at(names, section.name_offset), name)
+    })
+}
+
+/// The function symbols of this section in whole rows, whose names are in these strings, and the section's size.
+pub fn functions_in<'a, C: Class>(
+    rows: &'a [u8],
+    strings: &'a [u8],
+    byte_order: ByteOrder,
+    section: Section<C>,
+) -> (Functions<'a, C>, u64)
+    ensures { let s = section_view C.number_of section in functions_view C.table result
+        ≡ record { entries = entries_from C.table byte_order strings.entry.now s.index rows.entry.now 0; section_size = s.size } }
+{
+    let functions = Functions::new(rows, strings, byte_order, section.index);
+    (functions, section.size.widened())
+}

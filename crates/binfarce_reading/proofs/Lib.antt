@@ -1,0 +1,5 @@
+mod NamesAmong
+mod HeadersAlone
+mod Readings
+mod Located
+mod Contents

@@ -1,0 +1,9 @@
+//! Files that are read where their tables are: each part once, into memory of its size.
+#![tactic(auto)]
+
+mod elf;
+pub mod elf32;
+pub mod elf64;
+mod error;
+
+pub use crate::error::ReadError;

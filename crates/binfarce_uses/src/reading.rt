@@ -1,0 +1,8 @@
+//! Files that are read where their tables are.
+
+pub mod fill_first;
+pub mod functions_of;
+pub mod length_of;
+pub mod magic_of;
+pub mod parts_of_bytes;
+pub mod text_parts;

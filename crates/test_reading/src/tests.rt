@@ -1,0 +1,8 @@
+mod changed;
+mod faults;
+mod files;
+mod parts;
+mod prefixes;
+
+/// The sections that are asked for: one with functions, one with none, and none.
+const SECTIONS: [&str; 3] = [".text", ".shstrtab", "nope"];

@@ -72,7 +72,8 @@ parts_decide file other same =
     let format = format_of file in
     let parts = answer_parts format file in
     let formats = format_same file other same.lengths (All-head P magic parts same.each) in
-    let those : SameParts parts file other = record { lengths = same.lengths; each = All-tail P magic parts same.each } in
-    (formats,
+    let those : SameParts parts file other = record { lengths = same.lengths; each = All-tail P magic parts same.each } in (
+      formats,
       λ section. ap (λ f. symbols_answer f other section) formats ∙ answers_same format file other those section,
-      λ answer. subst (λ f. NeedsMemory f other answer ↔ NeedsMemory format file answer) (sym formats) (memory_same format file other those answer))
+      λ answer. subst (λ f. NeedsMemory f other answer ↔ NeedsMemory format file answer) (sym formats) (memory_same format file other those answer),
+    )

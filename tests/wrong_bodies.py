@@ -1,8 +1,8 @@
 #!/usr/bin/env python3
 """Checks the wrong bodies against their table (docs/WRONG_BODIES.md) and against where the prover refuses them (docs/refusals.txt).
 
-    tests/wrong_bodies.py [GATE]          checks; with GATE, what the gate printed, also that it refused each edit; prints where it refused one elsewhere than the list says
-    tests/wrong_bodies.py --write GATE    writes the list from what the gate printed
+    tests/wrong_bodies.py [TRIED]          checks; with TRIED, what tests/try_wrong_bodies.py or `rt must-fail` printed, also that each edit was refused; prints where one was refused elsewhere than the list says
+    tests/wrong_bodies.py --write TRIED    writes the list from what was printed
 
 What is checked, for each crates/CRATE/must-fail/MODULE.FUNCTION.EDIT.edit:
 - its first text stands in that function (or constant, or struct) of that module; two functions of one name are told apart by
@@ -22,7 +22,7 @@ TABLE = "docs/WRONG_BODIES.md"
 LIST = "docs/refusals.txt"
 HEAD = """\
 # Where the prover refuses a wrong body: the crate and the edit, the function, and the goal that doesn't hold there.
-# Written by `tests/wrong_bodies.py --write` from what the gate printed.
+# Written by `tests/wrong_bodies.py --write` from what test.sh printed.
 """
 
 # Goals that say what a function's clauses or a loop's invariant say.
@@ -90,8 +90,12 @@ def edits():
 
 
 def place_of(crate, edit):
-    """The module and the function in which an edit's first text stands, with its type where the module has another of that name."""
-    file, text = texts_of(f"crates/{crate}/must-fail/{edit}.edit")[0]
+    """The module and the function in which an edit's first text stands."""
+    return place_at(crate, *texts_of(f"crates/{crate}/must-fail/{edit}.edit")[0])
+
+
+def place_at(crate, file, text):
+    """The module and the function in which a text of a file stands, with its type where the module has another of that name."""
     source = read(f"crates/{crate}/{file}")
     start = source.index(text) + len(text) - len(text.lstrip())
     name, holder = held_by(source.split("\n"), source.count("\n", 0, start))
@@ -121,7 +125,7 @@ def in_answer(folder, goal):
 
 
 def refusals(text):
-    """Where a gate's output says that each edit was refused: function and goal by crate and edit."""
+    """Where an output says that each edit was refused: function and goal by crate and edit."""
     found = {}
     for line in text.split("\n"):
         at = re.match(r"(?:rt: )?must-fail (\w+)/(\S+)\.edit: refused, as it must be(.*)", line)
@@ -139,6 +143,14 @@ def refusals(text):
         else:
             found[crate, edit] = ("proofs", "refused")
     return found
+
+
+def function_key(crate, function):
+    """A function's module and its name. Its type is left out, which the prover tells in another way than the table does."""
+    *path, name = function.split(".")
+    while path and not os.path.isfile(f"{TOP}/crates/{crate}/src/{'/'.join(path)}.rt"):
+        path.pop()
+    return ".".join([*(path if path != ["lib"] else []), name])
 
 
 def listed():
@@ -189,27 +201,28 @@ def wrong_refusals(known, said, found):
             yield f"{LIST}: there is no edit {'/'.join(it)}"
 
 
-def elsewhere(found, gate):
-    for it in sorted(gate):
-        if it in found and found[it] != gate[it]:
-            yield f"note: {'/'.join(it)}: refused at {' '.join(gate[it])}, and {LIST} has {' '.join(found[it])}"
+def elsewhere(found, tried):
+    for it in sorted(tried):
+        (function, goal), (listed_function, listed_goal) = tried[it], found.get(it, tried[it])
+        if goal != listed_goal or function_key(it[0], function) != function_key(it[0], listed_function):
+            yield f"note: {'/'.join(it)}: refused at {function} {goal}, and {LIST} has {listed_function} {listed_goal}"
 
 
 def main(words):
     if words[:1] == ["--write"] and len(words) == 2:
         with open(words[1], encoding="utf-8", errors="replace") as file:
-            gate = refusals(file.read())
+            tried = refusals(file.read())
         with open(f"{TOP}/{LIST}", "w", encoding="utf-8") as file:
-            file.write(HEAD + "".join(f"{' '.join([*it, *gate[it]])}\n" for it in sorted(gate)))
+            file.write(HEAD + "".join(f"{' '.join([*it, *tried[it]])}\n" for it in sorted(tried)))
         return 0
     known, found = list(edits()), listed()
     wrong, said = wrong_table(known)
     wrong += [*wrong_places(known), *wrong_refusals(known, said, found)]
     if words:
         with open(words[0], encoding="utf-8", errors="replace") as file:
-            gate = refusals(file.read())
-        wrong += [f"{'/'.join(it)}: the gate doesn't refuse it" for it in known if it not in gate]
-        print("".join(f"{it}\n" for it in elsewhere(found, gate)), end="")
+            tried = refusals(file.read())
+        wrong += [f"{'/'.join(it)}: it wasn't refused" for it in known if it not in tried]
+        print("".join(f"{it}\n" for it in elsewhere(found, tried)), end="")
     print("\n".join(wrong or [f"wrong bodies: {len(known)} edits, each in one row, in the function that it names and in {LIST}"]))
     return 1 if wrong else 0
 

@@ -9,7 +9,7 @@ use Rattle.std.specs.Char.{is_ascii_digit}
 use Rattle.std.specs.List.{flat_map}
 use Rattle.std.specs.Str.{encode_utf8_all}
 use Rattle.std.specs.Str.Parse.{digits_value}
-use Rattle.binfarce_legacy.specs.Legacy.{Element, Reads, name_chars, legacy_chars}
+use Rattle.binfarce_legacy.specs.Legacy.{Element, Reads, name_chars, legacy_chars, IsFront}
 use Rattle.binfarce_legacy.specs.machine.Reading.{name_start, name_end, HasElement}
 use Rattle.binfarce_legacy.proofs.Left.{joined_left, IsLeft}
 use Rattle.binfarce_legacy.proofs.ElementLemmas.{not_digit, reads_fits, reads_name, reads_after}
@@ -107,3 +107,45 @@ pub left_at_end : (part : List ℕ) (at : ℕ) (before printed : List ℕ) (elem
 left_at_end part at before printed elements rest [] is no_more =
     sym (append-nil printed) ∙ ap (λ (x : List ℕ). printed ++ encode_utf8_all x) (sym (joined_left-nil at)) ∙ is.joined
 left_at_end part at before printed elements rest (e ∷ others) is no_more = absurd (no_more (reads_fits (drop at part) e others rest is.ahead))
+
+-- with no element, nothing is written
+pub front_of_none : (part : List ℕ) (elements : List Element) (rest : List ℕ) → Reads part elements rest → (HasElement part → ⊥) → IsFront [] (encode_utf8_all (legacy_chars elements))
+front_of_none part elements rest r none =
+    inl (left_at_end part 0 [] [] elements rest elements (left_at_start part [] elements rest r) none)
+
+-- the first element is written
+first_left : (part : List ℕ) (end : ℕ) (printed name : List ℕ) (elements : List Element) (rest : List ℕ) → Reads part elements rest → HasElement part → end ≡ name_end part
+    → name ≡ take (digits_value 10 (take (name_start part) part)) (drop (name_start part) part) → printed ≡ encode_utf8_all (name_chars name)
+    → (others : List Element) × IsLeft part end [] printed elements rest others
+unfolding name_end name_start
+first_left part end printed name elements rest r has ends named wrote =
+    left_step part 0 end [] [] printed name elements rest elements (left_at_start part [] elements rest r) has (ends ∙ omega arith) named wrote
+
+-- and is all that there is
+pub front_of_one : (part : List ℕ) (end : ℕ) (printed name : List ℕ) (elements : List Element) (rest : List ℕ) → Reads part elements rest → HasElement part → end ≡ name_end part
+    → name ≡ take (digits_value 10 (take (name_start part) part)) (drop (name_start part) part) → printed ≡ encode_utf8_all (name_chars name)
+    → (HasElement (drop end part) → ⊥) → IsFront printed (encode_utf8_all (legacy_chars elements))
+front_of_one part end printed name elements rest r has ends named wrote none =
+    let left = first_left part end printed name elements rest r has ends named wrote in
+    inl (left_at_end part end [] printed elements rest left.0 left.1 none)
+
+before_another : (part : List ℕ) (end : ℕ) (printed : List ℕ) (elements : List Element) (rest : List ℕ) (left : List Element) → IsLeft part end [] printed elements rest left
+    → 0 < end → HasElement (drop end part) → IsFront (printed ++ codes "::") (encode_utf8_all (legacy_chars elements))
+unfolding name_start
+before_another part end printed elements rest [] is pos has =
+    absurd (not_digit (get_or (drop end part) 0 0) (ap (λ (x : List ℕ). get_or x 0 0) is.ahead.1) (prefix_len_passes is_ascii_digit (drop end part) 0 0 has.0))
+before_another part end printed elements rest (e ∷ others) is pos has =
+    let later : List ℕ = name_chars e.name ++ joined_left end others in
+    let step : encode_utf8_all (joined_left end (e ∷ others)) ≡ codes "::" ++ encode_utf8_all later =
+    ap encode_utf8_all (joined_left-step end end e others pos) ∙ encodes-append (separator end) later
+    ∙ ap (λ (x : List ℕ). x ++ encode_utf8_all later) (separator_ascii end ∙ separator-later end pos) in
+    inr (printed, encode_utf8_all later, refl, sym is.joined ∙ ap (λ (x : List ℕ). printed ++ x) step ∙ sym (append_assoc printed (codes "::") (encode_utf8_all later)))
+
+-- and another one follows
+pub front_of_more : (part : List ℕ) (end : ℕ) (printed name : List ℕ) (elements : List Element) (rest : List ℕ) → Reads part elements rest → HasElement part → end ≡ name_end part
+    → name ≡ take (digits_value 10 (take (name_start part) part)) (drop (name_start part) part) → printed ≡ encode_utf8_all (name_chars name)
+    → HasElement (drop end part) → IsFront (printed ++ codes "::") (encode_utf8_all (legacy_chars elements))
+unfolding name_end
+front_of_more part end printed name elements rest r has ends named wrote more =
+    let left = first_left part end printed name elements rest r has ends named wrote in
+    before_another part end printed elements rest left.0 left.1 (omega (arith, ends, has.0)) more

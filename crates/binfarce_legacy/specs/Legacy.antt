@@ -1,5 +1,5 @@
 -- The legacy mangling that `rustc` writes: `_ZN`, elements that are each counted, and `E`.
-use Rattle.std.specs.Prelude.{◌≡◌, ℕ, zero, suc, ◌+◌, ◌-◌, ◌<◌, Bool, ◌&&◌, not, List, [], ◌∷◌, ◌++◌, length, take, drop, Option, Some, None, if◌then◌else◌, ◌==◌, nat_eq, nat_lt, slice_index, codes, IsTrue, ⊤}
+use Rattle.std.specs.Prelude.{◌≡◌, ◌⊎◌, ℕ, zero, suc, ◌+◌, ◌-◌, ◌<◌, Bool, ◌&&◌, not, List, [], ◌∷◌, ◌++◌, length, take, drop, Option, Some, None, if◌then◌else◌, ◌==◌, nat_eq, nat_lt, slice_index, codes, IsTrue, ⊤}
 use Rattle.std.proofs.Common.{refl, arith}
 use Rattle.std.specs.Option.{option_map, option_or, unwrap_or}
 use Rattle.std.specs.List.{find, flat_map, join_by, list_any, starts_with, take_while, before_last}
@@ -110,6 +110,10 @@ without_last_part chars =
     if list_any (λ c. c == ':') chars
     then (let front = before_last (λ c. c == ':') chars in take (length front - 1) front)
     else chars
+
+-- front is the path, or what stands of it up to the end of a `::`
+abbrev pub IsFront : (front path : List ℕ) → Type 0
+IsFront front path = (front ≡ path) ⊎ ((first more : List ℕ) × (front ≡ first ++ codes "::") × (path ≡ front ++ more))
 
 -- `_ZN4$LT$3barE` is `$LT$` and `bar`
 abbrev worked_elements : List Element

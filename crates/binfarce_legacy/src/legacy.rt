@@ -8,7 +8,7 @@ ghost use Rattle.std.specs.Str.{IsAscii, encode_utf8_all};
 ghost use Rattle.std.specs.Str.Parse.{digits_value};
 ghost use Rattle.std.specs.String.{string_bytes};
 ghost use Rattle.binfarce_text.specs.Letters.{is_hex_digit};
-ghost use Rattle.binfarce_legacy.specs.Legacy.{Element, Reads, IsLegacy, part_after_prefix, named_escape, numbered_escape, first_piece, name_chars, legacy_chars, is_printed, without_last_part};
+ghost use Rattle.binfarce_legacy.specs.Legacy.{Element, Reads, IsLegacy, part_after_prefix, named_escape, numbered_escape, first_piece, name_chars, legacy_chars, is_printed, without_last_part, IsFront};
 ghost use Rattle.binfarce_legacy.specs.machine.Reading.{is_mark, is_plain, path_chars, piece_of, piece_or_all, chars_left, name_start, name_end, HasElement, Grows};
 
 use binfarce_text::digits::hex_value;
@@ -351,6 +351,26 @@ pub fn complete(alloc: Global, part: &str) -> Result<String, AllocError>
 {
     let mut text = String::with_capacity(alloc, part.len())?;
     let _ = push_path(&mut text, part, false)?;
+    Ok(text)
+}
+
+/// What the readable text of a mangling begins with: its first element's name in readable form, and where another element
+/// follows, `::`. `part` is what stands after the prefix. The only refusal is that an allocation was refused.
+pub fn front(alloc: Global, part: &str) -> Result<String, AllocError>
+    requires { IsAscii part.now }
+    ensures { IfOk result (λ text. (elements : List Element) (rest : List ℕ)
+        → Reads part.now elements rest → IsFront (string_bytes text) (encode_utf8_all (legacy_chars elements))) }
+{
+    let mut text = String::new(alloc);
+    let bytes = part.as_bytes();
+    let Some((start, end)) = element(bytes, 0) else {
+        return Ok(text);
+    };
+    push_name(&mut text, &part[start..end])?;
+    let Some(_) = element(bytes, end) else {
+        return Ok(text);
+    };
+    text.push_str("::")?;
     Ok(text)
 }
 

@@ -155,17 +155,19 @@ pub fn crate_of(alloc: Global, name: &str) -> Result<Option<String>, AllocError>
     }
 }
 
-// The crate that the path of a legacy mangling begins with.
+// The crate that the path of a legacy mangling begins with. What stands behind the path's first element, or the `::` after it,
+// isn't looked at: the crate is told before it.
+#[tactic(auto, using(crate::proofs::FirstPart::crate_of_front))]
 fn path_crate(alloc: Global, part: &str) -> Result<Option<String>, AllocError>
     requires { IsAscii part.now }
     ensures { IfOk result (λ c. (elements : List Element) (rest : List ℕ)
         → Reads part.now elements rest → option_map string_bytes c ≡ path_crate (encode_utf8_all (legacy_chars elements))) }
 {
-    let path = legacy::complete(alloc, part)?;
-    if path.starts_with("<") {
+    let front = legacy::front(alloc, part)?;
+    if front.starts_with("<") {
         return Ok(None);
     }
-    Ok(Some(String::from_str(alloc, first_part(path.as_str()))?))
+    Ok(Some(String::from_str(alloc, first_part(front.as_str()))?))
 }
 
 // A path up to its first `::`, or all of it.

@@ -35,7 +35,7 @@ counts 8
 without_allocation 1"
 case $crate in
     test_sections) rows="sections 60" ;;
-    test_reading) rows="reading 30" ;;
+    test_reading) rows="reading 60" ;;
 esac
 
 # The files of a group.

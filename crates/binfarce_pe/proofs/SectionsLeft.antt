@@ -1,32 +1,33 @@
 -- The sections that an iterator has left.
-use Rattle.std.proofs.Common.{◌≡◌, ℕ, suc, ◌+◌, ◌-◌, ◌<◌, ◌≤◌, List, Option, Some, None, refl, arith}
+use Rattle.std.proofs.Common.{◌≡◌, ℕ, suc, ◌+◌, ◌-◌, ◌<◌, ◌≤◌, Option, Some, None, refl, arith}
 use Rattle.binfarce_bytes.specs.Refusal.{Refusal}
 use Rattle.binfarce_bytes.specs.Walk.{ended, ahead_of}
-use Rattle.binfarce_pe.specs.Pe.{Section, section_of, walk}
+use Rattle.binfarce_pe.specs.Pe.{Section}
+use Rattle.binfarce_pe.specs.PeParts.{SectionTable, section_in, table_walk}
 use Rattle.binfarce_pe.specs.machine.RawPe.{header_count, walk_from}
 
 -- at the start all are
-pub all_left : (file : List ℕ) → walk_from file (Some 0) ≡ walk file
-unfolding walk
-all_left file =
-    let all : header_count file - 0 ≡ header_count file = omega arith in
+pub all_left : (table : SectionTable) → walk_from table (Some 0) ≡ table_walk table
+unfolding table_walk
+all_left table =
+    let all : header_count table - 0 ≡ header_count table = omega arith in
     rw all refl
 
 -- header k has the section that comes next
-pub next_is : (file : List ℕ) (k : ℕ) (section : Section) → k < header_count file → section_of file k ≡ Some section
-    → walk_from file (Some k) ≡ ahead_of section (walk_from file (Some (k + 1)))
-next_is file k section lt e =
-    let one : header_count file - k ≡ suc (header_count file - (k + 1)) = omega arith in
+pub next_is : (table : SectionTable) (k : ℕ) (section : Section) → k < header_count table → section_in table k ≡ Some section
+    → walk_from table (Some k) ≡ ahead_of section (walk_from table (Some (k + 1)))
+next_is table k section lt e =
+    let one : header_count table - k ≡ suc (header_count table - (k + 1)) = omega arith in
     rw (one, e) refl
 
 -- header k has none, since its name isn't UTF-8
-pub passed : (file : List ℕ) (k : ℕ) → k < header_count file → section_of file k ≡ None → walk_from file (Some k) ≡ walk_from file (Some (k + 1))
-passed file k lt e =
-    let one : header_count file - k ≡ suc (header_count file - (k + 1)) = omega arith in
+pub passed : (table : SectionTable) (k : ℕ) → k < header_count table → section_in table k ≡ None → walk_from table (Some k) ≡ walk_from table (Some (k + 1))
+passed table k lt e =
+    let one : header_count table - k ≡ suc (header_count table - (k + 1)) = omega arith in
     rw (one, e) refl
 
 -- no header is left
-pub end_is : (file : List ℕ) (k : ℕ) (end : Option Refusal) → header_count file ≤ k → (walk file).refusal ≡ end → walk_from file (Some k) ≡ ended end
-end_is file k end le e =
-    let none : header_count file - k ≡ 0 = omega arith in
+pub end_is : (table : SectionTable) (k : ℕ) (end : Option Refusal) → header_count table ≤ k → (table_walk table).refusal ≡ end → walk_from table (Some k) ≡ ended end
+end_is table k end le e =
+    let none : header_count table - k ≡ 0 = omega arith in
     rw (none, e) refl

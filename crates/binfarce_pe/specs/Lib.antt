@@ -1,4 +1,5 @@
 pub mod Pe
+pub mod PeParts
 pub mod PeSymbols
 pub mod PeViews
 pub mod machine

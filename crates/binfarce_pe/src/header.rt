@@ -4,15 +4,9 @@ ghost use Rattle.std.specs.Prelude.{◌≡◌, ◌+◌, ◌<◌, ◌≤◌, leng
 ghost use Rattle.binfarce_pe.specs.Pe.{least_length, signature_offset, header_after, header_of};
 ghost use Rattle.binfarce_pe.specs.PeViews.{header_view};
 
+use crate::parts::SIGNATURE_POINTER;
 use binfarce_bytes::ByteOrder;
 use binfarce_bytes::parser::{Stream, UnexpectedEof, number_at};
-
-// Where the offset of the signature stands.
-const SIGNATURE_POINTER: usize = 0x3c;
-
-pub(crate) const SIGNATURE_LENGTH: usize = 4;
-
-pub(crate) const HEADER_LENGTH: usize = 20;
 
 /// The COFF file header ("COFF File Header").
 #[derive(Debug, Clone, Copy)]
@@ -27,19 +21,19 @@ pub struct PeHeader {
 }
 
 // The signature's offset, and the file header.
-pub(crate) fn parse_header(data: &[u8]) -> Result<(usize, PeHeader), UnexpectedEof>
+pub(crate) fn parse_header(data: &[u8]) -> Result<(u32, PeHeader), UnexpectedEof>
     ensures { MatchResult result
         (λ p. (least_length data.now ≤ length data.now) × (p.0 ≡ signature_offset data.now) × (header_view p.1 ≡ header_of data.now))
         (λ _. length data.now < least_length data.now) }
 {
     let pe_pointer: u32 = number_at(data, SIGNATURE_POINTER, ByteOrder::LittleEndian)?;
     let header = header_after(data, pe_pointer as usize)?;
-    Ok((pe_pointer as usize, header))
+    Ok((pe_pointer, header))
 }
 
 // The file header after the signature at this offset.
 #[tactic(auto, unfolding(crate::specs::Pe::header_fields, crate::specs::Pe::header_after))]
-fn header_after(data: &[u8], signature: usize) -> Result<PeHeader, UnexpectedEof>
+pub(crate) fn header_after(data: &[u8], signature: usize) -> Result<PeHeader, UnexpectedEof>
     ensures { MatchResult result
         (λ h. (signature + 24 ≤ length data.now) × (header_view h ≡ header_after data.now signature))
         (λ _. length data.now < signature + 24) }

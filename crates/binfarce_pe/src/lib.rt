@@ -4,6 +4,7 @@
 mod accessors;
 mod header;
 mod laws;
+pub mod parts;
 pub mod pe;
 mod sections;
 mod symbols;

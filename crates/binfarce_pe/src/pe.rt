@@ -13,7 +13,7 @@ ghost use Rattle.binfarce_pe.specs.PeViews.{header_view, section_view};
 pub use crate::header::PeHeader;
 use crate::header::parse_header;
 pub use crate::sections::{Section, Sections};
-use crate::sections::{self, first_section};
+use crate::sections::{self, first_of_file};
 use crate::symbols::{functions_of, locate};
 use binfarce_bytes::ParseError;
 use binfarce_names::demangle::SymbolData;
@@ -25,7 +25,7 @@ use std::marker::Model;
 #[derive(Debug, Clone, Drop)]
 pub struct Pe<'a> {
     pub(crate) data: &'a [u8],
-    pub(crate) pe_pointer: usize,
+    pub(crate) pe_pointer: u32,
     pub(crate) header: PeHeader,
 }
 
@@ -104,7 +104,7 @@ impl<'a> Pe<'a> {
         requires { All (MayBeAsked section_view (F.pre callback)) (walk self.now).items }
         ensures { FirstAccepted refusal_of section_view (F.post callback) (walk self.now) result }
     {
-        Ok(first_section(self, callback)?)
+        Ok(first_of_file(self, callback)?)
     }
 
     /// The first section with this name.

@@ -5,18 +5,17 @@ ghost use Rattle.std.specs.Option.{option_map};
 ghost use Rattle.binfarce_bytes.specs.Refusal.{Gives, refusal_of, unexpected_eof};
 ghost use Rattle.binfarce_bytes.specs.Text.{padded_text};
 ghost use Rattle.binfarce_bytes.specs.Walk.{MayBeAsked, FirstAccepted, first, ended, ahead_of};
-ghost use Rattle.binfarce_pe.specs.Pe.{section_at, section_data, sections_offset, walk, is_named};
+ghost use Rattle.binfarce_pe.specs.Pe.{section_at, section_data, walk, is_named};
+ghost use Rattle.binfarce_pe.specs.PeParts.{section_table, table_walk};
 ghost use Rattle.binfarce_pe.specs.PeViews.{section_view};
-ghost use Rattle.binfarce_pe.specs.machine.RawPe.{IsTable, header_count, walk_from};
+ghost use Rattle.binfarce_pe.specs.machine.RawPe.{headers_view, header_count, walk_from};
 
-use crate::header::{HEADER_LENGTH, SIGNATURE_LENGTH};
+use crate::parts::{SECTION_LENGTH, places_of};
 use crate::pe::Pe;
 use binfarce_bytes::parser::{Stream, UnexpectedEof, range, up_to_nul, utf8_text};
 use binfarce_bytes::{ByteOrder, ParseError};
 use std::marker::Model;
 use std::ops::Range;
-
-const SECTION_LENGTH: usize = 40;
 
 /// A section header's values ("Section Table"), and the section's index, counted from 0.
 ///
@@ -73,25 +72,25 @@ pub struct Sections<'a> {
     next: Option<u16>,
 }
 
-// Where the section table begins, and how many headers it has.
+// Section headers: the bytes that they lie in, where they begin there, and how many there are.
 #[derive(Clone, Copy)]
-struct Table<'a> {
-    file: &'a [u8],
-    offset: usize,
-    count: u16,
+pub(crate) struct Table<'a> {
+    pub(crate) bytes: &'a [u8],
+    pub(crate) offset: usize,
+    pub(crate) count: u16,
 }
 
 impl<'a> Model for Sections<'a> {
     ghost use Rattle.std.specs.Prelude.{◌≡◌, ◌≤◌, IfSome};
     ghost use Rattle.binfarce_bytes.specs.Walk.{Walk};
     ghost use Rattle.binfarce_pe.specs.Pe.{Section};
-    ghost use Rattle.binfarce_pe.specs.machine.RawPe.{IsTable, header_count, walk_from};
+    ghost use Rattle.binfarce_pe.specs.machine.RawPe.{headers_view, header_count, walk_from};
 
     ghost Value = { Walk Section };
 
-    ghost view = { λ s. walk_from s.table.file.now s.next };
+    ghost view = { λ s. walk_from (headers_view s.table) s.next };
 
-    ghost invariant = { λ s. IsTable s.table × IfSome s.next (λ index. index ≤ header_count s.table.file.now) };
+    ghost invariant = { λ s. IfSome s.next (λ index. index ≤ header_count (headers_view s.table)) };
 }
 
 /// All sections of the file.
@@ -99,12 +98,20 @@ pub(crate) fn sections_of<'a>(file: &Pe<'a>) -> Sections<'a>
     ensures { result ≡ walk file.now }
 {
     Sections {
-        table: Table {
-            file: file.data,
-            offset: sections_offset(file),
-            count: file.header.number_of_sections,
-        },
+        table: section_table(file),
         next: Some(0),
+    }
+}
+
+/// The section headers of a file.
+pub(crate) fn section_table<'a>(file: &Pe<'a>) -> Table<'a>
+    ensures { headers_view result ≡ section_table file.now }
+{
+    let places = places_of(file);
+    Table {
+        bytes: file.data,
+        offset: places.sections,
+        count: places.section_count,
     }
 }
 
@@ -138,19 +145,18 @@ impl<'a> Iterator for Sections<'a> {
 // The first section from this index on, where the headers before it were whole, and the index after its own; `None` where
 // there are no more.
 fn section_left(table: Table<'_>, from: u16) -> Result<Option<(Section<'_>, u16)>, UnexpectedEof>
-    requires table { IsTable table }
-    requires within { from ≤ header_count table.file.now }
-    ensures { let left = walk_from table.entry.file.now (Some from) in MatchResult result
+    requires { from ≤ header_count (headers_view table) }
+    ensures { let headers = headers_view table.entry in let left = walk_from headers (Some from) in MatchResult result
         (λ found. MatchOption found (left ≡ ended None)
-        (λ f. (f.1 ≤ header_count table.entry.file.now) × (left ≡ ahead_of (section_view f.0) (walk_from table.entry.file.now (Some f.1)))))
+        (λ f. (f.1 ≤ header_count headers) × (left ≡ ahead_of (section_view f.0) (walk_from headers (Some f.1)))))
         (λ _. left ≡ ended (Some unexpected_eof)) }
 {
-    if table.offset >= table.file.len() {
+    if table.offset >= table.bytes.len() {
         return Err(UnexpectedEof {});
     }
     for index in from..table.count {
         let start = table.offset + index as usize * SECTION_LENGTH;
-        match section_at(table.file, start, index) {
+        match section_at(table.bytes, start, index) {
             Err(e) => return Err(e),
             Ok(None) => {}
             Ok(Some(section)) => return Ok(Some((section, index + 1))),
@@ -159,20 +165,31 @@ fn section_left(table: Table<'_>, from: u16) -> Result<Option<(Section<'_>, u16)
     Ok(None)
 }
 
-// The first section that the callback accepts.
-pub(crate) fn first_section<'a, F: Fn(Section<'a>) -> bool>(
+// The first section of the file that the callback accepts.
+pub(crate) fn first_of_file<'a, F: Fn(Section<'a>) -> bool>(
     file: &Pe<'a>,
     callback: F,
 ) -> Result<Option<Section<'a>>, UnexpectedEof>
     requires { All (MayBeAsked section_view (F.pre callback)) (walk file.now).items }
     ensures { FirstAccepted (λ _. unexpected_eof) section_view (F.post callback) (walk file.now) result }
 {
-    let mut start = sections_offset(file);
-    if start >= file.data.len() {
+    first_section(section_table(file), callback)
+}
+
+// The first section of the table that the callback accepts.
+fn first_section<'a, F: Fn(Section<'a>) -> bool>(
+    table: Table<'a>,
+    callback: F,
+) -> Result<Option<Section<'a>>, UnexpectedEof>
+    requires { All (MayBeAsked section_view (F.pre callback)) (table_walk (headers_view table)).items }
+    ensures { FirstAccepted (λ _. unexpected_eof) section_view (F.post callback) (table_walk (headers_view table.entry)) result }
+{
+    let mut start = table.offset;
+    if start >= table.bytes.len() {
         return Err(UnexpectedEof {});
     }
-    for index in 0..file.header.number_of_sections {
-        let found = section_at(file.data, start, index)?;
+    for index in 0..table.count {
+        let found = section_at(table.bytes, start, index)?;
         start += SECTION_LENGTH;
         let section = match found {
             None => continue,
@@ -185,24 +202,24 @@ pub(crate) fn first_section<'a, F: Fn(Section<'a>) -> bool>(
     Ok(None)
 }
 
-// The first section with this name. The error holds no text, so that the closure may borrow the name.
+// The first section with this name.
 pub(crate) fn section_with_name<'a>(
     file: &Pe<'a>,
     name: &str,
 ) -> Result<Option<Section<'a>>, UnexpectedEof>
     ensures { Gives (λ _. unexpected_eof) (option_map section_view) (first (λ s. is_named name.now s) (walk file.now)) result }
 {
-    first_section(file, |section| section.name == name)
+    section_named(section_table(file), name)
 }
 
-// Where the section table begins.
-fn sections_offset(file: &Pe<'_>) -> usize
-    ensures { result ≡ sections_offset file.now }
+// The first section of a table with this name. The error holds no text, so that the closure may borrow the name.
+pub(crate) fn section_named<'a>(
+    table: Table<'a>,
+    name: &str,
+) -> Result<Option<Section<'a>>, UnexpectedEof>
+    ensures { Gives (λ _. unexpected_eof) (option_map section_view) (first (λ s. is_named name.now s) (table_walk (headers_view table.entry))) result }
 {
-    file.pe_pointer
-        + SIGNATURE_LENGTH
-        + HEADER_LENGTH
-        + file.header.size_of_optional_header as usize
+    first_section(table, |section| section.name == name)
 }
 
 fn is_accepted<'a, F: Fn(Section<'a>) -> bool>(callback: &F, section: Section<'a>) -> bool

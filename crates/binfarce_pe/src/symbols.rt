@@ -5,20 +5,22 @@ ghost use Rattle.std.specs.Option.{option_map};
 ghost use Rattle.binfarce_bytes.specs.Refusal.{Gives, refusal_of};
 ghost use Rattle.binfarce_symbols.specs.SymbolViews.{function_view};
 ghost use Rattle.binfarce_pe.specs.PeSymbols.{text_section, symbol_table, located, symbol_at, record_count, symbol_of, name_of, function_name, kept_rows, size_members, entries_of};
+ghost use Rattle.binfarce_pe.specs.PeParts.{text_among};
 ghost use Rattle.binfarce_pe.specs.PeViews.{section_view};
-ghost use Rattle.binfarce_pe.specs.machine.RawPe.{table_view, located_view, symbol_view, HoldsKept, function_at};
+ghost use Rattle.binfarce_pe.specs.machine.RawPe.{headers_view, table_view, located_view, symbol_view, HoldsKept, function_at};
 ghost use Rattle.binfarce_symbols.specs.Sizes.{addresses_of, least_above, least_of};
 ghost use Rattle.binfarce_symbols.specs.RowViews.{rows_view};
 
+use crate::parts::places_of;
 use crate::pe::Pe;
-use crate::sections::{Section, section_with_name, short_name};
+use crate::sections::{Section, Table, section_named, section_table, short_name};
 use binfarce_bytes::parser::{Stream, UnexpectedEof, parse_null_string, slice_at};
 use binfarce_bytes::{ByteOrder, ParseError};
 use binfarce_symbols::functions::FunctionSymbol;
 use binfarce_symbols::sizes::{RowAddress, arrange};
 use std::alloc::{AllocError, Global};
 
-const SYMBOL_LENGTH: usize = 18;
+pub(crate) const SYMBOL_LENGTH: usize = 18;
 
 const IMAGE_SYM_CLASS_EXTERNAL: u8 = 2;
 
@@ -72,20 +74,27 @@ pub(crate) fn locate<'a>(file: &Pe<'a>) -> Result<Located<'a>, ParseError>
 fn text_section<'a>(file: &Pe<'a>) -> Result<Section<'a>, ParseError>
     ensures { Gives refusal_of section_view (text_section file.now) result }
 {
-    section_with_name(file, ".text")?.ok_or(ParseError::SymbolsSectionIsMissing)
+    text_among(section_table(file))
+}
+
+/// The first section `.text` of a table.
+pub(crate) fn text_among(table: Table<'_>) -> Result<Section<'_>, ParseError>
+    ensures { Gives refusal_of section_view (text_among (headers_view table.entry)) result }
+{
+    section_named(table, ".text")?.ok_or(ParseError::SymbolsSectionIsMissing)
 }
 
 #[tactic(auto, unfolding(crate::specs::PeSymbols::symbol_table))]
 fn symbol_table<'a>(file: &Pe<'a>) -> Result<SymbolTable<'a>, ParseError>
     ensures { Gives refusal_of table_view (symbol_table file.now) result }
 {
-    let offset = file.header.pointer_to_symbol_table as usize;
+    let places = places_of(file);
+    let offset = places.symbols;
     if offset >= file.data.len() {
         return Err(ParseError::UnexpectedEof);
     }
-    let size = file.header.number_of_symbols as usize * SYMBOL_LENGTH;
-    let rows = slice_at(file.data, offset, size)?;
-    let strings = &file.data[offset + size..];
+    let rows = slice_at(file.data, offset, places.symbols_size)?;
+    let strings = &file.data[offset + places.symbols_size..];
     Ok(SymbolTable { rows, strings })
 }
 

@@ -3,3 +3,5 @@ mod HeadersAlone
 mod Readings
 mod Located
 mod Contents
+mod PeAlone
+mod PeSteps

@@ -1,3 +1,4 @@
 pub mod Errors
+pub mod PeReading
 pub mod Reading
 pub mod machine

@@ -206,7 +206,7 @@ fn read_section<C: Class, S: Source>(
     part(alloc, source, range.start, range.end - range.start)
 }
 
-fn part<S: Source>(
+pub(crate) fn part<S: Source>(
     alloc: Global,
     source: &S,
     offset: usize,

@@ -5,5 +5,6 @@ mod elf;
 pub mod elf32;
 pub mod elf64;
 mod error;
+pub mod pe;
 
 pub use crate::error::ReadError;

@@ -1,8 +1,10 @@
 //! Files that are read where their tables are.
 
+pub mod count_functions_of;
 pub mod fill_first;
 pub mod functions_of;
 pub mod length_of;
 pub mod magic_of;
 pub mod parts_of_bytes;
+pub mod pe_parts;
 pub mod text_parts;

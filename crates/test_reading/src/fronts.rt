@@ -123,6 +123,6 @@ fn are_same<C: Class>(these: Functions<'_, C>, mut those: Functions<'_, C>) -> b
     those.next().is_none()
 }
 
-fn is_same(function: FunctionSymbol<'_>, other: FunctionSymbol<'_>) -> bool {
+pub(crate) fn is_same(function: FunctionSymbol<'_>, other: FunctionSymbol<'_>) -> bool {
     function.name == other.name && function.address == other.address && function.size == other.size
 }

@@ -6,6 +6,7 @@
 #![tactic(auto)]
 
 mod fronts;
+mod pe;
 mod rows;
 #[cfg(test)]
 mod tests;
@@ -84,7 +85,7 @@ fn shown(rt: &HostRuntime, given: &Rows, has_failed: bool, status: u8) -> ExitCo
         }
         None => ExitCode::FAILURE,
         Some(row) => {
-            let _ = println!(rt; "{row:?}: neither its answer nor out of memory");
+            let _ = println!(rt; "{row}: neither its answer nor out of memory");
             ExitCode::FAILURE
         }
     }

@@ -1,15 +1,26 @@
 //! What the samples give.
 
 use crate::fronts::{Given, LAYOUTS, compared};
+use crate::pe;
 use std::alloc::Global;
-use test_samples::elf::Layout;
+use test_samples::pe::PE;
 
-/// What rows gave: how many their whole answer, how many were out of memory, and one that gave neither.
+/// What rows gave: how many their whole answer, how many were out of memory, and the format of one that gave neither.
 #[derive(Drop)]
 pub(crate) struct Rows {
     pub(crate) whole: usize,
     pub(crate) out_of_memory: usize,
-    pub(crate) wrong: Option<Layout>,
+    pub(crate) wrong: Option<&'static str>,
+}
+
+impl Rows {
+    fn add(&mut self, format: &'static str, given: Given) {
+        match given {
+            Given::Same => self.whole = self.whole.saturating_add(1),
+            Given::OutOfMemory => self.out_of_memory = self.out_of_memory.saturating_add(1),
+            _ => self.wrong = Some(format),
+        }
+    }
 }
 
 /// What the samples give.
@@ -21,11 +32,9 @@ pub(crate) fn given_by_samples(alloc: Global) -> Rows {
     };
     for layout in LAYOUTS {
         let file = layout.bytes();
-        match compared(alloc, layout, file, &file, ".text") {
-            Given::Same => rows.whole = rows.whole.saturating_add(1),
-            Given::OutOfMemory => rows.out_of_memory = rows.out_of_memory.saturating_add(1),
-            _ => rows.wrong = Some(layout),
-        }
+        rows.add("ELF", compared(alloc, layout, file, &file, ".text"));
     }
+    let file = PE.as_slice();
+    rows.add("PE", pe::compared(alloc, file, &file));
     rows
 }

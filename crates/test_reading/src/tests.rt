@@ -2,6 +2,7 @@ mod changed;
 mod faults;
 mod files;
 mod parts;
+mod pe;
 mod prefixes;
 
 /// The sections that are asked for: one with functions, one with none, and none.

@@ -7,6 +7,7 @@ use Rattle.binfarce_pe.specs.declared.symbols.SymbolRow.{SymbolRow}
 use Rattle.binfarce_pe.specs.declared.symbols.SymbolTable.{SymbolTable}
 use Rattle.binfarce_pe.specs.declared.symbols.Located.{Located}
 use Rattle.binfarce_pe.specs.Pe as pe
+use Rattle.binfarce_pe.specs.PeParts.{SectionTable, whole_in, section_in, table_walk}
 use Rattle.binfarce_pe.specs.PeSymbols as symbols
 use Rattle.binfarce_pe.specs.PeViews.{section_view}
 use Rattle.binfarce_symbols.specs.Sizes.{RowAddress, addresses_of}
@@ -18,20 +19,20 @@ symbol_view r = record { zeroes = r.zeroes; offset = r.offset; value = r.value; 
 abbrev pub table_view : SymbolTable → symbols.SymbolTable
 table_view t = record { rows = t.rows.now; strings = t.strings.now }
 
--- where the file's section table begins, and the count of its header
-abbrev pub IsTable : Table → Type 0
-IsTable t = (t.offset ≡ pe.sections_offset t.file.now) × (t.count ≡ (pe.header_of t.file.now).number_of_sections)
+-- a `Table`
+abbrev pub headers_view : Table → SectionTable
+headers_view t = record { bytes = t.bytes.now; offset = t.offset; count = t.count }
 
 -- how many section headers there are
-abbrev pub header_count : List ℕ → ℕ
-header_count file = min (pe.header_of file).number_of_sections (pe.whole_headers file)
+abbrev pub header_count : SectionTable → ℕ
+header_count table = min table.count (whole_in table)
 
 -- the walk from the section header of this index on; after a refusal nothing is left
-abbrev pub walk_from : List ℕ → Option ℕ → Walk pe.Section
-walk_from file None = ended None
-walk_from file (Some k) = record {
-  items = filter_map (pe.section_of file) (range_with_len k (header_count file - k));
-  refusal = (pe.walk file).refusal;
+abbrev pub walk_from : SectionTable → Option ℕ → Walk pe.Section
+walk_from table None = ended None
+walk_from table (Some k) = record {
+  items = filter_map (section_in table) (range_with_len k (header_count table - k));
+  refusal = (table_walk table).refusal;
 }
 
 abbrev pub located_view : Located → symbols.Located

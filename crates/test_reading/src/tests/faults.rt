@@ -9,17 +9,17 @@ use std::test::Fail;
 use test_samples::elf::Layout;
 use test_samples::first_bytes;
 
-// Bytes in memory: how many calls are answered before one fails, with which error, and how many bytes were given.
+/// Bytes in memory: how many calls are answered before one fails, with which error, and how many bytes were given.
 #[derive(Drop)]
-struct Failing<'a> {
+pub(super) struct Failing<'a> {
     bytes: &'a [u8],
-    left: Cell<usize>,
+    pub(super) left: Cell<usize>,
     error: ErrorKind,
-    given: Cell<usize>,
+    pub(super) given: Cell<usize>,
 }
 
 impl<'a> Failing<'a> {
-    fn new(bytes: &'a [u8], left: usize, error: ErrorKind) -> Self {
+    pub(super) fn new(bytes: &'a [u8], left: usize, error: ErrorKind) -> Self {
         Failing {
             bytes,
             left: Cell::new(left),
@@ -55,7 +55,7 @@ impl<'a> Source for Failing<'a> {
 // The length, the file header, the header of the names, the names, the section headers, the strings, the symbols.
 const CALLS: usize = 7;
 
-const ERRORS: [(ErrorKind, Given); 5] = [
+pub(super) const ERRORS: [(ErrorKind, Given); 5] = [
     (ErrorKind::Other, Given::Unreadable),
     (ErrorKind::UnexpectedEof, Given::Unreadable),
     (ErrorKind::Unsupported, Given::Unreadable),
@@ -102,11 +102,11 @@ fn no_other_byte_is_read(rt: HostRuntime) -> Result<(), Fail> {
     Ok(())
 }
 
-// Bytes in memory, and another number that it says they are.
+/// Bytes in memory, and another number that it says they are.
 #[derive(Clone, Copy)]
-struct Shrunk<'a> {
-    bytes: &'a [u8],
-    length: u64,
+pub(super) struct Shrunk<'a> {
+    pub(super) bytes: &'a [u8],
+    pub(super) length: u64,
 }
 
 impl<'a> Source for Shrunk<'a> {

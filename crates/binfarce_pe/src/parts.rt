@@ -1,0 +1,117 @@
+//! What the symbols of a file need, found in the file header and in the section headers alone.
+
+ghost use Rattle.std.specs.Prelude.{◌≡◌, ◌≢◌, ◌<◌, ◌≤◌, length, map, [], MatchResult, IfOk, OnErr};
+ghost use Rattle.binfarce_bytes.specs.declared.ByteOrder.TheVariants.{LittleEndian};
+ghost use Rattle.binfarce_bytes.specs.Number.{number, bytes_at};
+ghost use Rattle.binfarce_bytes.specs.Refusal.{Gives, refusal_of, unexpected_eof};
+ghost use Rattle.binfarce_symbols.specs.SymbolViews.{function_view};
+ghost use Rattle.binfarce_pe.specs.Pe.{header_after};
+ghost use Rattle.binfarce_pe.specs.PeParts.{places_after, places_of, places_view, headers_alone, text_place, text_view};
+ghost use Rattle.binfarce_pe.specs.PeSymbols.{entries_of};
+ghost use Rattle.binfarce_pe.specs.PeViews.{header_view};
+
+use crate::header::{PeHeader, header_after};
+use crate::pe::Pe;
+use crate::sections::Table;
+use crate::symbols::{SYMBOL_LENGTH, SymbolTable, functions_of, text_among};
+use binfarce_bytes::parser::number_at;
+use binfarce_bytes::{ByteOrder, ParseError};
+use binfarce_symbols::functions::FunctionSymbol;
+use std::alloc::{AllocError, Global};
+
+/// Where the offset of the signature stands in the MS-DOS stub.
+pub const SIGNATURE_POINTER: usize = 0x3c;
+
+/// How many bytes the signature and the file header have.
+pub const HEADERS_LENGTH: usize = 24;
+
+/// How many bytes a section header has.
+pub const SECTION_LENGTH: usize = 40;
+
+/// Where the tables of a file are, in bytes from its beginning.
+#[derive(Clone, Copy)]
+pub struct Places {
+    /// Where the section table begins.
+    pub sections: usize,
+    /// How many section headers it has.
+    pub section_count: u16,
+    /// Where the symbol table begins.
+    pub symbols: usize,
+    /// How many bytes its records have.
+    pub symbols_size: usize,
+}
+
+/// The index of the section `.text`, counted from 0, and how many bytes it has in the file.
+#[derive(Clone, Copy)]
+pub struct Text {
+    pub index: u16,
+    pub size: u32,
+}
+
+/// The offset of the signature, which the first 4 bytes are. Refused where there are fewer.
+pub fn signature_in(pointer: &[u8]) -> Result<u32, ParseError>
+    ensures { MatchResult result
+        (λ n. (4 ≤ length pointer.now) × (n ≡ number LittleEndian (bytes_at pointer.now 0 4)))
+        (λ e. (length pointer.now < 4) × (refusal_of e ≡ unexpected_eof)) }
+{
+    Ok(number_at(pointer, 0, ByteOrder::LittleEndian)?)
+}
+
+/// The places that a file header states: `headers` begins with the signature, which stands at this offset of the file.
+/// Refused where the file header is truncated.
+pub fn places_in(headers: &[u8], signature: u32) -> Result<Places, ParseError>
+    ensures { MatchResult result
+        (λ p. (24 ≤ length headers.now) × (places_view p ≡ places_after signature (header_after headers.now 0)))
+        (λ e. (length headers.now < 24) × (refusal_of e ≡ unexpected_eof)) }
+{
+    let header = header_after(headers, 0)?;
+    Ok(places_after(signature, header))
+}
+
+pub(crate) fn places_of(file: &Pe<'_>) -> Places
+    ensures { places_view result ≡ places_of file.now }
+{
+    places_after(file.pe_pointer, file.header)
+}
+
+fn places_after(signature: u32, header: PeHeader) -> Places
+    ensures { places_view result ≡ places_after signature (header_view header) }
+{
+    let optional_header = signature as usize + HEADERS_LENGTH;
+    Places {
+        sections: optional_header + header.size_of_optional_header as usize,
+        section_count: header.number_of_sections,
+        symbols: header.pointer_to_symbol_table as usize,
+        symbols_size: header.number_of_symbols as usize * SYMBOL_LENGTH,
+    }
+}
+
+/// The first section `.text`, found in `count` section headers. Refused as `functions` of a reader is, up to there.
+pub fn text_in(headers: &[u8], count: u16) -> Result<Text, ParseError>
+    ensures { Gives refusal_of text_view (text_place (headers_alone headers.now count)) result }
+{
+    let table = Table {
+        bytes: headers,
+        offset: 0,
+        count,
+    };
+    let text = text_among(table)?;
+    Ok(Text {
+        index: text.index,
+        size: text.size_of_raw_data,
+    })
+}
+
+/// The function symbols of this section in these records, whose long names are in these strings. `OutOfMemory` comes only
+/// in place of a list that isn't empty.
+pub fn functions_in<'a>(
+    alloc: Global,
+    rows: &'a [u8],
+    strings: &'a [u8],
+    text: Text,
+) -> Result<Vec<FunctionSymbol<'a>>, AllocError>
+    ensures functions { IfOk result (λ v. map function_view v.items ≡ entries_of (record { rows = rows.entry.now; strings = strings.entry.now }) text.index text.size) }
+    ensures memory { OnErr result (entries_of (record { rows = rows.entry.now; strings = strings.entry.now }) text.index text.size ≢ []) }
+{
+    functions_of(alloc, SymbolTable { rows, strings }, text.index, text.size)
+}

@@ -1,0 +1,34 @@
+-- What private clauses see of a reading of a PE file's parts.
+use Rattle.std.specs.Prelude.{ℕ, ◌+◌, List, length, drop, Result, Ok, Err, nat_lt, nat_le, if◌then◌else◌}
+use Rattle.binfarce_bytes.specs.Number.{bytes_at}
+use Rattle.binfarce_bytes.specs.Refusal.{◌>>=◌, Refusal, unexpected_eof}
+use Rattle.binfarce_symbols.specs.Symbol.{Listed}
+use Rattle.binfarce_pe.specs.Pe.{least_length, signature_offset}
+use Rattle.binfarce_pe.specs.PeParts.{TablePlaces, places_of, SectionTable, TextPlace, text_place}
+use Rattle.binfarce_pe.specs.PeSymbols.{SymbolTable, entries_of}
+
+-- the signature's offset, where the file has the stub that states it
+abbrev pub signature_step : List ℕ → Result ℕ Refusal
+signature_step file = if nat_lt (length file) 64 then Err unexpected_eof else Ok (signature_offset file)
+
+-- the places of the file's tables, where it has a file header
+abbrev pub places_step : List ℕ → Result TablePlaces Refusal
+places_step file = if nat_lt (length file) (least_length file) then Err unexpected_eof else Ok (places_of file)
+
+-- the section table at its place
+abbrev pub headers_at : List ℕ → TablePlaces → SectionTable
+headers_at file places = record { bytes = file; offset = places.sections; count = places.section_count }
+
+abbrev pub text_at : List ℕ → TablePlaces → Result TextPlace Refusal
+text_at file places = text_place (headers_at file places)
+
+-- the symbol table at its place
+abbrev pub table_at : List ℕ → TablePlaces → Result SymbolTable Refusal
+table_at file places =
+    if nat_le (length file) places.symbols then Err unexpected_eof
+    else if nat_lt (length file) (places.symbols + places.symbols_size) then Err unexpected_eof
+    else Ok (record { rows = bytes_at file places.symbols places.symbols_size; strings = drop (places.symbols + places.symbols_size) file })
+
+-- the answer, where the text is this
+abbrev pub answer_at : List ℕ → TablePlaces → TextPlace → Result Listed Refusal
+answer_at file places text = table_at file places >>= λ table. Ok (record { entries = entries_of table text.index text.size; section_size = text.size })

@@ -55,16 +55,16 @@ pub means : (text part : List ℕ) (name : Name)
     → part_after_prefix (without_llvm text) ≡ Some part
     → paths_end part ≡ Some (length part)
     → (is_upper_at part 0 && (list_all (λ c. nat_lt c 128) part && is_allowed_rest (drop (length part) part))) ≡ true
-    → (printed part true false).1.limit_exceeded ≡ false → (printed part false false).1.limit_exceeded ≡ false
-    → name ≡ record { complete = (printed part true false).1.text; trimmed = (printed part false false).1.text; crate_name = option_map identifier_text (printed part true false).1.root; kind = V0 }
+    → (printed part true false).1.limit_exceeded ≡ false
+    → name ≡ record { complete = (printed part true false).1.text; trimmed = (outcome_of (printed part true false).1).trimmed; crate_name = option_map identifier_text (printed part true false).1.root; kind = V0 }
     → IsNamed text name
 unfolding IsNamed
-means text part name b p w o s e =
+means text part name b p w o e =
     let first = both (is_upper_at part 0) (list_all (λ c. nat_lt c 128) part && is_allowed_rest (drop (length part) part)) w in
     let second = both (list_all (λ c. nat_lt c 128) part) (is_allowed_rest (drop (length part) part)) first.1 in
     let mangling : IsMangling (without_llvm text) part (length part) = record { prefix = b; begins = first.0; ascii = ascii part second.0; paths = paths_read part (length part) p } in
     let is : IsV0 (without_llvm text) part = record { after = length part; mangling = mangling; rest = second.1 } in
-    let texts = are_texts (without_llvm text) part (outcome_of (printed part true false).1) (outcome_of (printed part false false).1) _ _ (option_map identifier_text (printed part true false).1.root) is (printed_is_outcome part true false o) (printed_is_outcome part false false s) refl refl refl in
+    let texts = are_texts (without_llvm text) part (outcome_of (printed part true false).1) _ _ (option_map identifier_text (printed part true false).1.root) is (printed_is_outcome part true false o) refl refl refl in
     inr (inl (record { part = texts.has_tree.part; mangling = texts.has_tree.mangling; tree = texts.tree; unfolds = texts.has_tree.unfolds; name_is = e ∙ λ i. record { complete = texts.complete_is i; trimmed = texts.trimmed_is i; crate_name = texts.crate_is i; kind = V0 } }))
 
 -- a text whose part after the prefix passes a limit

@@ -1,5 +1,5 @@
 -- What the reading and the printer do with a whole name.
-use Rattle.std.proofs.Common.{◌≡◌, ℕ, ◌≤◌, ◌-◌, min, inl, inr, Bool, true, false, List, Option, Some, None, cond, refl, ap, sym, ◌∙◌, subst, arith}
+use Rattle.std.proofs.Common.{◌≡◌, ℕ, ◌≤◌, ◌-◌, min, inl, inr, Bool, true, false, if◌then◌else◌, List, [], Option, Some, None, cond, refl, ap, sym, ◌∙◌, subst, arith}
 use Rattle.std.specs.Option.{option_map}
 use Rattle.binfarce_v0_text.specs.LeafTexts.{identifier_text}
 use Rattle.binfarce_v0_grammar.specs.Tree.{PathTree, path_height, path_steps}
@@ -48,6 +48,7 @@ printed_is_outcome part full muted o =
       tree = p.0;
       unfolds = record { after = p.1.at; is_path = f.is; levels = f.height; steps = within };
       text_is = ap (λ r. r.1.text) same;
+      trimmed_is = ap (λ r. if r.1.full then r.1.trimmed else []) same;
       root_is = ap (λ r. r.1.root) same;
       levels_are = ap (λ r. MAX_LEVELS - r.1.least_levels_left) same ∙ levels_taken (path_height p.0) f.height;
       steps_are = ap (λ r. MAX_STEPS - r.1.steps_left) same ∙ steps_taken (path_steps p.0) within;
@@ -116,19 +117,15 @@ unfolds_once part t u a b =
     let second = path_complete u part MAX_LEVELS InValue 0 (first_state true false) b.after refl b.is_path b.levels b.steps in
     ap (λ r. r.0) (sym first ∙ second)
 
-pub are_texts : (text part : List ℕ) (complete trimmed : Outcome) (whole short : List ℕ) (crate_name : Option (List ℕ)) → IsV0 text part → IsOutcome part true false complete → IsOutcome part false false trimmed → whole ≡ complete.text → short ≡ trimmed.text → crate_name ≡ option_map identifier_text complete.root → AreTexts text whole short crate_name
-are_texts text part complete trimmed whole short crate_name v c t w s e =
+pub are_texts : (text part : List ℕ) (outcome : Outcome) (complete trimmed : List ℕ) (crate_name : Option (List ℕ)) → IsV0 text part → IsOutcome part true false outcome → complete ≡ outcome.text → trimmed ≡ outcome.trimmed → crate_name ≡ option_map identifier_text outcome.root → AreTexts text complete trimmed crate_name
+are_texts text part outcome complete trimmed crate_name v is c t e =
     record {
-      tree = c.tree;
-      has_tree = record { part = part; mangling = v; unfolds = c.unfolds };
-      complete_is = w ∙ c.text_is;
-      trimmed_is = s ∙ t.text_is ∙ ap (name_text false) (unfolds_once part t.tree c.tree t.unfolds c.unfolds);
-      crate_is = e ∙ ap (option_map identifier_text) c.root_is;
+      tree = is.tree;
+      has_tree = record { part = part; mangling = v; unfolds = is.unfolds };
+      complete_is = c ∙ is.text_is;
+      trimmed_is = t ∙ is.trimmed_is;
+      crate_is = e ∙ ap (option_map identifier_text) is.root_is;
     }
-
--- what is printed once is printed again
-pub printed_twice : (text part : List ℕ) (outcome : Outcome) → IsOutcome part true false outcome → ((tree : PathTree) → UnfoldsTo part tree → ⊥) → HasNoTree text
-printed_twice text part outcome is none = absurd (none is.tree is.unfolds)
 
 pub has_crate : (text part : List ℕ) (outcome : Outcome) (crate_name : Option (List ℕ)) → IsV0 text part → IsOutcome part false true outcome → crate_name ≡ option_map identifier_text outcome.root → IsCrateName text crate_name
 has_crate text part outcome crate_name v is e =

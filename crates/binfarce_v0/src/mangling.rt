@@ -81,8 +81,8 @@ pub fn read(text: &str) -> Option<(&str, usize)>
     Some((part, after))
 }
 
-/// The text of what `part`, which stands after a prefix, unfolds to, with or without the disambiguators of crates; muted
-/// it is read alike, and its text is empty. None where it unfolds to no tree of at most `MAX_LEVELS` levels and
+/// The text of what `part`, which stands after a prefix, unfolds to, without the disambiguators of crates, or where `full`
+/// is true both texts, with and without them; muted it is read alike, and its texts are empty. None where it unfolds to no tree of at most `MAX_LEVELS` levels and
 /// `MAX_STEPS` steps.
 pub fn print<'a>(
     alloc: Global,
@@ -95,7 +95,7 @@ pub fn print<'a>(
 {
     let mut printer = Printer::new(alloc, part, full, muted)?;
     print_path(&mut printer, MAX_LEVELS, 0, Position::InValue)?;
-    Ok(printer.finish())
+    printer.finish()
 }
 
 /// What stands after the prefix of a v0 mangling, up to the end of `text`: positions may lie in all of it.
@@ -185,20 +185,18 @@ pub fn crate_name(alloc: Global, text: &str) -> Result<Option<String>, AllocErro
 /// Both texts of what the v0 mangling `text` unfolds to, and its crate. None where `text` is no v0 mangling that unfolds
 /// to a tree within the limits.
 ///
-/// The texts are copies of what was printed, whose memory fits them: a printing's text has room for a whole name.
+/// The name is printed once. The texts are copies of what was printed, whose memory fits them: each text of a printing has
+/// room for a whole name.
 pub fn both_texts(alloc: Global, text: &str) -> Result<Option<Texts>, AllocError>
     ensures { IfOk result (λ t. MatchOption t (HasNoTree text.now) (λ t. AreTexts text.now (string_bytes t.complete) (string_bytes t.trimmed) (option_map string_bytes t.crate_name))) }
 {
-    let Some((part, complete)) = print_mangling(alloc, text, true, false)? else {
+    let Some((_, printed)) = print_mangling(alloc, text, true, false)? else {
         return Ok(None);
     };
-    let Some(trimmed) = print(alloc, part, false, false)? else {
-        return Ok(None);
-    };
-    let crate_name = root_text(alloc, complete.root)?;
+    let crate_name = root_text(alloc, printed.root)?;
     Ok(Some(Texts {
-        complete: String::from_str(alloc, complete.text.as_str())?,
-        trimmed: String::from_str(alloc, trimmed.text.as_str())?,
+        complete: String::from_str(alloc, printed.text.as_str())?,
+        trimmed: String::from_str(alloc, printed.trimmed.as_str())?,
         crate_name,
     }))
 }

@@ -30,7 +30,7 @@ plain_name namespace s (Some l) lower = ap (λ text. write text (seek (Some l.1)
 
 -- a crate's name
 
-says_nothing : (s : State) → write [] s ≡ s
+says_nothing : (s : State) → record s { text = s.text ++ heard s.muted [] } ≡ s
 says_nothing s = ap (λ t. record s { text = t }) (unheard s.muted)
   where
     unheard : (muted : Bool) → s.text ++ heard muted [] ≡ s.text
@@ -45,7 +45,7 @@ pub trimmed_root : (s : State) (l : Option (Identifier × ℕ)) → s.full ≡ f
 trimmed_root s None short = refl
 trimmed_root s (Some l) short =
     let named : State = write (identifier_text l.0.name) (rooted l.0.name (seek (Some l.1) s)) in
-    ap (λ full. write (disambiguator_text full l.0.disambiguator) named) short ∙ says_nothing named
+    ap (λ full. record named { text = named.text ++ heard named.muted (disambiguator_text full l.0.disambiguator) }) short ∙ says_nothing named
 
 -- the front of a crate root
 abbrev crate_form : Option (Identifier × ℕ) → PathForm

@@ -8,7 +8,7 @@ ghost use Rattle.binfarce_v0_state.specs.machine.Printing.{with_state, named_sta
 
 use binfarce_v0_grammar::identifiers::{identifier_at, identifier_name_at};
 use binfarce_v0_state::state::Printer;
-use binfarce_v0_text::text::{AfterMark, Disambiguator, Nested};
+use binfarce_v0_text::text::{AfterMark, Nested};
 use std::alloc::AllocError;
 
 // The name of a nested path after its parent.
@@ -77,7 +77,7 @@ fn print_full_root(printer: &mut Printer<'_>, at: usize) -> Result<(), AllocErro
             printer.seek(Some(after));
             printer.keep_root(root.name);
             printer.put(root.name)?;
-            printer.put(Disambiguator(root.disambiguator))
+            printer.disambiguate(root.disambiguator)
         }
         None => printer.invalid_syntax(),
     }

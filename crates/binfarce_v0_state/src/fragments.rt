@@ -1,9 +1,10 @@
 //! What a printing keeps of its own text: a back reference's target that was printed whole isn't read again.
 
-ghost use Rattle.std.specs.Prelude.{◌≡◌, ◌≤◌, ◌++◌, ◌∷◌, [], IfOk, IfSome, OnOk, OnErr, MatchOption, Some, slice_range, is_ok, if◌then◌else◌};
+ghost use Rattle.std.specs.Prelude.{◌≡◌, ◌≤◌, ◌++◌, ◌∷◌, [], IfOk, IfSome, OnOk, OnErr, MatchOption, Some, true, false, is_ok, if◌then◌else◌};
+ghost use Rattle.std.specs.String.{string_bytes};
 ghost use Rattle.binfarce_v0_grammar.specs.declared.limits.TheConstants.{MAX_LEVELS};
-ghost use Rattle.binfarce_v0_state.specs.machine.Printing.{with_state, readers, write, into, back_to};
-ghost use Rattle.binfarce_v0_state.specs.machine.Kept.{production_view, left_open_of, read, IsFragmentFor, IsMark, MayKeep, raised, lowered};
+ghost use Rattle.binfarce_v0_state.specs.machine.Printing.{with_state, readers, into, back_to};
+ghost use Rattle.binfarce_v0_state.specs.machine.Kept.{production_view, left_open_of, read, IsFragmentFor, IsMark, MayKeep, again, raised, lowered};
 
 use crate::state::Printer;
 use crate::targets::Targets;
@@ -28,13 +29,15 @@ pub struct FragmentKey {
     pub binder_depth: usize,
 }
 
-/// A range of a printing's text, in bytes, that shows a whole path, type or const: its steps and its levels, and whether
-/// an open trait was left open. One that was muted shows nothing.
+/// The ranges of a printing's two texts, in bytes, that show a whole path, type or const: its steps and its levels, and
+/// whether an open trait was left open. One that was muted shows nothing.
 #[derive(Clone, Copy)]
 pub struct Fragment {
     pub key: FragmentKey,
     pub start: usize,
     pub end: usize,
+    pub trimmed_start: usize,
+    pub trimmed_end: usize,
     pub steps: usize,
     pub height: usize,
     pub left_open: bool,
@@ -46,6 +49,7 @@ pub struct Fragment {
 pub struct Mark {
     pub at: usize,
     pub start: usize,
+    pub trimmed_start: usize,
     pub steps_left: usize,
     pub least_levels_left: usize,
 }
@@ -64,6 +68,8 @@ pub struct Fragments {
     index: BTreeMap<FragmentKey, usize>,
     /// What is written again, for a moment.
     copy: String,
+    /// The same without the disambiguators of crates.
+    trimmed_copy: String,
 }
 
 const LINEAR_SEARCH: usize = 16;
@@ -91,6 +97,22 @@ pub fn or_forget(
     written
 }
 
+/// What was written to `text` goes to two others, and `text` is empty.
+pub fn share(
+    complete: &mut String,
+    trimmed: &mut String,
+    text: &mut String,
+) -> Result<(), AllocError>
+    ensures complete { OnOk result (string_bytes complete.new ≡ string_bytes complete.old ++ string_bytes text.old) }
+    ensures trimmed { OnOk result (string_bytes trimmed.new ≡ string_bytes trimmed.old ++ string_bytes text.old) }
+    ensures text { OnOk result (string_bytes text.new ≡ []) }
+{
+    complete.push_str(text.as_str())?;
+    trimmed.push_str(text.as_str())?;
+    text.clear();
+    Ok(())
+}
+
 impl Fragments {
     /// No fragment yet, for a printing of `part`.
     pub fn new(alloc: Global, part: &[u8]) -> Result<Fragments, AllocError>
@@ -109,6 +131,7 @@ impl Fragments {
             fragments: Vec::with_capacity(alloc, fragments)?,
             index: BTreeMap::new(alloc),
             copy: String::with_capacity(alloc, bytes)?,
+            trimmed_copy: String::new(alloc),
         })
     }
 
@@ -123,6 +146,7 @@ impl Fragments {
             fragments: Vec::new(alloc),
             index: BTreeMap::new(alloc),
             copy: String::new(alloc),
+            trimmed_copy: String::new(alloc),
         }
     }
 
@@ -179,7 +203,8 @@ impl<'a> Printer<'a> {
     {
         let mark = Mark {
             at,
-            start: self.text.len(),
+            start: self.complete.len() + self.text.len(),
+            trimmed_start: self.trimmed.len() + self.text.len(),
             steps_left: self.steps_left,
             least_levels_left: self.least_levels_left,
         };
@@ -214,7 +239,9 @@ impl<'a> Printer<'a> {
                 binder_depth,
             },
             start: mark.start,
-            end: self.text.len(),
+            end: self.complete.len() + self.text.len(),
+            trimmed_start: mark.trimmed_start,
+            trimmed_end: self.trimmed.len() + self.text.len(),
             steps: mark.steps_left.saturating_sub(self.steps_left),
             height: levels_left.saturating_sub(least_levels_left),
             left_open,
@@ -264,19 +291,55 @@ impl<'a> Printer<'a> {
         self.fragment_at(*self.kept.index.get(&key)?, key)
     }
 
-    // Writes a part of the text again, where it begins and ends with characters.
-    fn write_again(&mut self, start: usize, end: usize) -> Result<bool, AllocError>
-        ensures { IfOk result (λ written. self.new ≡ with_state (if written then write (slice_range self.old.state.text start end) self.old.state else self.old.state) self.old) }
+    // Writes what a fragment holds of both texts again, where that begins and ends with characters.
+    #[tactic(auto, using(crate::proofs::KeptLemmas::grown_alike))]
+    fn write_again(&mut self, fragment: Fragment) -> Result<bool, AllocError>
+        ensures { IfOk result (λ written. self.new ≡ with_state (if written then again fragment self.old.state else self.old.state) self.old) }
     {
         if self.muted {
             return Ok(true);
         }
-        let Some(again) = self.text.as_str().get(start..end) else {
+        if self.full {
+            return self.write_both_again(fragment);
+        }
+        if fragment.start != fragment.trimmed_start || fragment.end != fragment.trimmed_end {
+            return Ok(false);
+        }
+        let Some(again) = self.text.as_str().get(fragment.start..fragment.end) else {
             return Ok(false);
         };
         self.kept.copy.clear();
         self.kept.copy.push_str(again)?;
         self.text.push_str(self.kept.copy.as_str())?;
+        Ok(true)
+    }
+
+    // Writes what a fragment holds of both texts again, each after its own.
+    fn write_both_again(&mut self, fragment: Fragment) -> Result<bool, AllocError>
+        requires full { self.old.state.full ≡ true }
+        requires muted { self.old.state.muted ≡ false }
+        ensures { IfOk result (λ written. self.new ≡ with_state (if written then again fragment self.old.state else self.old.state) self.old) }
+    {
+        let shared = share(&mut self.complete, &mut self.trimmed, &mut self.text);
+        or_forget(&mut self.kept.fragments, shared)?;
+        let Some(again) = self.complete.as_str().get(fragment.start..fragment.end) else {
+            return Ok(false);
+        };
+        let Some(trimmed) = self
+            .trimmed
+            .as_str()
+            .get(fragment.trimmed_start..fragment.trimmed_end)
+        else {
+            return Ok(false);
+        };
+        self.kept.copy.clear();
+        self.kept.copy.push_str(again)?;
+        self.kept.trimmed_copy.clear();
+        self.kept.trimmed_copy.push_str(trimmed)?;
+        let written = self.complete.push_str(self.kept.copy.as_str());
+        or_forget(&mut self.kept.fragments, written)?;
+        let written = self.trimmed.push_str(self.kept.trimmed_copy.as_str());
+        or_forget(&mut self.kept.fragments, written)?;
         Ok(true)
     }
 
@@ -293,20 +356,20 @@ impl<'a> Printer<'a> {
         if self.limit_exceeded {
             return Ok(None);
         }
-        let Some(fragment) = self.fragment(key) else {
+        let Some(found) = self.fragment(key) else {
             return Ok(None);
         };
-        let (start, end, muted) = (fragment.start, fragment.end, fragment.muted);
-        let (steps, height, left_open) = (fragment.steps, fragment.height, fragment.left_open);
+        let fragment = *found;
+        let (steps, height, muted) = (fragment.steps, fragment.height, fragment.muted);
         if height > levels_left || steps > self.steps_left || (muted && !self.muted) {
             return Ok(None);
         }
-        if !self.write_again(start, end)? {
+        if !self.write_again(fragment)? {
             return Ok(None);
         }
         self.at = Some(after);
         self.steps_left -= steps;
         self.least_levels_left = self.least_levels_left.min(levels_left - height);
-        Ok(Some(left_open))
+        Ok(Some(fragment.left_open))
     }
 }

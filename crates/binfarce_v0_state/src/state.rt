@@ -5,14 +5,14 @@ ghost use Rattle.std.specs.Str.{IsAscii};
 ghost use Rattle.std.specs.String.{string_bytes};
 ghost use Rattle.binfarce_v0_grammar.specs.Tree.{lifetime_steps};
 ghost use Rattle.binfarce_v0_grammar.specs.machine.View.{undisambiguated_view, lifetime_view};
-ghost use Rattle.binfarce_v0_state.specs.machine.Printing.{with_state, first_printing, write, seek, after_invalid_syntax, stopped, take, entered, rooted, into, back_to, set_muted};
+ghost use Rattle.binfarce_v0_state.specs.machine.Printing.{with_state, first_printing, write, disambiguate, seek, after_invalid_syntax, stopped, take, entered, rooted, into, back_to, set_muted};
 
-use crate::fragments::{Fragments, or_forget};
+use crate::fragments::{Fragments, or_forget, share};
 use binfarce_v0_grammar::forms::Lifetime;
 use binfarce_v0_grammar::identifiers::UndisambiguatedIdentifier;
 use binfarce_v0_grammar::limits::{MAX_LEVELS, MAX_STEPS};
 use binfarce_v0_grammar::positions::lifetime_steps;
-use binfarce_v0_text::text::Leaf;
+use binfarce_v0_text::text::{Disambiguator, Leaf};
 use std::alloc::{AllocError, Global};
 use std::marker::Model;
 
@@ -21,6 +21,8 @@ use std::marker::Model;
 pub struct Printed<'a> {
     /// The text of the tree.
     pub text: String,
+    /// The same without the disambiguators of crates, where those were written.
+    pub trimmed: String,
     /// The name of the first crate root.
     pub root: Option<UndisambiguatedIdentifier<'a>>,
     /// How many levels the tree has.
@@ -44,7 +46,11 @@ pub struct Printer<'a> {
     pub least_levels_left: usize,
     /// A limit is exceeded.
     pub limit_exceeded: bool,
-    /// What was written, unless it is muted.
+    /// What was written up to where its two texts parted, unless it is muted: nothing where disambiguators aren't written.
+    pub complete: String,
+    /// The same without the disambiguators of crates.
+    pub trimmed: String,
+    /// What was written to both since then.
     pub text: String,
     /// Nothing is written: the path of an impl is read and not shown.
     pub muted: bool,
@@ -61,7 +67,7 @@ pub struct Printer<'a> {
 }
 
 impl<'a> Model for Printer<'a> {
-    ghost use Rattle.std.specs.Prelude.{◌≤◌};
+    ghost use Rattle.std.specs.Prelude.{◌≡◌, ◌≤◌, ◌++◌, [], false};
     ghost use Rattle.std.specs.List.{All};
     ghost use Rattle.std.specs.Option.{option_map};
     ghost use Rattle.std.specs.Str.{IsAscii};
@@ -73,15 +79,15 @@ impl<'a> Model for Printer<'a> {
 
     ghost Value = { Printing };
 
-    ghost view = { λ p. record { part = p.part.now; state = record { at = p.at; steps_left = p.steps_left; least_levels_left = p.least_levels_left; limit_exceeded = p.limit_exceeded; text = string_bytes p.text; muted = p.muted; full = p.full; in_back_reference = p.in_back_reference; root = option_map undisambiguated_view p.root } } };
+    ghost view = { λ p. record { part = p.part.now; state = record { at = p.at; steps_left = p.steps_left; least_levels_left = p.least_levels_left; limit_exceeded = p.limit_exceeded; text = string_bytes p.complete ++ string_bytes p.text; trimmed = string_bytes p.trimmed ++ string_bytes p.text; muted = p.muted; full = p.full; in_back_reference = p.in_back_reference; root = option_map undisambiguated_view p.root } } };
 
-    ghost invariant = { λ p. IsAscii p.part.now × ((p.steps_left ≤ MAX_STEPS) × (p.least_levels_left ≤ MAX_LEVELS)) × All (IsKept p.part.now p.full (string_bytes p.text)) p.kept.fragments.items };
+    ghost invariant = { λ p. IsAscii p.part.now × ((p.steps_left ≤ MAX_STEPS) × (p.least_levels_left ≤ MAX_LEVELS)) × All (IsKept p.part.now p.full (string_bytes p.complete ++ string_bytes p.text) (string_bytes p.trimmed ++ string_bytes p.text)) p.kept.fragments.items × (p.full ≡ false → (string_bytes p.complete ≡ []) × (string_bytes p.trimmed ≡ [])) };
 }
 
 impl<'a> Printer<'a> {
     ghost use Rattle.binfarce_v0_state.specs.machine.Outcome.{outcome_of, printed_view};
 
-    /// A printing of `part` that begins at its first position, with memory for a text of as many bytes; of a muted one
+    /// A printing of `part` that begins at its first position, with memory for texts of as many bytes; of a muted one
     /// nothing is written, and no memory is taken.
     pub fn new(
         alloc: Global,
@@ -100,12 +106,15 @@ impl<'a> Printer<'a> {
                 Fragments::new(alloc, part.as_bytes())?,
             )
         };
+        let room = if full && !muted { part.len() } else { 0 };
         Ok(Printer {
             part,
             at: Some(0),
             steps_left: MAX_STEPS,
             least_levels_left: MAX_LEVELS,
             limit_exceeded: false,
+            complete: String::with_capacity(alloc, room)?,
+            trimmed: String::with_capacity(alloc, room)?,
             text,
             muted,
             full,
@@ -117,8 +126,8 @@ impl<'a> Printer<'a> {
     }
 
     /// What was printed, or None where a limit was passed.
-    pub fn finish(self) -> Option<Printed<'a>>
-        ensures { MatchOption result (self.entry.state.limit_exceeded ≡ true) (λ p. (self.entry.state.limit_exceeded ≡ false) × (printed_view p ≡ outcome_of self.entry.state)) }
+    pub fn finish(self) -> Result<Option<Printed<'a>>, AllocError>
+        ensures { IfOk result (λ result. MatchOption result (self.entry.state.limit_exceeded ≡ true) (λ p. (self.entry.state.limit_exceeded ≡ false) × (printed_view p ≡ outcome_of self.entry.state))) }
     {
         let Printer {
             part: _,
@@ -126,24 +135,30 @@ impl<'a> Printer<'a> {
             steps_left,
             least_levels_left,
             limit_exceeded,
-            text,
+            mut complete,
+            mut trimmed,
+            mut text,
             muted: _,
-            full: _,
+            full,
             in_back_reference: _,
             root,
             kept: _,
             visits: _,
         } = self;
         if limit_exceeded {
-            return None;
+            return Ok(None);
         }
-        Some(Printed {
-            text,
+        if full {
+            share(&mut complete, &mut trimmed, &mut text)?;
+        }
+        Ok(Some(Printed {
+            text: if full { complete } else { text },
+            trimmed,
             root,
             levels: MAX_LEVELS - least_levels_left,
             steps: MAX_STEPS - steps_left,
             after: at,
-        })
+        }))
     }
 
     /// Reads on at a position, or nowhere after invalid syntax.
@@ -216,12 +231,27 @@ impl<'a> Printer<'a> {
     }
 
     /// Writes a text.
+    #[tactic(auto, using(crate::proofs::KeptLemmas::grown_alike))]
     #[inline(always)]
     pub fn write(&mut self, text: &str) -> Result<(), AllocError>
         ensures { OnOk result (self.new ≡ with_state (write text.now self.old.state) self.old) }
     {
         if !self.muted {
             self.text.push_str(text)?;
+        }
+        Ok(())
+    }
+
+    /// Writes a crate's disambiguator, which stands in the complete text alone.
+    pub fn disambiguate(&mut self, disambiguator: u64) -> Result<(), AllocError>
+        requires { self.old.state.full ≡ true }
+        ensures { OnOk result (self.new ≡ with_state (disambiguate disambiguator self.old.state) self.old) }
+    {
+        if !self.muted {
+            let shared = share(&mut self.complete, &mut self.trimmed, &mut self.text);
+            or_forget(&mut self.kept.fragments, shared)?;
+            let written = Disambiguator(disambiguator).push(&mut self.complete);
+            or_forget(&mut self.kept.fragments, written)?;
         }
         Ok(())
     }
@@ -275,7 +305,7 @@ impl<'a> Printer<'a> {
     }
 
     /// Writes the text of a leaf.
-    #[tactic(auto, using(crate::proofs::KeptLemmas::grown))]
+    #[tactic(auto, using(crate::proofs::KeptLemmas::grown_alike))]
     #[inline(always)]
     pub fn put<L: Leaf + Drop>(&mut self, leaf: L) -> Result<(), AllocError>
         ensures { OnOk result (self.new ≡ with_state (write (L.text leaf) self.old.state) self.old) }

@@ -1,5 +1,5 @@
 -- What a whole printing tells of a name.
-use Rattle.std.specs.Prelude.{◌≡◌, ◌⊎◌, ℕ, List, Option, Some, None, Bool, true, false, ⊤}
+use Rattle.std.specs.Prelude.{◌≡◌, ◌⊎◌, ℕ, List, [], if◌then◌else◌, Option, Some, None, Bool, true, false, ⊤}
 use Rattle.std.specs.Option.{option_map}
 use Rattle.binfarce_v0_grammar.specs.Tree.{PathTree, path_height, path_steps, path_root}
 use Rattle.binfarce_v0_text.specs.LeafTexts.{identifier_text}
@@ -14,11 +14,13 @@ abbrev pub ReadsUpTo : List ℕ → Option ℕ → Type 0
 ReadsUpTo part None = ⊤
 ReadsUpTo part (Some after) = PathStands part 0 after
 
--- they are the text, the crate root, the levels and the steps of the tree that a name unfolds to within the limits; no text where it was muted
+-- they are the text, the trimmed one where both were printed, the crate root, the levels and the steps of the tree that a name unfolds to
+-- within the limits; no text where it was muted
 pub record IsOutcome (part : List ℕ) (full muted : Bool) (outcome : Outcome) : Type 0 where
   pub tree : PathTree
   pub unfolds : UnfoldsTo part tree
   pub text_is : outcome.text ≡ heard muted (name_text full tree)
+  pub trimmed_is : outcome.trimmed ≡ (if full then heard muted (name_text false tree) else [])
   pub root_is : outcome.root ≡ path_root tree
   pub levels_are : outcome.levels ≡ path_height tree
   pub steps_are : outcome.steps ≡ path_steps tree

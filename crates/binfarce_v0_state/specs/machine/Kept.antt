@@ -4,7 +4,7 @@ use Rattle.binfarce_v0_grammar.specs.Tree.{PathTree, TypeTree, ConstTree, path_s
 use Rattle.binfarce_v0_text.specs.TreeTexts.{Position, path_text, type_text, const_text, is_left_open}
 use Rattle.binfarce_v0_grammar.specs.Unfolding.{IsPath, IsType, IsConst}
 use Rattle.binfarce_v0_text.specs.machine.View.{position_view}
-use Rattle.binfarce_v0_state.specs.machine.Printing.{State, Readers}
+use Rattle.binfarce_v0_state.specs.machine.Printing.{State, Readers, write_both}
 use Rattle.binfarce_v0_state.specs.declared.fragments.FragmentKey as key
 use Rattle.binfarce_v0_state.specs.declared.fragments.Fragment as fragment
 use Rattle.binfarce_v0_state.specs.declared.fragments.Mark as mark
@@ -58,27 +58,29 @@ read R (PathProduction position) binder_depth s = R.path position binder_depth s
 read R TypeProduction binder_depth s = R.ty binder_depth s
 read R ConstProduction binder_depth s = R.constant s
 
--- the text from `start` to `end` is that of the tree that a position unfolds to, without invalid syntax at its end; where it was muted,
--- nothing is said of that text
-pub record Kept (part : List ℕ) (full : Bool) (text : List ℕ) (production : Production) (at binder_depth start end steps height : ℕ) (left_open muted : Bool) : Type 0 where
+-- the text from `start` to `end` is that of the tree that a position unfolds to, without invalid syntax at its end, and the trimmed text
+-- from `trimmed_start` to `trimmed_end` is that of the same tree; where it was muted, nothing is said of either
+pub record Kept (part : List ℕ) (full : Bool) (text trimmed : List ℕ) (production : Production) (at binder_depth start end trimmed_start trimmed_end steps height : ℕ) (left_open muted : Bool) : Type 0 where
   pub tree : TreeOf production
   pub after : ℕ
   pub is : Unfolds production part tree (Some at) binder_depth (Some after)
   pub within : end ≤ length text
   pub text_is : muted ≡ false → slice_range text start end ≡ text_of production full tree binder_depth
+  pub trimmed_within : trimmed_end ≤ length trimmed
+  pub trimmed_is : muted ≡ false → slice_range trimmed trimmed_start trimmed_end ≡ text_of production false tree binder_depth
   pub steps_is : steps_of production tree ≡ steps
   pub height_is : height_of production tree ≡ height
   pub open_is : left_open_of production tree ≡ left_open
 
 -- what a fragment says of itself holds
-abbrev pub IsKept : List ℕ → Bool → List ℕ → fragment.Fragment → Type 0
-IsKept part full text f =
-    Kept part full text (production_view f.key.production) f.key.at f.key.binder_depth f.start f.end f.steps f.height f.left_open f.muted
+abbrev pub IsKept : List ℕ → Bool → (text trimmed : List ℕ) → fragment.Fragment → Type 0
+IsKept part full text trimmed f =
+    Kept part full text trimmed (production_view f.key.production) f.key.at f.key.binder_depth f.start f.end f.trimmed_start f.trimmed_end f.steps f.height f.left_open f.muted
 
 -- a fragment is what a back reference asks for
 abbrev pub IsFragmentFor : List ℕ → State → key.FragmentKey → fragment.Fragment → Type 0
 IsFragmentFor part s a f =
-    Kept part s.full s.text (production_view a.production) a.at a.binder_depth f.start f.end f.steps f.height f.left_open f.muted
+    Kept part s.full s.text s.trimmed (production_view a.production) a.at a.binder_depth f.start f.end f.trimmed_start f.trimmed_end f.steps f.height f.left_open f.muted
 
 -- the least number of levels is counted anew from a number of levels on, and the old one joins
 abbrev pub raised : ℕ → State → State
@@ -87,11 +89,15 @@ raised levels_left s = record s { least_levels_left = max s.least_levels_left le
 abbrev pub lowered : ℕ → State → State
 lowered least_levels_left s = record s { least_levels_left = min least_levels_left s.least_levels_left }
 
+-- what a fragment holds of both texts is written again
+abbrev pub again : fragment.Fragment → State → State
+again f s = write_both (slice_range s.text f.start f.end) (slice_range s.trimmed f.trimmed_start f.trimmed_end) s
+
 -- where a printing stands
 abbrev pub IsMark : State → mark.Mark → Type 0
-IsMark s m = (s.at ≡ Some m.at) × (m.start ≡ length s.text) × (m.steps_left ≡ s.steps_left) × (m.least_levels_left ≡ s.least_levels_left)
+IsMark s m = (s.at ≡ Some m.at) × (m.start ≡ length s.text) × (m.trimmed_start ≡ length s.trimmed) × (m.steps_left ≡ s.steps_left) × (m.least_levels_left ≡ s.least_levels_left)
 
 -- what was printed since a mark may be kept
 abbrev pub MayKeep : List ℕ → State → mark.Mark → ℕ → ℕ → Production → Bool → Type 0
 MayKeep part s m levels_left binder_depth production left_open =
-    (after : ℕ) → s.at ≡ Some after → s.limit_exceeded ≡ false → Kept part s.full s.text production m.at binder_depth m.start (length s.text) (m.steps_left - s.steps_left) (levels_left - s.least_levels_left) left_open s.muted
+    (after : ℕ) → s.at ≡ Some after → s.limit_exceeded ≡ false → Kept part s.full s.text s.trimmed production m.at binder_depth m.start (length s.text) m.trimmed_start (length s.trimmed) (m.steps_left - s.steps_left) (levels_left - s.least_levels_left) left_open s.muted

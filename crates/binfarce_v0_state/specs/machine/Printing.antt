@@ -23,6 +23,8 @@ pub record State : Type 0 where
   pub limit_exceeded : Bool
   -- what was written, unless it is muted
   pub text : List ℕ
+  -- the same without the disambiguators of crates
+  pub trimmed : List ℕ
   pub muted : Bool
   -- disambiguators of crates are written
   pub full : Bool
@@ -36,7 +38,15 @@ heard true text = []
 heard false text = text
 
 abbrev pub write : List ℕ → State → State
-write text s = record s { text = s.text ++ heard s.muted text }
+write text s = record s { text = s.text ++ heard s.muted text; trimmed = s.trimmed ++ heard s.muted text }
+
+-- what is written again has a text with the disambiguators that are shown, and one without
+abbrev pub write_both : (text trimmed : List ℕ) → State → State
+write_both text trimmed s = record s { text = s.text ++ heard s.muted text; trimmed = s.trimmed ++ heard s.muted trimmed }
+
+-- a crate's disambiguator
+abbrev pub disambiguate : ℕ → State → State
+disambiguate disambiguator s = record s { text = s.text ++ heard s.muted (disambiguator_text s.full disambiguator) }
 
 abbrev pub seek : Option ℕ → State → State
 seek at s = record s { at = at }
@@ -306,7 +316,7 @@ back_path q in_back_reference r = (BackPath r.0, back_to q in_back_reference r.1
 
 abbrev pub crate_rule : Identifier → State → PathTree × State
 crate_rule root s =
-    (Crate root, write (disambiguator_text s.full root.disambiguator) (write (identifier_text root.name) (rooted root.name s)))
+    (Crate root, disambiguate root.disambiguator (write (identifier_text root.name) (rooted root.name s)))
 
 -- a crate root, or none where its identifier is invalid
 abbrev pub crate_state : Option (Identifier × ℕ) → State → State
@@ -352,7 +362,7 @@ WithinLevels levels_left binder_depth = (levels_left ≤ MAX_LEVELS) × (binder_
 -- a printing at its beginning, muted where all of it is to be read and nothing to be written
 abbrev pub first_state : (full muted : Bool) → State
 first_state full muted =
-    record { at = Some 0; steps_left = MAX_STEPS; least_levels_left = MAX_LEVELS; limit_exceeded = false; text = []; muted = muted; full = full; in_back_reference = false; root = None }
+    record { at = Some 0; steps_left = MAX_STEPS; least_levels_left = MAX_LEVELS; limit_exceeded = false; text = []; trimmed = []; muted = muted; full = full; in_back_reference = false; root = None }
 
 -- what clauses see of a printer: the part that it prints, which stays, and the state of the printing
 pub record Printing : Type 0 where

@@ -78,6 +78,12 @@ V0|_RIC7DIC1aEpB2_E|DIC1aEp[0]::<dyn a[0]<, ??>|DIC1aEp::<dyn a<, ??>|DIC1aEp|a 
 Unknown|_RMC0FG_B2_Eu|_RMC0FG_B2_Eu|_RMC0FG_B2_Eu|-|a cycle under a binder
 V0|_RIC5RL0_hB2_FG_B2_EuE|RL0_h[0]::<&'? ?, for<'a> fn(&'a u8)>|RL0_h::<&'? ?, for<'a> fn(&'a u8)>|RL0_h|a target that is invalid at one depth alone
 Unknown|_RIC1aTB3_EE|_RIC1aTB3_EE|_RIC1aTB3_EE|-|a cycle in a tuple
+V0|_RINvCs_u9bcher_kva1bTINtB2_1ANtB2_1BEB2_EBi_Bj_Br_B2_E|bücher[1]::b::<(bücher[1]::A<bücher[1]::B>, bücher[1]), (bücher[1]::A<bücher[1]::B>, bücher[1]), bücher[1]::A<bücher[1]::B>, bücher[1]::B, bücher[1]>|bücher::b::<(bücher::A<bücher::B>, bücher), (bücher::A<bücher::B>, bücher), bücher::A<bücher::B>, bücher::B, bücher>|bücher|disambiguators in targets and between them, after characters of two bytes
+V0|_RINvNtCs_1a1m1bTB2_NtB2_1tEBd_Bd_Be_B2_E|a[1]::m::b::<(a[1]::m, a[1]::m::t), (a[1]::m, a[1]::m::t), (a[1]::m, a[1]::m::t), a[1]::m, a[1]::m>|a::m::b::<(a::m, a::m::t), (a::m, a::m::t), (a::m, a::m::t), a::m, a::m>|a|a target that is a back reference itself
+V0|_RINvMCs_1aNtB3_1t1fB8_B3_RB8_Bn_Bn_E|<a[1]::t>::f::<a[1]::t, a[1], &a[1]::t, &a[1]::t, &a[1]::t>|<a::t>::f::<a::t, a, &a::t, &a::t, &a::t>|a|disambiguators of a dropped impl path and after it
+V0|_RINvCs_1a1bDNtCs0_1b1Tp1xNtCs1_1c1uEL_DBa_p1xBn_EL_Bn_E|a[1]::b::<dyn b[2]::T<x = c[3]::u>, dyn b[2]::T<x = c[3]::u>, c[3]::u>|a::b::<dyn b::T<x = c::u>, dyn b::T<x = c::u>, c::u>|a|disambiguators in an open trait and its binding
+V0|_RINvCs_01bNtCs0_01xB2_B8_B2_E|[1]::b::<[2]::x, [1], [2]::x, [1]>|::b::<::x, , ::x, >||crates of which only the disambiguators are shown
+V0|_RYTNtCs0_3foo1xhEINtCs1_1c1QB0_E|<(foo[2]::x, u8) as c[3]::Q<(foo[2]::x, u8)>>|<(foo::x, u8) as c::Q<(foo::x, u8)>>|foo|one target at a type and in a trait
 Unknown|_RMB_u|_RMB_u|_RMB_u|-|a cycle in an impl path
 V0|_RC1aB_|a[0]|a|a|an instantiating crate that is only read
 V0|_RC1aNvB2_1b|a[0]|a|a|an instantiating crate that would be a cycle

@@ -1,0 +1,15 @@
+use Rattle.std.proofs.Common.{◌≡◌, ◌++◌, [], true, sym, ◌∙◌, rules}
+use Rattle.std.specs.String.{string_bytes}
+use Rattle.binfarce_v0_state.proofs.KeptLemmas.{grown_apart}
+use Rattle.binfarce_v0_state.proofs.Sound.{true_not_false}
+use Rattle.binfarce_v0_state.proofs.state.Printer.write_both_again.Goals as goal
+
+pub invariant_of-self-2 : goal.invariant_of-self-2
+invariant_of-self-2 c =
+    let before = c.self.inside in
+    let full : before.full ≡ true = rw (← c.self.view_is) at c.requires.full in
+    let complete : string_bytes c.push_str-written.new.self ≡ (string_bytes before.complete ++ string_bytes before.text) ++ string_bytes c.push_str.new.self = search rules in
+    let trimmed : string_bytes c.push_str-written-2.new.self ≡ (string_bytes before.trimmed ++ string_bytes before.text) ++ string_bytes c.push_str-2.new.self = search rules in
+    let text : string_bytes c.share-shared.new.text ≡ [] = search rules in
+    let same : c.or_forget-3.new.kept.items ≡ before.kept.fragments.items = search rules in
+    (c.self.invariant.0, c.self.invariant.1, rw same (grown_apart before.part.now before.full (string_bytes before.complete) (string_bytes before.trimmed) (string_bytes before.text) _ _ _ _ _ before.kept.fragments.items complete trimmed text c.self.invariant.2), λ not_full. true_not_false (sym full ∙ not_full))

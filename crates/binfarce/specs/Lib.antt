@@ -18,6 +18,7 @@ pub use Rattle.binfarce_elf.specs.ElfViews
 pub use Rattle.binfarce_macho.specs.Macho
 pub use Rattle.binfarce_macho.specs.MachoSymbols
 pub use Rattle.binfarce_macho.specs.MachoViews
+pub use Rattle.binfarce_macho.specs.MachoParts
 pub use Rattle.binfarce_pe.specs.Pe
 pub use Rattle.binfarce_pe.specs.PeSymbols
 pub use Rattle.binfarce_pe.specs.PeViews

@@ -5,3 +5,5 @@ pub mod MachoAnswers
 pub mod MachoLaws
 pub mod SectionNames
 pub mod SectionsLeft
+pub mod Needs
+pub mod Held

@@ -1,4 +1,5 @@
 pub mod Macho
 pub mod MachoSymbols
 pub mod MachoViews
+pub mod MachoParts
 pub mod machine

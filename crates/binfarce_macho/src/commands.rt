@@ -16,7 +16,7 @@ pub(crate) const LC_SYMTAB: u32 = 0x2;
 pub(crate) const LC_SEGMENT_64: u32 = 0x19;
 
 // How many bytes a load command has before its body.
-const COMMAND_HEAD: u32 = 8;
+pub(crate) const COMMAND_HEAD: u32 = 8;
 
 /// Why a walk ends before its end. A public refusal holds a `'static` text, and so a callback's borrow can't meet it.
 #[derive(Clone, Copy)]
@@ -56,7 +56,7 @@ impl From<Damage> for ParseError {
 pub(crate) struct Command {
     pub(crate) offset: usize,
     pub(crate) kind: u32,
-    size: u32,
+    pub(crate) size: u32,
 }
 
 /// The load commands, at most as many as are left. A command whose size is below 8 ends them with an error.
@@ -112,7 +112,7 @@ pub(crate) fn commands<'a>(file: &Macho<'a>) -> LoadCommands<'a>
 }
 
 // The load command that begins at `offset`; refused where its head is truncated.
-fn command_at(bytes: &[u8], offset: usize) -> Result<Command, UnexpectedEof>
+pub(crate) fn command_at(bytes: &[u8], offset: usize) -> Result<Command, UnexpectedEof>
     ensures { MatchResult result
         (λ c. (offset + 8 ≤ length bytes.now) × (command_view c ≡ command_at bytes.now offset))
         (λ _. length bytes.now < offset + 8) }

@@ -20,7 +20,7 @@ pub struct MachoHeader {
     /// How many load commands there are.
     pub(crate) ncmds: u32,
     /// How many bytes they have together.
-    sizeofcmds: u32,
+    pub(crate) sizeofcmds: u32,
     flags: u32,
 }
 

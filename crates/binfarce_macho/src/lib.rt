@@ -6,5 +6,6 @@ mod commands;
 mod header;
 mod laws;
 pub mod macho;
+pub mod parts;
 mod sections;
 mod symbols;

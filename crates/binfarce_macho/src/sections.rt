@@ -16,7 +16,7 @@ use binfarce_bytes::{ByteOrder, ParseError};
 use std::marker::Model;
 use std::ops::Range;
 
-const SECTION_LENGTH: usize = 80;
+pub(crate) const SECTION_LENGTH: usize = 80;
 
 /// A section (`section_64`): its names, its address, and the offset and size of its bytes. The names are parts of the file.
 #[derive(Debug, Clone, Copy)]

@@ -4,16 +4,18 @@ ghost use Rattle.std.specs.Prelude.{◌≡◌, ◌≢◌, ℕ, ◌+◌, ◌*◌,
 ghost use Rattle.std.specs.Option.{option_map};
 ghost use Rattle.binfarce_bytes.specs.Refusal.{Gives, refusal_of};
 ghost use Rattle.binfarce_macho.specs.Macho.{body_of};
-ghost use Rattle.binfarce_macho.specs.MachoSymbols.{answer_of, listed_of, located, located_by, text_section, some_size, symbol_command, symbol_table_at, text_end_of, row_addresses, symbol_at, is_candidate, size_up_to, sized_entry, entry_of};
+ghost use Rattle.binfarce_macho.specs.MachoParts.{located_in, located_view, table_view};
+ghost use Rattle.binfarce_macho.specs.MachoSymbols.{answer_of, listed_of, located, text_section, some_size, symbol_command, symbol_table_at, text_end_of, row_addresses, symbol_at, is_candidate, size_up_to, sized_entry, entry_of};
 ghost use Rattle.binfarce_symbols.specs.Sizes.{addresses_of, least_above};
 ghost use Rattle.binfarce_symbols.specs.RowViews.{row_view, rows_view};
 ghost use Rattle.binfarce_symbols.specs.Symbol.{Answers};
 ghost use Rattle.binfarce_symbols.specs.SymbolViews.{function_view, HoldsFunctions};
 ghost use Rattle.binfarce_macho.specs.MachoViews.{section_view};
-ghost use Rattle.binfarce_macho.specs.machine.RawMacho.{command_view, located_view, symbol_view, table_view};
+ghost use Rattle.binfarce_macho.specs.machine.RawMacho.{command_view, symbol_view};
 
 use crate::commands::{Command, LC_SYMTAB, commands};
 use crate::macho::Macho;
+use crate::parts::needed_tables;
 use crate::sections::{Section, section_with_name};
 use binfarce_bytes::parser::{Stream, UnexpectedEof, parse_null_string, slice_at};
 use binfarce_bytes::{ByteOrder, ParseError};
@@ -21,36 +23,37 @@ use binfarce_symbols::functions::FunctionSymbol;
 use binfarce_symbols::sizes::{RowAddress, arrange};
 use std::alloc::{AllocError, Global};
 
-const SYMBOL_LENGTH: usize = 16;
+/// The length of a row of the symbol table in bytes.
+pub const SYMBOL_LENGTH: usize = 16;
 
-/// Where the symbols of a file are, and where its text ends.
+/// Where the text of a file ends, how long it is, and the bytes of its string table and of its symbol table.
 #[derive(Clone, Copy)]
-pub(crate) struct Located<'a> {
-    text_end: u64,
-    text_size: u64,
-    strings: &'a [u8],
-    rows: &'a [u8],
+pub struct Located<'a> {
+    pub text_end: u64,
+    pub text_size: u64,
+    pub strings: &'a [u8],
+    pub rows: &'a [u8],
 }
 
 // Where the symbols are, `None` without a symbol table, or the first refusal.
-#[tactic(auto, unfolding(crate::specs::MachoSymbols::located))]
 pub(crate) fn locate<'a>(file: &Macho<'a>) -> Result<Option<Located<'a>>, ParseError>
     ensures { Gives refusal_of (option_map located_view) (located file.now) result }
 {
-    let found = text_section(file)?;
-    let text = some_size(found)?;
-    let command = symbol_command(file)?;
-    located_by(file.data, text, command)
+    let needed = needed_tables(file)?;
+    match needed.table {
+        None => Ok(None),
+        Some(table) => Ok(Some(located_in(file.data, needed.text, table)?)),
+    }
 }
 
-fn text_section<'a>(file: &Macho<'a>) -> Result<Section<'a>, ParseError>
+pub(crate) fn text_section<'a>(file: &Macho<'a>) -> Result<Section<'a>, ParseError>
     ensures { Gives refusal_of section_view (text_section file.now) result }
 {
     section_with_name(file, "__TEXT", "__text")?.ok_or(ParseError::SymbolsSectionIsMissing)
 }
 
 // The first command that names a symbol table.
-fn symbol_command(file: &Macho<'_>) -> Result<Option<Command>, ParseError>
+pub(crate) fn symbol_command(file: &Macho<'_>) -> Result<Option<Command>, ParseError>
     ensures { Gives refusal_of (option_map command_view) (symbol_command file.now) result }
 {
     for item in commands(file) {
@@ -62,7 +65,7 @@ fn symbol_command(file: &Macho<'_>) -> Result<Option<Command>, ParseError>
     Ok(None)
 }
 
-fn some_size(section: Section<'_>) -> Result<Section<'_>, ParseError>
+pub(crate) fn some_size(section: Section<'_>) -> Result<Section<'_>, ParseError>
     ensures { Gives refusal_of section_view (some_size (section_view section.entry)) result }
 {
     if section.size == 0 {
@@ -72,51 +75,45 @@ fn some_size(section: Section<'_>) -> Result<Section<'_>, ParseError>
     }
 }
 
-#[tactic(auto, unfolding(crate::specs::MachoSymbols::located_by))]
-fn located_by<'a>(
+#[tactic(auto, unfolding(crate::specs::MachoParts::located_in))]
+fn located_in<'a>(
     bytes: &'a [u8],
     text: Section<'_>,
-    command: Option<Command>,
-) -> Result<Option<Located<'a>>, ParseError>
-    ensures { Gives refusal_of (option_map located_view)
-        (located_by bytes.entry.now (section_view text.entry) (option_map command_view command)) result }
+    table: SymbolTable,
+) -> Result<Located<'a>, ParseError>
+    ensures { Gives refusal_of located_view (located_in bytes.entry.now (section_view text.entry) (table_view table)) result }
 {
-    match command {
-        None => Ok(None),
-        Some(command) => {
-            let table = symbol_table_at(bytes, command)?;
-            let strings = slice_at(
-                bytes,
-                table.strings_offset as usize,
-                table.strings_size as usize,
-            )?;
-            let rows = slice_at(
-                bytes,
-                table.symbol_offset as usize,
-                SYMBOL_LENGTH * table.row_count as usize,
-            )?;
-            let text_end = text_end(text)?;
-            Ok(Some(Located {
-                text_end,
-                text_size: text.size,
-                strings,
-                rows,
-            }))
-        }
-    }
+    let strings = slice_at(
+        bytes,
+        table.strings_offset as usize,
+        table.strings_size as usize,
+    )?;
+    let rows = slice_at(
+        bytes,
+        table.symbol_offset as usize,
+        SYMBOL_LENGTH * table.row_count as usize,
+    )?;
+    let text_end = text_end(text)?;
+    Ok(Located {
+        text_end,
+        text_size: text.size,
+        strings,
+        rows,
+    })
 }
 
-/// What the body of a symbol table's command names (`symtab_command`).
+/// What the body of a symbol table's command names (`symtab_command`): where the symbol table is in the file and how many
+/// rows it has, and where the string table is and how many bytes it has.
 #[derive(Clone, Copy)]
-struct SymbolTable {
-    symbol_offset: u32,
-    row_count: u32,
-    strings_offset: u32,
-    strings_size: u32,
+pub struct SymbolTable {
+    pub symbol_offset: u32,
+    pub row_count: u32,
+    pub strings_offset: u32,
+    pub strings_size: u32,
 }
 
 #[tactic(auto, unfolding(crate::specs::MachoSymbols::symbol_table_at, crate::specs::MachoSymbols::symbol_table_fields))]
-fn symbol_table_at(bytes: &[u8], command: Command) -> Result<SymbolTable, UnexpectedEof>
+pub(crate) fn symbol_table_at(bytes: &[u8], command: Command) -> Result<SymbolTable, UnexpectedEof>
     ensures { let body = body_of (command_view command) in MatchResult result
         (λ t. (body + 16 ≤ length bytes.now) × (table_view t ≡ symbol_table_at bytes.now body))
         (λ _. length bytes.now < body + 16) }
@@ -135,7 +132,8 @@ fn symbol_table_at(bytes: &[u8], command: Command) -> Result<SymbolTable, Unexpe
     })
 }
 
-fn text_end(text: Section<'_>) -> Result<u64, ParseError>
+/// Where the text ends; `MalformedInput` where that passes an address.
+pub fn text_end(text: Section<'_>) -> Result<u64, ParseError>
     ensures { Gives refusal_of (λ n. n) (text_end_of (section_view text.entry)) result }
 {
     text.address
@@ -173,8 +171,9 @@ fn symbol_at(rows: &[u8], start: usize) -> Result<SymbolRow, UnexpectedEof>
     })
 }
 
-// The function symbols of a table, in the order of their addresses.
-pub(crate) fn functions_of<'a>(
+/// The function symbols of a table, in the order of their addresses, and the text's size in bytes. Refused where a row that
+/// would be kept lies past the text's end with no address above it; `OutOfMemory` comes only where a row has an address.
+pub fn functions_of<'a>(
     alloc: Global,
     found: Located<'a>,
 ) -> Result<(Vec<FunctionSymbol<'a>>, u64), ParseError>

@@ -5,3 +5,5 @@ mod Located
 mod Contents
 mod PeAlone
 mod PeSteps
+mod MachoPrefix
+mod MachoLocated

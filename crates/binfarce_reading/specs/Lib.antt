@@ -1,4 +1,5 @@
 pub mod Errors
 pub mod PeReading
 pub mod Reading
+pub mod MachoReading
 pub mod machine

@@ -5,6 +5,7 @@ mod elf;
 pub mod elf32;
 pub mod elf64;
 mod error;
+pub mod macho;
 pub mod pe;
 
 pub use crate::error::ReadError;

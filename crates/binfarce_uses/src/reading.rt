@@ -4,6 +4,8 @@ pub mod count_functions_of;
 pub mod fill_first;
 pub mod functions_of;
 pub mod length_of;
+pub mod macho_functions;
+pub mod macho_parts;
 pub mod magic_of;
 pub mod parts_of_bytes;
 pub mod pe_parts;

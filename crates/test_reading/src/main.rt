@@ -6,6 +6,7 @@
 #![tactic(auto)]
 
 mod fronts;
+mod macho;
 mod pe;
 mod rows;
 #[cfg(test)]

@@ -1,8 +1,10 @@
 //! What the samples give.
 
 use crate::fronts::{Given, LAYOUTS, compared};
-use crate::pe;
+use crate::{macho, pe};
 use std::alloc::Global;
+use test_samples::macho::MACHO;
+use test_samples::patched;
 use test_samples::pe::PE;
 
 /// What rows gave: how many their whole answer, how many were out of memory, and the format of one that gave neither.
@@ -36,5 +38,16 @@ pub(crate) fn given_by_samples(alloc: Global) -> Rows {
     }
     let file = PE.as_slice();
     rows.add("PE", pe::compared(alloc, file, &file));
+    // The whole of a file whose header doesn't say how long its load commands are, and the parts of one that does.
+    let file = MACHO.as_slice();
+    rows.add("Mach-O", macho::compared(alloc, file, &file));
+    rows.add("Mach-O", given_by_macho(alloc));
     rows
+}
+
+fn given_by_macho(alloc: Global) -> Given {
+    match patched(alloc, &MACHO, &[macho::SAID]) {
+        Ok(file) => macho::compared(alloc, &file, &file.as_slice()),
+        Err(_) => Given::OutOfMemory,
+    }
 }

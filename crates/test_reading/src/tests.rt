@@ -1,6 +1,8 @@
 mod changed;
 mod faults;
 mod files;
+mod macho;
+mod macho_faults;
 mod parts;
 mod pe;
 mod prefixes;

@@ -7,9 +7,7 @@ use Rattle.binfarce_macho.specs.declared.commands.Damage.TheVariants.{Malformed,
 use Rattle.binfarce_macho.specs.declared.commands.LoadCommands.{LoadCommands}
 use Rattle.binfarce_macho.specs.declared.sections.Segment.{Segment}
 use Rattle.binfarce_macho.specs.declared.sections.Left.{Left}
-use Rattle.binfarce_macho.specs.declared.symbols.Located.{Located}
 use Rattle.binfarce_macho.specs.declared.symbols.SymbolRow.{SymbolRow}
-use Rattle.binfarce_macho.specs.declared.symbols.SymbolTable.{SymbolTable}
 use Rattle.binfarce_bytes.specs.Refusal.{Refusal, malformed_input, unexpected_eof}
 use Rattle.binfarce_bytes.specs.Walk.{Walk, ended, and_then, YieldsNext}
 use Rattle.binfarce_macho.specs.Macho as macho
@@ -61,11 +59,5 @@ sections_left left = sections_from left.commands.bytes.now left.segment (command
 abbrev pub IsWithin : Left → Type 0
 IsWithin left = (left.segment.body ≤ length left.commands.bytes.now) × (left.segment.next ≤ section_count left.commands.bytes.now left.segment)
 
-abbrev pub located_view : Located → symbols.Located
-located_view l = record { text_end = l.text_end; text_size = l.text_size; strings = l.strings.now; rows = l.rows.now }
-
 abbrev pub symbol_view : SymbolRow → symbols.SymbolRow ℕ
 symbol_view s = record { name = s.name; kind = s.kind; section = s.section; value = s.value }
-
-abbrev pub table_view : SymbolTable → symbols.SymbolTable ℕ
-table_view t = record { symbol_offset = t.symbol_offset; row_count = t.row_count; strings_offset = t.strings_offset; strings_size = t.strings_size }

@@ -9,7 +9,7 @@ use Rattle.binfarce_symbols.specs.RowViews.{row_view, rows_view}
 use Rattle.binfarce_symbols.specs.SymbolViews.{HoldsFunctions}
 use Rattle.binfarce_symbols.proofs.Sweeping.{swept_is}
 use Rattle.binfarce_macho.specs.MachoSymbols.{answer_of, listed_of, row_addresses}
-use Rattle.binfarce_macho.specs.machine.RawMacho.{located_view}
+use Rattle.binfarce_macho.specs.MachoParts.{located_view}
 use Rattle.binfarce_macho.proofs.Kept.{rows_view_inside, empty}
 use Rattle.binfarce_macho.proofs.MachoAnswers.{nothing_listed, same_answer, table_listed}
 use Rattle.binfarce_macho.proofs.symbols.functions_of.Goals as goal

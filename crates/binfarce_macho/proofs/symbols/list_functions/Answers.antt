@@ -7,7 +7,7 @@ use Rattle.binfarce_symbols.specs.RowViews.{row_view, rows_view}
 use Rattle.binfarce_symbols.specs.SymbolViews.{function_view, HoldsFunctions}
 use Rattle.binfarce_symbols.proofs.Sweeping.{past}
 use Rattle.binfarce_macho.specs.MachoSymbols.{entry_of, kept, listed_of}
-use Rattle.binfarce_macho.specs.machine.RawMacho.{located_view}
+use Rattle.binfarce_macho.specs.MachoParts.{located_view}
 use Rattle.binfarce_macho.proofs.Kept.{kept_more, kept_refused, kept_view}
 use Rattle.binfarce_macho.proofs.MachoAnswers.{refusal_answers, row_refused, rows_listed}
 use Rattle.binfarce_macho.proofs.symbols.list_functions.Goals as goal

@@ -2,7 +2,7 @@ use Rattle.std.proofs.Common.{◌≡◌, ◌≤◌, length, map, take, Ok}
 use Rattle.binfarce_symbols.specs.SymbolViews.{function_view}
 use Rattle.binfarce_symbols.specs.RowViews.{row_view}
 use Rattle.binfarce_macho.specs.MachoSymbols.{entry_of, kept}
-use Rattle.binfarce_macho.specs.machine.RawMacho.{located_view}
+use Rattle.binfarce_macho.specs.MachoParts.{located_view}
 use Rattle.binfarce_macho.proofs.symbols.list_functions.Given as goal
 
 -- the function symbols so far are what was kept of the rows so far, of which none was refused; there is room for all

@@ -1,0 +1,100 @@
+//! What the function symbols of a file need, found in its header and its load commands alone.
+
+ghost use Rattle.std.specs.Prelude.{◌≡◌, ◌+◌, ◌≤◌, ◌&&◌, length, nat_le};
+ghost use Rattle.std.specs.Option.{option_map};
+ghost use Rattle.binfarce_bytes.specs.Refusal.{Gives, refusal_of};
+ghost use Rattle.binfarce_macho.specs.Macho.{header_length, segment_read, section_count, whole_headers};
+ghost use Rattle.binfarce_macho.specs.MachoParts.{needed, named_table, needed_view, table_view, holds_body, holds_commands};
+ghost use Rattle.binfarce_macho.specs.MachoViews.{header_view};
+ghost use Rattle.binfarce_macho.specs.machine.RawMacho.{command_view};
+
+use crate::commands::{COMMAND_HEAD, Command, LC_SEGMENT_64, LC_SYMTAB, command_at};
+use crate::header::{HEADER_LENGTH, MachoHeader};
+use crate::macho::Macho;
+use crate::sections::{SECTION_LENGTH, Section};
+pub use crate::symbols::{Located, SYMBOL_LENGTH, SymbolTable, functions_of, text_end};
+use crate::symbols::{some_size, symbol_command, symbol_table_at, text_section};
+use binfarce_bytes::parser::number_at;
+use binfarce_bytes::{ByteOrder, ParseError};
+
+/// The text, and what the command of the symbol table names, where there is one. The text's names are parts of the file.
+#[derive(Clone, Copy)]
+pub struct Needed<'a> {
+    pub text: Section<'a>,
+    pub table: Option<SymbolTable>,
+}
+
+/// What the function symbols need. Refused as `functions` of a reader is, up to the symbol table's command.
+#[tactic(auto, unfolding(crate::specs::MachoParts::needed))]
+pub fn needed_tables<'a>(file: &Macho<'a>) -> Result<Needed<'a>, ParseError>
+    ensures { Gives refusal_of needed_view (needed file.now) result }
+{
+    let found = text_section(file)?;
+    let text = some_size(found)?;
+    let command = symbol_command(file)?;
+    let table = named_table(file.data, command)?;
+    Ok(Needed { text, table })
+}
+
+fn named_table(bytes: &[u8], command: Option<Command>) -> Result<Option<SymbolTable>, ParseError>
+    ensures { Gives refusal_of (option_map table_view) (named_table bytes.now (option_map command_view command)) result }
+{
+    match command {
+        None => Ok(None),
+        Some(command) => Ok(Some(symbol_table_at(bytes, command)?)),
+    }
+}
+
+/// Where the load commands end, as the header says (`sizeofcmds`).
+pub fn commands_end(header: MachoHeader) -> usize
+    ensures { result ≡ header_length + (header_view header).sizeofcmds }
+{
+    HEADER_LENGTH + header.sizeofcmds as usize
+}
+
+/// Whether the load commands, and what is read of them, lie in these bytes: then a file that begins with them has the
+/// same sections and the same symbol table, whatever follows.
+pub fn holds_commands(file: &Macho<'_>) -> bool
+    ensures { result ≡ holds_commands file.now }
+{
+    let mut offset = HEADER_LENGTH;
+    for _k in 0..file.header.ncmds {
+        match command_at(file.data, offset) {
+            Err(_) => return false,
+            Ok(command) => {
+                if command.size < COMMAND_HEAD {
+                    return true;
+                }
+                if !holds_body(file.data, command) {
+                    return false;
+                }
+                offset += command.size as usize;
+            }
+        }
+    }
+    true
+}
+
+fn holds_body(bytes: &[u8], command: Command) -> bool
+    requires { command.offset + 8 ≤ length bytes.now }
+    ensures { result ≡ holds_body bytes.now (command_view command) }
+{
+    let body = command.offset + 8;
+    if command.kind == LC_SEGMENT_64 {
+        holds_sections(bytes, body)
+    } else {
+        command.kind != LC_SYMTAB || body + 16 <= bytes.len()
+    }
+}
+
+// Whether all sections of a segment command lie in the bytes.
+fn holds_sections(bytes: &[u8], body: usize) -> bool
+    requires { body ≤ length bytes.now }
+    ensures { result ≡ (nat_le (body + segment_read) (length bytes.now) && nat_le (section_count bytes.now body) (whole_headers bytes.now body)) }
+{
+    match number_at::<u32>(bytes, body + 56, ByteOrder::LittleEndian) {
+        Err(_) => false,
+        Ok(count) => count as usize
+            <= (bytes.len() + 28).saturating_sub(body + 64) / SECTION_LENGTH,
+    }
+}

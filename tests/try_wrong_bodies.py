@@ -172,11 +172,13 @@ class Prover:
         if status != 1 or not lines[-1].startswith("logic=not-proved"):
             return {}
         # Each line as if it told where an edit is refused: its function and its goal.
-        if any(re.match(r"(\./)?(src|specs)/\S+: error", it) for it in lines):
+        if any(is_unread(it) for it in lines):
             return {}
         told, found = [*self.goals_of(crate, lines)], {}
         for edit in these:
             own = [it for it in told if it[:2] == edit.listed] or [it for it in told if it[0] in edit.places]
+            # Of an edit that is tried alone any goal tells.
+            own = own or told if len(these) == 1 else own
             if own:
                 found[edit.name] = f"{edit.label()}: refused, as it must be: {own[0][2][:300]}"
         return found
@@ -208,6 +210,12 @@ class Prover:
         return len(said), len(names) - len(said)
 
 
+def has_room():
+    """Whether there is memory for one more check beside those of the gate."""
+    with open("/proc/meminfo", encoding="utf-8") as file:
+        return int(re.search(r"^MemAvailable: +(\d+)", file.read(), re.M)[1]) > 5_000_000
+
+
 def proved(gate):
     """The crates that are proved so far, and whether the gate has ended."""
     with open(gate, encoding="utf-8", errors="replace") as file:
@@ -224,7 +232,7 @@ def main(crates, gate):
             done, has_ended = proved(gate)
             ready = [it for it in left if {*below(it, prover.uses)} <= done]
             lanes = (os.cpu_count() or 1) if has_ended else max(1, (os.cpu_count() or 1) // 2)
-            for it in ready[: max(0, lanes - len(running))]:
+            for it in ready[: max(0, lanes - len(running)) if not running or has_room() else 0]:
                 left.remove(it)
                 running.add(pool.submit(prover.try_crate, it, found))
             if has_ended and left and not running:

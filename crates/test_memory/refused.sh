@@ -22,7 +22,7 @@ trap 'exit 130' INT TERM HUP
 rows="listings 40
 reports 145
 symbols 70
-names 95
+names 130
 trimmed 75
 crates 65
 tuples 85
@@ -35,7 +35,7 @@ counts 8
 without_allocation 1"
 case $crate in
     test_sections) rows="sections 60" ;;
-    test_reading) rows="reading 60" ;;
+    test_reading) rows="reading 80" ;;
 esac
 
 # The files of a group.

@@ -127,7 +127,7 @@ Unknown|_RC2é|_RC2é|_RC2é|-|a byte above 0x7F
 
 #[test]
 fn reads_v0_names(rt: HostRuntime) -> Result<(), Fail> {
-    check_lines(&rt, rt.alloc(), ROWS, 109)
+    check_lines(&rt, rt.alloc(), ROWS, 115)
 }
 
 // A text so many times, behind another.

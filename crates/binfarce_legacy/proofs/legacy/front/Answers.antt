@@ -63,4 +63,4 @@ returns c = λ elements rest r.
     c.in_ok-push_name.ensures.bytes ∙ ap (λ (x : List ℕ). x ++ encode_utf8_all (name_chars c.range.result.now)) c.new-text.ensures.bytes in
     subst (λ (t : List ℕ). IsFront t (encode_utf8_all (legacy_chars elements))) (sym c.in_ok-push_str.ensures.bytes)
     (front_of_more part c.in-Some.end (string_bytes c.push_name.new.text) c.range.result.now elements rest r has end slice wrote
-      (subst HasElement (ap (drop c.in-Some.end) c.as_bytes-bytes.ensures.value) c.in-Some-element.ensures.0))
+    (subst HasElement (ap (drop c.in-Some.end) c.as_bytes-bytes.ensures.value) c.in-Some-element.ensures.0))

@@ -40,6 +40,24 @@ one_line entries base addresses i line text new lt are is grown =
 pub whole : (entries : List Entry) (base : ℕ) (addresses : List ℕ) (i : ℕ) (text : List ℕ) → length addresses ≤ i → AreLinesOf entries base (take i addresses) text → AreLinesOf entries base addresses text
 whole entries base addresses i text le are = let P : List ℕ → Type 0 = λ xs. AreLinesOf entries base xs text in subst P (take_all i addresses le) are
 
+-- the lines of the addresses before a place stand behind a text
+abbrev pub AreBehind : List Entry → ℕ → List ℕ → List ℕ → List ℕ → Type 0
+AreBehind entries base addresses old new = (lines : List ℕ) × AreLinesOf entries base addresses lines × (new ≡ old ++ lines)
+
+pub none_behind : (entries : List Entry) (base : ℕ) (addresses old : List ℕ) → AreBehind entries base (take 0 addresses) old old
+none_behind entries base addresses old = ([], ([], tt, refl), sym (append-nil old))
+
+pub one_behind : (entries : List Entry) (base : ℕ) (addresses : List ℕ) (i : ℕ) (line old mid new : List ℕ) → i < length addresses → AreBehind entries base (take i addresses) old mid → IsLineAt entries base (get_or addresses i 0) line → new ≡ mid ++ line
+    → AreBehind entries base (take (i + 1) addresses) old new
+one_behind entries base addresses i line old mid new lt are is grown = (
+  are.0 ++ line,
+  one_line entries base addresses i line are.0 (are.0 ++ line) lt are.1 is refl,
+  grown ∙ ap (λ (xs : List ℕ). xs ++ line) are.2 ∙ append_assoc old are.0 line,
+)
+
+pub whole_behind : (entries : List Entry) (base : ℕ) (addresses : List ℕ) (i : ℕ) (old new : List ℕ) → length addresses ≤ i → AreBehind entries base (take i addresses) old new → AreBehind entries base addresses old new
+whole_behind entries base addresses i old new le are = (are.0, whole entries base addresses i are.0 le are.1, are.2)
+
 -- the lines of what a file lists were written, or a beginning of them
 pub takes : (memory : Result Listed Refusal → Type 0) (answer : Option (Result Listed Refusal)) (entries : List Entry) (base : ℕ) (addresses text : List ℕ) (old new : Option (List ℕ)) (result : Result (Unit {0}) ListError)
     → IsMadeOf memory answer (Ok entries) → AreLinesOf entries base addresses text → Writes old new text result → writing.Takes (AreLinesAt base addresses) answer old new (outcome_of result)

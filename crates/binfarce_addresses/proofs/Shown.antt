@@ -1,7 +1,8 @@
 -- The range that is found at an address is that of the entry which the address is shown by.
 use Rattle.std.proofs.Common.{◌≡◌, ℕ, zero, suc, ◌+◌, ◌-◌, ◌<◌, ◌≤◌, ◌⊎◌, inl, inr, Bool, true, false, cond, ◌&&◌, max, List, [], ◌∷◌, map, filter, length, get_or, Option, Some, None, SomeIff, MatchOption, refl, sym, ap, subst, ◌∙◌, arith, nat_lt, nat_le}
 use Rattle.std.proofs.lemmas.Bool.Decides.{nat_tests}
-use Rattle.std.proofs.lemmas.List.{get_or-map, length-map}
+use Rattle.std.proofs.lemmas.Bool.{cases_lt}
+use Rattle.std.proofs.lemmas.List.{get_or-map, get_or_default, length-map}
 use Rattle.std.proofs.lemmas.List.Elements.{All-head, All-tail}
 use Rattle.binfarce.specs.Symbol.{Entry}
 use Rattle.binfarce.specs.SymbolViews.{function_view}
@@ -10,7 +11,9 @@ use Rattle.binfarce_ranges.specs.declared.ranges.AddressRange.{AddressRange}
 use Rattle.binfarce_ranges.specs.Range.{Holds, NoneHolds, IsFoundAt}
 use Rattle.binfarce.specs.Found.{holds, higher_of, highest, entry_at}
 use Rattle.binfarce_addresses.specs.Lines.{in_file, found_at}
-use Rattle.binfarce_addresses.specs.machine.Places.{range_of, ranges_of, StandsAt}
+use Rattle.binfarce_ranges.specs.declared.ranges.Found.{Found}
+use Rattle.binfarce_ranges.specs.Range.{Finds, IsFoundFrom}
+use Rattle.binfarce_addresses.specs.machine.Places.{range_of, ranges_of, IsShownAt, StandsAt}
 
 lies_in : (low high address : ℕ) → low ≤ address → address < high → (nat_le low address && nat_lt address high) ≡ true
 lies_in low high address a b = grind (arith, nat_tests)
@@ -196,3 +199,41 @@ module _ (functions : List FunctionSymbol) (ranges : List AddressRange) (entries
         omega (arith, lt, ap (length {A = Entry}) seen, length-map functions function_view),
         ap (λ (es : List Entry). get_or es place (function_view f)) (sym seen) ∙ get_or-map function_view functions place f (function_view f) lt ∙ ap function_view (sym is),
       )
+
+  -- the address is shown by the entry at the place that is found
+  pub shown_by : (found : Option Found) → x ≡ address - base → Finds ranges x found → IsShownAt entries base address found
+  shown_by None left finds = found_none finds
+  shown_by (Some f) left finds =
+      let d : Entry = record { name = []; address = 0; size = 0 } in
+      let entry : Entry = get_or entries f.place d in
+      let P : List AddressRange → Type 0 = λ rs. IsFoundAt rs x f.place in
+      let lt : f.place < length entries = omega (arith, finds.0.within, ap (length {A = AddressRange}) same, length_ranges entries) in
+      let begins : (get_or ranges f.place (range_of d)).address ≡ entry.address =
+      ap (λ (rs : List AddressRange). (get_or rs f.place (range_of d)).address) same ∙ ap (λ (r : AddressRange). r.address) (get_or-map range_of entries f.place d (range_of d) lt) in (
+        entry,
+        ap (found_at entries) inside ∙ shown entries x f.place d (subst P same finds.0),
+        finds.1 (range_of d) ∙ ap (λ n. x - n) begins ∙ ap (λ n. n - entry.address) left,
+        (lt, get_or_default entries f.place entry d lt),
+      )
+
+-- an address below the base isn't in the file
+below_base : (base address : ℕ) → address < base → in_file base address ≡ None
+below_base base address lt = rw (less base address lt) refl
+  where
+    less : (a b : ℕ) → b < a → nat_lt b a ≡ true
+    less a b lt = grind (arith, nat_tests)
+
+-- what is found once the base is taken off is what the address is shown by
+pub shown_from : (functions : List FunctionSymbol) (ranges : List AddressRange) (entries : List Entry) → ranges ≡ ranges_of functions → map function_view functions ≡ entries → (base address : ℕ) (found : Option Found) → IsFoundFrom ranges base address found → IsShownAt entries base address found
+shown_from functions ranges entries are seen base address found is = elim (cases_lt address base) [
+  | inl lt ↦ at_none found _ _ (is.below lt) (ap (found_at entries) (below_base base address lt))
+  | inr le ↦ shown_by functions ranges entries are seen base address (address - base) (is_in_file base address (address - base) le refl) found refl (is.finds le)
+]
+
+-- what holds where something is found, and where nothing is
+pub where_found : (entries : List Entry) (base address : ℕ) (shown : Option Found) (f : Found) → IsShownAt entries base address shown → shown ≡ Some f
+    → (entry : Entry) × (found_at entries (in_file base address) ≡ Some entry) × (f.offset ≡ address - base - entry.address) × StandsAt entries f.place entry
+where_found entries base address shown f is found = let P : Option Found → Type 0 = λ o. IsShownAt entries base address o in subst P found is
+
+pub where_none : (entries : List Entry) (base address : ℕ) (shown : Option Found) → IsShownAt entries base address shown → shown ≡ None → found_at entries (in_file base address) ≡ None
+where_none entries base address shown is found = let P : Option Found → Type 0 = λ o. IsShownAt entries base address o in subst P found is

@@ -8,25 +8,14 @@ use Rattle.binfarce.specs.Symbol.{Entry}
 use Rattle.binfarce_ranges.specs.Address.{address_of}
 use Rattle.binfarce_addresses.specs.Lines.{IsLineAt, AreLinesOf}
 use Rattle.binfarce_addresses.specs.Stream.{with_line_feeds, IsWritten, Begins, IsPart}
-use Rattle.binfarce_addresses.specs.Answered.{AnswersOf}
+use Rattle.binfarce_addresses.specs.machine.Answering.{AreAddressesOf}
 use Rattle.binfarce_addresses.proofs.AddressLines.{all_zip_push, concat_push}
 
--- the lines of the addresses before a place were written
-pub record Answering (entries : List Entry) (base : ℕ) (bytes old new : List ℕ) (len : ℕ) : Type 0 where
-  pub addresses : List ℕ
-  pub lines : List ℕ
-  pub begins : Begins bytes addresses (drop len bytes)
-  pub are : AreLinesOf entries base addresses lines
-  pub written : new ≡ old ++ lines
-
-pub begun : (entries : List Entry) (base : ℕ) (bytes old : List ℕ) → Answering entries base bytes old old 0
-begun entries base bytes old = record {
-  addresses = [];
-  lines = [];
-  begins = record { lines = []; each = tt; are = refl };
-  are = ([], tt, refl);
-  written = sym (append-nil old);
-}
+-- no line is read yet
+pub begun : (bytes addresses : List ℕ) → addresses ≡ [] → Begins bytes addresses (drop 0 bytes)
+begun bytes addresses none =
+    let P : List ℕ → Type 0 = λ xs. Begins bytes xs bytes in
+    subst P (sym none) (record { lines = []; each = tt; are = refl })
 
 feeds_push : (lines : List (List ℕ)) (line : List ℕ) → with_line_feeds (lines ++ line ∷ []) ≡ with_line_feeds lines ++ (line ++ 10 ∷ [])
 feeds_push [] line = append-nil (line ++ 10 ∷ [])
@@ -56,15 +45,11 @@ line_before bytes i lt is before = (
 pub no_line : (bytes : List ℕ) → ((k : ℕ) → k < length bytes → get_or bytes k 0 ≡ 10 → ⊥) → IsPart bytes
 no_line bytes none = All-from_get_or (λ byte. byte ≢ 10) bytes 0 none
 
--- what was answered, where no whole line is left
-pub all_lines : (entries : List Entry) (base : ℕ) (bytes old new : List ℕ) (len : ℕ) → len ≤ length bytes → Answering entries base bytes old new len → IsPart (take (length bytes - len) (drop len bytes)) → AnswersOf entries base bytes old new (record { len = len; wrong = ltb 18 (length bytes - len) })
-all_lines entries base bytes old new len within so_far part = record {
+-- what was read, where no whole line is left
+pub all_lines : (bytes addresses : List ℕ) (len : ℕ) → len ≤ length bytes → Begins bytes addresses (drop len bytes) → IsPart (take (length bytes - len) (drop len bytes)) → AreAddressesOf bytes addresses (record { len = len; wrong = ltb 18 (length bytes - len) })
+all_lines bytes addresses len within begins part = record {
   within = within;
-  addresses = so_far.addresses;
-  lines = so_far.lines;
-  begins = so_far.begins;
-  are = so_far.are;
-  written = so_far.written;
+  begins = begins;
   wrong = λ long. inr (subst IsPart (left_of bytes len) part, omega (arith, length-drop len bytes, is_long (length bytes - len) long));
   part = λ short. subst IsPart (left_of bytes len) part;
 }
@@ -73,24 +58,18 @@ all_lines entries base bytes old new len within so_far part = record {
     is_long n e = grind (arith, nat_tests)
 
 -- one line more
-pub one_more : (entries : List Entry) (base : ℕ) (bytes old mid new line others written : List ℕ) (len address : ℕ) → len ≤ length bytes → Answering entries base bytes old mid len → drop len bytes ≡ line ++ 10 ∷ others → address_of line ≡ Some address
-    → IsLineAt entries base address written → new ≡ mid ++ written → Answering entries base bytes old new (len + (length line + 1))
-one_more entries base bytes old mid new line others written len address within so_far is writes shown grown =
+pub one_more : (bytes addresses new line others : List ℕ) (len address : ℕ) → Begins bytes addresses (drop len bytes) → drop len bytes ≡ line ++ 10 ∷ others → address_of line ≡ Some address → new ≡ addresses ++ address ∷ [] → Begins bytes new (drop (len + (length line + 1)) bytes)
+one_more bytes addresses new line others len address begins is writes grown =
     let left : drop (len + (length line + 1)) bytes ≡ others = sym (drop-drop (length line + 1) len bytes) ∙ behind_line line others (drop len bytes) is in
-    record {
-      addresses = so_far.addresses ++ address ∷ [];
-      lines = so_far.lines ++ written;
-      begins = record {
-        lines = so_far.begins.lines ++ line ∷ [];
-        each = all_zip_push IsWritten so_far.begins.lines so_far.addresses line address so_far.begins.each writes;
-        are = so_far.begins.are ∙ ap (λ (xs : List ℕ). with_line_feeds so_far.begins.lines ++ xs) is
-            ∙ regroup (with_line_feeds so_far.begins.lines) line (10 ∷ []) others
-            ∙ ap (λ (xs : List ℕ). xs ++ others) (sym (feeds_push so_far.begins.lines line))
-            ∙ ap (λ (xs : List ℕ). with_line_feeds (so_far.begins.lines ++ line ∷ []) ++ xs) (sym left);
-      };
-      are = (so_far.are.0 ++ written ∷ [], all_zip_push (IsLineAt entries base) so_far.addresses so_far.are.0 address written so_far.are.1 shown, ap (λ (xs : List ℕ). xs ++ written) so_far.are.2 ∙ sym (concat_push so_far.are.0 written));
-      written = grown ∙ ap (λ (xs : List ℕ). xs ++ written) so_far.written ∙ append_assoc old so_far.lines written;
-    }
+    let P : List ℕ → Type 0 = λ xs. Begins bytes xs (drop (len + (length line + 1)) bytes) in
+    subst P (sym grown) (record {
+      lines = begins.lines ++ line ∷ [];
+      each = all_zip_push IsWritten begins.lines addresses line address begins.each writes;
+      are = begins.are ∙ ap (λ (xs : List ℕ). with_line_feeds begins.lines ++ xs) is
+          ∙ regroup (with_line_feeds begins.lines) line (10 ∷ []) others
+          ∙ ap (λ (xs : List ℕ). xs ++ others) (sym (feeds_push begins.lines line))
+          ∙ ap (λ (xs : List ℕ). with_line_feeds (begins.lines ++ line ∷ []) ++ xs) (sym left);
+    })
   where
     regroup : (a l f o : List ℕ) → a ++ (l ++ (f ++ o)) ≡ (a ++ (l ++ f)) ++ o
     regroup a l f o = simp append_assoc

@@ -1,9 +1,8 @@
 //! What stands at addresses in an executable, a line each.
 
-ghost use Rattle.std.specs.Prelude.{◌≡◌, ◌++◌, ◌-◌, ℕ, List, Some, None, map, IfOk, MatchOption, OnOk};
+ghost use Rattle.std.specs.Prelude.{◌≡◌, ◌++◌, ◌-◌, ◌<◌, ℕ, List, length, Some, None, map, IfOk, IfSome, MatchOption, OnOk};
+ghost use Rattle.std.specs.String.{string_bytes};
 ghost use Rattle.binfarce.specs.Format.{format_of};
-ghost use Rattle.binfarce.specs.Name.{Name};
-ghost use Rattle.binfarce.specs.Named.{IsNamed};
 ghost use Rattle.binfarce.specs.Symbol.{Entry};
 ghost use Rattle.binfarce.specs.SymbolViews.{function_view};
 ghost use Rattle.binfarce_tools.specs.Answer.{symbols_answer, NeedsMemory};
@@ -13,12 +12,12 @@ ghost use Rattle.binfarce_tools.specs.ListWords.{outcome_of};
 ghost use Rattle.binfarce_tools.specs.Writing.{Tells, Takes, Fails, Leaves};
 ghost use Rattle.binfarce_addresses.specs.Lines.{in_file, found_at, IsLineAt, AreLinesOf, AreLinesAt};
 ghost use Rattle.binfarce_addresses.specs.PlacesViews.{IsMadeOf};
-ghost use Rattle.binfarce_addresses.specs.machine.Places.{ArePlacesOf, AreNamesOf, IsNameOf, StandsAt};
+ghost use Rattle.binfarce_addresses.specs.machine.Places.{ArePlacesOf, AreNamesOf, AreAllShown, IsNamedAt, IsNameOf, IsShownAt, StandsAt};
 
 use crate::digits::{push_address, push_offset};
 use binfarce::FunctionSymbol;
 use binfarce::demangle::push_trimmed;
-use binfarce_ranges::ranges::{AddressRange, Ranges};
+use binfarce_ranges::ranges::{AddressRange, Found, Ranges};
 use binfarce_tools::functions::{Functions, functions_of_file};
 use binfarce_tools::list::{ListError, Sink};
 use binfarce_tools::writing::write_whole;
@@ -32,8 +31,15 @@ use std::marker::Model;
 pub struct Places<'a> {
     functions: Vec<FunctionSymbol<'a>>,
     ranges: Ranges,
-    // The trimmed names of the first function symbols.
-    names: Vec<String>,
+    names: Names,
+}
+
+// The trimmed names of the first function symbols, one behind the other.
+#[derive(Drop)]
+struct Names {
+    text: String,
+    // Where each begins, and where the last one ends.
+    bounds: Vec<usize>,
 }
 
 impl<'a> Model for Places<'a> {
@@ -41,7 +47,7 @@ impl<'a> Model for Places<'a> {
 
     ghost view = { λ s. map function_view s.functions.items };
 
-    ghost invariant = { λ s. ArePlacesOf s.functions.items s.ranges s.names.items };
+    ghost invariant = { λ s. ArePlacesOf s.functions.items s.ranges (string_bytes s.names.text) s.names.bounds.items };
 }
 
 impl<'a> Places<'a> {
@@ -105,11 +111,95 @@ impl<'a> Places<'a> {
     ) -> Result<(), AllocError>
         ensures { OnOk result ((line : List ℕ) × IsLineAt self.now base address line × (text.new.items ≡ text.old.items ++ line)) }
     {
-        push_address(text, address)?;
+        let shown = self.find_shown(base, address);
+        self.push_shown(alloc, text, base, address, shown)
+    }
+
+    // Writes the lines of addresses after the text. All are looked up before the first is written: what is waited for in
+    // memory comes sooner where many wait at once.
+    pub(crate) fn push_all(
+        &self,
+        alloc: Global,
+        text: &mut Vec<u8>,
+        base: u64,
+        addresses: &[u64],
+    ) -> Result<(), AllocError>
+        ensures { OnOk result ((lines : List ℕ) × AreLinesOf self.now base addresses.now lines × (text.new.items ≡ text.old.items ++ lines)) }
+    {
+        let all = self.find_all(alloc, base, addresses)?;
+        self.ends_of_names(alloc, &all)?;
+        for k in 0..addresses.len() {
+            let shown = all[k];
+            self.push_shown(alloc, text, base, addresses[k], shown)?;
+        }
+        Ok(())
+    }
+
+    // What each of the addresses is shown by.
+    fn find_all(
+        &self,
+        alloc: Global,
+        base: u64,
+        addresses: &[u64],
+    ) -> Result<Vec<Option<Found>>, AllocError>
+        ensures { IfOk result (λ all. AreAllShown self.now base addresses.now all.items) }
+    {
+        let all = self.ranges.find_all(alloc, base, addresses)?;
+        Ok(all)
+    }
+
+    // The first and the last byte of each name that is kept. Nothing is promised: they are read ahead, so that the names are
+    // near when they are written.
+    fn ends_of_names(
+        &self,
+        alloc: Global,
+        all: &[Option<Found>],
+    ) -> Result<Vec<(u8, u8)>, AllocError> {
+        let mut ends = Vec::with_capacity(alloc, all.len())?;
+        for shown in all {
+            let place = match shown {
+                Some(found) => found.place,
+                None => 0,
+            };
+            let end = match self.kept_name(place) {
+                Some([first, .., last]) => (*first, *last),
+                _ => (0, 0),
+            };
+            ends.push(end)?;
+        }
+        Ok(ends)
+    }
+
+    // What an address is shown by: the place of a function symbol, and the offset into that.
+    fn find_shown(&self, base: u64, address: u64) -> Option<Found>
+        ensures { IsShownAt self.now base address result }
+    {
         match self.find_place(base, address) {
-            Some((place, function, offset)) => {
-                self.push_name(alloc, text, place, function)?;
-                push_offset(text, offset)?;
+            Some(found) => Some(Found {
+                place: found.0,
+                offset: found.2,
+            }),
+            None => None,
+        }
+    }
+
+    // Writes the line of an address, which is shown by this, after the text.
+    fn push_shown(
+        &self,
+        alloc: Global,
+        text: &mut Vec<u8>,
+        base: u64,
+        address: u64,
+        shown: Option<Found>,
+    ) -> Result<(), AllocError>
+        requires { IsShownAt self.now base address shown }
+        ensures { OnOk result ((line : List ℕ) × IsLineAt self.now base address line × (text.new.items ≡ text.old.items ++ line)) }
+    {
+        push_address(text, address)?;
+        match shown {
+            Some(found) => {
+                self.push_name(alloc, text, found.place)?;
+                push_offset(text, found.offset)?;
                 Ok(())
             }
             None => {
@@ -120,38 +210,51 @@ impl<'a> Places<'a> {
     }
 
     // Writes the trimmed name of the function symbol at a place after the text.
-    fn push_name(
-        &self,
-        alloc: Global,
-        text: &mut Vec<u8>,
-        place: usize,
-        function: FunctionSymbol<'a>,
-    ) -> Result<(), AllocError>
-        requires { StandsAt self.now place (function_view function) }
-        ensures { OnOk result ((name : Name) × IsNamed (function_view function.entry).name name × (text.new.items ≡ text.old.items ++ name.trimmed)) }
+    fn push_name(&self, alloc: Global, text: &mut Vec<u8>, place: usize) -> Result<(), AllocError>
+        requires { place < length self.now }
+        ensures { OnOk result ((name : List ℕ) × IsNamedAt self.now place name × (text.new.items ≡ text.old.items ++ name)) }
     {
-        if place < self.names.len() {
-            let name = &self.names[place];
-            text.extend_from_slice(name.as_bytes())?;
-            return Ok(());
+        match self.kept_name(place) {
+            Some(name) => {
+                text.extend_from_slice(name)?;
+                Ok(())
+            }
+            None => {
+                let name = name_of(alloc, self.functions[place])?;
+                text.extend_from_slice(name.as_bytes())?;
+                Ok(())
+            }
         }
-        let name = name_of(alloc, function)?;
-        text.extend_from_slice(name.as_bytes())?;
-        Ok(())
+    }
+
+    // The trimmed name of the function symbol at a place, where it is kept.
+    fn kept_name(&self, place: usize) -> Option<&[u8]>
+        ensures { IfSome result (λ name. IsNamedAt self.now place name.now) }
+    {
+        let count = self.names.bounds.len().saturating_sub(1);
+        if place >= count {
+            return None;
+        }
+        let start = self.names.bounds[place];
+        let end = self.names.bounds[place + 1];
+        let text = self.names.text.as_bytes();
+        Some(&text[start..end])
     }
 }
 
 // The trimmed names of function symbols.
-fn names_of(alloc: Global, functions: &Vec<FunctionSymbol<'_>>) -> Result<Vec<String>, AllocError>
-    ensures { IfOk result (λ v. AreNamesOf functions.now.items v.items) }
+fn names_of(alloc: Global, functions: &Vec<FunctionSymbol<'_>>) -> Result<Names, AllocError>
+    ensures { IfOk result (λ n. AreNamesOf (map function_view functions.now.items) (string_bytes n.text) n.bounds.items) }
 {
-    let mut names = Vec::new(alloc);
+    let mut text = String::new(alloc);
+    let mut bounds = Vec::new(alloc);
+    bounds.push(0)?;
     for place in 0..functions.len() {
         let function = functions[place];
-        let name = name_of(alloc, function)?;
-        names.push(name)?;
+        push_trimmed(alloc, &mut text, function.name)?;
+        bounds.push(text.as_bytes().len())?;
     }
-    Ok(names)
+    Ok(Names { text, bounds })
 }
 
 // The trimmed name of a function symbol.
@@ -179,7 +282,10 @@ fn places_of(alloc: Global, functions: Functions<'_>) -> Result<Places<'_>, Allo
     Ok(Places {
         functions: kept,
         ranges: Ranges::new(alloc, ranges)?,
-        names: Vec::new(alloc),
+        names: Names {
+            text: String::new(alloc),
+            bounds: Vec::new(alloc),
+        },
     })
 }
 

@@ -3,7 +3,7 @@
 ghost use Rattle.std.specs.Prelude.{◌≡◌, ◌<◌, ◌++◌, ◌∷◌, ℕ, List, length, MatchOption, IfOk};
 ghost use Rattle.binfarce_addresses.specs.Answered.{AnswersOf};
 ghost use Rattle.binfarce_addresses.specs.Stream.{IsPart, Streams};
-ghost use Rattle.binfarce_addresses.specs.machine.Answering.{AnswersAll, AnswersLast, AnswersPart, AnswersUpTo, WritesAll};
+ghost use Rattle.binfarce_addresses.specs.machine.Answering.{AreAddressesOf, AnswersAll, AnswersLast, AnswersPart, AnswersUpTo, WritesAll};
 
 use crate::at::Places;
 use binfarce_ranges::address::parse_address;
@@ -85,16 +85,26 @@ pub fn push_lines(
 ) -> Result<Answered, AllocError>
     ensures { IfOk result (AnswersOf places.now base bytes.now text.old.items text.new.items) }
 {
+    let (addresses, answered) = addresses_of(alloc, bytes)?;
+    places.push_all(alloc, text, base, &addresses)?;
+    Ok(answered)
+}
+
+// The addresses that the whole lines of `bytes` write, up to the first line that writes none, and how much of it that is.
+fn addresses_of(alloc: Global, bytes: &[u8]) -> Result<(Vec<u64>, Answered), AllocError>
+    ensures { IfOk result (λ r. AreAddressesOf bytes.now r.0.items r.1) }
+{
+    let mut addresses = Vec::new(alloc);
     let mut len = 0;
     while let Some(line) = first_line(&bytes[len..]) {
         match parse_address(line) {
-            Some(address) => places.push_line(alloc, text, base, address)?,
-            None => return Ok(Answered { len, wrong: true }),
+            Some(address) => addresses.push(address)?,
+            None => return Ok((addresses, Answered { len, wrong: true })),
         }
         len += line.len() + 1;
     }
     let wrong = bytes.len() - len > LONGEST;
-    Ok(Answered { len, wrong })
+    Ok((addresses, Answered { len, wrong }))
 }
 
 // The bytes before the first line feed.

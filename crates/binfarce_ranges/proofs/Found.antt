@@ -1,15 +1,16 @@
 -- What a search finds.
-use Rattle.std.proofs.Common.{◌≡◌, ℕ, ◌+◌, ◌-◌, ◌^◌, ◌<◌, ◌≤◌, ◌⊎◌, inl, inr, true, false, leb, List, length, get_or, sym, ap, subst, arith}
-use Rattle.std.specs.List.{AllWithin}
+use Rattle.std.proofs.Common.{◌≡◌, ℕ, ◌+◌, ◌-◌, ◌^◌, ◌<◌, ◌≤◌, ◌⊎◌, inl, inr, List, [], ◌∷◌, ◌++◌, length, get_or, Option, None, sym, ap, subst, ◌∙◌, arith, length-append}
+use Rattle.std.proofs.Math.ListN.{get_or-append}
+use Rattle.std.proofs.Math.Seq.{get_or-append_seam}
 use Rattle.std.proofs.lemmas.Bool.{cases_lt}
-use Rattle.std.proofs.lemmas.Bool.Decides.{nat_tests}
 use Rattle.std.proofs.lemmas.List.{get_or_default}
 use Rattle.std.proofs.lemmas.List.Elements.{All-from_get_or}
-use Rattle.binfarce_ranges.specs.Range.{Holds, NoneHolds, IsFoundAt}
+use Rattle.binfarce_ranges.specs.Range.{Holds, NoneHolds, IsFoundAt, IsFoundFrom}
+use Rattle.binfarce_ranges.specs.declared.ranges.Found.{Found}
 use Rattle.binfarce_ranges.specs.declared.ranges.AddressRange.{AddressRange}
 use Rattle.binfarce_ranges.specs.declared.ranges.Row.{Row}
 use Rattle.binfarce_ranges.specs.declared.ranges.Node.{Node}
-use Rattle.binfarce_ranges.specs.machine.Index.{IsIndexed, last_of, range_at, row_at, node_at, no_range, no_row}
+use Rattle.binfarce_ranges.specs.machine.Index.{AreRowsOf, AreNodesOf, IsBound, last_of, range_at, row_at, node_at, no_range}
 
 -- the rows before the start have no greater address, those from it on have; and none holds the address whose node stands behind this one
 pub record Passed (rows : List Row) (nodes : List Node) (address start node : ℕ) : Type 0 where
@@ -26,25 +27,21 @@ not_held : (range : AddressRange) (address : ℕ) → address < 2 ^ 64 → last_
 not_held range address fits past holds = omega (arith, holds.0, holds.1)
 
 -- where a search starts
-pub searched : (rows xs : List Row) (nodes : List Node) (address start : ℕ) → xs ≡ rows → start ≤ length xs → AllWithin (λ r. leb r.address address ≡ true) xs 0 start → AllWithin (λ r. leb r.address address ≡ false) xs start (length xs)
-    → Passed rows nodes address start start
-searched rows xs nodes address start is bound before behind =
-    let P : List Row → Type 0 = λ ys. Passed ys nodes address start start in
-    subst P is (record {
-      within = omega arith;
-      bound = bound;
-      before = λ k lt. at_most (row_at xs k).address address (before k no_row (omega arith) lt);
-      behind = λ k low high. above (row_at xs k).address address (behind k no_row low high);
-      passed = λ k low high. absurd (omega arith);
-    })
-  where
-    at_most : (a b : ℕ) → leb a b ≡ true → a ≤ b
-    at_most a b e = grind (arith, nat_tests)
+pub searched : (rows : List Row) (nodes : List Node) (address start : ℕ) → IsBound rows address start → Passed rows nodes address start start
+searched rows nodes address start bound = record {
+  within = omega arith;
+  bound = bound.within;
+  before = bound.before;
+  behind = bound.behind;
+  passed = λ k low high. absurd (omega arith);
+}
 
-    above : (a b : ℕ) → leb a b ≡ false → b < a
-    above a b e = grind (arith, nat_tests)
+-- rows, and what is known of each
+pub record ArePassable (ranges : List AddressRange) (rows : List Row) (nodes : List Node) : Type 0 where
+  pub rows_are : AreRowsOf ranges rows
+  pub nodes_are : AreNodesOf ranges rows nodes
 
-module _ (ranges : List AddressRange) (rows : List Row) (nodes : List Node) (indexed : IsIndexed ranges rows nodes) (address start node : ℕ) (fits : address < 2 ^ 64) (search : Passed rows nodes address start node) where
+module _ (ranges : List AddressRange) (rows : List Row) (nodes : List Node) (indexed : ArePassable ranges rows nodes) (address start node : ℕ) (fits : address < 2 ^ 64) (search : Passed rows nodes address start node) where
   in_nodes : node < length nodes
   in_nodes = omega (arith, search.within, search.bound, indexed.nodes_are.count)
 
@@ -138,3 +135,26 @@ module _ (ranges : List AddressRange) (rows : List Row) (nodes : List Node) (ind
             let R : AddressRange → Type 0 = λ r. ((range_at ranges other).address < r.address) ⊎ (((range_at ranges other).address ≡ r.address) × (place ≤ other)) in
             subst Q b (subst R a (first_at k other is lt (subst P (sym b) holds)));
       }
+
+-- the offset into the range of a row
+pub offset_at : (ranges : List AddressRange) (rows : List Row) → AreRowsOf ranges rows → (view : List AddressRange) → ranges ≡ view → (k : ℕ) (row : Row) (address : ℕ) → k < length rows → row ≡ row_at rows k → (d : AddressRange) → address - row.address ≡ address - (get_or view row.place.0 d).address
+offset_at ranges rows are view seen k row address lt is d =
+    let of_row = are.row_is k lt in
+    let here : range_at ranges (row_at rows k).place.0 ≡ get_or ranges (row_at rows k).place.0 d = get_or_default ranges (row_at rows k).place.0 no_range d of_row.0 in
+    let begins : row.address ≡ (get_or view row.place.0 d).address =
+    ap (λ (r : Row). r.address) is ∙ of_row.1 ∙ ap (λ (r : AddressRange). r.address) here
+    ∙ ap (λ (r : Row). (get_or ranges r.place.0 d).address) (sym is) ∙ ap (λ (rs : List AddressRange). (get_or rs row.place.0 d).address) seen in
+    ap (λ n. address - n) begins
+
+-- one more is found
+pub one_found : (ranges : List AddressRange) (base : ℕ) (addresses : List ℕ) (all new : List (Option Found)) (found : Option Found) → ((k : ℕ) → k < length all → IsFoundFrom ranges base (get_or addresses k 0) (get_or all k None)) → IsFoundFrom ranges base (get_or addresses (length all) 0) found → new ≡ all ++ found ∷ []
+    → (k : ℕ) → k < length new → IsFoundFrom ranges base (get_or addresses k 0) (get_or new k None)
+one_found ranges base addresses all new found are is grown k lt = elim (cases_lt k (length all)) [
+  | inl old ↦
+      let here : get_or new k None ≡ get_or all k None = ap (λ (fs : List (Option Found)). get_or fs k None) grown ∙ get_or-append all (found ∷ []) None k old in
+      subst (λ (f : Option Found). IsFoundFrom ranges base (get_or addresses k 0) f) (sym here) (are k old)
+  | inr ge ↦
+      let last : k ≡ length all = omega (arith, lt, ap (length {A = Option Found}) grown, length-append all (found ∷ [])) in
+      let here : get_or new k None ≡ found = ap (λ (fs : List (Option Found)). get_or fs k None) grown ∙ ap (λ n. get_or (all ++ found ∷ []) n None) last ∙ get_or-append_seam all found [] None in
+      subst (λ (f : Option Found). IsFoundFrom ranges base (get_or addresses k 0) f) (sym here) (subst (λ n. IsFoundFrom ranges base (get_or addresses n 0) found) (sym last) is)
+]

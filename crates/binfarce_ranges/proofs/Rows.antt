@@ -1,8 +1,8 @@
 -- Rows in the order of a sort.
-use Rattle.std.proofs.Common.{◌≡◌, ℕ, ◌+◌, ◌<◌, ◌≤◌, Bool, true, false, ◌&&◌, ◌||◌, List, [], ◌∷◌, ◌++◌, length, length-append, get_or, ◌⊎◌, inl, inr, sym, ap, ◌∙◌, arith, nat_lt, nat_eq, nat_cmp, is_lt, IsPermutation}
+use Rattle.std.proofs.Common.{◌≡◌, ℕ, ◌+◌, ◌<◌, ◌≤◌, Bool, true, false, ◌&&◌, ◌||◌, List, [], ◌∷◌, ◌++◌, length, length-append, ◌⊎◌, inl, inr, sym, ap, ◌∙◌, arith, nat_lt, nat_eq, nat_cmp, is_lt, IsPermutation}
 use Rattle.std.specs.Cmp.{IsStrictWeakOrder}
 use Rattle.std.specs.List.{Contains}
-use Rattle.std.specs.List.Sorted.{IsSortedBy, IsNonDecreasingBy}
+use Rattle.std.specs.List.Sorted.{IsSortedBy}
 use Rattle.std.specs.Ordering.{ordering_then}
 use Rattle.std.proofs.lemmas.Bool.Decides.{nat_tests}
 use Rattle.std.proofs.Math.ListN.{get_or-append}
@@ -13,7 +13,7 @@ use Rattle.std.proofs.lemmas.List.Elements.{All-get_or, All-from_get_or, Contain
 use Rattle.std.proofs.lemmas.List.Sorted.{sorted_far, All-permutation, Contains-permutation}
 use Rattle.binfarce_ranges.specs.declared.ranges.AddressRange.{AddressRange}
 use Rattle.binfarce_ranges.specs.declared.ranges.Row.{Row}
-use Rattle.binfarce_ranges.specs.machine.Index.{AreRowsOf, NotBehind, range_at, row_at, no_row}
+use Rattle.binfarce_ranges.specs.machine.Index.{AreRowsOf, DoRise, NotBehind, range_at, row_at, no_row}
 
 -- by address, and at equal addresses from the last place to the first
 abbrev pub comes_before : Row → Row → Bool
@@ -95,9 +95,5 @@ arranged_rows ranges rows sorted made same up = record {
     not_behind x y e = elim (not_before_tells y.address x.address x.place.0 y.place.0 e) [ inl lt ↦ inl lt | inr is ↦ inr (sym is.0, is.1) ]
 
 -- the addresses of rows in order don't fall
-pub addresses_rise : (ranges : List AddressRange) (rows : List Row) → AreRowsOf ranges rows → IsNonDecreasingBy (λ r. r.address) rows
-addresses_rise ranges rows are i j d le lt =
-    let low : row_at rows i ≡ get_or rows i d = get_or_default rows i no_row d (omega arith) in
-    let high : row_at rows j ≡ get_or rows j d = get_or_default rows j no_row d lt in
-    let rise : (row_at rows i).address ≤ (row_at rows j).address = elim (are.rise i j le lt) [ inl lower ↦ omega arith | inr same ↦ omega (arith, same.0) ] in
-    omega (arith, ap (λ (r : Row). r.address) low, ap (λ (r : Row). r.address) high, rise)
+pub addresses_rise : (ranges : List AddressRange) (rows : List Row) → AreRowsOf ranges rows → DoRise rows
+addresses_rise ranges rows are i j le lt = elim (are.rise i j le lt) [ inl lower ↦ omega arith | inr same ↦ omega (arith, same.0) ]

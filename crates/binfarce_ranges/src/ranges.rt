@@ -1,9 +1,9 @@
 //! Which of several ranges is found at an address.
 
-ghost use Rattle.std.specs.Prelude.{◌≡◌, ◌<◌, List, length, MatchOption, IfOk};
-ghost use Rattle.binfarce_ranges.specs.Range.{NoneHolds, IsFoundAt};
+ghost use Rattle.std.specs.Prelude.{◌≡◌, ◌<◌, List, length, true, MatchOption, IfOk};
+ghost use Rattle.binfarce_ranges.specs.Range.{AreFound, Finds, IsFoundAt, IsFoundFrom, NoneHolds};
 ghost use Rattle.binfarce_ranges.specs.declared.ranges.AddressRange.{AddressRange};
-ghost use Rattle.binfarce_ranges.specs.machine.Index.{AreRowsOf, AreLinked, AreNodesOf, IsIndexed, IsOuter, JumpsOver, Follows, last_of};
+ghost use Rattle.binfarce_ranges.specs.machine.Index.{AreRowsOf, AreSlicesOf, AreLinked, AreNodesOf, DoRise, IsBound, IsIndexed, IsOuter, JumpsOver, Follows, last_of, slice_at};
 
 use std::alloc::{AllocError, Global};
 use std::cmp::Reverse;
@@ -16,6 +16,13 @@ pub struct AddressRange {
     pub size: u64,
 }
 
+/// What is found at an address: the place of a range, and the offset of the address into that.
+#[derive(Debug, Clone, Copy, PartialEq)]
+pub struct Found {
+    pub place: usize,
+    pub offset: u64,
+}
+
 /// Ranges, arranged so that what is found at an address takes a search.
 ///
 /// Clauses see the ranges in the order in which they were given.
@@ -23,6 +30,7 @@ pub struct AddressRange {
 pub struct Ranges {
     ranges: Vec<AddressRange>,
     rows: Vec<Row>,
+    slices: Slices,
     nodes: Vec<Node>,
 }
 
@@ -32,6 +40,16 @@ pub struct Ranges {
 struct Row {
     address: u64,
     place: Reverse<usize>,
+}
+
+// Equally large slices of the addresses: slice 0 begins with the first row, and has what lies before it too.
+#[derive(Drop)]
+struct Slices {
+    first: u64,
+    // A slice has 2^shift addresses.
+    shift: u32,
+    // How many rows stand before each slice; the last count is that of all rows.
+    starts: Vec<usize>,
 }
 
 // What is known of a row beside its place. Node 0 stands before all rows, node k + 1 for row k.
@@ -59,7 +77,7 @@ impl Model for Ranges {
 
     ghost view = { λ s. s.ranges.items };
 
-    ghost invariant = { λ s. IsIndexed s.ranges.items s.rows.items s.nodes.items };
+    ghost invariant = { λ s. IsIndexed s.ranges.items s.rows.items s.slices.first s.slices.shift s.slices.starts.items s.nodes.items };
 }
 
 impl Ranges {
@@ -68,10 +86,12 @@ impl Ranges {
         ensures { IfOk result (λ r. r ≡ ranges.items) }
     {
         let rows = rows_of(alloc, &ranges)?;
+        let slices = slices_of(alloc, &rows)?;
         let nodes = nodes_of(alloc, &ranges, &rows)?;
         Ok(Ranges {
             ranges,
             rows,
+            slices,
             nodes,
         })
     }
@@ -81,7 +101,104 @@ impl Ranges {
     pub fn find(&self, address: u64) -> Option<usize>
         ensures { MatchOption result (NoneHolds self.now address) (IsFoundAt self.now address) }
     {
-        let mut node = self.rows.partition_point(|row| row.address <= address);
+        match self.find_from(self.start_of(address), address) {
+            Some(found) => Some(found.place),
+            None => None,
+        }
+    }
+
+    /// What is found at each of the addresses once the base is taken off: nothing at one below the base. All are searched in
+    /// the rows before the first is followed further: what is waited for in memory comes sooner where many wait at once.
+    ///
+    /// # Errors
+    ///
+    /// `AllocError` where an allocation failed.
+    pub fn find_all(
+        &self,
+        alloc: Global,
+        base: u64,
+        addresses: &[u64],
+    ) -> Result<Vec<Option<Found>>, AllocError>
+        ensures { IfOk result (λ all. AreFound self.now base addresses.now all.items) }
+    {
+        let starts = self.starts_of(alloc, base, addresses)?;
+        self.lasts_of(alloc, &starts)?;
+        let mut all = Vec::with_capacity(alloc, addresses.len())?;
+        for k in 0..addresses.len() {
+            let found = self.find_past(base, addresses[k], starts[k]);
+            all.push(found)?;
+        }
+        Ok(all)
+    }
+
+    // For each address how many rows have one that isn't greater, once the base is taken off: mostly.
+    fn starts_of(
+        &self,
+        alloc: Global,
+        base: u64,
+        addresses: &[u64],
+    ) -> Result<Vec<usize>, AllocError>
+        ensures { IfOk result (λ v. length v.items ≡ length addresses.now) }
+    {
+        let mut starts = Vec::with_capacity(alloc, addresses.len())?;
+        for address in addresses {
+            let start = self.near_start(address.saturating_sub(base));
+            starts.push(start)?;
+        }
+        Ok(starts)
+    }
+
+    // The same for one address: its slice's first two rows alone are looked at, without a branch. Nothing is promised:
+    // `find_from` looks whether it is so.
+    fn near_start(&self, address: u64) -> usize {
+        let slice = slice_of(self.slices.first, self.slices.shift, address);
+        let near = match self.slices.starts.get(slice) {
+            Some(start) => *start,
+            None => self.rows.len(),
+        };
+        let mut start = near;
+        if let Some(row) = self.rows.get(near) {
+            start = start.wrapping_add((row.address <= address) as usize);
+        }
+        if let Some(row) = self.rows.get(near.wrapping_add(1)) {
+            start = start.wrapping_add((row.address <= address) as usize);
+        }
+        start
+    }
+
+    // What the nodes of these rows reach. Nothing is promised: it is read ahead, so that it is near when it is asked for.
+    fn lasts_of(&self, alloc: Global, starts: &[usize]) -> Result<Vec<u64>, AllocError> {
+        let mut lasts = Vec::with_capacity(alloc, starts.len())?;
+        for start in starts {
+            let last = match self.nodes.get(*start) {
+                Some(node) => node.last,
+                None => 0,
+            };
+            lasts.push(last)?;
+        }
+        Ok(lasts)
+    }
+
+    // How many rows have an address that isn't greater. Nothing is promised: `find_from` looks whether it is so.
+    fn start_of(&self, address: u64) -> usize {
+        rows_up_to(&self.rows, &self.slices, address)
+    }
+
+    // What is found at an address once the base is taken off; so many rows have an address that isn't greater, it is said.
+    fn find_past(&self, base: u64, address: u64, start: usize) -> Option<Found>
+        ensures { IsFoundFrom self.now base address result }
+    {
+        if address < base {
+            return None;
+        }
+        self.find_from(start, address - base)
+    }
+
+    // What is found at an address; so many rows have an address that isn't greater, it is said.
+    fn find_from(&self, start: usize, address: u64) -> Option<Found>
+        ensures { Finds self.now address result }
+    {
+        let mut node = start_at(&self.rows, &self.slices, start, address);
         while self.nodes[node].last < address {
             let jump = self.nodes[node].jump;
             node = if self.nodes[jump].last < address {
@@ -93,7 +210,11 @@ impl Ranges {
         if node == 0 {
             return None;
         }
-        Some(self.rows[node - 1].place.0)
+        let row = self.rows[node - 1];
+        Some(Found {
+            place: row.place.0,
+            offset: address - row.address,
+        })
     }
 }
 
@@ -110,6 +231,96 @@ fn rows_of(alloc: Global, ranges: &[AddressRange]) -> Result<Vec<Row>, AllocErro
     }
     rows.sort_unstable();
     Ok(rows)
+}
+
+// The slices of the rows: about as many as rows.
+fn slices_of(alloc: Global, rows: &[Row]) -> Result<Slices, AllocError>
+    requires { DoRise rows.now }
+    ensures { IfOk result (λ s. AreSlicesOf rows.now s.first s.shift s.starts.items) }
+{
+    let mut starts = Vec::with_capacity(alloc, rows.len())?;
+    let (first, last) = match rows {
+        [] => (0, 0),
+        [row] => (row.address, row.address),
+        [first, .., last] => (first.address, last.address),
+    };
+    let shift = shift_of(last.saturating_sub(first), rows.len());
+    for (place, row) in rows.iter().enumerate() {
+        let slice = slice_of(first, shift, row.address);
+        while starts.len() <= slice {
+            starts.push(place)?;
+        }
+    }
+    starts.push(rows.len())?;
+    Ok(Slices {
+        first,
+        shift,
+        starts,
+    })
+}
+
+// How often so many addresses are halved until they are at most so many slices.
+fn shift_of(addresses: u64, slices: usize) -> u32
+    ensures { result < 64 }
+{
+    let mut shift = 0;
+    while shift < 63 && (addresses >> shift) > slices as u64 {
+        shift += 1;
+    }
+    shift
+}
+
+// The slice that an address lies in.
+#[inline(always)]
+fn slice_of(first: u64, shift: u32, address: u64) -> usize
+    requires { shift < 64 }
+    ensures { result ≡ slice_at first shift address }
+{
+    (address.saturating_sub(first) >> shift) as usize
+}
+
+// How many rows have an address that isn't greater: the rows of one slice are searched.
+fn rows_up_to(rows: &[Row], slices: &Slices, address: u64) -> usize
+    requires rise { DoRise rows.now }
+    requires slices { AreSlicesOf rows.now slices.now.first slices.now.shift slices.now.starts.items }
+    ensures { IsBound rows.now address result }
+{
+    let slice = slice_of(slices.first, slices.shift, address);
+    if slice >= slices.starts.len() - 1 {
+        return rows.len();
+    }
+    let start = slices.starts[slice];
+    let end = slices.starts[slice + 1];
+    start + rows[start..end].partition_point(|row| row.address <= address)
+}
+
+// How many rows have an address that isn't greater: as many as is said, if it is so.
+#[inline(always)]
+fn start_at(rows: &[Row], slices: &Slices, start: usize, address: u64) -> usize
+    requires rise { DoRise rows.now }
+    requires slices { AreSlicesOf rows.now slices.now.first slices.now.shift slices.now.starts.items }
+    ensures { IsBound rows.now address result }
+{
+    if is_start(rows, start, address) {
+        start
+    } else {
+        rows_up_to(rows, slices, address)
+    }
+}
+
+// So many rows have an address that isn't greater.
+#[inline(always)]
+fn is_start(rows: &[Row], start: usize, address: u64) -> bool
+    requires { DoRise rows.now }
+    ensures { result ≡ true → IsBound rows.now address start }
+{
+    if start > rows.len() {
+        return false;
+    }
+    if start > 0 && rows[start - 1].address > address {
+        return false;
+    }
+    start == rows.len() || rows[start].address > address
 }
 
 // The nodes of the rows.

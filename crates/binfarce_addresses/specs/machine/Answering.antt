@@ -1,10 +1,11 @@
 -- What the parts of an answering do.
-use Rattle.std.specs.Prelude.{◌≡◌, ◌≢◌, ◌≤◌, ℕ, List, [], ◌++◌, length, drop, Option, None, Result, Ok, Err}
+use Rattle.std.specs.Prelude.{◌≡◌, ◌≢◌, ◌≤◌, ℕ, List, [], ◌++◌, length, drop, Option, None, Result, Ok, Err, true, false}
 use Rattle.std.specs.Io.KnownBytes.{Appends, Consumes, IsAtEnd}
 use Rattle.binfarce.specs.Symbol.{Entry}
 use Rattle.binfarce_tools.specs.Writing.{AppendsBeginning}
 use Rattle.binfarce_ranges.specs.Address.{address_of}
 use Rattle.binfarce_addresses.specs.Stream.{Begins, BeginsWrong, IsPart, Reads, AreTold, BreaksOff}
+use Rattle.binfarce_addresses.specs.declared.stream.Answered.{Answered}
 use Rattle.binfarce_addresses.specs.declared.stream.LinesError.{LinesError}
 use Rattle.binfarce_addresses.specs.declared.stream.LinesError.TheVariants.{Read, Address, OutOfMemory, Write}
 
@@ -46,3 +47,10 @@ AnswersLast entries base line old new (Err Read) = ⊥
 AnswersLast entries base line old new (Err Address) = (line ≢ []) × (address_of line ≡ None) × Appends old new []
 AnswersLast entries base line old new (Err OutOfMemory) = (addresses : List ℕ) × (rest : List ℕ) × Reads line addresses rest × BreaksOff entries base addresses old new
 AnswersLast entries base line old new (Err Write) = (addresses : List ℕ) × (rest : List ℕ) × Reads line addresses rest × BreaksOff entries base addresses old new
+
+-- the lines at the text's front write the addresses; what is left begins with a line that writes no address where that is told, and has no line feed elsewhere
+pub record AreAddressesOf (text addresses : List ℕ) (answered : Answered) : Type 0 where
+  pub within : answered.len ≤ length text
+  pub begins : Begins text addresses (drop answered.len text)
+  pub wrong : answered.wrong ≡ true → BeginsWrong (drop answered.len text)
+  pub part : answered.wrong ≡ false → IsPart (drop answered.len text)

@@ -1,5 +1,5 @@
 -- What places are made of: function symbols, their ranges, and names that are readable already.
-use Rattle.std.specs.Prelude.{◌≡◌, ℕ, ◌<◌, List, map, length, slice_index_or, String}
+use Rattle.std.specs.Prelude.{◌≡◌, ℕ, ◌+◌, ◌-◌, ◌<◌, ◌≤◌, List, map, length, take, drop, slice_index_or, String, Option, Some, None, MatchOption}
 use Rattle.std.specs.Global.{Global}
 use Rattle.std.specs.String.{string_bytes}
 use Rattle.binfarce.specs.Name.{Name}
@@ -7,7 +7,9 @@ use Rattle.binfarce.specs.Named.{IsNamed}
 use Rattle.binfarce.specs.Symbol.{Entry}
 use Rattle.binfarce.specs.SymbolViews.{function_view}
 use Rattle.binfarce.specs.declared.FunctionSymbol.{FunctionSymbol}
+use Rattle.binfarce_addresses.specs.Lines.{in_file, found_at}
 use Rattle.binfarce_ranges.specs.declared.ranges.AddressRange.{AddressRange}
+use Rattle.binfarce_ranges.specs.declared.ranges.Found.{Found}
 
 abbrev pub range_of : Entry → AddressRange
 range_of entry = record { address = entry.address; size = entry.size }
@@ -19,14 +21,30 @@ ranges_of functions = map (λ f. range_of (function_view f)) functions
 abbrev pub IsNameOf : FunctionSymbol → String Global → Type 0
 IsNameOf function text = (name : Name) × IsNamed (function_view function).name name × (string_bytes text ≡ name.trimmed)
 
--- the texts are the trimmed names of the first of the function symbols
-abbrev pub AreNamesOf : List FunctionSymbol → List (String Global) → Type 0
-AreNamesOf functions texts = (place : ℕ) (f : FunctionSymbol) (t : String Global) → place < length texts → IsNameOf (slice_index_or functions place f) (slice_index_or texts place t)
-
-pub record ArePlacesOf (functions : List FunctionSymbol) (ranges : List AddressRange) (texts : List (String Global)) : Type 0 where
-  pub are : ranges ≡ ranges_of functions
-  pub named : AreNamesOf functions texts
-
 -- the entry stands at the place
 abbrev pub StandsAt : List Entry → ℕ → Entry → Type 0
 StandsAt entries place entry = (place < length entries) × (slice_index_or entries place entry ≡ entry)
+
+-- the text is the trimmed name of the entry at the place
+abbrev pub IsNamedAt : List Entry → ℕ → List ℕ → Type 0
+IsNamedAt entries place text = (entry : Entry) → StandsAt entries place entry → (name : Name) × IsNamed entry.name name × (text ≡ name.trimmed)
+
+-- the trimmed names of the first of the entries stand in the text, between these bounds
+pub record AreNamesOf (entries : List Entry) (text bounds : List ℕ) : Type 0 where
+  pub rise : (place : ℕ) → place + 1 < length bounds → (slice_index_or bounds place 0 ≤ slice_index_or bounds (place + 1) 0) × (slice_index_or bounds (place + 1) 0 ≤ length text)
+  pub named : (place : ℕ) → place + 1 < length bounds → IsNamedAt entries place (take (slice_index_or bounds (place + 1) 0 - slice_index_or bounds place 0) (drop (slice_index_or bounds place 0) text))
+
+pub record ArePlacesOf (functions : List FunctionSymbol) (ranges : List AddressRange) (text bounds : List ℕ) : Type 0 where
+  pub are : ranges ≡ ranges_of functions
+  pub named : AreNamesOf (map function_view functions) text bounds
+
+-- the address is shown by this: the place of an entry, and the offset into that
+abbrev pub IsShownAt : List Entry → ℕ → ℕ → Option Found → Type 0
+IsShownAt entries base address shown =
+    MatchOption shown (found_at entries (in_file base address) ≡ None)
+    (λ f. (entry : Entry) × (found_at entries (in_file base address) ≡ Some entry) × (f.offset ≡ address - base - entry.address) × StandsAt entries f.place entry)
+
+-- each of the addresses is shown by what stands at its place
+pub record AreAllShown (entries : List Entry) (base : ℕ) (addresses : List ℕ) (all : List (Option Found)) : Type 0 where
+  pub count : length all ≡ length addresses
+  pub each : (k : ℕ) → k < length all → IsShownAt entries base (slice_index_or addresses k 0) (slice_index_or all k None)

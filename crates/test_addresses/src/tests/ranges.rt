@@ -1,6 +1,6 @@
 //! Which of several ranges is found at an address.
 
-use binfarce_ranges::ranges::{AddressRange, Ranges};
+use binfarce_ranges::ranges::{AddressRange, Found, Ranges};
 use std::alloc::{AllocError, Global};
 
 fn ranges_of(alloc: Global, ranges: &[(u64, u64)]) -> Result<Ranges, AllocError> {
@@ -21,7 +21,7 @@ type Row = (
     &'static [(u64, Option<usize>)],
 );
 
-const TABLE: [Row; 9] = [
+const TABLE: [Row; 11] = [
     ("none", &[], &[(0, None), (u64::MAX, None)]),
     (
         "one",
@@ -84,6 +84,40 @@ const TABLE: [Row; 9] = [
             (1000, None),
         ],
     ),
+    // 0xc0 addresses lie between the first and the last of 4 ranges: a slice has 0x40.
+    (
+        "the first and the last address of a slice",
+        &[(0x100, 0x40), (0x140, 0x40), (0x180, 0x40), (0x1c0, 0x40)],
+        &[
+            (0xff, None),
+            (0x100, Some(0)),
+            (0x13f, Some(0)),
+            (0x140, Some(1)),
+            (0x17f, Some(1)),
+            (0x180, Some(2)),
+            (0x1bf, Some(2)),
+            (0x1c0, Some(3)),
+            (0x1ff, Some(3)),
+            (0x200, None),
+        ],
+    ),
+    // 0x1008 addresses of 6 ranges: a slice has 0x400.
+    (
+        "a slice of many ranges, and three of none",
+        &[(0, 1), (1, 1), (2, 1), (3, 1), (0x1000, 0x10), (0x1008, 1)],
+        &[
+            (3, Some(3)),
+            (4, None),
+            (0x3ff, None),
+            (0x400, None),
+            (0xfff, None),
+            (0x1000, Some(4)),
+            (0x1008, Some(5)),
+            (0x1009, Some(4)),
+            (0x1010, None),
+            (0x1400, None),
+        ],
+    ),
     (
         "past 64 bits",
         &[(u64::MAX - 1, 100), (5, u64::MAX), (u64::MAX, 0)],
@@ -109,6 +143,43 @@ fn finds_the_range(rt: HostRuntime) -> Result<(), AllocError> {
             assert!(&rt; ranges.find(*address) == *place, "{label}: {address:x}");
         }
     }
+    Ok(())
+}
+
+#[test]
+fn finds_many_at_once(rt: HostRuntime) -> Result<(), AllocError> {
+    for (label, ranges, places) in &TABLE {
+        let ranges = ranges_of(rt.alloc(), ranges)?;
+        let mut addresses = Vec::new(rt.alloc());
+        for (address, _) in places.iter() {
+            addresses.push(*address)?;
+        }
+        let all = ranges.find_all(rt.alloc(), 0, &addresses)?;
+        for (k, (address, place)) in places.iter().enumerate() {
+            assert!(&rt;
+                all[k].map(|found| found.place) == *place,
+                "{label}: {address:x}"
+            );
+        }
+    }
+    Ok(())
+}
+
+// With the offset into each, once the base is taken off.
+#[test]
+fn takes_the_base_off(rt: HostRuntime) -> Result<(), AllocError> {
+    let ranges = ranges_of(rt.alloc(), &[(0x40, 0x10), (0x10, 0x10)])?;
+    let all = ranges.find_all(rt.alloc(), 0x100, &[0xff, 0x110, 0x14f, 0x150, 0x40])?;
+    let first = Some(Found {
+        place: 1,
+        offset: 0,
+    });
+    let second = Some(Found {
+        place: 0,
+        offset: 0xf,
+    });
+    let wanted = [None, first, second, None, None];
+    assert!(&rt; all.as_slice() == wanted.as_slice());
     Ok(())
 }
 

@@ -1,0 +1,69 @@
+use Rattle.std.proofs.Common.{◌≡◌, ◌<◌, ◌≤◌, ◌+◌, ◌-◌, ◌^◌, ℕ, List, length, sym, ap, subst, ◌∙◌, arith}
+use Rattle.binfarce_ranges.specs.declared.ranges.Node.{Node}
+use Rattle.binfarce_ranges.specs.declared.ranges.Row.{Row}
+use Rattle.std.proofs.lemmas.List.{get_or_default}
+use Rattle.binfarce_ranges.specs.Range.{NoneHolds, IsFoundAt}
+use Rattle.binfarce_ranges.specs.declared.ranges.AddressRange.{AddressRange}
+use Rattle.binfarce_ranges.specs.machine.Index.{AreSlicesOf, DoRise, IsBound, node_at, row_at, no_row}
+use Rattle.binfarce_ranges.proofs.Found.{Passed, searched, step_out, none_holds, is_found, offset_at}
+use Rattle.binfarce_ranges.proofs.Links.{read_node}
+use Rattle.binfarce_ranges.proofs.Rows.{addresses_rise}
+use Rattle.binfarce_ranges.proofs.ranges.Ranges.find_from.Goals as goal
+
+pub start_at-node-requires-clause-rise : goal.start_at-node-requires-clause-rise
+start_at-node-requires-clause-rise c = subst DoRise (sym c.deref.ensures.value) (addresses_rise c.self.inside.ranges.items c.self.inside.rows.items c.self.invariant.rows_are)
+
+pub start_at-node-requires-clause-slices : goal.start_at-node-requires-clause-slices
+start_at-node-requires-clause-slices c =
+    let P : List Row → Type 0 = λ rs. AreSlicesOf rs c.self.inside.slices.first c.self.inside.slices.shift c.self.inside.slices.starts.items in
+    subst P (sym c.deref.ensures.value) c.self.invariant.slices_are
+
+pub loop-jump-init : goal.loop-jump-init
+loop-jump-init c =
+    let P : List Row → Type 0 = λ rs. IsBound rs c.args.address c.start_at-node.result in
+    searched c.self.inside.rows.items c.self.inside.nodes.items c.args.address c.start_at-node.result (subst P c.deref.ensures.value c.start_at-node.ensures)
+
+pub loop-jump-preserved : goal.loop-jump-preserved
+loop-jump-preserved c =
+    let nodes = c.self.inside.nodes.items in
+    let rows = c.self.inside.rows.items in
+    let node = c.loop-jump.node in
+    let within : node < length nodes = omega (arith, c.loop-jump.invariant.within, c.loop-jump.invariant.bound, c.self.invariant.nodes_are.count) in
+    let fits : c.args.address < 2 ^ 64 = omega arith in
+    let tested = read_node nodes node c.index.result.now within c.index.ensures in
+    let outer = read_node nodes node c.index-else-index-address.result.now within c.index-else-index-address.ensures in
+    let past : (node_at nodes node).last < c.args.address = omega (arith, ap (λ (n : Node). n.last) tested) in
+    let P : ℕ → Type 0 = λ n. Passed rows nodes c.args.address c.start_at-node.result n in
+    subst P (sym (ap (λ (n : Node). n.outer) outer)) (step_out c.self.inside.ranges.items rows nodes (record { rows_are = c.self.invariant.rows_are; nodes_are = c.self.invariant.nodes_are }) c.args.address c.start_at-node.result node fits c.loop-jump.invariant past)
+
+pub returns-then-node-eq0 : goal.returns-then-node-eq0
+returns-then-node-eq0 c =
+    let fits : c.args.address < 2 ^ 64 = omega arith in
+    let P : List AddressRange → Type 0 = λ rs. NoneHolds rs c.args.address in
+    subst P c.self.view_is (none_holds c.self.inside.ranges.items c.self.inside.rows.items c.self.inside.nodes.items (record { rows_are = c.self.invariant.rows_are; nodes_are = c.self.invariant.nodes_are }) c.args.address c.start_at-node.result c.loop-jump.node fits c.loop-jump.invariant c.if-node-eq0.true)
+
+pub returns : goal.returns
+returns c =
+    let rows = c.self.inside.rows.items in
+    let nodes = c.self.inside.nodes.items in
+    let node = c.loop-jump.node in
+    let fits : c.args.address < 2 ^ 64 = omega arith in
+    let within : node < length nodes = omega (arith, c.loop-jump.invariant.within, c.loop-jump.invariant.bound, c.self.invariant.nodes_are.count) in
+    let tested = read_node nodes node c.index.result.now within c.index.ensures in
+    let reaches : c.args.address ≤ (node_at nodes node).last = omega (arith, ap (λ (n : Node). n.last) tested) in
+    let k = node - 1 in
+    let is : node ≡ k + 1 = omega (arith, c.if-node-eq0.false) in
+    let found = is_found c.self.inside.ranges.items rows nodes (record { rows_are = c.self.invariant.rows_are; nodes_are = c.self.invariant.nodes_are }) c.args.address c.start_at-node.result node fits c.loop-jump.invariant k is reaches in
+    let inside : k < length rows = omega (arith, c.loop-jump.invariant.within, c.loop-jump.invariant.bound) in
+    let row : c.index-row.result.now ≡ row_at rows k = c.index-row.ensures ∙ get_or_default rows k c.index-row.result.now no_row inside in
+    let P : List AddressRange → Type 0 = λ rs. IsFoundAt rs c.args.address c.index-row.result.now.place.0 in
+    let Q : Row → Type 0 = λ r. IsFoundAt c.self.inside.ranges.items c.args.address r.place.0 in
+    (subst P c.self.view_is (subst Q (sym row) found), offset_at c.self.inside.ranges.items rows c.self.invariant.rows_are c.args.self.now c.self.view_is k c.index-row.result.now c.args.address inside row)
+
+pub overflow_sub-result : goal.overflow_sub-result
+overflow_sub-result c =
+    let rows = c.self.inside.rows.items in
+    let k = c.loop-jump.node - 1 in
+    let inside : k < length rows = omega (arith, c.loop-jump.invariant.within, c.loop-jump.invariant.bound, c.if-node-eq0.false) in
+    let row : c.index-row.result.now ≡ row_at rows k = c.index-row.ensures ∙ get_or_default rows k c.index-row.result.now no_row inside in
+    omega (arith, ap (λ (r : Row). r.address) row, c.loop-jump.invariant.before k (omega (arith, c.loop-jump.invariant.within, c.if-node-eq0.false)))

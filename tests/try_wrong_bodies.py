@@ -24,6 +24,7 @@ import threading
 import time
 from concurrent.futures import FIRST_COMPLETED, ThreadPoolExecutor, wait
 
+sys.dont_write_bytecode = True
 import wrong_bodies
 from wrong_bodies import TOP, edits, function_key, listed, place_of, read, refusals
 
@@ -134,6 +135,20 @@ def texts_with(crate, these):
     return texts
 
 
+def is_unread(line):
+    """Whether a line tells that a source or a definition can't be read. A false one has the name of what it is about before its words."""
+    at = re.match(r"(?:\./)?(?:src|specs)/\S+?:\d+:\d+: error: (?:(`[^`]*`): )?(.*)", line)
+    return bool(at) and (not at[1] or bool(UNREAD.search(re.sub(r"`[^`]*`", "``", at[2]))))
+
+
+def modules_of(these):
+    """The modules whose functions these edits turn, or none where the whole crate is to be checked."""
+    files = {file for edit in these for file, _, _ in edit.pairs}
+    if any(not it.startswith("src/") or it in ("src/lib.rt", "src/main.rt") or not edit.is_of_a_body() for edit in these for it in files):
+        return []
+    return sorted(wrong_bodies.module_of(it).replace(".", "::") for it in files)
+
+
 class Prover:
     """Checks crates over the libraries that `rt ci` has proved."""
 
@@ -152,8 +167,8 @@ class Prover:
             words += ["-L", f"dependency={self.crates}/{it}/out/rlib"]
         return words
 
-    def check(self, crate, texts, kept):
-        """The status of a check of the crate with these texts in place of its own, and what it prints."""
+    def check(self, crate, texts, kept, only=()):
+        """The status of a check of the crate, or of these modules, with these texts in place of its own, and what it prints."""
         with tempfile.TemporaryDirectory(prefix="edit-") as room:
             for part in PARTS:
                 if os.path.isdir(f"{TOP}/crates/{crate}/{part}"):
@@ -162,14 +177,19 @@ class Prover:
                 with open(f"{room}/{path}", "w", encoding="utf-8") as file:
                     file.write(text)
             words = [f"{self.kit}/bin/rattle", "check", *self.words(crate), "--incremental", kept]
+            words += [word for it in only for word in ("--only", it)]
             how = {"stdin": subprocess.DEVNULL, "stdout": subprocess.PIPE, "stderr": subprocess.STDOUT, "errors": "replace"}
             ended = subprocess.run(words, cwd=room, **how)
         return ended.returncode, ended.stdout.rstrip("\n").split("\n")
 
     def try_set(self, crate, these, kept):
         """What to print of each edit that a check with all of them refuses, by name. None where a source or a definition can't be read."""
-        status, lines = self.check(crate, texts_with(crate, these), kept)
-        if status != 1 or not lines[-1].startswith("logic=not-proved"):
+        status, lines = self.check(crate, texts_with(crate, these), kept, modules_of(these))
+        if status not in (0, 1):
+            # Ended from outside, most likely for memory, or no module of that name: once more, of the whole crate.
+            time.sleep(60 if status < 0 else 0)
+            status, lines = self.check(crate, texts_with(crate, these), kept)
+        if status != 1 or not lines[-1].startswith(("logic=not-proved", "only=")):
             return {}
         # Each line as if it told where an edit is refused: its function and its goal.
         if any(is_unread(it) for it in lines):

@@ -155,11 +155,13 @@ fn finds_many_at_once(rt: HostRuntime) -> Result<(), AllocError> {
             addresses.push(*address)?;
         }
         let all = ranges.find_all(rt.alloc(), 0, &addresses)?;
+        assert!(&rt; all.len() == places.len(), "{label}");
         for (k, (address, place)) in places.iter().enumerate() {
-            assert!(&rt;
-                all[k].map(|found| found.place) == *place,
-                "{label}: {address:x}"
-            );
+            let found = match all.get(k) {
+                Some(Some(found)) => Some(found.place),
+                _ => None,
+            };
+            assert!(&rt; found == *place, "{label}: {address:x}");
         }
     }
     Ok(())

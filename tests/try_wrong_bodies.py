@@ -47,13 +47,15 @@ def kit():
 
 
 def uses():
-    """The crates that each crate stands on, by crates.txt."""
-    found = {}
+    """The crates that each crate stands on, by crates.txt, and those that are static libraries."""
+    found, static = {}, set()
     for line in read("crates.txt").split("\n"):
         if re.match(r"[a-z]", line):
-            name, below = line.split(":")
-            found[name.split()[0]] = below.split()
-    return found
+            head, below = line.split(":")
+            name, *kind = head.split()
+            found[name] = below.split()
+            static.update([name] * ("staticlib" in kind))
+    return found, static
 
 
 def below(crate, known):
@@ -124,14 +126,19 @@ def in_sets(crate, found):
 
 
 def texts_with(crate, these):
-    """The texts of the files that these edits change, by path. Each old text stands once in the file as it is."""
-    texts = {}
+    """The texts of the files that these edits change, by path: of one edit, text by text in its order; of several, each at its
+    place in the file without the others, the last first, so that the places before it stay."""
+    texts, changes = {}, []
     for edit in these:
         for file, old, new in edit.pairs:
-            text = texts.get(file) or read(f"crates/{crate}/{file}")
+            before = texts.get(file) if len(these) == 1 else None
+            text = before or read(f"crates/{crate}/{file}")
             if text.count(old) != 1:
                 raise ValueError(f"{edit.label()}: BAD EDIT: an old text is in {file} {text.count(old)} times, and not once")
-            texts[file] = text.replace(old, new)
+            texts[file] = text.replace(old, new) if len(these) == 1 else text
+            changes.append((file, text.index(old), len(old), new))
+    for file, at, length, new in sorted(changes, reverse=True) if len(these) > 1 else ():
+        texts[file] = texts[file][:at] + new + texts[file][at + length :]
     return texts
 
 
@@ -153,13 +160,15 @@ class Prover:
     """Checks crates over the libraries that `rt ci` has proved."""
 
     def __init__(self, crates):
-        self.crates, self.kit, self.uses = os.path.abspath(crates), kit(), uses()
+        self.crates, self.kit = os.path.abspath(crates), kit()
+        self.uses, self.static = uses()
 
     def words(self, crate):
         at = f"{TOP}/crates/{crate}"
         words = ["src/main.rt" if os.path.exists(f"{at}/src/main.rt") else "src/lib.rt", "--crate-name", crate]
         words += ["--logic-built", f"{self.kit}/logic_built", "--antt-project", f"{self.kit}/rattle/logic/antt-project.json"]
         words += ["--extern", f"std={self.kit}/rlibs/std.rlib", "-L", f"dependency={self.kit}/rlibs", "--jobs", "1"]
+        words += ["--crate-type", "staticlib"] * (crate in self.static)
         for it in self.uses[crate]:
             folder = f"{self.crates}/{it}/out/rlib" if it in self.uses else f"{self.kit}/rlibs"
             words += ["--extern", f"{it}={folder}/{it}.rlib"]
@@ -184,11 +193,16 @@ class Prover:
 
     def try_set(self, crate, these, kept):
         """What to print of each edit that a check with all of them refuses, by name. None where a source or a definition can't be read."""
-        status, lines = self.check(crate, texts_with(crate, these), kept, modules_of(these))
+        try:
+            texts = texts_with(crate, these)
+        except ValueError as error:
+            print(error, flush=True)
+            return {}
+        status, lines = self.check(crate, texts, kept, modules_of(these))
         if status not in (0, 1):
             # Ended from outside, most likely for memory, or no module of that name: once more, of the whole crate.
             time.sleep(60 if status < 0 else 0)
-            status, lines = self.check(crate, texts_with(crate, these), kept)
+            status, lines = self.check(crate, texts, kept)
         if status != 1 or not lines[-1].startswith(("logic=not-proved", "only=")):
             return {}
         # Each line as if it told where an edit is refused: its function and its goal.

@@ -1,7 +1,7 @@
 #!/bin/sh
 # Runs the programs that the repository has built where no stored run can: with a full device or a closed pipe for standard
-# output, on a file of 4 MiB, on a folder, on a file that isn't there, and with a wrong call. Status 1 where one ends
-# otherwise than it must.
+# output, on a file of 4 MiB, on one of 8 GiB in little memory, on a pipe, on a folder, on a file that isn't there, and with
+# a wrong call. Status 1 where one ends otherwise than it must.
 set -eu
 cd "$(dirname "$0")/.."
 scratch=$(mktemp -d)
@@ -10,6 +10,8 @@ trap 'exit 130' HUP INT TERM
 
 sample=crates/binfarce_list/data/e-elf64-little.bin
 { cat "$sample"; head -c 4194304 /dev/zero; } >"$scratch/large"
+cp "$sample" "$scratch/sparse"
+truncate -s 8G "$scratch/sparse"
 
 # told STATUS ENDED LINE PROGRAM ARGUMENT..: the program must have ended with this status, and have written the line, if
 # any, and nothing else to standard error.
@@ -48,12 +50,19 @@ for name in list size map; do
     told 1 "$(cat "$scratch/ended")" "$shown: write failed" "$program" "$sample"
     ends 0 "crates/$program/stdout" "" "$program" "$sample"
     ends 0 "crates/$program/stdout" "" "$program" "$scratch/large" .text
+    cat "$scratch/large" | ends 0 "crates/$program/stdout" "" "$program" /dev/stdin
     ends 1 /dev/null "$shown: symbols section is missing" "$program" "$scratch/large" .data
     ends 1 /dev/null "$shown: cannot read file" "$program" "$scratch"
     ends 1 /dev/null "$shown: cannot read file" "$program" "$scratch/missing"
     ends 1 /dev/null "$shown: unknown file format" "$program" /dev/null
     ends 2 /dev/null "usage: $shown FILE [SECTION]" "$program"
     ends 2 /dev/null "usage: $shown FILE [SECTION]" "$program" "$sample" .text more
+done
+
+# An ELF file of 8 GiB whose tables are small, in 64 MiB of memory.
+for program in binfarce_list binfarce_size binfarce_map; do
+    (ulimit -v 65536 && "crates/$program/out/run/$program" "$scratch/sparse") | cmp "crates/$program/stdout" -
+    echo "$program $scratch/sparse: the same in 64 MiB"
 done
 
 # Sections: their lines, the bytes of one, a file without its end, a full device and a closed pipe.

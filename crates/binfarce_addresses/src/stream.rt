@@ -14,8 +14,9 @@ use std::error::Error;
 use std::fmt;
 use std::io::{ErrorKind, Read};
 
-// How many bytes are asked for at once.
-const CHUNK: usize = 1 << 16;
+// How many bytes are asked for at once: what is read of the names and the ranges for these lines stays near until it is
+// written.
+const CHUNK: usize = 1 << 14;
 
 // The most bytes of a line that writes an address: `0x` and 16 digits.
 const LONGEST: usize = 18;

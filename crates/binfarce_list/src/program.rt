@@ -1,18 +1,22 @@
 //! What the program does, over any reader and any writer.
 
-ghost use Rattle.std.specs.Prelude.{◌≡◌, map, Some, None, MatchResult, IfSome};
+ghost use Rattle.std.specs.Prelude.{◌≡◌, ℕ, List, map, Some, None, MatchResult};
 ghost use Rattle.std.specs.String.{string_bytes};
 ghost use Rattle.binfarce.specs.Format.{format_of};
 ghost use Rattle.binfarce_tools.specs.Answer.{symbols_answer, NeedsMemory};
 ghost use Rattle.binfarce_tools.specs.Listing.{IsListingOf, ListingFits};
 ghost use Rattle.binfarce_tools.specs.Sink.{writer_of, has_failed};
+ghost use Rattle.binfarce_tools.specs.Tables.{BothGive};
 ghost use Rattle.binfarce_tools.specs.Writing.{ProgramTells, Takes, Fails, Leaves};
 ghost use Rattle.binfarce_program.specs.Given.{words_of};
 ghost use Rattle.binfarce_list.specs.Program.{outcome_of};
 ghost use Rattle.binfarce_list.specs.declared.program.Fault.TheVariants.{Usage};
 
-use binfarce_program::{Failure, file_and_section, read_whole};
-use binfarce_tools::list::{ListError, Out, list};
+use binfarce_program::{Failure, file_and_section};
+use binfarce_reading::ReadError;
+use binfarce_source::Source;
+use binfarce_tools::list::{ListError, Out, list_tables};
+use binfarce_tools::tables::read_input;
 use std::alloc::Global;
 use std::io::{Read, Write};
 use thiserror::Error;
@@ -23,7 +27,7 @@ pub enum Fault {
     /// The arguments aren't a file and perhaps a section.
     #[error("usage: binfarce-list FILE [SECTION]")]
     Usage,
-    /// The file can't be opened, or not read to its end.
+    /// The file can't be opened or read.
     #[error("binfarce-list: cannot read file")]
     File,
     /// The file was not listed.
@@ -42,6 +46,21 @@ impl From<Failure> for Fault {
             Failure::File => Fault::File,
             Failure::OutOfMemory => Fault::List(ListError::OutOfMemory),
             Failure::Write => Fault::List(ListError::Write),
+        }
+    }
+}
+
+impl From<ReadError> for Fault {
+    ghost use Rattle.binfarce_list.specs.Program.{read_fault};
+
+    ghost from_gives = { λ e f. f ≡ read_fault e };
+
+    /// A file that isn't read is one that can't be read, and a refusal is that of the file.
+    fn from(e: ReadError) -> Self {
+        match e {
+            ReadError::Refused(e) => Fault::List(ListError::Parse(e)),
+            ReadError::Unreadable => Fault::from(Failure::File),
+            ReadError::OutOfMemory => Fault::from(Failure::OutOfMemory),
         }
     }
 }
@@ -66,21 +85,25 @@ pub fn words(arguments: &[String]) -> Result<(&str, &str), Fault>
     Ok(file_and_section(arguments)?)
 }
 
-/// Reads the file to its end, and lists the function symbols of its section.
+/// Reads of the file what `read_input` does, and lists the function symbols of its section.
 ///
-/// `File` where the reader fails; `List` where an allocation fails while it is read, and as `list` refuses.
-pub fn run<R: Read, W: Write>(
+/// `File` where a read fails; `List` where an allocation fails while it is read, where the file is refused, and as
+/// `list_tables` refuses.
+pub fn run<F: Read + Source, W: Write>(
     alloc: Global,
-    file: &mut R,
+    file: &mut F,
     section: &str,
     out: &mut Out<W>,
 ) -> Result<(), Fault>
-    ensures tells { IfSome (R.remaining file.old) (λ bytes. ProgramTells ListingFits (NeedsMemory (format_of bytes) bytes) (symbols_answer (format_of bytes) bytes section.now) (outcome_of result)) }
-    ensures takes { IfSome (R.remaining file.old) (λ bytes. Takes IsListingOf (symbols_answer (format_of bytes) bytes section.now)
-        (W.contents (writer_of out.old)) (W.contents (writer_of out.new)) (outcome_of result)) }
+    ensures tells { (bytes : List ℕ) → BothGive (F.bytes file.old) (F.remaining file.old) bytes → ProgramTells ListingFits (NeedsMemory (format_of bytes) bytes) (symbols_answer (format_of bytes) bytes section.now) (outcome_of result) }
+    ensures takes { (bytes : List ℕ) → BothGive (F.bytes file.old) (F.remaining file.old) bytes → Takes IsListingOf (symbols_answer (format_of bytes) bytes section.now)
+        (W.contents (writer_of out.old)) (W.contents (writer_of out.new)) (outcome_of result) }
     ensures fails { Fails (has_failed out.old) (has_failed out.new) (outcome_of result) }
     ensures leaves { Leaves out.old out.new (outcome_of result) }
 {
-    let bytes = read_whole(alloc, file)?;
-    list(alloc, bytes.as_slice(), section, out).map_err(Fault::List)
+    let tables = read_input(alloc, file, section)?;
+    match list_tables(alloc, &tables, section, out) {
+        Ok(()) => Ok(()),
+        Err(e) => Err(Fault::List(e)),
+    }
 }

@@ -4,6 +4,8 @@ use Rattle.binfarce_tools.specs.ReportWords as call
 use Rattle.binfarce_tools.specs.Writing as writing
 use Rattle.binfarce_program.specs.declared.Failure.{Failure}
 use Rattle.binfarce_program.specs.declared.Failure.TheVariants as failures
+use Rattle.binfarce_reading.specs.declared.error.ReadError.{ReadError}
+use Rattle.binfarce_reading.specs.declared.error.ReadError.TheVariants as reading
 use Rattle.binfarce_tools.specs.declared.report.ReportError.TheVariants as errors
 use Rattle.binfarce_map.specs.declared.program.Fault.{Fault}
 use Rattle.binfarce_map.specs.declared.program.Fault.TheVariants.{Usage, File, Map}
@@ -14,6 +16,12 @@ fault_of failures.Usage = Usage
 fault_of failures.File = File
 fault_of failures.OutOfMemory = Map errors.OutOfMemory
 fault_of failures.Write = Map errors.Write
+
+-- the fault that an error of the reading is
+abbrev pub read_fault : ReadError → Fault
+read_fault (reading.Refused e) = Map (errors.Parse e)
+read_fault reading.Unreadable = File
+read_fault reading.OutOfMemory = Map errors.OutOfMemory
 
 -- whether a fault is that the arguments are wrong
 abbrev pub is_usage : Fault → Bool

@@ -1,21 +1,25 @@
 //! What the program does, over any reader and any writer.
 
-ghost use Rattle.std.specs.Prelude.{◌≡◌, map, Some, None, MatchResult, IfSome};
+ghost use Rattle.std.specs.Prelude.{◌≡◌, ℕ, List, map, Some, None, MatchResult};
 ghost use Rattle.std.specs.String.{string_bytes};
 ghost use Rattle.binfarce.specs.Format.{format_of};
 ghost use Rattle.binfarce_tools.specs.Answer.{symbols_answer, NeedsMemory};
 ghost use Rattle.binfarce_tools.specs.Report.{ReportFits};
 ghost use Rattle.binfarce_tools.specs.Sink.{writer_of, has_failed};
+ghost use Rattle.binfarce_tools.specs.Tables.{BothGive};
 ghost use Rattle.binfarce_tools.specs.Writing.{ProgramTells, Takes, Fails, Leaves};
 ghost use Rattle.binfarce_program.specs.Given.{words_of};
 ghost use Rattle.binfarce_mapping.specs.Map.{IsMapOf};
 ghost use Rattle.binfarce_map.specs.Program.{outcome_of};
 ghost use Rattle.binfarce_map.specs.declared.program.Fault.TheVariants.{Usage};
 
-use binfarce_mapping::map;
-use binfarce_program::{Failure, file_and_section, read_whole};
+use binfarce_mapping::map_tables;
+use binfarce_program::{Failure, file_and_section};
+use binfarce_reading::ReadError;
+use binfarce_source::Source;
 use binfarce_tools::list::Out;
 use binfarce_tools::report::ReportError;
+use binfarce_tools::tables::read_input;
 use std::alloc::Global;
 use std::io::{Read, Write};
 use thiserror::Error;
@@ -26,7 +30,7 @@ pub enum Fault {
     /// The arguments aren't a file and perhaps a section.
     #[error("usage: binfarce-map FILE [SECTION]")]
     Usage,
-    /// The file can't be opened, or not read to its end.
+    /// The file can't be opened or read.
     #[error("binfarce-map: cannot read file")]
     File,
     /// No picture of the file was made.
@@ -45,6 +49,21 @@ impl From<Failure> for Fault {
             Failure::File => Fault::File,
             Failure::OutOfMemory => Fault::Map(ReportError::OutOfMemory),
             Failure::Write => Fault::Map(ReportError::Write),
+        }
+    }
+}
+
+impl From<ReadError> for Fault {
+    ghost use Rattle.binfarce_map.specs.Program.{read_fault};
+
+    ghost from_gives = { λ e f. f ≡ read_fault e };
+
+    /// A file that isn't read is one that can't be read, and a refusal is that of the file.
+    fn from(e: ReadError) -> Self {
+        match e {
+            ReadError::Refused(e) => Fault::Map(ReportError::Parse(e)),
+            ReadError::Unreadable => Fault::from(Failure::File),
+            ReadError::OutOfMemory => Fault::from(Failure::OutOfMemory),
         }
     }
 }
@@ -69,21 +88,25 @@ pub fn words(arguments: &[String]) -> Result<(&str, &str), Fault>
     Ok(file_and_section(arguments)?)
 }
 
-/// Reads the file to its end, and draws how much of its section each crate takes.
+/// Reads of the file what `read_input` does, and draws how much of its section each crate takes.
 ///
-/// `File` where the reader fails; `Map` where an allocation fails while it is read, and as `map` refuses.
-pub fn run<R: Read, W: Write>(
+/// `File` where a read fails; `Map` where an allocation fails while it is read, where the file is refused, and as
+/// `map_tables` refuses.
+pub fn run<F: Read + Source, W: Write>(
     alloc: Global,
-    file: &mut R,
+    file: &mut F,
     section: &str,
     out: &mut Out<W>,
 ) -> Result<(), Fault>
-    ensures tells { IfSome (R.remaining file.old) (λ bytes. ProgramTells ReportFits (NeedsMemory (format_of bytes) bytes) (symbols_answer (format_of bytes) bytes section.now) (outcome_of result)) }
-    ensures takes { IfSome (R.remaining file.old) (λ bytes. Takes IsMapOf (symbols_answer (format_of bytes) bytes section.now)
-        (W.contents (writer_of out.old)) (W.contents (writer_of out.new)) (outcome_of result)) }
+    ensures tells { (bytes : List ℕ) → BothGive (F.bytes file.old) (F.remaining file.old) bytes → ProgramTells ReportFits (NeedsMemory (format_of bytes) bytes) (symbols_answer (format_of bytes) bytes section.now) (outcome_of result) }
+    ensures takes { (bytes : List ℕ) → BothGive (F.bytes file.old) (F.remaining file.old) bytes → Takes IsMapOf (symbols_answer (format_of bytes) bytes section.now)
+        (W.contents (writer_of out.old)) (W.contents (writer_of out.new)) (outcome_of result) }
     ensures fails { Fails (has_failed out.old) (has_failed out.new) (outcome_of result) }
     ensures leaves { Leaves out.old out.new (outcome_of result) }
 {
-    let bytes = read_whole(alloc, file)?;
-    map(alloc, bytes.as_slice(), section, out).map_err(Fault::Map)
+    let tables = read_input(alloc, file, section)?;
+    match map_tables(alloc, &tables, section, out) {
+        Ok(()) => Ok(()),
+        Err(e) => Err(Fault::Map(e)),
+    }
 }

@@ -4,7 +4,7 @@
 use crate::program::{run, words};
 use binfarce_tools::list::Out;
 use std::alloc::AllocError;
-use test_streams::{READERS, Source, ended_with, failed_with, large_file};
+use test_streams::{HELD, Held, READERS, Source, ended_with, failed_with, large_file};
 
 #[test]
 fn needs_a_file(rt: HostRuntime) -> Result<(), AllocError> {
@@ -23,6 +23,23 @@ fn tells_why_no_picture_is_made(rt: HostRuntime) -> Result<(), AllocError> {
             ..Source::of(bytes)
         };
         let mapped = run(rt.alloc(), &mut source, ".text", &mut out);
+        let is_told = failed_with(rt.alloc(), mapped, "binfarce-map", want)?;
+        assert!(&rt; is_told, "{label}");
+        assert!(&rt; out.into_inner().is_empty(), "{label}");
+    }
+    Ok(())
+}
+
+#[test]
+fn tells_why_a_file_is_not_read_at_offsets(rt: HostRuntime) -> Result<(), AllocError> {
+    for (label, bytes, length, end, want) in &HELD {
+        let mut out = Out::new(Vec::new(rt.alloc()));
+        let mut held = Held {
+            bytes,
+            length: *length,
+            end: *end,
+        };
+        let mapped = run(rt.alloc(), &mut held, ".text", &mut out);
         let is_told = failed_with(rt.alloc(), mapped, "binfarce-map", want)?;
         assert!(&rt; is_told, "{label}");
         assert!(&rt; out.into_inner().is_empty(), "{label}");

@@ -9,13 +9,15 @@ ghost use Rattle.binfarce_tools.specs.Answer.{symbols_answer, NeedsMemory};
 ghost use Rattle.binfarce_tools.specs.Report.{Share, AreCratesOf, ReportFits};
 ghost use Rattle.binfarce_tools.specs.ReportWords.{outcome_of};
 ghost use Rattle.binfarce_tools.specs.Sums.{AreSumsOf};
+ghost use Rattle.binfarce_tools.specs.Tables.{AreTablesOf};
 ghost use Rattle.binfarce_tools.specs.Writing.{Tells, Takes, Fails, Leaves};
 ghost use Rattle.binfarce_mapping.specs.Map.{IsMapOf, IsMapOfShares, crate_rows};
 
 use binfarce_chart::bars::Bar;
 use binfarce_chart::svg::chart;
 use binfarce_tools::list::Sink;
-use binfarce_tools::report::{CrateSums, ReportError, sums_of_file};
+use binfarce_tools::report::{CrateSums, ReportError, sums_of_file, sums_of_tables};
+use binfarce_tools::tables::Tables;
 use binfarce_tools::writing::write_whole;
 use std::alloc::{AllocError, Global};
 
@@ -40,6 +42,28 @@ pub fn map<S: Sink>(
     ensures leaves { Leaves out.old out.new (outcome_of result) }
 {
     let sums = sums_of_file(alloc, data, section)?;
+    let text = picture(alloc, &sums)?;
+    write_whole(out, text.as_bytes())?;
+    Ok(())
+}
+
+/// Draws what `map` does, of a file's tables: for the section that they were read for.
+///
+/// # Errors
+///
+/// As `map`.
+pub fn map_tables<S: Sink>(
+    alloc: Global,
+    tables: &Tables,
+    section: &str,
+    out: &mut S,
+) -> Result<(), ReportError>
+    ensures tells { (file : List ℕ) → AreTablesOf file section.now tables.now → Tells ReportFits (NeedsMemory (format_of file) file) (symbols_answer (format_of file) file section.now) (outcome_of result) }
+    ensures takes { (file : List ℕ) → AreTablesOf file section.now tables.now → Takes IsMapOf (symbols_answer (format_of file) file section.now) (S.taken out.old) (S.taken out.new) (outcome_of result) }
+    ensures fails { Fails (S.has_failed out.old) (S.has_failed out.new) (outcome_of result) }
+    ensures leaves { Leaves out.old out.new (outcome_of result) }
+{
+    let sums = sums_of_tables(alloc, tables, section)?;
     let text = picture(alloc, &sums)?;
     write_whole(out, text.as_bytes())?;
     Ok(())

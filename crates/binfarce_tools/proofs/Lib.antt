@@ -8,3 +8,5 @@ pub mod CrateSums
 pub mod CrateLines
 pub mod Reports
 pub mod SymbolLaws
+pub mod TablesRead
+pub mod TablesGive

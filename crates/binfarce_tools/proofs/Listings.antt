@@ -19,7 +19,7 @@ use Rattle.binfarce_tools.specs.Entries.{HoldsLeft, Gets}
 use Rattle.binfarce_tools.proofs.Told.{is_told, Told}
 
 -- a failed allocation is reported as such
-as_memory : (e : ParseError) → refusal_of e ≡ out_of_memory → list_error_of e ≡ OutOfMemory
+pub as_memory : (e : ParseError) → refusal_of e ≡ out_of_memory → list_error_of e ≡ OutOfMemory
 as_memory errors.SymbolsSectionIsMissing is = absurd cc
 as_memory (errors.SectionIsMissing name) is = absurd cc
 as_memory (errors.UnexpectedSectionType expected actual) is = absurd cc

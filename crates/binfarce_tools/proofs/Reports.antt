@@ -1,5 +1,6 @@
 -- What a call answers that makes a text of the sums of a file and writes it, and what was taken: whatever the text is.
 use Rattle.std.proofs.Common.{◌≡◌, ℕ, ◌<◌, ◌≤◌, ◌^◌, List, Option, Some, None, Result, Ok, Err, refl, sym, ap, subst, ◌∙◌, inl, inr, ◌⊎◌, arith}
+use Rattle.std.specs.Prelude.{MatchResult}
 use Rattle.std.specs.Result.{IsErrAnd}
 use Rattle.std.specs.List.{AllZip, sum_by}
 use Rattle.binfarce.specs.Refusal.{Refusal}
@@ -14,7 +15,7 @@ use Rattle.binfarce_tools.specs.Report.{Share, IsShareOf, IsReportOf, IsReportOf
 use Rattle.binfarce_tools.specs.ReportWords.{report_error_of, outcome_of}
 use Rattle.binfarce_tools.specs.Sums.{AreSumsOf, AreSumsOfFile, GetsSums}
 use Rattle.binfarce_tools.specs.Writing as writing
-use Rattle.binfarce_tools.specs.Entries.{functions_left, HoldsLeft, Gets}
+use Rattle.binfarce_tools.specs.Entries.{functions_left, Gets}
 use Rattle.binfarce_tools.specs.ListWords.{Writes}
 use Rattle.binfarce_tools.proofs.CrateSums.{total_is}
 
@@ -53,6 +54,14 @@ summed memory (Some (Ok listed)) functions size sums gets same are =
     let P : List Entry → Type 0 = λ es. (shares : List Share) × AllZip IsShareOf es shares × AreSumsOf shares sums in
     (listed, refl, (same ∙ gets.1, subst P gets.0 are))
 
+-- whether or not they were made
+pub summed_or_not : (memory : Result Listed Refusal → Type 0) (answer : Option (Result Listed Refusal)) (functions : Functions) (size : ℕ) (result : Result CrateSums ReportError)
+    → Gets memory answer (Ok (functions, size))
+    → MatchResult result (λ s. (s.section_size ≡ size) × ((shares : List Share) × AllZip IsShareOf (functions_left functions) shares × AreSumsOf shares s)) (λ e. (e ≡ OutOfMemory) ⊎ ((e ≡ TooLarge) × (2 ^ 64 ≤ size_of_all (functions_left functions))))
+    → GetsSums memory answer result
+summed_or_not memory answer functions size (Ok sums) gets is = summed memory answer functions size sums gets is.0 is.1
+summed_or_not memory answer functions size (Err e) gets is = none_summed memory answer functions size e gets is
+
 -- the sum of all sizes fits
 fits : (listed : Listed) (sums : CrateSums) → AreSumsOfFile listed sums → ReportFits listed
 fits listed sums are =
@@ -72,6 +81,10 @@ module _ (memory : Result Listed Refusal → Type 0) (answer : Option (Result Li
   pub not_written : (sums : CrateSums) (e : ListError) (result : Result (Unit {0}) ReportError) → GetsSums memory answer (Ok sums) → e ≡ errors.Write → IsErrAnd result (λ f. f ≡ report_error_of e) → Tells memory answer result
   not_written sums e result gets write err =
       told sums result gets (inr (ap outcome_of (is_err result (report_error_of e) err) ∙ ap (λ (e : ListError). outcome_of (Err (report_error_of e))) write))
+
+  -- an allocation failed after the sums were made
+  pub no_memory : (sums : CrateSums) (result : Result (Unit {0}) ReportError) → GetsSums memory answer (Ok sums) → IsErrAnd result (λ f. f ≡ OutOfMemory) → Tells memory answer result
+  no_memory sums result gets err = let P : Option (Result Listed Refusal) → Type 0 = λ a. Tells memory a result in subst P (sym gets.1) (inl (ap outcome_of (is_err result OutOfMemory err)))
 
 -- what a call returns whose text was written like this
 abbrev pub written : Result (Unit {0}) ListError → Result (Unit {0}) ReportError

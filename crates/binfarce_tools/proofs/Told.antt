@@ -2,7 +2,6 @@
 use Rattle.std.proofs.Common.{◌≡◌, ℕ, zero, suc, ◌*◌, ◌-◌, [], ◌∷◌, Bool, true, false, ◌&&◌, List, Option, Some, None, Result, Ok, Err, refl, ltb, leb, length}
 use Rattle.std.specs.Prelude.{if◌then◌else◌, find, nat_eq, codes, ◌+◌, ◌%◌, ◌^◌, drop}
 use Rattle.binfarce.specs.declared.ByteOrder.{ByteOrder}
-use Rattle.binfarce.specs.declared.Format.TheVariants.{Macho}
 use Rattle.binfarce.specs.Refusal.{Refusal, ◌>>=◌, required, symbols_section_is_missing, section_is_missing, unexpected_section_type, malformed_input, unexpected_eof, out_of_memory, bytes_in_file}
 use Rattle.binfarce.specs.Walk.{Walk, found_or_end, first, ended, ahead_of, and_then}
 use Rattle.binfarce.specs.Elf.{ElfClass, SectionTable, Section, walk, name_of, section_table, whole_headers}

@@ -1,5 +1,7 @@
 -- The entries of a file of any format: what is left of them, and what a call returns that reads them.
 use Rattle.std.specs.Prelude.{◌≡◌, ◌⊎◌, ℕ, List, map, drop, Option, Some, None, Result, Ok, Err}
+use Rattle.std.specs.Global.{Vec}
+use Rattle.binfarce.specs.declared.FunctionSymbol.{FunctionSymbol}
 use Rattle.binfarce.specs.declared.ParseError.{ParseError}
 use Rattle.binfarce.specs.Elf.{elf32, elf64}
 use Rattle.binfarce.specs.ElfViews as elf
@@ -25,6 +27,10 @@ functions_left (variants.Arranged functions) = arranged_left functions
 -- what is left are these entries, and the size is that of their section
 abbrev pub HoldsLeft : Listed → Functions × ℕ → Type 0
 HoldsLeft listed answer = (functions_left answer.0 ≡ listed.entries) × (answer.1 ≡ listed.section_size)
+
+-- all functions of a list are left, beside the same size
+abbrev pub IsArranged : Vec FunctionSymbol × ℕ → Functions × ℕ → Type 0
+IsArranged listed answer = (functions_left answer.0 ≡ map function_view listed.0.items) × (answer.1 ≡ listed.1)
 
 -- what reading the functions of a file returns: what it holds, or why it can't be had
 abbrev pub Gets : (Result Listed Refusal → Type 0) → Option (Result Listed Refusal) → Result (Functions × ℕ) ListError → Type 0

@@ -7,4 +7,5 @@ pub mod ListWords
 pub mod Report
 pub mod ReportWords
 pub mod Sums
+pub mod Tables
 pub mod machine

@@ -7,7 +7,7 @@ ghost use Rattle.binfarce.specs.MachoSymbols.{HasAddress};
 ghost use Rattle.binfarce.specs.Symbol.{ListsSome, Answers};
 ghost use Rattle.binfarce.specs.SymbolViews.{function_view};
 ghost use Rattle.binfarce_tools.specs.Answer.{elf_file_answer, macho_file_answer, pe_file_answer, symbols_answer, NeedsMemory};
-ghost use Rattle.binfarce_tools.specs.Entries.{arranged_left, HoldsLeft, Gets};
+ghost use Rattle.binfarce_tools.specs.Entries.{arranged_left, HoldsLeft, IsArranged, Gets};
 
 use crate::list::ListError;
 use binfarce::{
@@ -111,13 +111,19 @@ fn read_elf64<'a>(
 fn read_macho(alloc: Global, data: &[u8]) -> Result<(Functions<'_>, u64), ParseError>
     ensures { Answers HoldsLeft (λ _. HasAddress data.now) (macho_file_answer data.now) result }
 {
-    let (functions, size) = macho::parse(data)?.functions(alloc)?;
-    Ok((Functions::Arranged(Arranged { functions, next: 0 }), size))
+    Ok(all_of(macho::parse(data)?.functions(alloc)?))
 }
 
 fn read_pe(alloc: Global, data: &[u8]) -> Result<(Functions<'_>, u64), ParseError>
     ensures { Answers HoldsLeft ListsSome (pe_file_answer data.now) result }
 {
-    let (functions, size) = pe::parse(data)?.functions(alloc)?;
-    Ok((Functions::Arranged(Arranged { functions, next: 0 }), size))
+    Ok(all_of(pe::parse(data)?.functions(alloc)?))
+}
+
+// All functions of a list, beside a size.
+pub(crate) fn all_of<'a>(listed: (Vec<FunctionSymbol<'a>>, u64)) -> (Functions<'a>, u64)
+    ensures { IsArranged listed.entry result }
+{
+    let (functions, size) = listed;
+    (Functions::Arranged(Arranged { functions, next: 0 }), size)
 }

@@ -6,4 +6,5 @@ mod head;
 mod laws;
 pub mod list;
 pub mod report;
+pub mod tables;
 pub mod writing;

@@ -11,9 +11,11 @@ ghost use Rattle.binfarce_tools.specs.Listing.{IsLineOf, IsListingOf, ListingFit
 ghost use Rattle.binfarce_tools.specs.ListWords.{outcome_of};
 ghost use Rattle.binfarce_tools.specs.Writing.{Tells, Takes, Fails, Leaves};
 ghost use Rattle.binfarce_tools.specs.Entries.{HoldsLeft};
+ghost use Rattle.binfarce_tools.specs.Tables.{AreTablesOf};
 
 use crate::functions::{Functions, functions_of_file};
 use crate::head::push_head;
+use crate::tables::Tables;
 use crate::writing::write_whole;
 use binfarce::demangle::push_trimmed;
 use binfarce::{FunctionSymbol, ParseError};
@@ -176,6 +178,27 @@ pub fn list<S: Sink>(
     ensures leaves { Leaves out.old out.new (outcome_of result) }
 {
     let (functions, size) = functions_of_file(alloc, data, section)?;
+    let text = listing(alloc, functions, size)?;
+    write_whole(out, text.as_bytes())
+}
+
+/// Lists what `list` does, of a file's tables: for the section that they were read for.
+///
+/// # Errors
+///
+/// As `list`.
+pub fn list_tables<S: Sink>(
+    alloc: Global,
+    tables: &Tables,
+    section: &str,
+    out: &mut S,
+) -> Result<(), ListError>
+    ensures tells { (file : List ℕ) → AreTablesOf file section.now tables.now → Tells ListingFits (NeedsMemory (format_of file) file) (symbols_answer (format_of file) file section.now) (outcome_of result) }
+    ensures takes { (file : List ℕ) → AreTablesOf file section.now tables.now → Takes IsListingOf (symbols_answer (format_of file) file section.now) (S.taken out.old) (S.taken out.new) (outcome_of result) }
+    ensures fails { Fails (S.has_failed out.old) (S.has_failed out.new) (outcome_of result) }
+    ensures leaves { Leaves out.old out.new (outcome_of result) }
+{
+    let (functions, size) = tables.functions(alloc, section)?;
     let text = listing(alloc, functions, size)?;
     write_whole(out, text.as_bytes())
 }

@@ -1,6 +1,6 @@
 //! Reports how much of an executable's code each crate takes.
 
-ghost use Rattle.std.specs.Prelude.{◌≡◌, ◌⊎◌, ◌+◌, ◌^◌, ◌<◌, ◌≤◌, ◌++◌, ℕ, List, Some, MatchResult, IfOk, OnOk};
+ghost use Rattle.std.specs.Prelude.{◌≡◌, ◌≢◌, ◌⊎◌, ◌+◌, ◌^◌, ◌<◌, ◌≤◌, ◌++◌, ℕ, List, Some, MatchResult, IfOk, IfErr, OnOk};
 ghost use Rattle.std.specs.List.{AllZip, sum_by};
 ghost use Rattle.std.specs.String.{string_bytes};
 ghost use Rattle.binfarce.specs.Format.{format_of};
@@ -11,13 +11,15 @@ ghost use Rattle.binfarce_tools.specs.Answer.{symbols_answer, NeedsMemory};
 ghost use Rattle.binfarce_tools.specs.Report.{Share, IsShareOf, IsReportOf, IsReportOfShares, ReportFits, crate_text, crate_line};
 ghost use Rattle.binfarce_tools.specs.ReportWords.{outcome_of};
 ghost use Rattle.binfarce_tools.specs.Writing.{Tells, Takes, Fails, Leaves};
-ghost use Rattle.binfarce_tools.specs.declared.report.ReportError.TheVariants.{OutOfMemory, TooLarge};
+ghost use Rattle.binfarce_tools.specs.declared.report.ReportError.TheVariants.{OutOfMemory, TooLarge, Write};
 ghost use Rattle.binfarce_tools.specs.Entries.{functions_left};
+ghost use Rattle.binfarce_tools.specs.Tables.{AreTablesOf};
 ghost use Rattle.binfarce_tools.specs.Sums.{AreSumsOf, GetsSums, sum_at};
 ghost use Rattle.binfarce_tools.specs.machine.Shares.{Adds};
 
 use crate::functions::{Functions, functions_of_file};
 use crate::list::{ListError, Sink};
+use crate::tables::Tables;
 use crate::writing::write_whole;
 use binfarce::demangle::crate_of;
 use binfarce::{FunctionSymbol, ParseError};
@@ -118,6 +120,28 @@ pub fn report<S: Sink>(
     Ok(())
 }
 
+/// Reports what `report` does, of a file's tables: for the section that they were read for.
+///
+/// # Errors
+///
+/// As `report`.
+pub fn report_tables<S: Sink>(
+    alloc: Global,
+    tables: &Tables,
+    section: &str,
+    out: &mut S,
+) -> Result<(), ReportError>
+    ensures tells { (file : List ℕ) → AreTablesOf file section.now tables.now → Tells ReportFits (NeedsMemory (format_of file) file) (symbols_answer (format_of file) file section.now) (outcome_of result) }
+    ensures takes { (file : List ℕ) → AreTablesOf file section.now tables.now → Takes IsReportOf (symbols_answer (format_of file) file section.now) (S.taken out.old) (S.taken out.new) (outcome_of result) }
+    ensures fails { Fails (S.has_failed out.old) (S.has_failed out.new) (outcome_of result) }
+    ensures leaves { Leaves out.old out.new (outcome_of result) }
+{
+    let sums = sums_of_tables(alloc, tables, section)?;
+    let text = report_text(alloc, &sums)?;
+    write_whole(out, text.as_bytes())?;
+    Ok(())
+}
+
 /// How many bytes the function symbols of a file's section take, by crate.
 #[derive(Drop)]
 pub struct CrateSums {
@@ -138,6 +162,24 @@ pub fn sums_of_file(alloc: Global, data: &[u8], section: &str) -> Result<CrateSu
     ensures { GetsSums (NeedsMemory (format_of data.now) data.now) (symbols_answer (format_of data.now) data.now section.now) result }
 {
     let (functions, size) = functions_of_file(alloc, data, section)?;
+    crate_sums(alloc, functions, size)
+}
+
+/// The sums that `report_tables` shows.
+///
+/// # Errors
+///
+/// As `report_tables`, but for `Write`.
+pub fn sums_of_tables(
+    alloc: Global,
+    tables: &Tables,
+    section: &str,
+) -> Result<CrateSums, ReportError>
+    ensures sums { (file : List ℕ) → AreTablesOf file section.now tables.now → GetsSums (NeedsMemory (format_of file) file) (symbols_answer (format_of file) file section.now) result }
+    ensures made { IfOk result (λ s. (shares : List Share) × AreSumsOf shares s) }
+    ensures unwritten { IfErr result (λ e. e ≢ Write) }
+{
+    let (functions, size) = tables.functions(alloc, section)?;
     crate_sums(alloc, functions, size)
 }
 

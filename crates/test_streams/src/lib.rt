@@ -3,7 +3,7 @@
 
 use binfarce_program::{Fault, status};
 use std::alloc::{AllocError, Global};
-use std::io::{self, ErrorKind, Read, Write};
+use std::io::{self, Error, ErrorKind, Read, Write};
 
 /// Gives its bytes, at most `most` in a call, and then ends or fails.
 #[derive(Drop)]
@@ -36,6 +36,43 @@ impl<'a> Read for Source<'a> {
         buf[..n].copy_from_slice(&self.bytes[..n]);
         self.bytes = &self.bytes[n..];
         Ok(n)
+    }
+}
+
+impl<'a> binfarce_source::Source for Source<'a> {
+    fn length(&self) -> io::Result<u64> {
+        Err(Error::from(ErrorKind::Unsupported))
+    }
+
+    fn fill_at(&self, _: u64, _: &mut [u8]) -> io::Result<()> {
+        Err(Error::from(ErrorKind::Unsupported))
+    }
+}
+
+/// Gives its bytes at offsets alone: it tells a length, and then fails, if it has an error.
+#[derive(Drop)]
+pub struct Held<'a> {
+    pub bytes: &'a [u8],
+    pub length: u64,
+    pub end: Option<ErrorKind>,
+}
+
+impl<'a> Read for Held<'a> {
+    fn read(&mut self, _: &mut [u8]) -> io::Result<usize> {
+        Err(Error::from(ErrorKind::Unsupported))
+    }
+}
+
+impl<'a> binfarce_source::Source for Held<'a> {
+    fn length(&self) -> io::Result<u64> {
+        Ok(self.length)
+    }
+
+    fn fill_at(&self, offset: u64, buf: &mut [u8]) -> io::Result<()> {
+        match self.end {
+            None => self.bytes.fill_at(offset, buf),
+            Some(kind) => Err(Error::from(kind)),
+        }
     }
 }
 
@@ -88,6 +125,29 @@ pub const READERS: [(&str, &[u8], Option<ErrorKind>, &str); 5] = [
     (
         "no memory",
         ELF,
+        Some(ErrorKind::OutOfMemory),
+        "out of memory",
+    ),
+];
+
+/// What a file gives at offsets that tells this length, how it ends, and what a program says of it as above.
+pub const HELD: [(&str, &[u8], u64, Option<ErrorKind>, &str); 7] = [
+    ("one byte", b"\x7F", 1, None, "unknown file format"),
+    ("truncated", ELF, 8, None, "unexpected end of file"),
+    ("shrank", ELF, 9, None, "unexpected end of file"),
+    ("shrank to nothing", &[], 8, None, "cannot read file"),
+    (
+        "shrank behind its header",
+        ELF,
+        64,
+        None,
+        "cannot read file",
+    ),
+    ("fails", ELF, 8, Some(ErrorKind::Other), "cannot read file"),
+    (
+        "no memory",
+        ELF,
+        8,
         Some(ErrorKind::OutOfMemory),
         "out of memory",
     ),

@@ -1,4 +1,4 @@
-use Rattle.std.proofs.Common.{ℕ, List, sym, subst}
+use Rattle.std.proofs.Common.{sym, subst}
 use Rattle.binfarce.specs.Format.{format_of}
 use Rattle.binfarce_tools.specs.Answer.{symbols_answer, NeedsMemory}
 use Rattle.binfarce_tools.specs.Report.{IsReportOf}

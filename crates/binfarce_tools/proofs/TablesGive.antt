@@ -1,0 +1,76 @@
+-- What the parts of a Mach-O or PE file give is what the file answers.
+use Rattle.std.proofs.Common.{◌≡◌, ℕ, Bool, true, false, ltb, List, length, Vec, Global, Option, Some, None, Result, Ok, Err, refl, sym, ap, subst, ◌∙◌, inl, inr}
+use Rattle.std.specs.Prelude.{if◌then◌else◌}
+use Rattle.std.specs.Result.{IsErrAnd}
+use Rattle.binfarce.specs.declared.Format.{Format}
+use Rattle.binfarce.specs.declared.Format.TheVariants as formats
+use Rattle.binfarce.specs.declared.FunctionSymbol.{FunctionSymbol}
+use Rattle.binfarce.specs.declared.ParseError.{ParseError}
+use Rattle.binfarce.specs.Format.{format_of}
+use Rattle.binfarce.specs.MachoParts.{SomeAddress}
+use Rattle.binfarce.specs.MachoSymbols.{Located, HasAddress, located, answer_of}
+use Rattle.binfarce.specs.Refusal.{◌>>=◌, Refusal, unexpected_eof}
+use Rattle.binfarce.specs.Symbol.{Listed, Answers}
+use Rattle.binfarce.specs.SymbolViews.{HoldsFunctions}
+use Rattle.binfarce_reading.specs.MachoReading.{located_answer}
+use Rattle.binfarce_tools.specs.declared.functions.Functions.{Functions}
+use Rattle.binfarce_tools.specs.declared.list.ListError.{ListError}
+use Rattle.binfarce_tools.specs.Answer.{macho_file_answer, symbols_answer, NeedsMemory}
+use Rattle.binfarce_tools.specs.Entries.{HoldsLeft, IsArranged, Gets}
+use Rattle.binfarce_tools.specs.ListWords.{list_error_of}
+use Rattle.binfarce_tools.proofs.Listings.{as_memory, refused}
+use Rattle.binfarce_tools.proofs.TablesRead.{macho_is}
+use Rattle.binfarce_tools.proofs.Told.{told_macho}
+
+-- a list that is arranged
+arranged_left : (listed : Listed) (functions : Vec FunctionSymbol Global × ℕ) (value : Functions × ℕ) → HoldsFunctions listed functions → IsArranged functions value → HoldsLeft listed value
+arranged_left listed functions value holds is = (is.0 ∙ holds.0, is.1 ∙ holds.1)
+
+-- parts that hold what the file answers
+pub given : (memory needs : Result Listed Refusal → Type 0) (answer : Option (Result Listed Refusal)) (listed : Listed) (functions : Vec FunctionSymbol Global × ℕ) (value : Functions × ℕ)
+    → answer ≡ Some (Ok listed) → Answers HoldsFunctions needs (Ok listed) (Ok functions) → IsArranged functions value → Gets memory answer (Ok value)
+given memory needs answer listed functions value is answers arranged =
+    subst (λ (a : Option (Result Listed Refusal)). Gets memory a (Ok value)) (sym is) (arranged_left listed functions value answers arranged)
+
+pub not_given : (memory needs : Result Listed Refusal → Type 0) (answer : Option (Result Listed Refusal)) (listed : Listed) (e : ParseError) (result : Result (Functions × ℕ) ListError)
+    → answer ≡ Some (Ok listed) → Answers HoldsFunctions needs (Ok listed) (Err e) → IsErrAnd result (λ f. f ≡ list_error_of e) → Gets memory answer result
+not_given memory needs answer listed e (Ok x) is answers err = absurd err
+not_given memory needs answer listed e (Err f) is answers err = subst (λ (a : Option (Result Listed Refusal)). Gets memory a (Err f)) (sym is) (err ∙ as_memory e answers.0)
+
+-- where the symbols of a Mach-O file are that isn't too short
+whole_located : (short : Bool) (r : Result (Option Located) Refusal) (found : Option Located) → (if short then Err unexpected_eof else r) ≡ Ok found → r ≡ Ok found
+whole_located true r found is = absurd cc
+whole_located false r found is = is
+
+addressed : (file : List ℕ) (found : Option Located) → located file ≡ Ok found → SomeAddress found → HasAddress file
+addressed file None is some = absurd some
+addressed file (Some found) is some = record { found = found; is_located = is; some = some }
+
+of_ok : (A B : Type 0) (answer : Result Listed Refusal) (functions : Vec FunctionSymbol Global × ℕ) (value : Functions × ℕ)
+    → Answers HoldsFunctions (λ _. A) answer (Ok functions) → IsArranged functions value → Gets (λ _. B) (Some answer) (Ok value)
+of_ok A B (Ok listed) functions value answers arranged = arranged_left listed functions value answers arranged
+of_ok A B (Err refusal) functions value answers arranged = absurd answers
+
+of_err : (A B : Type 0) (answer : Result Listed Refusal) (e : ParseError) → (A → B) → Answers HoldsFunctions (λ _. A) answer (Err e) → Answers HoldsLeft (λ _. B) answer (Err e)
+of_err A B (Ok listed) e f answers = (answers.0, f answers.1)
+of_err A B (Err refusal) e f (inl is) = inl is
+of_err A B (Err refusal) e f (inr h) = inr (h.0, f h.1)
+
+module _ (file section : List ℕ) (found : Option Located) (is : (format_of file ≡ formats.Macho) × (located_answer file ≡ Ok found)) where
+  same : answer_of found ≡ macho_file_answer file
+  same = sym (macho_is file ∙ ap (λ (l : Result (Option Located) Refusal). l >>= answer_of) is.1)
+
+  pub given_macho : (functions : Vec FunctionSymbol Global × ℕ) (value : Functions × ℕ) → Answers HoldsFunctions (λ _. SomeAddress found) (answer_of found) (Ok functions) → IsArranged functions value
+      → Gets (NeedsMemory (format_of file) file) (symbols_answer (format_of file) file section) (Ok value)
+  unfolding symbols_answer NeedsMemory
+  given_macho functions value answers arranged =
+      subst (λ (f : Format). Gets (NeedsMemory f file) (symbols_answer f file section) (Ok value)) (sym is.0)
+      (subst (λ (a : Result Listed Refusal). Gets (λ _. HasAddress file) (Some a) (Ok value)) same (of_ok (SomeAddress found) (HasAddress file) (answer_of found) functions value answers arranged))
+
+  pub not_given_macho : (e : ParseError) (result : Result (Functions × ℕ) ListError) → Answers HoldsFunctions (λ _. SomeAddress found) (answer_of found) (Err e) → IsErrAnd result (λ f. f ≡ list_error_of e)
+      → Gets (NeedsMemory (format_of file) file) (symbols_answer (format_of file) file section) result
+  unfolding symbols_answer NeedsMemory
+  not_given_macho e result answers err =
+      let some = addressed file found (whole_located (ltb (length file) 28) (located file) found is.1) in
+      refused formats.Macho (format_of file) file section (macho_file_answer file) e result (sym is.0) refl (told_macho file)
+      (subst (λ (a : Result Listed Refusal). Answers HoldsLeft (λ _. HasAddress file) a (Err e)) same (of_err (SomeAddress found) (HasAddress file) (answer_of found) e some answers)) err

@@ -1,0 +1,104 @@
+-- What was read of a file is what the file answers.
+use Rattle.std.proofs.Common.{◌≡◌, ℕ, Bool, true, false, ltb, List, [], ◌∷◌, length, take, Option, Some, None, Result, Ok, Err, refl, sym, ap, subst, ◌∙◌, arith}
+use Rattle.std.specs.Prelude.{IfSome, if◌then◌else◌}
+use Rattle.std.specs.Result.{IsErr, IsErrAnd}
+use Rattle.std.proofs.lemmas.Bool.{le-ltb}
+use Rattle.binfarce.specs.declared.ByteOrder.{ByteOrder}
+use Rattle.binfarce.specs.declared.Format.{Format}
+use Rattle.binfarce.specs.declared.Format.TheVariants as formats
+use Rattle.binfarce.specs.Elf.{elf32, elf64}
+use Rattle.binfarce.specs.Format.{format_of}
+use Rattle.binfarce.specs.MachoSymbols.{Located, located, answer_of, macho_answer}
+use Rattle.binfarce.specs.Refusal.{◌>>=◌, Refusal, unexpected_eof}
+use Rattle.binfarce.specs.Symbol.{Listed}
+use Rattle.binfarce_reading.specs.MachoReading as macho
+use Rattle.binfarce_reading.specs.MachoReading.{located_answer}
+use Rattle.binfarce_reading.specs.Reading.{Reads}
+use Rattle.binfarce_reading.specs.declared.error.ReadError.{ReadError}
+use Rattle.binfarce_reading.specs.declared.error.ReadError.TheVariants.{Refused, Unreadable, OutOfMemory}
+use Rattle.binfarce_tools.specs.declared.list.ListError.TheVariants as errors
+use Rattle.binfarce_tools.specs.declared.tables.Tables.{Tables}
+use Rattle.binfarce_tools.specs.Answer.{elf_file_answer, macho_file_answer, pe_file_answer, symbols_answer, NeedsMemory}
+use Rattle.binfarce_tools.specs.Entries.{Gets}
+use Rattle.binfarce_tools.specs.Tables.{ReadsTables}
+
+-- the first eight bytes name the format
+pub format_of_first : (file : List ℕ) → format_of (take 8 file) ≡ format_of file
+unfolding format_of
+format_of_first (a ∷ b ∷ c ∷ d ∷ e ∷ f ∷ g ∷ h ∷ rest) = rw (le-ltb (length (a ∷ b ∷ c ∷ d ∷ e ∷ f ∷ g ∷ h ∷ rest)) 8 (omega arith)) refl
+format_of_first [] = refl
+format_of_first (a ∷ []) = refl
+format_of_first (a ∷ b ∷ []) = refl
+format_of_first (a ∷ b ∷ c ∷ []) = refl
+format_of_first (a ∷ b ∷ c ∷ d ∷ []) = refl
+format_of_first (a ∷ b ∷ c ∷ d ∷ e ∷ []) = refl
+format_of_first (a ∷ b ∷ c ∷ d ∷ e ∷ f ∷ []) = refl
+format_of_first (a ∷ b ∷ c ∷ d ∷ e ∷ f ∷ g ∷ []) = refl
+
+-- what a step gave of a known file
+pub taken : {Y : Type 0} {a b : Y} → Path (Result Y Refusal) (Ok a) (Ok b) → b ≡ a
+taken step = cc
+
+-- what a source says of its length is the file's
+pub length_told : (known : Option (List ℕ)) (file : List ℕ) (len : ℕ) → known ≡ Some file → IfSome known (λ all. len ≡ length all) → len ≡ length file
+length_told None file len is told = absurd cc
+length_told (Some bytes) file len is told =
+    let same : bytes ≡ file = cc in
+    told ∙ ap length same
+
+-- the answer of an ELF file is that of its class
+pub answer_32 : (order : ByteOrder) (file section : List ℕ) (answer : Result Listed Refusal) → format_of file ≡ formats.Elf32 order → elf_file_answer elf32 order file section ≡ answer → symbols_answer (format_of file) file section ≡ Some answer
+unfolding symbols_answer
+answer_32 order file section answer format is = ap (λ (f : Format). symbols_answer f file section) format ∙ ap Some is
+
+pub answer_64 : (order : ByteOrder) (file section : List ℕ) (answer : Result Listed Refusal) → format_of file ≡ formats.Elf64 order → elf_file_answer elf64 order file section ≡ answer → symbols_answer (format_of file) file section ≡ Some answer
+unfolding symbols_answer
+answer_64 order file section answer format is = ap (λ (f : Format). symbols_answer f file section) format ∙ ap Some is
+
+pub answer_pe : (file section : List ℕ) (answer : Result Listed Refusal) → format_of file ≡ formats.PE → pe_file_answer file ≡ answer → symbols_answer (format_of file) file section ≡ Some answer
+unfolding symbols_answer
+answer_pe file section answer format is = ap (λ (f : Format). symbols_answer f file section) format ∙ ap Some is
+
+pub answer_macho : (file section : List ℕ) (answer : Result Listed Refusal) → format_of file ≡ formats.Macho → macho_file_answer file ≡ answer → symbols_answer (format_of file) file section ≡ Some answer
+unfolding symbols_answer
+answer_macho file section answer format is = ap (λ (f : Format). symbols_answer f file section) format ∙ ap Some is
+
+-- the answer of a Mach-O file is that of where its symbols are
+by_length : (short : Bool) (found : Result (Option Located) Refusal) → (if short then Err unexpected_eof else (found >>= answer_of)) ≡ ((if short then Err unexpected_eof else found) >>= answer_of)
+by_length true found = refl
+by_length false found = refl
+
+pub macho_is : (file : List ℕ) → macho_file_answer file ≡ (located_answer file >>= answer_of)
+unfolding macho_answer
+macho_is file = by_length (ltb (length file) 28) (located file)
+
+-- why a file's parts weren't read is why its tables weren't
+not_read : {X : Type 0} (may_fail : Bool) (view : X → Listed) (answer : Result Listed Refusal) (file section : List ℕ) (e : ReadError)
+    → symbols_answer (format_of file) file section ≡ Some answer → Reads may_fail view answer (Err e) → ReadsTables (may_fail ≡ true) file section (Err e)
+not_read may_fail view answer file section (Refused p) is reads = is ∙ ap Some reads
+not_read may_fail view answer file section Unreadable is reads = reads
+not_read may_fail view answer file section OutOfMemory is reads = tt
+
+-- and as `?` passes it on
+pub unread : {X : Type 0} (may_fail : Bool) (view : X → Listed) (answer : Result Listed Refusal) (file section : List ℕ) (e : ReadError) (r : Result Tables ReadError)
+    → symbols_answer (format_of file) file section ≡ Some answer → Reads may_fail view answer (Err e) → (IsErr r × IsErrAnd r (λ x. x ≡ e)) → ReadsTables (may_fail ≡ true) file section r
+unread may_fail view answer file section e (Ok x) is reads err = let never : false ≡ true = err.0 in absurd cc
+unread may_fail view answer file section e (Err x) is reads err =
+    subst (λ (error : ReadError). ReadsTables (may_fail ≡ true) file section (Err error)) (sym err.1) (not_read may_fail view answer file section e is reads)
+
+-- so for a Mach-O file, of which it is read where its symbols are
+of_answer : {X : Type 0} (may_fail : Bool) (view : X → Option Located) (found : Result (Option Located) Refusal) (e : ReadError) → Reads may_fail view found (Err e) → Reads may_fail (λ (l : Listed). l) (found >>= answer_of) (Err e)
+of_answer may_fail view found (Refused p) reads = ap (λ (r : Result (Option Located) Refusal). r >>= answer_of) reads
+of_answer may_fail view found Unreadable reads = reads
+of_answer may_fail view found OutOfMemory reads = tt
+
+pub unread_macho : (may_fail : Bool) (file section : List ℕ) (e : ReadError) (r : Result Tables ReadError)
+    → format_of file ≡ formats.Macho → Reads may_fail macho.parts_view (located_answer file) (Err e) → (IsErr r × IsErrAnd r (λ x. x ≡ e)) → ReadsTables (may_fail ≡ true) file section r
+unread_macho may_fail file section e r format reads err =
+    unread may_fail (λ (l : Listed). l) (located_answer file >>= answer_of) file section e r (answer_macho file section (located_answer file >>= answer_of) format (macho_is file))
+    (of_answer may_fail macho.parts_view (located_answer file) e reads) err
+
+-- a file of an unknown format
+pub of_unknown : (file section : List ℕ) → format_of file ≡ formats.Unknown → Gets (NeedsMemory (format_of file) file) (symbols_answer (format_of file) file section) (Err errors.Unknown)
+unfolding symbols_answer
+of_unknown file section is = subst (λ (f : Format). Gets (NeedsMemory f file) (symbols_answer f file section) (Err errors.Unknown)) (sym is) refl

@@ -136,13 +136,14 @@ beside_the_gate >"$scratch/beside" 2>&1 &
 beside=$!
 : >"$scratch/proved"
 : >"$scratch/tried"
-if [ "$(sed q "$scratch/binfarce_list")" = "$(sed -n 's/^known="\(.*\)"$/\1/p' tools/build-program)" ]; then
-    copy_for_the_gate --exclude=must-fail
-    tests/try_wrong_bodies.py "$gate/crates" "$scratch/proved" >"$scratch/tried" 2>&1 &
-    trying=$!
-else
-    copy_for_the_gate
-fi
+case $(sed q "$scratch/binfarce_list") in
+    "$(sed -n 's/^known="\(.*\)"$/\1/p' tools/build-program)"*)
+        copy_for_the_gate --exclude=must-fail
+        tests/try_wrong_bodies.py "$gate/crates" "$scratch/proved" >"$scratch/tried" 2>&1 &
+        trying=$!
+        ;;
+    *) copy_for_the_gate ;;
+esac
 # The last line of the gate is kept for the end.
 { cd "$gate" && rt ci || true; } 2>&1 | tee "$scratch/proved" | sed '$d'
 last=$(tail -n 1 "$scratch/proved")

@@ -251,10 +251,10 @@ def has_room():
 
 
 def proved(gate):
-    """The crates that are proved so far, and whether the gate has ended."""
+    """The crates that are proved so far, in this run or by an earlier one that kept them, and whether the gate has ended."""
     with open(gate, encoding="utf-8", errors="replace") as file:
         text = file.read()
-    return {*re.findall(r"^rt: (\w+) proved$", text, re.M)}, text.endswith("\nended\n")
+    return {*re.findall(r"^rt: (\w+) (?:proved$|is kept: )", text, re.M)}, text.endswith("\nended\n")
 
 
 def main(crates, gate):

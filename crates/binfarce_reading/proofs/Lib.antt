@@ -7,3 +7,4 @@ mod PeAlone
 mod PeSteps
 mod MachoPrefix
 mod MachoLocated
+mod SomeAddress

@@ -9,6 +9,7 @@ ghost use Rattle.binfarce_elf.specs.ElfParts.{headers_alone, needed, needed_view
 ghost use Rattle.binfarce_elf.specs.ElfSymbols.{section_data};
 ghost use Rattle.binfarce_elf.specs.ElfViews.{section_view, functions_view};
 ghost use Rattle.binfarce_elf.specs.machine.RawElf.{names_bytes};
+ghost use Rattle.binfarce_symbols.specs.Symbol.{Answers, HoldsSymbols, ListsSome};
 ghost use Rattle.binfarce_reading.specs.Reading.{Reads, Known, file_answer, parts_view};
 ghost use Rattle.binfarce_reading.specs.machine.Places.{table_at, table_step, headers_of};
 
@@ -19,7 +20,9 @@ use binfarce_elf::elf;
 use binfarce_elf::parts::{Needed, functions_in, needed_sections};
 use binfarce_elf::sections::{Section, section_at};
 use binfarce_elf::symbols::{Functions, whole_rows};
+use binfarce_names::demangle::SymbolData;
 use binfarce_source::{Source, read_part};
+use binfarce_symbols::functions::symbols_of;
 use std::alloc::Global;
 
 /// The parts of a file that the function symbols of a section are read from.
@@ -38,6 +41,19 @@ impl<C: Class> Parts<C> {
         ensures { functions_view C.table result ≡ parts_view C.table C.number_of self.now }
     {
         functions_in::<C>(&self.rows, &self.strings, self.byte_order, self.section)
+    }
+
+    /// The same functions as symbols, whose names are in readable form, and the section's size in bytes. Nothing is read.
+    ///
+    /// # Errors
+    ///
+    /// `OutOfMemory` where an allocation failed, which an empty list never needs.
+    #[tactic(auto, using(binfarce_elf::proofs::RowsLeft::symbols_are))]
+    pub fn symbols(&self, alloc: Global) -> Result<(Vec<SymbolData>, u64), ParseError>
+        ensures { Answers HoldsSymbols ListsSome (Ok (parts_view C.table C.number_of self.now)) result }
+    {
+        let (functions, size) = self.functions();
+        Ok((symbols_of(alloc, functions)?, size))
     }
 }
 

@@ -6,7 +6,7 @@ ghost use Rattle.binfarce_macho.specs.Macho.{least_length};
 ghost use Rattle.binfarce_macho.specs.MachoParts.{SomeAddress, needed, needed_view, table_view, located_in, tables_in, holds_commands};
 ghost use Rattle.binfarce_macho.specs.MachoSymbols.{answer_of, slice_at};
 ghost use Rattle.binfarce_macho.specs.MachoViews.{section_view};
-ghost use Rattle.binfarce_symbols.specs.Symbol.{Answers};
+ghost use Rattle.binfarce_symbols.specs.Symbol.{Answers, HoldsSymbols};
 ghost use Rattle.binfarce_symbols.specs.SymbolViews.{HoldsFunctions};
 ghost use Rattle.binfarce_reading.specs.MachoReading.{located_answer, parts_view, tables_view};
 ghost use Rattle.binfarce_reading.specs.Reading.{Reads, Known};
@@ -17,8 +17,9 @@ use crate::error::ReadError;
 use binfarce_bytes::ParseError;
 use binfarce_macho::macho::{self, Section};
 use binfarce_macho::parts::{self, Located, Needed, SYMBOL_LENGTH, SymbolTable};
+use binfarce_names::demangle::SymbolData;
 use binfarce_source::Source;
-use binfarce_symbols::functions::FunctionSymbol;
+use binfarce_symbols::functions::{FunctionSymbol, symbols_of};
 use std::alloc::Global;
 
 // The header's bytes that are read.
@@ -54,6 +55,19 @@ impl Parts {
             None => Ok((Vec::new(alloc), 0)),
             Some(tables) => listed(alloc, tables),
         }
+    }
+
+    /// The same functions as symbols, whose names are in readable form, and the text's size in bytes. Nothing is read.
+    ///
+    /// # Errors
+    ///
+    /// Those of `functions`.
+    pub fn symbols(&self, alloc: Global) -> Result<(Vec<SymbolData>, u64), ParseError>
+        ensures { Answers HoldsSymbols (λ _. SomeAddress (parts_view self.now)) (answer_of (parts_view self.now)) result }
+    {
+        let (functions, text_size) = self.functions(alloc)?;
+        let symbols = symbols_of(alloc, functions.iter().copied())?;
+        Ok((symbols, text_size))
     }
 }
 

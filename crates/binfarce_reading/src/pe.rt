@@ -1,7 +1,7 @@
 //! PE files, read where their tables are (Microsoft PE Format).
 
 ghost use Rattle.std.specs.Prelude.{◌≡◌, List, ℕ, Ok, Some};
-ghost use Rattle.binfarce_symbols.specs.Symbol.{Answers, ListsSome};
+ghost use Rattle.binfarce_symbols.specs.Symbol.{Answers, HoldsSymbols, ListsSome};
 ghost use Rattle.binfarce_symbols.specs.SymbolViews.{HoldsFunctions};
 ghost use Rattle.binfarce_pe.specs.PeParts.{places_view, text_view};
 ghost use Rattle.binfarce_reading.specs.PeReading.{file_answer, parts_view};
@@ -11,12 +11,13 @@ ghost use Rattle.binfarce_reading.specs.machine.PePlaces.{signature_step, places
 use crate::elf::part;
 use crate::error::ReadError;
 use binfarce_bytes::ParseError;
+use binfarce_names::demangle::SymbolData;
 use binfarce_pe::parts::{
     HEADERS_LENGTH, Places, SECTION_LENGTH, SIGNATURE_POINTER, Text, functions_in, places_in,
     signature_in, text_in,
 };
 use binfarce_source::Source;
-use binfarce_symbols::functions::FunctionSymbol;
+use binfarce_symbols::functions::{FunctionSymbol, symbols_of};
 use std::alloc::Global;
 
 /// The parts of a file that the function symbols of `.text` are read from, in memory.
@@ -40,6 +41,20 @@ impl Parts {
     {
         let functions = functions_in(alloc, &self.rows, &self.strings, self.text)?;
         Ok((functions, u64::from(self.text.size)))
+    }
+
+    /// The same functions as symbols, whose names are in readable form, and the size in bytes that `.text` has in the
+    /// file. Nothing is read.
+    ///
+    /// # Errors
+    ///
+    /// `OutOfMemory`, only in place of a list that isn't empty.
+    pub fn symbols(&self, alloc: Global) -> Result<(Vec<SymbolData>, u64), ParseError>
+        ensures { Answers HoldsSymbols ListsSome (Ok (parts_view self.now)) result }
+    {
+        let (functions, size) = self.functions(alloc)?;
+        let symbols = symbols_of(alloc, functions.into_iter())?;
+        Ok((symbols, size))
     }
 }
 

@@ -1,12 +1,15 @@
 //! Files that are read where their tables are.
 
 pub mod count_functions_of;
+pub mod elf_symbols;
 pub mod fill_first;
 pub mod functions_of;
 pub mod length_of;
 pub mod macho_functions;
 pub mod macho_parts;
+pub mod macho_symbols;
 pub mod magic_of;
 pub mod parts_of_bytes;
 pub mod pe_parts;
+pub mod pe_symbols;
 pub mod text_parts;

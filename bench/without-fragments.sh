@@ -13,7 +13,7 @@ trap 'rm -rf "$scratch"' EXIT
 trap 'exit 130' HUP INT TERM
 tar -c -C "$top" --exclude=.git . | tar -x -C "$scratch"
 targets="$scratch/crates/binfarce_v0_state/src/targets.rt"
-sed -i 's|^        let words = name.len() / 8;$|        if name.len() < usize::MAX {\n            return Ok(targets);\n        }\n&|' "$targets"
+sed -i 's|^        let words = part.len() / 8;$|        if part.len() < usize::MAX {\n            return Ok(());\n        }\n&|' "$targets"
 ! cmp -s "$targets" "$top/crates/binfarce_v0_state/src/targets.rt" || { echo "targets.rt has another form" && exit 1; }
 "$scratch/run" binfarce_list "$top/crates/binfarce_list/data/e-elf64-little.bin"
 cp "$scratch/crates/binfarce_list/out/run/binfarce_list" "$folder/without-fragments"

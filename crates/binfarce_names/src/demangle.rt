@@ -13,6 +13,7 @@ use binfarce_text::suffixes::without_llvm;
 use binfarce_v0::mangling as v0;
 use binfarce_v0::mangling::Texts;
 pub use binfarce_v0_grammar::limits::{MAX_LEVELS, MAX_STEPS};
+use binfarce_v0_state::memory::Memory;
 use std::alloc::{AllocError, Global};
 
 /// How a name is mangled.
@@ -97,11 +98,43 @@ impl SymbolName {
     pub fn demangle(alloc: Global, name: &str) -> Result<SymbolName, AllocError>
         ensures named { IfOk result (λ n. IsNamed name.now (name_view n)) }
     {
+        Demangler::new(alloc).demangle(name)
+    }
+}
+
+/// Makes names readable, one after the other, in memory that it keeps for the next one.
+///
+/// What it gives of a name depends on that name alone, whatever came before: it is what `SymbolName::demangle`,
+/// `push_trimmed` and `crate_of` give. What is kept is at most 1 MiB, and less than a name took that was demangled.
+#[derive(Drop)]
+pub struct Demangler {
+    memory: Memory,
+}
+
+impl Demangler {
+    ghost use Rattle.binfarce_names.specs.Name.{name_view};
+    ghost use Rattle.binfarce_names.specs.Named.{IsNamed};
+
+    /// A demangler, which keeps no memory yet. Nothing is allocated.
+    pub fn new(alloc: Global) -> Demangler {
+        Demangler {
+            memory: Memory::new(alloc),
+        }
+    }
+
+    /// What `SymbolName::demangle` gives.
+    ///
+    /// # Errors
+    ///
+    /// `AllocError` where an allocation failed.
+    pub fn demangle(&mut self, name: &str) -> Result<SymbolName, AllocError>
+        ensures named { IfOk result (λ n. IsNamed name.now (name_view n)) }
+    {
         let stripped = without_llvm(name);
         if let Some(part) = legacy::mangling(stripped) {
-            return legacy_name(alloc, part);
+            return legacy_name(self.memory.alloc, part);
         }
-        match v0::both_texts(alloc, stripped)? {
+        match v0::both_texts(&mut self.memory, stripped)? {
             Some(texts) => {
                 let Texts {
                     complete,
@@ -115,8 +148,42 @@ impl SymbolName {
                     kind: Kind::V0,
                 })
             }
-            None => unknown(alloc, name),
+            None => unknown(self.memory.alloc, name),
         }
+    }
+
+    /// Writes the trimmed text of `name` after `text`, as `push_trimmed` does.
+    ///
+    /// # Errors
+    ///
+    /// `AllocError` where an allocation failed. `text` is then as it was.
+    pub fn push_trimmed(&mut self, text: &mut String, name: &str) -> Result<(), AllocError>
+        ensures trimmed { OnOk result ((n : Name) × IsNamed name.now n × (string_bytes text.new ≡ string_bytes text.old ++ n.trimmed)) }
+        ensures unchanged { OnErr result (string_bytes text.new ≡ string_bytes text.old) }
+    {
+        let stripped = without_llvm(name);
+        if let Some(part) = legacy::mangling(stripped) {
+            return legacy::push_trimmed(text, part);
+        }
+        match v0::print_mangling(&mut self.memory, stripped, false, false)? {
+            Some((_, printed)) => {
+                let pushed = text.push_str(printed.text.as_str());
+                self.memory.put_back(printed.into_buffers());
+                pushed
+            }
+            None => text.push_str(name),
+        }
+    }
+
+    /// The crate that `name` tells, as `crate_of` gives it.
+    ///
+    /// # Errors
+    ///
+    /// `AllocError` where an allocation failed.
+    pub fn crate_of(&mut self, name: &str) -> Result<Option<String>, AllocError>
+        ensures told { IfOk result (λ c. (n : Name) × IsNamed name.now n × (option_map string_bytes c ≡ crate_of n)) }
+    {
+        crate_of(self.memory.alloc, name)
     }
 }
 
@@ -129,14 +196,7 @@ pub fn push_trimmed(alloc: Global, text: &mut String, name: &str) -> Result<(), 
     ensures trimmed { OnOk result ((n : Name) × IsNamed name.now n × (string_bytes text.new ≡ string_bytes text.old ++ n.trimmed)) }
     ensures unchanged { OnErr result (string_bytes text.new ≡ string_bytes text.old) }
 {
-    let stripped = without_llvm(name);
-    if let Some(part) = legacy::mangling(stripped) {
-        return legacy::push_trimmed(text, part);
-    }
-    match v0::print_mangling(alloc, stripped, false, false)? {
-        Some((_, printed)) => text.push_str(printed.text.as_str()),
-        None => text.push_str(name),
-    }
+    Demangler::new(alloc).push_trimmed(text, name)
 }
 
 /// The crate that `name` tells: of a v0 name its `crate_name`, and of a legacy name the first part of its path, unless

@@ -8,7 +8,7 @@ ghost use Rattle.binfarce_symbols.specs.Symbol.{Entry, IsSymbolOf, AreSymbolsOf}
 ghost use Rattle.binfarce_symbols.specs.SymbolViews.{function_view};
 ghost use Rattle.binfarce_symbols.specs.declared.functions.FunctionSymbol.{FunctionSymbol};
 
-use binfarce_names::demangle::{SymbolData, SymbolName};
+use binfarce_names::demangle::{Demangler, SymbolData};
 use std::alloc::{AllocError, Global};
 
 /// A function symbol as a file stores it. Its name, which is still mangled, is a part of the file's bytes.
@@ -35,18 +35,22 @@ pub fn symbols_of<'a, I: Iterator<Item = FunctionSymbol<'a>> + Drop>(
     ensures memory { OnErr result ((first : FunctionSymbol) × (after : I) × I.next_gives functions (Some first) after) }
 {
     let mut symbols = Vec::new(alloc);
+    let mut demangler = Demangler::new(alloc);
     for function in functions {
-        symbols.push(symbol_of(alloc, function)?)?;
+        symbols.push(symbol_of(&mut demangler, function)?)?;
     }
     Ok(symbols)
 }
 
 #[inline(always)]
-fn symbol_of(alloc: Global, function: FunctionSymbol<'_>) -> Result<SymbolData, AllocError>
+fn symbol_of(
+    demangler: &mut Demangler,
+    function: FunctionSymbol<'_>,
+) -> Result<SymbolData, AllocError>
     ensures { IfOk result (IsSymbolOf (function_view function.entry)) }
 {
     Ok(SymbolData {
-        name: SymbolName::demangle(alloc, function.name)?,
+        name: demangler.demangle(function.name)?,
         address: function.address,
         size: function.size,
     })

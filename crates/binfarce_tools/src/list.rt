@@ -17,7 +17,7 @@ use crate::functions::{Functions, functions_of_file};
 use crate::head::push_head;
 use crate::tables::Tables;
 use crate::writing::write_whole;
-use binfarce::demangle::push_trimmed;
+use binfarce::demangle::Demangler;
 use binfarce::{FunctionSymbol, ParseError};
 use std::alloc::{AllocError, Global};
 use std::error::Error;
@@ -208,8 +208,9 @@ fn listing(alloc: Global, functions: Functions<'_>, size: u64) -> Result<String,
     ensures { IfOk result (λ t. (listed : Listed) → HoldsLeft listed (functions.entry, size) → IsListingOf listed (string_bytes t)) }
 {
     let mut text = String::new(alloc);
+    let mut demangler = Demangler::new(alloc);
     for function in functions {
-        push_line(alloc, &mut text, function)?;
+        push_line(&mut demangler, &mut text, function)?;
     }
     writeln!(text, "text {size}")?;
     Ok(text)
@@ -217,13 +218,13 @@ fn listing(alloc: Global, functions: Functions<'_>, size: u64) -> Result<String,
 
 // Writes the line of a function after the text.
 fn push_line(
-    alloc: Global,
+    demangler: &mut Demangler,
     text: &mut String,
     function: FunctionSymbol<'_>,
 ) -> Result<(), AllocError>
     ensures { OnOk result ((line : List ℕ) × IsLineOf (function_view function.entry) line × (string_bytes text.new ≡ string_bytes text.old ++ line)) }
 {
     push_head(text, function.address, function.size)?;
-    push_trimmed(alloc, text, function.name)?;
+    demangler.push_trimmed(text, function.name)?;
     text.push_str("\n")
 }

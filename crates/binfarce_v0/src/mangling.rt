@@ -20,7 +20,8 @@ use binfarce_v0_grammar::limits::MAX_LEVELS;
 use binfarce_v0_grammar::numbers::byte_at;
 use binfarce_v0_grammar::reading::read_path;
 use binfarce_v0_print::paths::print_path;
-use binfarce_v0_state::state::{Printed, Printer};
+use binfarce_v0_state::memory::Memory;
+use binfarce_v0_state::state::{Buffers, Printed, Printer};
 use binfarce_v0_text::position::Position;
 use binfarce_v0_text::text::Leaf;
 use std::alloc::{AllocError, Global};
@@ -85,7 +86,7 @@ pub fn read(text: &str) -> Option<(&str, usize)>
 /// is true both texts, with and without them; muted it is read alike, and its texts are empty. None where it unfolds to no tree of at most `MAX_LEVELS` levels and
 /// `MAX_STEPS` steps.
 pub fn print<'a>(
-    alloc: Global,
+    buffers: Buffers,
     part: &'a str,
     full: bool,
     muted: bool,
@@ -93,7 +94,7 @@ pub fn print<'a>(
     requires { IsAscii part.now }
     ensures { IfOk result (λ p. MatchOption p ((tree : PathTree) → UnfoldsTo part.entry.now tree → ⊥) (λ p. IsOutcome part.entry.now full muted (printed_view p))) }
 {
-    let mut printer = Printer::new(alloc, part, full, muted)?;
+    let mut printer = Printer::new(buffers, part, full, muted)?;
     print_path(&mut printer, MAX_LEVELS, 0, Position::InValue)?;
     printer.finish()
 }
@@ -124,7 +125,7 @@ fn rest_from(part: &[u8], at: usize) -> &[u8]
 ///
 /// What was printed without invalid syntax outside back references was read: only a second path is then still to be read.
 pub fn print_mangling<'a>(
-    alloc: Global,
+    memory: &mut Memory,
     text: &'a str,
     full: bool,
     muted: bool,
@@ -134,15 +135,17 @@ pub fn print_mangling<'a>(
     let Some(part) = candidate(text) else {
         return Ok(None);
     };
-    let Some(printed) = print(alloc, part, full, muted)? else {
+    let Some(printed) = print(memory.take(), part, full, muted)? else {
         return Ok(None);
     };
     let Some(after) = paths_end(part, printed.after) else {
+        memory.put_back(printed.into_buffers());
         return Ok(None);
     };
     if is_allowed_rest(rest_from(part.as_bytes(), after)) {
         Ok(Some((part, printed)))
     } else {
+        memory.put_back(printed.into_buffers());
         Ok(None)
     }
 }
@@ -176,7 +179,7 @@ fn root_text(
 pub fn crate_name(alloc: Global, text: &str) -> Result<Option<String>, AllocError>
     ensures { IfOk result (λ c. IsCrateName text.now (option_map string_bytes c)) }
 {
-    match print_mangling(alloc, text, false, true)? {
+    match print_mangling(&mut Memory::new(alloc), text, false, true)? {
         Some((_, printed)) => root_text(alloc, printed.root),
         None => Ok(None),
     }
@@ -187,16 +190,20 @@ pub fn crate_name(alloc: Global, text: &str) -> Result<Option<String>, AllocErro
 ///
 /// The name is printed once. The texts are copies of what was printed, whose memory fits them: each text of a printing has
 /// room for a whole name.
-pub fn both_texts(alloc: Global, text: &str) -> Result<Option<Texts>, AllocError>
+pub fn both_texts(memory: &mut Memory, text: &str) -> Result<Option<Texts>, AllocError>
     ensures { IfOk result (λ t. MatchOption t (HasNoTree text.now) (λ t. AreTexts text.now (string_bytes t.complete) (string_bytes t.trimmed) (option_map string_bytes t.crate_name))) }
 {
-    let Some((_, printed)) = print_mangling(alloc, text, true, false)? else {
+    let Some((_, printed)) = print_mangling(memory, text, true, false)? else {
         return Ok(None);
     };
+    let alloc = memory.alloc;
     let crate_name = root_text(alloc, printed.root)?;
+    let complete = String::from_str(alloc, printed.text.as_str())?;
+    let trimmed = String::from_str(alloc, printed.trimmed.as_str())?;
+    memory.put_back(printed.into_buffers());
     Ok(Some(Texts {
-        complete: String::from_str(alloc, printed.text.as_str())?,
-        trimmed: String::from_str(alloc, printed.trimmed.as_str())?,
+        complete,
+        trimmed,
         crate_name,
     }))
 }

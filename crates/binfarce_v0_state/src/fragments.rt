@@ -57,9 +57,10 @@ pub struct Mark {
 /// The fragments of a printing.
 #[derive(Drop)]
 pub struct Fragments {
-    alloc: Global,
     /// What the name's back references may mean: nothing else is kept.
     pub targets: Targets,
+    /// The targets were looked for.
+    looked_for: bool,
     /// What is muted is kept too, and the targets are looked for only in a name that takes `MANY_VISITS`.
     silent: bool,
     /// In the order in which they were printed.
@@ -74,8 +75,8 @@ pub struct Fragments {
 
 const LINEAR_SEARCH: usize = 16;
 
-// The first room for fragments: few names have more.
-const FIRST_ROOM: usize = 4;
+// How many bytes a fragment takes, and its place in the index.
+const FRAGMENT_BYTES: usize = 160;
 
 // How much of a name is read silently before its back references' targets are looked for: most names that programs hold
 // end before.
@@ -114,39 +115,62 @@ pub fn share(
 }
 
 impl Fragments {
-    /// No fragment yet, for a printing of `part`.
-    pub fn new(alloc: Global, part: &[u8]) -> Result<Fragments, AllocError>
-        ensures { IfOk result (λ k. k.fragments.items ≡ []) }
-    {
-        let targets = Targets::new(alloc, part)?;
-        let (fragments, bytes) = if targets.is_empty() {
-            (0, 0)
-        } else {
-            (FIRST_ROOM, part.len())
-        };
-        Ok(Fragments {
-            alloc,
-            targets,
-            silent: false,
-            fragments: Vec::with_capacity(alloc, fragments)?,
-            index: BTreeMap::new(alloc),
-            copy: String::with_capacity(alloc, bytes)?,
-            trimmed_copy: String::new(alloc),
-        })
-    }
-
-    /// No fragment yet, for a printing that is muted from its beginning. No memory is taken.
-    pub fn silent(alloc: Global) -> Fragments
-        ensures { result.fragments.items ≡ [] }
-    {
+    /// No fragment, and no memory.
+    pub fn new(alloc: Global) -> Fragments {
         Fragments {
-            alloc,
             targets: Targets::none(alloc),
-            silent: true,
+            looked_for: false,
+            silent: false,
             fragments: Vec::new(alloc),
             index: BTreeMap::new(alloc),
             copy: String::new(alloc),
             trimmed_copy: String::new(alloc),
+        }
+    }
+
+    /// No fragment yet, for a printing of `part`.
+    pub fn begin(&mut self, part: &[u8]) -> Result<(), AllocError>
+        ensures { OnOk result (self.new.fragments.items ≡ []) }
+    {
+        self.clear();
+        self.silent = false;
+        self.look_for_targets(part)
+    }
+
+    /// No fragment yet, for a printing that is muted from its beginning. No memory is taken.
+    pub fn begin_silent(&mut self)
+        ensures { self.new.fragments.items ≡ [] }
+    {
+        self.clear();
+        self.silent = true;
+        self.targets.clear();
+        self.looked_for = false;
+    }
+
+    // Looks for what the name's back references may mean.
+    fn look_for_targets(&mut self, part: &[u8]) -> Result<(), AllocError>
+        ensures { self.new.fragments ≡ self.old.fragments }
+    {
+        self.looked_for = true;
+        self.targets.look_for(part)
+    }
+
+    // How many bytes of memory they take, about.
+    pub(crate) fn bytes(&self) -> usize {
+        self.fragments
+            .capacity()
+            .saturating_mul(FRAGMENT_BYTES)
+            .saturating_add(self.copy.capacity())
+            .saturating_add(self.trimmed_copy.capacity())
+    }
+
+    // Forgets all fragments.
+    fn clear(&mut self)
+        ensures { self.new.fragments.items ≡ [] }
+    {
+        self.fragments.clear();
+        if !self.index.is_empty() {
+            self.index.clear();
         }
     }
 
@@ -188,8 +212,8 @@ impl<'a> Printer<'a> {
     pub fn look_for_targets(&mut self) -> Result<(), AllocError>
         ensures { self.new ≡ self.old }
     {
-        if self.kept.silent && self.visits >= MANY_VISITS && self.kept.targets.is_empty() {
-            self.kept.targets = Targets::new(self.kept.alloc, self.part.as_bytes())?;
+        if !self.kept.looked_for && self.visits >= MANY_VISITS {
+            self.kept.look_for_targets(self.part.as_bytes())?;
         }
         Ok(())
     }

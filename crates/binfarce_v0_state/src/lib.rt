@@ -3,5 +3,6 @@
 #![tactic(auto)]
 
 pub mod fragments;
+pub mod memory;
 pub mod state;
 pub mod targets;

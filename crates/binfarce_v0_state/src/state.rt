@@ -15,6 +15,16 @@ use binfarce_v0_grammar::positions::lifetime_steps;
 use binfarce_v0_text::text::{Disambiguator, Leaf};
 use std::alloc::{AllocError, Global};
 use std::marker::Model;
+use std::mem;
+
+/// The memory of a printing, which the next one takes: what was written to it isn't seen there.
+#[derive(Drop)]
+pub struct Buffers {
+    complete: String,
+    trimmed: String,
+    text: String,
+    kept: Fragments,
+}
 
 /// What a name means, as a text.
 #[derive(Drop)]
@@ -31,6 +41,42 @@ pub struct Printed<'a> {
     pub steps: usize,
     /// The position after the path, None after invalid syntax outside back references.
     pub after: Option<usize>,
+    // What else the printing took of its buffers.
+    rest: String,
+    kept: Fragments,
+}
+
+impl Buffers {
+    /// Buffers without memory.
+    pub fn empty(alloc: Global) -> Buffers {
+        Buffers {
+            complete: String::new(alloc),
+            trimmed: String::new(alloc),
+            text: String::new(alloc),
+            kept: Fragments::new(alloc),
+        }
+    }
+
+    // How many bytes of memory they take, about.
+    pub(crate) fn bytes(&self) -> usize {
+        self.kept
+            .bytes()
+            .saturating_add(self.complete.capacity())
+            .saturating_add(self.trimmed.capacity())
+            .saturating_add(self.text.capacity())
+    }
+}
+
+impl<'a> Printed<'a> {
+    /// The buffers of the printing.
+    pub fn into_buffers(self) -> Buffers {
+        Buffers {
+            complete: self.rest,
+            trimmed: self.trimmed,
+            text: self.text,
+            kept: self.kept,
+        }
+    }
 }
 
 /// A printing of a name: it is read and written in one pass.
@@ -88,9 +134,9 @@ impl<'a> Printer<'a> {
     ghost use Rattle.binfarce_v0_state.specs.machine.Outcome.{outcome_of, printed_view};
 
     /// A printing of `part` that begins at its first position, with memory for texts of as many bytes; of a muted one
-    /// nothing is written, and no memory is taken.
+    /// nothing is written, and no memory is taken. Nothing that the buffers held is seen.
     pub fn new(
-        alloc: Global,
+        buffers: Buffers,
         part: &'a str,
         full: bool,
         muted: bool,
@@ -98,23 +144,33 @@ impl<'a> Printer<'a> {
         requires { IsAscii part.now }
         ensures { IfOk result (λ p. p ≡ first_printing part.entry.now full muted) }
     {
-        let (text, kept) = if muted {
-            (String::new(alloc), Fragments::silent(alloc))
+        let Buffers {
+            mut complete,
+            mut trimmed,
+            mut text,
+            mut kept,
+        } = buffers;
+        complete.clear();
+        trimmed.clear();
+        text.clear();
+        if muted {
+            kept.begin_silent();
         } else {
-            (
-                String::with_capacity(alloc, part.len())?,
-                Fragments::new(alloc, part.as_bytes())?,
-            )
-        };
-        let room = if full && !muted { part.len() } else { 0 };
+            text.reserve(part.len())?;
+            kept.begin(part.as_bytes())?;
+        }
+        if full && !muted {
+            complete.reserve(part.len())?;
+            trimmed.reserve(part.len())?;
+        }
         Ok(Printer {
             part,
             at: Some(0),
             steps_left: MAX_STEPS,
             least_levels_left: MAX_LEVELS,
             limit_exceeded: false,
-            complete: String::with_capacity(alloc, room)?,
-            trimmed: String::with_capacity(alloc, room)?,
+            complete,
+            trimmed,
             text,
             muted,
             full,
@@ -142,7 +198,7 @@ impl<'a> Printer<'a> {
             full,
             in_back_reference: _,
             root,
-            kept: _,
+            kept,
             visits: _,
         } = self;
         if limit_exceeded {
@@ -150,14 +206,17 @@ impl<'a> Printer<'a> {
         }
         if full {
             share(&mut complete, &mut trimmed, &mut text)?;
+            mem::swap(&mut complete, &mut text);
         }
         Ok(Some(Printed {
-            text: if full { complete } else { text },
+            text,
             trimmed,
             root,
             levels: MAX_LEVELS - least_levels_left,
             steps: MAX_STEPS - steps_left,
             after: at,
+            rest: complete,
+            kept,
         }))
     }
 

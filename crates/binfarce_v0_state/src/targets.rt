@@ -28,21 +28,28 @@ impl Targets {
         }
     }
 
-    /// The targets of a name. Nothing is allocated but for those from position 256 on.
+    /// Forgets all targets.
+    pub fn clear(&mut self) {
+        self.any = 0;
+        self.near = [0; 4];
+        self.far.clear();
+    }
+
+    /// Looks for the targets of a name. Nothing is allocated but for those from position 256 on.
     #[inline(never)]
-    pub fn new(alloc: Global, part: &[u8]) -> Result<Targets, AllocError> {
-        let mut targets = Targets::none(alloc);
+    pub fn look_for(&mut self, part: &[u8]) -> Result<(), AllocError> {
+        self.clear();
         let words = part.len() / 8;
         for word in 0..words {
             let flags = b_flags(part, 8 * word);
             if flags != 0 {
-                targets.add_flagged(part, 8 * word, flags)?;
+                self.add_flagged(part, 8 * word, flags)?;
             }
         }
         for at in 8 * words..part.len() {
-            targets.add_target(part, at)?;
+            self.add_target(part, at)?;
         }
-        Ok(targets)
+        Ok(())
     }
 
     // Adds the targets of the flagged ones of 8 bytes.
@@ -66,8 +73,8 @@ impl Targets {
             return Ok(());
         }
         match back_reference(part, at) {
-            Some((target, _)) => self.add(target, part.len()),
-            None => Ok(()),
+            Some((target, _)) if !is_read_again(part, target) => self.add(target, part.len()),
+            _ => Ok(()),
         }
     }
 
@@ -89,11 +96,6 @@ impl Targets {
         Ok(())
     }
 
-    /// Whether there are none.
-    pub fn is_empty(&self) -> bool {
-        self.any == 0
-    }
-
     /// Whether a position may be a target.
     #[inline(always)]
     pub fn may_have(&self, at: usize) -> bool {
@@ -110,6 +112,26 @@ impl Targets {
         };
         (bits >> (at % 64)) & 1 == 1
     }
+}
+
+// The length of a name up to which what is short is read again. A longer one may have a long name in Punycode there, which
+// takes longer to decode than to copy.
+const SHORT_NAME: usize = 512;
+
+// Whether what begins at a position is read again: a crate's name, alone or before one or two names, costs no more to read
+// than to keep and to copy.
+#[inline(always)]
+fn is_read_again(part: &[u8], at: usize) -> bool {
+    if part.len() > SHORT_NAME {
+        return false;
+    }
+    let Some(path) = part.get(at..) else {
+        return false;
+    };
+    matches!(
+        path,
+        [b'C', ..] | [b'N', _, b'C', ..] | [b'N', _, b'N', _, b'C', ..]
+    )
 }
 
 // Of 8 bytes, the highest bit of each that is `B`.

@@ -35,11 +35,12 @@ const NONE_FAILED: u8 = 3;
 // The status where standard input names no rows, or has no number.
 const NO_ROWS: u8 = 2;
 
-const GROUPS: [&str; 14] = [
+const GROUPS: [&str; 15] = [
     "listings",
     "reports",
     "symbols",
     "names",
+    "kept",
     "trimmed",
     "crates",
     "tuples",
@@ -155,6 +156,7 @@ fn tally_of(alloc: Global, group: &str) -> Option<Tally> {
         "reports" => listings::add_reports(alloc, &mut tally),
         "symbols" => symbols::add_symbols(alloc, &mut tally),
         "names" => names::add_names(alloc, &mut tally),
+        "kept" => names::add_kept(alloc, &mut tally),
         "trimmed" => names::add_trimmed(alloc, &mut tally),
         "crates" => names::add_crates(alloc, &mut tally),
         "tuples" => names::add_tuples(alloc, &mut tally),

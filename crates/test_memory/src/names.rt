@@ -1,7 +1,7 @@
 //! Names: the answer, or `AllocError`; no name becomes Unknown since an allocation failed.
 
 use crate::tally::{Row, Tally};
-use binfarce::demangle::{Kind, SymbolName, crate_of, push_trimmed};
+use binfarce::demangle::{Demangler, Kind, SymbolName, crate_of, push_trimmed};
 use std::alloc::{AllocError, Global};
 
 pub(crate) struct Name {
@@ -100,19 +100,37 @@ fn is_text(text: Option<&String>, expected: Option<&str>) -> bool {
     }
 }
 
+fn is_answer(answer: &SymbolName, row: &Name) -> bool {
+    answer.kind == row.kind
+        && answer.complete.as_str() == row.complete
+        && answer.trimmed.as_str() == row.trimmed
+        && is_text(answer.crate_name.as_ref(), row.crate_name)
+}
+
 fn is_demangled(alloc: Global, row: &Name) -> Row {
     let answer = SymbolName::demangle(alloc, row.name)?;
-    Ok(
-        answer.kind == row.kind
-            && answer.complete.as_str() == row.complete
-            && answer.trimmed.as_str() == row.trimmed
-            && is_text(answer.crate_name.as_ref(), row.crate_name),
-    )
+    Ok(is_answer(&answer, row))
 }
 
 pub(crate) fn add_names(alloc: Global, tally: &mut Tally) {
     for row in &NAMES {
         tally.add(row.name, is_demangled(alloc, row));
+    }
+}
+
+fn is_kept(demangler: &mut Demangler, row: &Name, text: &mut String) -> Row {
+    text.clear();
+    demangler.push_trimmed(text, row.name)?;
+    let answer = demangler.demangle(row.name)?;
+    Ok(text.as_str() == row.trimmed && is_answer(&answer, row))
+}
+
+// One demangler for all names: after an allocation that failed, it answers the next ones as before.
+pub(crate) fn add_kept(alloc: Global, tally: &mut Tally) {
+    let mut demangler = Demangler::new(alloc);
+    let mut text = String::new(alloc);
+    for row in &NAMES {
+        tally.add(row.name, is_kept(&mut demangler, row, &mut text));
     }
 }
 

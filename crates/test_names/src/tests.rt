@@ -1,4 +1,5 @@
 mod answers;
+mod demangler;
 mod legacy_real;
 mod names;
 mod printing;

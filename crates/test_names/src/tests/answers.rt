@@ -1,7 +1,7 @@
 //! The answers that rows want of names. A test hands on what it is told as one truth: each assertion with a message of
 //! its own takes seconds to prove.
 
-use binfarce_names::demangle::{Kind, SymbolName, crate_of, push_trimmed};
+use binfarce_names::demangle::{Demangler, Kind, SymbolName, crate_of, push_trimmed};
 use std::alloc::{AllocError, Global};
 use std::process::Abort;
 use std::test::Fail;
@@ -56,14 +56,16 @@ fn of_line(kind: Option<Kind>, line: &str) -> Option<Row<'_>> {
     })
 }
 
+fn is_answer(answer: &SymbolName, row: &Row<'_>) -> bool {
+    answer.kind == row.kind
+        && answer.complete.as_str() == row.complete
+        && answer.trimmed.as_str() == row.trimmed
+        && answer.crate_name.as_ref().map(String::as_str) == row.root
+}
+
 fn is_answered(alloc: Global, row: &Row<'_>) -> Result<bool, AllocError> {
     let answer = SymbolName::demangle(alloc, row.name)?;
-    Ok(
-        answer.kind == row.kind
-            && answer.complete.as_str() == row.complete
-            && answer.trimmed.as_str() == row.trimmed
-            && answer.crate_name.as_ref().map(String::as_str) == row.root,
-    )
+    Ok(is_answer(&answer, row))
 }
 
 // The trimmed text alone, after another.
@@ -92,6 +94,43 @@ fn check(rt: &impl Abort, alloc: Global, row: &Row<'_>) -> Result<(), AllocError
         "the crate alone: {}",
         row.what
     );
+    Ok(())
+}
+
+// A demangler's answers for the row's name, each after another name.
+fn is_answered_after(
+    demangler: &mut Demangler,
+    before: &str,
+    row: &Row<'_>,
+    text: &mut String,
+) -> Result<bool, AllocError> {
+    text.clear();
+    let _ = demangler.demangle(before)?;
+    demangler.push_trimmed(text, row.name)?;
+    let same = text.as_str() == row.trimmed;
+    demangler.push_trimmed(text, before)?;
+    let answer = demangler.demangle(row.name)?;
+    let _ = demangler.crate_of(before)?;
+    let told = demangler.crate_of(row.name)?;
+    let tells = row.kind == Kind::Legacy || told.as_ref().map(String::as_str) == row.root;
+    Ok(same && tells && is_answer(&answer, row))
+}
+
+/// One demangler answers each line, as those of `check_lines` are, after each of these names.
+pub(super) fn check_after(
+    rt: &impl Abort,
+    alloc: Global,
+    names: &[&str],
+    lines: &str,
+) -> Result<(), Fail> {
+    let mut demangler = Demangler::new(alloc);
+    let mut text = String::new(alloc);
+    for before in names.iter().copied() {
+        for line in lines.lines() {
+            let row = of_line(None, line).ok_or("a line without its bars")?;
+            assert!(rt; is_answered_after(&mut demangler, before, &row, &mut text)?, "{} after {before}", row.what);
+        }
+    }
     Ok(())
 }
 

@@ -3,7 +3,7 @@
 use binfarce_v0::mangling::print;
 use binfarce_v0_grammar::limits::MAX_LEVELS;
 use binfarce_v0_print::paths::print_path;
-use binfarce_v0_state::state::Printer;
+use binfarce_v0_state::state::{Buffers, Printer};
 use binfarce_v0_text::position::Position;
 use std::alloc::{AllocError, Global};
 use std::process::Abort;
@@ -17,7 +17,7 @@ fn check_counts(
     steps: usize,
 ) -> Result<(), AllocError> {
     assert!(rt; name.is_ascii(), "a name is ASCII: {name}");
-    match print(alloc, name, true, false)? {
+    match print(Buffers::empty(alloc), name, true, false)? {
         Some(printed) => {
             assert_eq!(rt; printed.levels, levels, "levels: {name}");
             assert_eq!(rt; printed.steps, steps, "steps: {name}");
@@ -75,7 +75,7 @@ fn check_visits(
     visits: usize,
 ) -> Result<(), AllocError> {
     assert!(rt; name.is_ascii(), "a name is ASCII: {name}");
-    let mut printer = Printer::new(alloc, name, full, muted)?;
+    let mut printer = Printer::new(Buffers::empty(alloc), name, full, muted)?;
     print_path(&mut printer, MAX_LEVELS, 0, Position::InValue)?;
     assert_eq!(rt; printer.visits, visits, "visits: {name}");
     Ok(())

@@ -21,8 +21,8 @@ returns-then-is_allowed_rest c =
     let allowed : is_allowed_rest (drop c.in-Some-paths_end.after c.in-Some.part.now) ≡ true = rw (← c.as_bytes.ensures.value, ← c.rest_from.ensures) (sym c.is_allowed_rest.ensures ∙ c.if-is_allowed_rest.true) in
     (is_v0 c.args.text.now c.in-Some.part.now c.in-Some-paths_end.after c.in-Some.ensures.0 c.in-Some.ensures.1 c.in-Some.ensures.2 ends allowed, rw c.in-Some-2.is at c.in_ok-printed.ensures)
 
-pub returns : goal.returns
-returns c =
+pub returns-else-is_allowed_rest : goal.returns-else-is_allowed_rest
+returns-else-is_allowed_rest c =
     let ends : paths_end c.in-Some.part.now ≡ Some c.in-Some-paths_end.after = sym c.paths_end.ensures ∙ c.in-Some-paths_end.is in
     let refused : is_allowed_rest (drop c.in-Some-paths_end.after c.in-Some.part.now) ≡ false = rw (← c.as_bytes.ensures.value, ← c.rest_from.ensures) (sym c.is_allowed_rest.ensures ∙ c.if-is_allowed_rest.false) in
     bad_rest c.args.text.now c.in-Some.part.now c.in-Some-paths_end.after c.in-Some.ensures.0 c.in-Some.ensures.1 c.in-Some.ensures.2 ends refused

@@ -3,7 +3,7 @@ use Rattle.binfarce_names.specs.Name.{name_view}
 use Rattle.binfarce_names.specs.Named.{IsNamed, unknown}
 use Rattle.binfarce_names.proofs.NameLemmas.{if_ok}
 use Rattle.binfarce_names.proofs.Trimmed.{IsOther, named_legacy, named_texts, named_unchanged}
-use Rattle.binfarce_names.proofs.demangle.SymbolName.demangle.Goals as goal
+use Rattle.binfarce_names.proofs.demangle.Demangler.demangle.Goals as goal
 
 pub returns-in-Some : goal.returns-in-Some
 returns-in-Some c =

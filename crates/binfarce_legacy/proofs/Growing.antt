@@ -1,6 +1,7 @@
 -- Texts that grow, and are cut back where a text before them ends.
-use Rattle.std.proofs.Common.{◌≡◌, ℕ, ◌+◌, ◌≤◌, Bool, true, false, List, [], ◌++◌, length, take, drop, sym, ap, subst, ◌∙◌, arith, append_assoc, append-nil, length-append}
-use Rattle.std.specs.Prelude.{if◌then◌else◌}
+use Rattle.std.proofs.Common.{◌≡◌, ℕ, ◌+◌, ◌≤◌, Bool, true, false, List, [], ◌++◌, Result, Ok, Err, length, take, drop, sym, ap, subst, ◌∙◌, arith, append_assoc, append-nil, length-append}
+use Rattle.std.specs.Prelude.{OnOk, if◌then◌else◌}
+use Rattle.std.specs.Result.{is_ok}
 use Rattle.std.specs.Str.{IsUtf8, IsCharBoundary}
 use Rattle.std.specs.String.Boundary.{IsSplitPoint}
 use Rattle.std.proofs.lemmas.Str.{IsUtf8-append, IsCharBoundary-from_take}
@@ -42,3 +43,8 @@ split_point text n at = (at.0, λ _. at.1)
 -- what a text grew by
 pub rest_is : (old more new : List ℕ) → new ≡ old ++ more → drop (length old) new ≡ more
 rest_is old more new is = ap (drop (length old)) is ∙ drop-append_seam old more
+
+-- what a push that succeeds leaves
+pub push_ok : {T E : Type 0} (r : Result T E) (old new part : List ℕ) (Q : Type 0) → (new ≡ old ++ part → Q) → new ≡ (if is_ok r then old ++ part else old) → OnOk r Q
+push_ok (Ok x) old new part Q f h = f h
+push_ok (Err e) old new part Q f h = tt

@@ -1,18 +1,19 @@
 -- Elements that are written one after the other, joined by `::`.
-use Rattle.std.proofs.Common.{◌≡◌, ℕ, ◌+◌, ◌<◌, cond, eqb, inl, inr, List, [], ◌∷◌, ◌++◌, get_or, drop, take, codes, ap, sym, ◌∙◌, arith, append_assoc, refl}
+use Rattle.std.proofs.Common.{◌≡◌, ℕ, ◌+◌, ◌-◌, ◌<◌, true, cond, eqb, nat_eq, inl, inr, List, [], ◌∷◌, ◌++◌, get_or, drop, take, codes, ap, sym, ◌∙◌, arith, append_assoc, refl}
 use Rattle.std.proofs.lemmas.Bool.{cases_eq, cond-true, cond-false, eq-eqb, ne_eqb}
 use Rattle.std.proofs.lemmas.List.{drop-drop, append-nil}
 use Rattle.std.proofs.lemmas.List.Sums.{prefix_len_passes}
 use Rattle.std.proofs.lemmas.Str.{encodes-append, encodes-IsAscii}
 use Rattle.std.proofs.lemmas.Str.Ascii.{IsAscii-cons, IsAscii-nil}
 use Rattle.std.specs.Char.{is_ascii_digit}
-use Rattle.std.specs.List.{flat_map}
+use Rattle.std.specs.List.{flat_map, starts_with}
 use Rattle.std.specs.Str.{encode_utf8_all}
 use Rattle.std.specs.Str.Parse.{digits_value}
-use Rattle.binfarce_legacy.specs.Legacy.{Element, Reads, name_chars, legacy_chars, IsFront}
+use Rattle.binfarce_legacy.specs.Legacy.{Element, Reads, first_piece, named_escape, pieces, name_chars, legacy_chars, IsFront}
 use Rattle.binfarce_legacy.specs.machine.Reading.{name_start, name_end, HasElement}
 use Rattle.binfarce_legacy.proofs.Left.{joined_left, IsLeft}
 use Rattle.binfarce_legacy.proofs.ElementLemmas.{not_digit, reads_fits, reads_name, reads_after}
+use Rattle.binfarce_text.proofs.TextLemmas.{begins}
 
 -- what is written before an element: nothing before the first, `::` before any other
 abbrev pub separator : ℕ → List ℕ
@@ -121,6 +122,17 @@ unfolding name_end name_start
 first_left part end printed name elements rest r has ends named wrote =
     left_step part 0 end [] [] printed name elements rest elements (left_at_start part [] elements rest r) has (ends ∙ omega arith) named wrote
 
+-- the first element's name, as it is sliced
+pub first_name : (part bytes : List ℕ) (start end : ℕ) (name : List ℕ) → bytes ≡ part → ◌≡◌ {A = ℕ × ℕ} (start, end) (0 + name_start bytes, 0 + name_end bytes) → name ≡ take (end - start) (drop start part)
+    → (end ≡ name_end part) × (name ≡ take (digits_value 10 (take (name_start part) part)) (drop (name_start part) part))
+unfolding name_end
+first_name part bytes start end name same at slice =
+    let first : start ≡ name_start part = omega (arith, ap (λ (p : ℕ × ℕ). p.0) at, ap name_start same) in
+    let last : end ≡ name_end part = omega (arith, ap (λ (p : ℕ × ℕ). p.1) at, ap name_end same) in
+    let v : ℕ = digits_value 10 (take (name_start part) part) in
+    let len : end - start ≡ v = omega (arith, first, last) in
+    (last, slice ∙ ap (λ j. take j (drop start part)) len ∙ ap (λ j. take v (drop j part)) first)
+
 -- and is all that there is
 pub front_of_one : (part : List ℕ) (end : ℕ) (printed name : List ℕ) (elements : List Element) (rest : List ℕ) → Reads part elements rest → HasElement part → end ≡ name_end part
     → name ≡ take (digits_value 10 (take (name_start part) part)) (drop (name_start part) part) → printed ≡ encode_utf8_all (name_chars name)
@@ -139,7 +151,30 @@ before_another part end printed elements rest (e ∷ others) is pos has =
     let step : encode_utf8_all (joined_left end (e ∷ others)) ≡ codes "::" ++ encode_utf8_all later =
     ap encode_utf8_all (joined_left-step end end e others pos) ∙ encodes-append (separator end) later
     ∙ ap (λ (x : List ℕ). x ++ encode_utf8_all later) (separator_ascii end ∙ separator-later end pos) in
-    inr (printed, encode_utf8_all later, refl, sym is.joined ∙ ap (λ (x : List ℕ). printed ++ x) step ∙ sym (append_assoc printed (codes "::") (encode_utf8_all later)))
+    inr (inl (printed, encode_utf8_all later, refl, sym is.joined ∙ ap (λ (x : List ℕ). printed ++ x) step ∙ sym (append_assoc printed (codes "::") (encode_utf8_all later))))
+
+-- a name that begins with an escaped `<`
+less_chars : (more : List ℕ) → name_chars (codes "_$LT$" ++ more) ≡ codes "<" ++ flat_map (λ p. p.chars) (pieces 0 more)
+unfolding name_chars first_piece named_escape
+less_chars more = refl
+
+less_first : (name : List ℕ) → starts_with nat_eq name (codes "_$LT$") ≡ true → (more : List ℕ) × (encode_utf8_all (name_chars name) ≡ codes "<" ++ more)
+less_first name less =
+    let chars : List ℕ = flat_map (λ p. p.chars) (pieces 0 (drop 5 name)) in (
+      encode_utf8_all chars,
+      ap (λ (x : List ℕ). encode_utf8_all (name_chars x)) (begins name (codes "_$LT$") less)
+          ∙ ap encode_utf8_all (less_chars (drop 5 name)) ∙ encodes-append (codes "<") chars
+          ∙ ap (λ (x : List ℕ). x ++ encode_utf8_all chars) (encodes-IsAscii (codes "<") (IsAscii-cons 60 [] (omega arith) IsAscii-nil)),
+    )
+
+pub front_of_less : (part : List ℕ) (end : ℕ) (name : List ℕ) (elements : List Element) (rest : List ℕ) → Reads part elements rest → HasElement part → end ≡ name_end part
+    → name ≡ take (digits_value 10 (take (name_start part) part)) (drop (name_start part) part) → starts_with nat_eq name (codes "_$LT$") ≡ true
+    → IsFront (codes "<") (encode_utf8_all (legacy_chars elements))
+front_of_less part end name elements rest r has ends named less =
+    let left = first_left part end (encode_utf8_all (name_chars name)) name elements rest r has ends named refl in
+    let begun = less_first name less in
+    let later : List ℕ = encode_utf8_all (joined_left end left.0) in
+    inr (inr (refl, (begun.0 ++ later, sym left.1.joined ∙ ap (λ (x : List ℕ). x ++ later) begun.1 ∙ append_assoc (codes "<") begun.0 later)))
 
 -- and another one follows
 pub front_of_more : (part : List ℕ) (end : ℕ) (printed name : List ℕ) (elements : List Element) (rest : List ℕ) → Reads part elements rest → HasElement part → end ≡ name_end part

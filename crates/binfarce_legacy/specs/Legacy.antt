@@ -111,9 +111,12 @@ without_last_part chars =
     then (let front = before_last (λ c. c == ':') chars in take (length front - 1) front)
     else chars
 
--- front is the path, or what stands of it up to the end of a `::`
+-- front is the path, or what stands of it up to the end of a `::`, or the `<` that it begins with
 abbrev pub IsFront : (front path : List ℕ) → Type 0
-IsFront front path = (front ≡ path) ⊎ ((first more : List ℕ) × (front ≡ first ++ codes "::") × (path ≡ front ++ more))
+IsFront front path =
+    (front ≡ path)
+    ⊎ (((first more : List ℕ) × (front ≡ first ++ codes "::") × (path ≡ front ++ more))
+    ⊎ ((front ≡ codes "<") × ((more : List ℕ) × (path ≡ front ++ more))))
 
 -- `_ZN4$LT$3barE` is `$LT$` and `bar`
 abbrev worked_elements : List Element

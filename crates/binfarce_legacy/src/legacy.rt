@@ -354,24 +354,28 @@ pub fn complete(alloc: Global, part: &str) -> Result<String, AllocError>
     Ok(text)
 }
 
-/// What the readable text of a mangling begins with: its first element's name in readable form, and where another element
-/// follows, `::`. `part` is what stands after the prefix. The only refusal is that an allocation was refused.
-pub fn front(alloc: Global, part: &str) -> Result<String, AllocError>
+/// Writes what the readable text of a mangling begins with after the text: its first element's name in readable form, and
+/// where another element follows, `::`; of a name that begins with an escaped `<` no more than that `<`. `part` is what
+/// stands after the prefix. The only refusal is that an allocation was refused.
+pub fn push_front(text: &mut String, part: &str) -> Result<(), AllocError>
     requires { IsAscii part.now }
-    ensures { IfOk result (λ text. (elements : List Element) (rest : List ℕ)
-        → Reads part.now elements rest → IsFront (string_bytes text) (encode_utf8_all (legacy_chars elements))) }
+    ensures front { OnOk result ((elements : List Element) (rest : List ℕ) → Reads part.now elements rest
+        → (front : List ℕ) × (string_bytes text.new ≡ string_bytes text.old ++ front) × IsFront front (encode_utf8_all (legacy_chars elements))) }
+    ensures grows { Grows (string_bytes text.old) (string_bytes text.new) }
 {
-    let mut text = String::new(alloc);
     let bytes = part.as_bytes();
     let Some((start, end)) = element(bytes, 0) else {
-        return Ok(text);
+        return Ok(());
     };
-    push_name(&mut text, &part[start..end])?;
+    let first = &part[start..end];
+    if first.as_bytes().starts_with(b"_$LT$") {
+        return text.push_str("<");
+    }
+    push_name(text, first)?;
     let Some(_) = element(bytes, end) else {
-        return Ok(text);
+        return Ok(());
     };
-    text.push_str("::")?;
-    Ok(text)
+    text.push_str("::")
 }
 
 /// Writes the readable text of a mangling without its last part after the text. The only refusal is that an allocation

@@ -1,7 +1,7 @@
 -- A path is split where it first has `::`.
 use Rattle.std.proofs.Common.{inl, inr, ◌≡◌, ℕ, zero, suc, ◌<◌, ◌≤◌, true, false, Bool, List, [], ◌∷◌, ◌++◌, length, take, drop, refl, sym, ◌∙◌, ap, arith}
 use Rattle.std.specs.List.{starts_with}
-use Rattle.std.specs.Prelude.{nat_eq, codes}
+use Rattle.std.specs.Prelude.{nat_eq, codes, if◌then◌else◌}
 use Rattle.std.specs.Str.Pattern.{LacksTextAt}
 use Rattle.std.proofs.lemmas.List.{take-append-drop}
 use Rattle.std.proofs.lemmas.Slice.Eq.{bytes_eq-Decides}
@@ -55,5 +55,21 @@ crate_before first more = rw (begins_alike first more, split_first first more) r
 -- the crate that a path begins with is that of its front
 pub crate_of_front : (front path : List ℕ) → IsFront front path → path_crate front ≡ path_crate path
 crate_of_front front path (inl same) = ap path_crate same
-crate_of_front front path (inr (first, more, is, path_is)) =
+crate_of_front front path (inr (inl (first, more, is, path_is))) =
     ap path_crate is ∙ crate_before first more ∙ ap (λ (x : List ℕ). path_crate (x ++ more)) (sym is) ∙ ap path_crate (sym path_is)
+crate_of_front front path (inr (inr (is, (more, path_is)))) =
+    ap path_crate is ∙ sym (ap path_crate (path_is ∙ ap (λ (x : List ℕ). x ++ more) is))
+
+-- a path's first part
+one_more : (stops : Bool) (x : ℕ) (first xs : List ℕ) → first ≡ take (length first) xs → (if stops then [] else x ∷ first) ≡ take (length (if stops then [] else x ∷ first)) (x ∷ xs)
+one_more true x first xs is = refl
+one_more false x first xs is = ap (λ (s : List ℕ). x ∷ s) is
+
+first_part_front : (s : List ℕ) → first_part s ≡ take (length (first_part s)) s
+first_part_front [] = refl
+first_part_front (x ∷ xs) = one_more (starts_with nat_eq (x ∷ xs) (codes "::")) x (first_part xs) xs (first_part_front xs)
+
+-- and stands at the front of a path
+pub stands : (path first front : List ℕ) → first ≡ first_part path → path ≡ front → first ≡ take (length first) front
+stands path first front is same =
+    is ∙ first_part_front path ∙ ap (λ (s : List ℕ). take (length s) path) (sym is) ∙ ap (take (length first)) same

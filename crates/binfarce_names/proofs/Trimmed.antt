@@ -1,5 +1,5 @@
 -- What is answered of a name: its answer, a text that grows by its trimmed text, and the crate that it tells.
-use Rattle.std.proofs.Common.{◌≡◌, ℕ, false, List, ◌++◌, Option, Result, Ok, Err, inl, inr, refl, ap, subst, ◌∙◌}
+use Rattle.std.proofs.Common.{◌≡◌, ℕ, Bool, false, List, ◌++◌, Option, Result, Ok, Err, inl, inr, refl, ap, subst, ◌∙◌}
 use Rattle.std.specs.Prelude.{OnOk, encode_utf8_all, if◌then◌else◌}
 use Rattle.std.specs.Result.{is_ok}
 use Rattle.binfarce_names.specs.declared.demangle.Kind.TheVariants.{V0}
@@ -9,7 +9,7 @@ use Rattle.binfarce_v0_grammar.specs.Tree.{PathTree}
 use Rattle.binfarce_v0.specs.Mangling.{IsV0, HasNoTree}
 use Rattle.binfarce_v0_state.specs.machine.Outcome.{Outcome}
 use Rattle.binfarce_v0.specs.machine.Outcome.{HasTree, IsOutcome, IsCrateName, AreTexts}
-use Rattle.binfarce_names.specs.Crates.{crate_of, path_crate}
+use Rattle.binfarce_names.specs.Crates.{GrowsByCrate, crate_of, path_crate}
 use Rattle.binfarce_names.specs.Name.{Name}
 use Rattle.binfarce_names.specs.Named.{IsNotLegacy, IsNamed, legacy, unknown, v0}
 
@@ -74,22 +74,22 @@ tree_grows name text part outcome old new o v is grown =
 pub unchanged_grows : (name text old new : List ℕ) → IsOther name text → HasNoTree text → new ≡ old ++ name → Grows name old new
 unchanged_grows name text old new o none grown = (unknown name, named_unchanged name text (unknown name) o none refl, grown)
 
--- an answer of a name that tells this crate
-abbrev pub Tells : List ℕ → Option (List ℕ) → Type 0
-Tells name c = (n : Name) × IsNamed name n × (c ≡ crate_of n)
+-- an answer of a name, and a text that grew by the crate that it tells
+abbrev pub Tells : (name : List ℕ) (told : Bool) (old new : List ℕ) → Type 0
+Tells name told old new = (n : Name) × IsNamed name n × GrowsByCrate (crate_of n) told old new
 
 -- a legacy mangling tells the crate of its path
-pub legacy_tells : (name text part rest : List ℕ) (elements : List Element) (c : Option (List ℕ)) → text ≡ without_llvm name → IsLegacy text part elements rest
-    → ((elements : List Element) (rest : List ℕ) → Reads part elements rest → c ≡ path_crate (encode_utf8_all (legacy_chars elements)))
-    → Tells name c
+pub legacy_tells : (name text part rest : List ℕ) (elements : List Element) (told : Bool) (old new : List ℕ) → text ≡ without_llvm name → IsLegacy text part elements rest
+    → ((elements : List Element) (rest : List ℕ) → Reads part elements rest → GrowsByCrate (path_crate (encode_utf8_all (legacy_chars elements))) told old new)
+    → Tells name told old new
 unfolding crate_of
-legacy_tells name text part rest elements c e is path =
+legacy_tells name text part rest elements told old new e is path =
     (legacy elements, named_legacy name text part rest elements (legacy elements) e is refl, path elements rest is.reads)
 
 -- a v0 mangling tells its crate root, if it unfolds to a tree, and any other name tells none
-pub other_tells : (name text : List ℕ) (c : Option (List ℕ)) → IsOther name text → IsCrateName text c → Tells name c
+pub other_tells : (name text : List ℕ) (c : Option (List ℕ)) (told : Bool) (old new : List ℕ) → IsOther name text → IsCrateName text c → GrowsByCrate c told old new → Tells name told old new
 unfolding crate_of
-other_tells name text c o root = elim root [
-  | inl t ↦ (v0 t.0, named_v0 name text t.0 (v0 t.0) o t.1 refl, t.2)
-  | inr none ↦ (unknown name, named_unchanged name text (unknown name) o none.0 refl, none.1)
+other_tells name text c told old new o root grown = elim root [
+  | inl t ↦ (v0 t.0, named_v0 name text t.0 (v0 t.0) o t.1 refl, subst (λ (x : Option (List ℕ)). GrowsByCrate x told old new) t.2 grown)
+  | inr none ↦ (unknown name, named_unchanged name text (unknown name) o none.0 refl, subst (λ (x : Option (List ℕ)). GrowsByCrate x told old new) none.1 grown)
 ]

@@ -1,5 +1,5 @@
 -- The crate that a name tells.
-use Rattle.std.specs.Prelude.{ℕ, List, [], ◌∷◌, Option, Some, None, nat_eq, codes, if◌then◌else◌}
+use Rattle.std.specs.Prelude.{◌≡◌, ℕ, List, [], ◌∷◌, ◌++◌, Bool, Option, Some, None, is_some, unwrap_or, nat_eq, codes, if◌then◌else◌}
 use Rattle.std.specs.List.{starts_with}
 use Rattle.binfarce_names.specs.declared.demangle.Kind.{Kind}
 use Rattle.binfarce_names.specs.declared.demangle.Kind.TheVariants.{Unknown, Legacy, V0}
@@ -23,3 +23,7 @@ told_crate Unknown root path = None
 -- the crate that a name tells: a legacy name by its path, and a v0 name by its crate root
 unfoldable pub crate_of : (name : Name) → Option (List ℕ)
 crate_of name = told_crate name.kind name.crate_name name.complete
+
+-- told says whether there is a crate, and new is old with its name after it, if there is one
+abbrev pub GrowsByCrate : (crate_name : Option (List ℕ)) (told : Bool) (old new : List ℕ) → Type 0
+GrowsByCrate crate_name told old new = (told ≡ is_some crate_name) × (new ≡ old ++ unwrap_or crate_name [])

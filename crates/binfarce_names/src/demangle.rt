@@ -4,7 +4,7 @@ ghost use Rattle.std.specs.Prelude.{◌≡◌, ◌++◌, ℕ, List, IfOk, OnOk, 
 ghost use Rattle.std.specs.Str.{IsAscii};
 ghost use Rattle.std.specs.String.{string_bytes};
 ghost use Rattle.binfarce_legacy.specs.Legacy.{Element, Reads, legacy_chars};
-ghost use Rattle.binfarce_names.specs.Crates.{crate_of, first_part, path_crate};
+ghost use Rattle.binfarce_names.specs.Crates.{GrowsByCrate, crate_of, first_part, path_crate};
 ghost use Rattle.binfarce_names.specs.Name.{Name, mangled_view, name_view};
 ghost use Rattle.binfarce_names.specs.Named.{IsNamed, IsMangled, legacy, unknown};
 
@@ -208,26 +208,57 @@ pub fn push_trimmed(alloc: Global, text: &mut String, name: &str) -> Result<(), 
 pub fn crate_of(alloc: Global, name: &str) -> Result<Option<String>, AllocError>
     ensures told { IfOk result (λ c. (n : Name) × IsNamed name.now n × (option_map string_bytes c ≡ crate_of n)) }
 {
-    let text = without_llvm(name);
-    match legacy::mangling(text) {
-        Some(part) => path_crate(alloc, part),
-        None => v0::crate_name(alloc, text),
+    let mut text = String::new(alloc);
+    if push_crate(alloc, &mut text, name)? {
+        Ok(Some(text))
+    } else {
+        Ok(None)
     }
 }
 
-// The crate that the path of a legacy mangling begins with. What stands behind the path's first element, or the `::` after it,
-// isn't looked at: the crate is told before it.
-#[tactic(auto, using(crate::proofs::FirstPart::crate_of_front))]
-fn path_crate(alloc: Global, part: &str) -> Result<Option<String>, AllocError>
-    requires { IsAscii part.now }
-    ensures { IfOk result (λ c. (elements : List Element) (rest : List ℕ)
-        → Reads part.now elements rest → option_map string_bytes c ≡ path_crate (encode_utf8_all (legacy_chars elements))) }
+/// Writes the crate that `crate_of` gives after `text`: true where `name` tells one, and else false, and nothing is written.
+/// Where many names tell few crates, one text that is cleared before each name takes the memory of the longest alone.
+///
+/// # Errors
+///
+/// `AllocError` where an allocation failed. `text` is then as it was.
+pub fn push_crate(alloc: Global, text: &mut String, name: &str) -> Result<bool, AllocError>
+    ensures told { IfOk result (λ told. (n : Name) × IsNamed name.now n × GrowsByCrate (crate_of n) told (string_bytes text.old) (string_bytes text.new)) }
+    ensures unchanged { OnErr result (string_bytes text.new ≡ string_bytes text.old) }
 {
-    let front = legacy::front(alloc, part)?;
-    if front.starts_with("<") {
-        return Ok(None);
+    let stripped = without_llvm(name);
+    match legacy::mangling(stripped) {
+        Some(part) => push_path_crate(text, part),
+        None => v0::push_crate_name(alloc, text, stripped),
     }
-    Ok(Some(String::from_str(alloc, first_part(front.as_str()))?))
+}
+
+// Writes the crate that the path of a legacy mangling begins with after the text: whether there is one. What stands behind
+// the path's first element, or the `::` after it, isn't looked at: the crate is told before it. An allocation that was
+// refused leaves the text as it was.
+fn push_path_crate(text: &mut String, part: &str) -> Result<bool, AllocError>
+    requires { IsAscii part.now }
+    ensures told { IfOk result (λ told. (elements : List Element) (rest : List ℕ) → Reads part.now elements rest
+        → GrowsByCrate (path_crate (encode_utf8_all (legacy_chars elements))) told (string_bytes text.old) (string_bytes text.new)) }
+    ensures unchanged { OnErr result (string_bytes text.new ≡ string_bytes text.old) }
+{
+    let start = text.as_str().len();
+    match legacy::push_front(text, part) {
+        Ok(()) => {
+            let front = &text.as_str()[start..];
+            if front.starts_with("<") {
+                text.truncate(start);
+                return Ok(false);
+            }
+            let kept = first_part(front).len();
+            text.truncate(start + kept);
+            Ok(true)
+        }
+        Err(refused) => {
+            text.truncate(start);
+            Err(refused)
+        }
+    }
 }
 
 // A path up to its first `::`, or all of it.

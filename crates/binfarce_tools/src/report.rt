@@ -21,7 +21,7 @@ use crate::functions::{Functions, functions_of_file};
 use crate::list::{ListError, Sink};
 use crate::tables::Tables;
 use crate::writing::write_whole;
-use binfarce::demangle::crate_of;
+use binfarce::demangle::push_crate;
 use binfarce::{FunctionSymbol, ParseError};
 use std::alloc::{AllocError, Global};
 use std::collections::BTreeMap;
@@ -195,11 +195,12 @@ fn crate_sums(
 {
     let mut crates = BTreeMap::new(alloc);
     let mut total = 0u64;
+    let mut text = String::new(alloc);
     for function in functions {
         total = total
             .checked_add(function.size)
             .ok_or(ReportError::TooLarge)?;
-        add_function(alloc, &mut crates, function)?;
+        add_function(alloc, &mut crates, &mut text, function)?;
     }
     Ok(CrateSums {
         crates,
@@ -208,35 +209,49 @@ fn crate_sums(
     })
 }
 
-// Adds a function's size to the sum of its crate.
+// Adds a function's size to the sum of its crate, whose name is written in place of the text: it is kept from one function
+// to the next, so that no memory is taken for a name that the sums have.
 fn add_function(
     alloc: Global,
     crates: &mut BTreeMap<String, u64>,
+    text: &mut String,
     function: FunctionSymbol<'_>,
 ) -> Result<(), AllocError>
     requires { (name : List ℕ) → sum_at crates.old name + function.size < 2 ^ 64 }
     ensures { OnOk result ((share : Share) × IsShareOf (function_view function.entry) share × Adds crates.old share crates.new) }
 {
-    let name = crate_text(alloc, function.name)?;
-    add_size(crates, name, function.size)
+    put_crate(alloc, text, function.name)?;
+    add_size(alloc, crates, text.as_str(), function.size)
 }
 
-// Adds a size to the sum of a crate.
-fn add_size(crates: &mut BTreeMap<String, u64>, name: String, size: u64) -> Result<(), AllocError>
-    requires { sum_at crates.old (string_bytes name) + size < 2 ^ 64 }
-    ensures { OnOk result (Adds crates.old (record { name = string_bytes name; size = size }) crates.new) }
+// Adds a size to the sum of a crate. Its name is copied where there is no sum yet.
+fn add_size(
+    alloc: Global,
+    crates: &mut BTreeMap<String, u64>,
+    name: &str,
+    size: u64,
+) -> Result<(), AllocError>
+    requires { sum_at crates.old name.now + size < 2 ^ 64 }
+    ensures { OnOk result (Adds crates.old (record { name = name.now; size = size }) crates.new) }
 {
-    *crates.entry(name)?.or_insert(0) += size;
+    match crates.get_mut(name) {
+        Some(sum) => *sum += size,
+        None => {
+            let _ = crates.insert(String::from_str(alloc, name)?, size)?;
+        }
+    }
     Ok(())
 }
 
-// The crate that a function of this name is counted for.
-fn crate_text(alloc: Global, name: &str) -> Result<String, AllocError>
-    ensures { IfOk result (λ t. (n : Name) × IsNamed name.now n × (string_bytes t ≡ crate_text n)) }
+// Writes the crate that a function of this name is counted for in place of the text.
+fn put_crate(alloc: Global, text: &mut String, name: &str) -> Result<(), AllocError>
+    ensures { OnOk result ((n : Name) × IsNamed name.now n × (string_bytes text.new ≡ crate_text n)) }
 {
-    match crate_of(alloc, name)? {
-        Some(found) => Ok(found),
-        None => String::from_str(alloc, UNKNOWN_CRATE),
+    text.clear();
+    if push_crate(alloc, text, name)? {
+        Ok(())
+    } else {
+        text.push_str(UNKNOWN_CRATE)
     }
 }
 

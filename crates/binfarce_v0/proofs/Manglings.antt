@@ -1,15 +1,15 @@
 -- What the reading and the printer do with a whole name.
-use Rattle.std.proofs.Common.{◌≡◌, ℕ, ◌≤◌, ◌-◌, min, inl, inr, Bool, true, false, if◌then◌else◌, List, [], Option, Some, None, cond, refl, ap, sym, ◌∙◌, subst, arith}
+use Rattle.std.proofs.Common.{◌≡◌, ℕ, ◌≤◌, ◌-◌, min, Bool, true, false, if◌then◌else◌, List, [], Option, Some, None, cond, refl, ap, sym, ◌∙◌, subst, arith}
 use Rattle.std.specs.Option.{option_map}
 use Rattle.binfarce_v0_text.specs.LeafTexts.{identifier_text}
 use Rattle.binfarce_v0_grammar.specs.Tree.{PathTree, path_height, path_steps}
-use Rattle.binfarce_v0_text.specs.TreeTexts.{name_text, InValue}
+use Rattle.binfarce_v0_text.specs.TreeTexts.{InValue}
 use Rattle.binfarce_v0_grammar.specs.Unfolding.{IsPath, UnfoldsTo}
 use Rattle.binfarce_v0_grammar.specs.declared.limits.TheConstants.{MAX_LEVELS, MAX_STEPS}
-use Rattle.binfarce_v0.specs.Mangling.{is_upper_at, PathStands, SecondPath, ReadsPaths, IsMangling, IsV0, HasNoTree, part_after_prefix}
+use Rattle.binfarce_v0.specs.Mangling.{is_upper_at, PathStands, SecondPath, ReadsPaths, IsMangling, IsV0, part_after_prefix}
 use Rattle.binfarce_v0.specs.machine.Mangling.{paths_end}
 use Rattle.binfarce_v0_state.specs.machine.Outcome.{Outcome, outcome_of}
-use Rattle.binfarce_v0.specs.machine.Outcome.{ReadsUpTo, IsOutcome, IsCrateName, AreTexts}
+use Rattle.binfarce_v0.specs.machine.Outcome.{ReadsUpTo, IsOutcome, AreTexts}
 use Rattle.binfarce_v0_state.specs.machine.Printing.{State, readers, first_state}
 use Rattle.binfarce_v0_grammar.specs.machine.Ends.{ends}
 use Rattle.std.specs.Prelude.{MatchOption}
@@ -126,10 +126,3 @@ are_texts text part outcome complete trimmed crate_name v is c t e =
       trimmed_is = t ∙ is.trimmed_is;
       crate_is = e ∙ ap (option_map identifier_text) is.root_is;
     }
-
-pub has_crate : (text part : List ℕ) (outcome : Outcome) (crate_name : Option (List ℕ)) → IsV0 text part → IsOutcome part false true outcome → crate_name ≡ option_map identifier_text outcome.root → IsCrateName text crate_name
-has_crate text part outcome crate_name v is e =
-    inl (is.tree, record { part = part; mangling = v; unfolds = is.unfolds }, e ∙ ap (option_map identifier_text) is.root_is)
-
-pub has_no_crate : (text : List ℕ) (crate_name : Option (List ℕ)) → HasNoTree text → crate_name ≡ None → IsCrateName text crate_name
-has_no_crate text crate_name none e = inr (none, e)

@@ -1,6 +1,6 @@
 //! A whole v0 mangling.
 
-ghost use Rattle.std.specs.Prelude.{◌≡◌, ℕ, List, IfOk, MatchOption, Some, true, option_map, drop};
+ghost use Rattle.std.specs.Prelude.{◌≡◌, ◌++◌, ℕ, List, [], IfOk, OnOk, OnErr, MatchOption, Option, Some, true, is_some, option_map, unwrap_or, drop};
 ghost use Rattle.std.specs.Option.{option_copied};
 ghost use Rattle.std.specs.Str.{IsAscii};
 ghost use Rattle.std.specs.String.{string_bytes};
@@ -173,15 +173,41 @@ fn root_text(
     Ok(Some(text))
 }
 
-/// The name of the first crate root of what the v0 mangling `text` unfolds to. None where the tree has no crate root, and
-/// where `text` is no v0 mangling that unfolds to a tree within the limits. Nothing but that name is written.
-#[tactic(auto, using(crate::proofs::Manglings::has_crate, crate::proofs::Manglings::has_no_crate))]
-pub fn crate_name(alloc: Global, text: &str) -> Result<Option<String>, AllocError>
-    ensures { IfOk result (λ c. IsCrateName text.now (option_map string_bytes c)) }
+// Writes a crate's name after the text: whether there is one. An allocation that was refused leaves the text as it was.
+#[tactic(auto, unfolding(binfarce_v0_text::specs::LeafTexts::identifier_text))]
+fn push_root(
+    alloc: Global,
+    text: &mut String,
+    root: Option<UndisambiguatedIdentifier<'_>>,
+) -> Result<bool, AllocError>
+    ensures told { IfOk result (λ told. told ≡ is_some root.entry) }
+    ensures grown { OnOk result (string_bytes text.new ≡ string_bytes text.old ++ unwrap_or (option_map identifier_text (option_map undisambiguated_view root.entry)) []) }
+    ensures unchanged { OnErr result (string_bytes text.new ≡ string_bytes text.old) }
 {
-    match print_mangling(&mut Memory::new(alloc), text, false, true)? {
-        Some((_, printed)) => root_text(alloc, printed.root),
-        None => Ok(None),
+    let Some(name) = root else {
+        return Ok(false);
+    };
+    if name.punycode.is_empty() {
+        text.push_str(name.ascii)?;
+        return Ok(true);
+    }
+    let mut decoded = String::new(alloc);
+    name.push(&mut decoded)?;
+    text.push_str(decoded.as_str())?;
+    Ok(true)
+}
+
+/// Writes the name of the first crate root of what the v0 mangling `name` unfolds to after `text`: whether there is one. There
+/// is none where the tree has no crate root, and where `name` is no v0 mangling that unfolds to a tree within the limits.
+/// Nothing but that name is written. An allocation that was refused leaves `text` as it was.
+pub fn push_crate_name(alloc: Global, text: &mut String, name: &str) -> Result<bool, AllocError>
+    ensures told { IfOk result (λ told. (crate_name : Option (List ℕ)) × IsCrateName name.now crate_name
+        × (told ≡ is_some crate_name) × (string_bytes text.new ≡ string_bytes text.old ++ unwrap_or crate_name [])) }
+    ensures unchanged { OnErr result (string_bytes text.new ≡ string_bytes text.old) }
+{
+    match print_mangling(&mut Memory::new(alloc), name, false, true)? {
+        Some((_, printed)) => push_root(alloc, text, printed.root),
+        None => Ok(false),
     }
 }
 

@@ -1,9 +1,10 @@
-use Rattle.std.proofs.Common.{ap}
-use Rattle.std.specs.String.{string_bytes}
+use Rattle.std.proofs.Common.{ap, ◌∙◌}
+use Rattle.binfarce_tools.specs.Report.{Share}
 use Rattle.binfarce_tools.proofs.CrateSums.{on_ok}
 use Rattle.binfarce_tools.proofs.report.add_function.Goals as goal
 
 pub returns : goal.returns
 returns c =
-    let told = c.in_ok-name.ensures in
-    on_ok _ _ c.add_size.result (λ added. (record { name = string_bytes c.in_ok-name.name; size = c.args.function.size }, (told.0, told.1, ap (λ text. record { name = text; size = c.args.function.size }) told.2), added)) c.add_size.ensures
+    let told = c.in_ok-put_crate.ensures in
+    let share : Share = record { name = c.as_str.result.now; size = c.args.function.size } in
+    on_ok _ _ c.add_size.result (λ added. (share, (told.0, told.1, ap (λ text. record { name = text; size = c.args.function.size }) (c.as_str.ensures.value ∙ told.2)), added)) c.add_size.ensures

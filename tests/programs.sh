@@ -109,6 +109,9 @@ ended=0
 ./run binfarce_at "$sample" 1000 >/dev/full 2>"$scratch/error" || ended=$?
 told 1 "$ended" "binfarce-at: write failed" binfarce_at "$sample" 1000
 ends 0 crates/binfarce_at/stdout "" binfarce_at "$sample" 1000 0x1005 100f 1010 0fff
+cat "$sample" | ends 0 crates/binfarce_at/stdout "" binfarce_at /dev/stdin 1000 0x1005 100f 1010 0fff
+(ulimit -v 65536 && crates/binfarce_at/out/run/binfarce_at "$scratch/sparse" 1000 0x1005 100f 1010 0fff) | cmp crates/binfarce_at/stdout -
+echo "binfarce_at $scratch/sparse: the same in 64 MiB"
 ends 1 /dev/null "binfarce-at: cannot read file" binfarce_at "$scratch/missing" 1000
 ends 1 /dev/null "binfarce-at: unknown file format" binfarce_at /dev/null 1000
 ends 2 /dev/null "$usage" binfarce_at

@@ -23,7 +23,7 @@ rows="listings 40
 reports 145
 symbols 70
 names 130
-kept 130
+kept 200
 trimmed 75
 crates 65
 tuples 85

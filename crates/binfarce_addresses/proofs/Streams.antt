@@ -1,15 +1,13 @@
 -- The lines of a text, answered one after the other.
-use Rattle.std.proofs.Common.{◌≡◌, ◌≢◌, inr, ℕ, ◌+◌, ◌-◌, ◌<◌, ◌≤◌, true, ltb, add-one, drop-cons, List, [], ◌∷◌, ◌++◌, length, drop, take, get_or, Some, refl, sym, ap, subst, ◌∙◌, arith, append-nil, append_assoc, length-append}
+use Rattle.std.proofs.Common.{◌≡◌, ◌≢◌, inl, inr, ℕ, ◌+◌, ◌-◌, ◌<◌, ◌≤◌, true, ltb, add-one, drop-cons, List, [], ◌∷◌, ◌++◌, length, drop, take, get_or, Option, Some, None, refl, sym, ap, subst, ◌∙◌, arith, append-nil, append_assoc, length-append}
 use Rattle.std.proofs.Math.Seq.{drop-append-add}
 use Rattle.std.proofs.lemmas.Bool.Decides.{nat_tests}
 use Rattle.std.proofs.lemmas.List.{drop-drop, take_all, length-drop, length-take-le, get_or-take, take-append-drop}
 use Rattle.std.proofs.lemmas.List.Elements.{All-from_get_or}
-use Rattle.binfarce.specs.Symbol.{Entry}
 use Rattle.binfarce_ranges.specs.Address.{address_of}
-use Rattle.binfarce_addresses.specs.Lines.{IsLineAt, AreLinesOf}
-use Rattle.binfarce_addresses.specs.Stream.{with_line_feeds, IsWritten, Begins, IsPart}
-use Rattle.binfarce_addresses.specs.machine.Answering.{AreAddressesOf}
-use Rattle.binfarce_addresses.proofs.AddressLines.{all_zip_push, concat_push}
+use Rattle.binfarce_addresses.specs.Stream.{with_line_feeds, IsWritten, Begins, BeginsWrong, IsPart}
+use Rattle.binfarce_addresses.specs.machine.Answering.{AreAddressesOf, IsFirst}
+use Rattle.binfarce_addresses.proofs.AddressLines.{all_zip_push}
 
 -- no line is read yet
 pub begun : (bytes addresses : List ℕ) → addresses ≡ [] → Begins bytes addresses (drop 0 bytes)
@@ -45,6 +43,21 @@ line_before bytes i lt is before = (
 pub no_line : (bytes : List ℕ) → ((k : ℕ) → k < length bytes → get_or bytes k 0 ≡ 10 → ⊥) → IsPart bytes
 no_line bytes none = All-from_get_or (λ byte. byte ≢ 10) bytes 0 none
 
+-- from its first line feed on
+feed_at : (bytes : List ℕ) (i : ℕ) → i < length bytes → get_or bytes i 0 ≡ 10 → bytes ≡ take i bytes ++ 10 ∷ drop (i + 1) bytes
+feed_at bytes i lt is = sym (take-append-drop i bytes) ∙ ap (λ (xs : List ℕ). take i bytes ++ xs) (rw (add-one, drop-cons bytes i 0 lt, is) refl)
+
+-- the first line is digits alone
+pub first_of_digits : (bytes : List ℕ) (len address : ℕ) → len < length bytes → get_or bytes len 0 ≡ 10 → address_of (take len bytes) ≡ Some address → IsFirst bytes (Some address) (len + 1)
+first_of_digits bytes len address lt feed writes = record {
+  line = take len bytes;
+  others = drop (len + 1) bytes;
+  are = feed_at bytes len lt feed;
+  writes = writes;
+  part = λ none. absurd cc;
+  count = omega (arith, length-take-le len bytes (omega arith));
+}
+
 -- what was read, where no whole line is left
 pub all_lines : (bytes addresses : List ℕ) (len : ℕ) → len ≤ length bytes → Begins bytes addresses (drop len bytes) → IsPart (take (length bytes - len) (drop len bytes)) → AreAddressesOf bytes addresses (record { len = len; wrong = ltb 18 (length bytes - len) })
 all_lines bytes addresses len within begins part = record {
@@ -73,3 +86,18 @@ one_more bytes addresses new line others len address begins is writes grown =
   where
     regroup : (a l f o : List ℕ) → a ++ (l ++ (f ++ o)) ≡ (a ++ (l ++ f)) ++ o
     regroup a l f o = simp append_assoc
+
+-- a first line that is found ends within the text
+pub first_within : (bytes part : List ℕ) (address : Option ℕ) (len line_len : ℕ) → len ≤ length bytes → part ≡ take (length bytes - len) (drop len bytes) → IsFirst part address line_len → len + line_len ≤ length bytes
+first_within bytes part address len line_len le is first =
+    omega (arith, line_within bytes first.line first.others len le (sym (left_of bytes len) ∙ sym is ∙ first.are), first.count)
+
+-- where it writes an address, the lines so far and this one write theirs
+pub first_more : (bytes part addresses new : List ℕ) (len line_len address : ℕ) → part ≡ take (length bytes - len) (drop len bytes) → IsFirst part (Some address) line_len → Begins bytes addresses (drop len bytes) → new ≡ addresses ++ address ∷ [] → Begins bytes new (drop (len + line_len) bytes)
+first_more bytes part addresses new len line_len address is first begins grown =
+    let P : ℕ → Type 0 = λ n. Begins bytes new (drop (len + n) bytes) in
+    subst P (sym first.count) (one_more bytes addresses new first.line first.others len address begins (sym (left_of bytes len) ∙ sym is ∙ first.are) first.writes grown)
+
+-- where it writes none, what is left begins with it
+pub first_wrong : (bytes part : List ℕ) (len line_len : ℕ) → part ≡ take (length bytes - len) (drop len bytes) → IsFirst part None line_len → BeginsWrong (drop len bytes)
+first_wrong bytes part len line_len is first = inl (first.line, first.others, sym (left_of bytes len) ∙ sym is ∙ first.are, first.part refl, first.writes)

@@ -1,6 +1,6 @@
 //! What stands at addresses in an executable, a line each.
 
-ghost use Rattle.std.specs.Prelude.{◌≡◌, ◌++◌, ◌-◌, ◌<◌, ℕ, List, length, Some, None, map, IfOk, IfSome, MatchOption, OnOk};
+ghost use Rattle.std.specs.Prelude.{◌≡◌, ◌≢◌, ◌++◌, ◌-◌, ◌<◌, ℕ, List, length, Some, None, map, IfErr, IfOk, IfSome, MatchOption, OnOk};
 ghost use Rattle.std.specs.String.{string_bytes};
 ghost use Rattle.binfarce.specs.Format.{format_of};
 ghost use Rattle.binfarce.specs.Symbol.{Entry};
@@ -9,6 +9,8 @@ ghost use Rattle.binfarce_tools.specs.Answer.{symbols_answer, NeedsMemory};
 ghost use Rattle.binfarce_tools.specs.Entries.{functions_left};
 ghost use Rattle.binfarce_tools.specs.Listing.{ListingFits};
 ghost use Rattle.binfarce_tools.specs.ListWords.{outcome_of};
+ghost use Rattle.binfarce_tools.specs.Tables.{AreTablesOf};
+ghost use Rattle.binfarce_tools.specs.declared.list.ListError.TheVariants.{Write};
 ghost use Rattle.binfarce_tools.specs.Writing.{Tells, Takes, Fails, Leaves};
 ghost use Rattle.binfarce_addresses.specs.Lines.{in_file, found_at, IsLineAt, AreLinesOf, AreLinesAt};
 ghost use Rattle.binfarce_addresses.specs.PlacesViews.{IsMadeOf};
@@ -16,10 +18,11 @@ ghost use Rattle.binfarce_addresses.specs.machine.Places.{ArePlacesOf, AreNamesO
 
 use crate::digits::{push_address, push_offset};
 use binfarce::FunctionSymbol;
-use binfarce::demangle::push_trimmed;
+use binfarce::demangle::{Demangler, push_trimmed};
 use binfarce_ranges::ranges::{AddressRange, Found, Ranges};
 use binfarce_tools::functions::{Functions, functions_of_file};
 use binfarce_tools::list::{ListError, Sink};
+use binfarce_tools::tables::Tables;
 use binfarce_tools::writing::write_whole;
 use std::alloc::{AllocError, Global};
 use std::marker::Model;
@@ -60,6 +63,24 @@ impl<'a> Places<'a> {
         ensures { IsMadeOf (NeedsMemory (format_of data.entry.now) data.entry.now) (symbols_answer (format_of data.entry.now) data.entry.now section.now) result }
     {
         let (functions, _) = functions_of_file(alloc, data, section)?;
+        let places = places_of(alloc, functions)?;
+        Ok(places)
+    }
+
+    /// The places of the function symbols of a file's tables: for the section that they were read for.
+    ///
+    /// # Errors
+    ///
+    /// As `of_file`.
+    pub fn of_tables(
+        alloc: Global,
+        tables: &'a Tables,
+        section: &str,
+    ) -> Result<Places<'a>, ListError>
+        ensures made { (file : List ℕ) → AreTablesOf file section.now tables.entry.now → IsMadeOf (NeedsMemory (format_of file) file) (symbols_answer (format_of file) file section.now) result }
+        ensures unwritten { IfErr result (λ e. e ≢ Write) }
+    {
+        let (functions, _) = tables.functions(alloc, section)?;
         let places = places_of(alloc, functions)?;
         Ok(places)
     }
@@ -148,26 +169,46 @@ impl<'a> Places<'a> {
         Ok(all)
     }
 
-    // The first and the last byte of each name that is kept. Nothing is promised: they are read ahead, so that the names are
-    // near when they are written.
+    // The first and the last byte of each name that is kept: read ahead, so that it is near when it is written.
     fn ends_of_names(
         &self,
         alloc: Global,
         all: &[Option<Found>],
     ) -> Result<Vec<(u8, u8)>, AllocError> {
-        let mut ends = Vec::with_capacity(alloc, all.len())?;
-        for shown in all {
-            let place = match shown {
-                Some(found) => found.place,
-                None => 0,
-            };
-            let end = match self.kept_name(place) {
-                Some([first, .., last]) => (*first, *last),
+        let parts = self.parts_of_names(alloc, all)?;
+        let text = self.names.text.as_bytes();
+        let mut ends = Vec::with_capacity(alloc, parts.len())?;
+        for k in 0..parts.len() {
+            let (start, last) = parts[k];
+            let end = match (text.get(start), text.get(last)) {
+                (Some(first), Some(last)) => (*first, *last),
                 _ => (0, 0),
             };
             ends.push(end)?;
         }
         Ok(ends)
+    }
+
+    // Where each of these names begins, and its last byte.
+    fn parts_of_names(
+        &self,
+        alloc: Global,
+        all: &[Option<Found>],
+    ) -> Result<Vec<(usize, usize)>, AllocError> {
+        let bounds = self.names.bounds.as_slice();
+        let mut parts = Vec::with_capacity(alloc, all.len())?;
+        for shown in all {
+            let place = match shown {
+                Some(found) => found.place,
+                None => 0,
+            };
+            let part = match (bounds.get(place), bounds.get(place.wrapping_add(1))) {
+                (Some(start), Some(end)) => (*start, end.wrapping_sub(1)),
+                _ => (0, 0),
+            };
+            parts.push(part)?;
+        }
+        Ok(parts)
     }
 
     // What an address is shown by: the place of a function symbol, and the offset into that.
@@ -246,12 +287,13 @@ impl<'a> Places<'a> {
 fn names_of(alloc: Global, functions: &Vec<FunctionSymbol<'_>>) -> Result<Names, AllocError>
     ensures { IfOk result (λ n. AreNamesOf (map function_view functions.now.items) (string_bytes n.text) n.bounds.items) }
 {
+    let mut demangler = Demangler::new(alloc);
     let mut text = String::new(alloc);
     let mut bounds = Vec::new(alloc);
     bounds.push(0)?;
     for place in 0..functions.len() {
         let function = functions[place];
-        push_trimmed(alloc, &mut text, function.name)?;
+        demangler.push_trimmed(&mut text, function.name)?;
         bounds.push(text.as_bytes().len())?;
     }
     Ok(Names { text, bounds })
@@ -314,6 +356,29 @@ pub fn at<S: Sink>(
     ensures leaves { Leaves out.old out.new (outcome_of result) }
 {
     let places = Places::of_file(alloc, data, section)?;
+    let text = lines(alloc, &places, base, addresses)?;
+    write_whole(out, text.as_slice())
+}
+
+/// Writes what `at` does, of a file's tables: for the section that they were read for.
+///
+/// # Errors
+///
+/// As `at`.
+pub fn at_tables<S: Sink>(
+    alloc: Global,
+    tables: &Tables,
+    section: &str,
+    base: u64,
+    addresses: &[u64],
+    out: &mut S,
+) -> Result<(), ListError>
+    ensures tells { (file : List ℕ) → AreTablesOf file section.now tables.now → Tells ListingFits (NeedsMemory (format_of file) file) (symbols_answer (format_of file) file section.now) (outcome_of result) }
+    ensures takes { (file : List ℕ) → AreTablesOf file section.now tables.now → Takes (AreLinesAt base addresses.now) (symbols_answer (format_of file) file section.now) (S.taken out.old) (S.taken out.new) (outcome_of result) }
+    ensures fails { Fails (S.has_failed out.old) (S.has_failed out.new) (outcome_of result) }
+    ensures leaves { Leaves out.old out.new (outcome_of result) }
+{
+    let places = Places::of_tables(alloc, tables, section)?;
     let text = lines(alloc, &places, base, addresses)?;
     write_whole(out, text.as_slice())
 }

@@ -3,10 +3,10 @@
 ghost use Rattle.std.specs.Prelude.{◌≡◌, ◌<◌, ◌++◌, ◌∷◌, ℕ, List, length, MatchOption, IfOk};
 ghost use Rattle.binfarce_addresses.specs.Answered.{AnswersOf};
 ghost use Rattle.binfarce_addresses.specs.Stream.{IsPart, Streams};
-ghost use Rattle.binfarce_addresses.specs.machine.Answering.{AreAddressesOf, AnswersAll, AnswersLast, AnswersPart, AnswersUpTo, WritesAll};
+ghost use Rattle.binfarce_addresses.specs.machine.Answering.{AreAddressesOf, AnswersAll, AnswersLast, AnswersPart, AnswersUpTo, IsFirst, WritesAll};
 
 use crate::at::Places;
-use binfarce_ranges::address::parse_address;
+use binfarce_ranges::address::{hex_line, parse_address};
 use binfarce_tools::list::Sink;
 use binfarce_tools::writing::write_whole;
 use std::alloc::{AllocError, Global};
@@ -15,8 +15,11 @@ use std::fmt;
 use std::io::{ErrorKind, Read};
 
 // How many bytes are asked for at once: what is read of the names and the ranges for these lines stays near until it is
-// written.
-const CHUNK: usize = 1 << 14;
+// written, and the room for the lines is small enough that the allocator keeps it for the next ones.
+const CHUNK: usize = 1 << 13;
+
+// How many bytes the lines of addresses have for each of theirs, mostly: so many are made room for at once.
+const GROWTH: usize = 8;
 
 // The most bytes of a line that writes an address: `0x` and 16 digits.
 const LONGEST: usize = 18;
@@ -97,15 +100,26 @@ fn addresses_of(alloc: Global, bytes: &[u8]) -> Result<(Vec<u64>, Answered), All
 {
     let mut addresses = Vec::new(alloc);
     let mut len = 0;
-    while let Some(line) = first_line(&bytes[len..]) {
-        match parse_address(line) {
+    while let Some((address, line_len)) = first_address(&bytes[len..]) {
+        match address {
             Some(address) => addresses.push(address)?,
             None => return Ok((addresses, Answered { len, wrong: true })),
         }
-        len += line.len() + 1;
+        len += line_len;
     }
     let wrong = bytes.len() - len > LONGEST;
     Ok((addresses, Answered { len, wrong }))
+}
+
+// What the first line of the bytes writes, if it writes an address, and how many bytes it has with its line feed.
+fn first_address(bytes: &[u8]) -> Option<(Option<u64>, usize)>
+    ensures { MatchOption result (IsPart bytes.now) (λ r. IsFirst bytes.now r.0 r.1) }
+{
+    if let Some((address, len)) = hex_line(bytes) {
+        return Some((Some(address), len + 1));
+    }
+    let line = first_line(bytes)?;
+    Some((parse_address(line), line.len() + 1))
 }
 
 // The bytes before the first line feed.
@@ -220,7 +234,7 @@ fn answer<S: Sink>(
 ) -> Result<usize, LinesError>
     ensures { AnswersUpTo places.now base bytes.now (S.taken out.old) (S.taken out.new) result }
 {
-    let mut text = Vec::new(alloc);
+    let mut text = Vec::with_capacity(alloc, bytes.len().saturating_mul(GROWTH))?;
     let answered = push_lines(alloc, places, base, bytes, &mut text)?;
     write_all(out, text.as_slice())?;
     if answered.wrong {

@@ -1,11 +1,18 @@
--- How the lines of standard input are answered, where the file's entries can be had.
-use Rattle.std.proofs.Common.{◌≡◌, inr, ℕ, List, Option, Some, None, Result, Ok, Err, IsErrAnd, refl, sym, subst}
-use Rattle.binfarce.specs.Refusal.{Refusal}
+-- How the lines of standard input are answered: where the file isn't read, and where its entries can be had.
+use Rattle.std.proofs.Common.{◌≡◌, inl, inr, ℕ, List, [], Option, Some, None, Result, Ok, Err, IsErrAnd, refl, sym, subst, append-nil}
+use Rattle.std.specs.Io.KnownBytes.{Appends, Consumes}
+use Rattle.binfarce.specs.Format.{format_of}
+use Rattle.binfarce.specs.Refusal.{Refusal, refusal_of}
 use Rattle.binfarce.specs.Symbol.{Entry, Listed}
 use Rattle.binfarce_addresses.specs.PlacesViews.{IsMadeOf}
 use Rattle.binfarce_addresses.specs.Stream.{Streams}
 use Rattle.binfarce_addresses.specs.declared.stream.LinesError.{LinesError}
-use Rattle.binfarce_at.specs.Program.{AnswersLines, lines_end}
+use Rattle.binfarce_reading.specs.declared.error.ReadError.{ReadError}
+use Rattle.binfarce_reading.specs.declared.error.ReadError.TheVariants.{Refused, Unreadable, OutOfMemory}
+use Rattle.binfarce_tools.specs.Answer.{symbols_answer, NeedsMemory}
+use Rattle.binfarce_tools.specs.Tables.{ReadsTables}
+use Rattle.binfarce_tools.specs.declared.list.ListError.TheVariants as errors
+use Rattle.binfarce_at.specs.Program.{AnswersLines, IsUntouched, lines_end, read_fault}
 use Rattle.binfarce_at.specs.declared.program.Fault.{Fault}
 use Rattle.binfarce_at.specs.declared.program.Fault.TheVariants.{Lines}
 
@@ -21,3 +28,31 @@ pub told_less : (memory : Result Listed Refusal → Type 0) (answer : Option (Re
 told_less memory answer entries base given left old new e (Ok x) made streams is = absurd is
 told_less memory answer entries base given left old new e (Err x) made streams is =
     let P : Fault → Type 0 = λ f. AnswersLines memory answer base given left old new (Err f) in subst P (sym is) (told memory answer entries base given left old new (Err e) made streams)
+
+untouched : (given old : Option (List ℕ)) → IsUntouched given given old old
+untouched given old = (none_read given, none_written old)
+  where
+    none_read : (given : Option (List ℕ)) → Consumes given given []
+    none_read None = tt
+    none_read (Some bytes) = refl
+
+    none_written : (old : Option (List ℕ)) → Appends old old []
+    none_written None = tt
+    none_written (Some taken) = sym (append-nil taken)
+
+not_read : (bytes section : List ℕ) (base : ℕ) (given old : Option (List ℕ)) (e : ReadError) → ReadsTables (Unit {0}) bytes section (Err e)
+    → AnswersLines (NeedsMemory (format_of bytes) bytes) (symbols_answer (format_of bytes) bytes section) base given given old old (Err (read_fault e))
+not_read bytes section base given old (Refused p) reads =
+    let P : Option (Result Listed Refusal) → Type 0 = λ answer. IsMadeOf (NeedsMemory (format_of bytes) bytes) answer (Err (errors.Parse p)) in
+    let refused : P (Some (Err (refusal_of p))) = inl (p, refl, refl) in
+    inr (inl (errors.Parse p, subst P (sym reads) refused, refl, untouched given old))
+not_read bytes section base given old Unreadable reads = inl (inl refl, untouched given old)
+not_read bytes section base given old OutOfMemory reads = inl (inr refl, untouched given old)
+
+-- nothing was answered where the file isn't read
+pub unread : (bytes section : List ℕ) (base : ℕ) (given old : Option (List ℕ)) (e : ReadError) (result : Result (Unit {0}) Fault) → ReadsTables (Unit {0}) bytes section (Err e) → IsErrAnd result (λ x. x ≡ read_fault e)
+    → AnswersLines (NeedsMemory (format_of bytes) bytes) (symbols_answer (format_of bytes) bytes section) base given given old old result
+unread bytes section base given old e (Ok x) reads is = absurd is
+unread bytes section base given old e (Err x) reads is =
+    let P : Fault → Type 0 = λ f. AnswersLines (NeedsMemory (format_of bytes) bytes) (symbols_answer (format_of bytes) bytes section) base given given old old (Err f) in
+    subst P (sym is) (not_read bytes section base given old e reads)

@@ -7,6 +7,8 @@ use Rattle.binfarce_tools.specs.ListWords as call
 use Rattle.binfarce_tools.specs.Writing as writing
 use Rattle.binfarce_program.specs.declared.Failure.{Failure}
 use Rattle.binfarce_program.specs.declared.Failure.TheVariants as failures
+use Rattle.binfarce_reading.specs.declared.error.ReadError.{ReadError}
+use Rattle.binfarce_reading.specs.declared.error.ReadError.TheVariants as reading
 use Rattle.binfarce_tools.specs.declared.list.ListError.TheVariants as errors
 use Rattle.binfarce_at.specs.declared.program.Fault.{Fault}
 use Rattle.binfarce_at.specs.declared.program.Fault.TheVariants.{Usage, File, Lines, At}
@@ -22,6 +24,12 @@ fault_of failures.Usage = Usage
 fault_of failures.File = File
 fault_of failures.OutOfMemory = At errors.OutOfMemory
 fault_of failures.Write = At errors.Write
+
+-- the fault that an error of the reading is
+abbrev pub read_fault : ReadError → Fault
+read_fault (reading.Refused e) = At (errors.Parse e)
+read_fault reading.Unreadable = File
+read_fault reading.OutOfMemory = At errors.OutOfMemory
 
 -- whether it is that a line writes no address
 abbrev pub is_wrong : LinesError → Bool

@@ -2,10 +2,10 @@
 // or all lines.
 
 use crate::arguments::read_arguments;
-use crate::program::{Fault, run};
+use crate::program::{Fault, run, run_lines};
 use binfarce_tools::list::Out;
 use std::alloc::{AllocError, Global};
-use test_streams::{READERS, Source, ended_with, failed_with, large_file};
+use test_streams::{HELD, Held, READERS, Source, ended_with, failed_with, large_file};
 
 const USAGE: &str = "usage: binfarce-at [--base ADDRESS] FILE [ADDRESS..]";
 
@@ -85,6 +85,43 @@ fn tells_why_nothing_is_told(rt: HostRuntime) -> Result<(), AllocError> {
         let told = run(rt.alloc(), &mut source, 0, &[0x10], &mut out);
         let is_told = failed_with(rt.alloc(), told, "binfarce-at", want)?;
         assert!(&rt; is_told, "{label}");
+        assert!(&rt; out.into_inner().is_empty(), "{label}");
+    }
+    Ok(())
+}
+
+#[test]
+fn tells_why_a_file_is_not_read_at_offsets(rt: HostRuntime) -> Result<(), AllocError> {
+    for (label, bytes, length, end, want) in &HELD {
+        let mut out = Out::new(Vec::new(rt.alloc()));
+        let mut held = Held {
+            bytes,
+            length: *length,
+            end: *end,
+        };
+        let told = run(rt.alloc(), &mut held, 0, &[0x10], &mut out);
+        let is_told = failed_with(rt.alloc(), told, "binfarce-at", want)?;
+        assert!(&rt; is_told, "{label}");
+        assert!(&rt; out.into_inner().is_empty(), "{label}");
+    }
+    Ok(())
+}
+
+// Where the file is refused, nothing is read of the lines.
+#[test]
+fn reads_the_file_before_the_lines(rt: HostRuntime) -> Result<(), AllocError> {
+    for (label, bytes, length, end, want) in &HELD {
+        let mut out = Out::new(Vec::new(rt.alloc()));
+        let mut held = Held {
+            bytes,
+            length: *length,
+            end: *end,
+        };
+        let mut lines = Source::of(b"10\n");
+        let told = run_lines(rt.alloc(), &mut held, 0, &mut lines, &mut out);
+        let is_told = failed_with(rt.alloc(), told, "binfarce-at", want)?;
+        assert!(&rt; is_told, "{label}");
+        assert!(&rt; lines.bytes == b"10\n".as_slice(), "{label}");
         assert!(&rt; out.into_inner().is_empty(), "{label}");
     }
     Ok(())

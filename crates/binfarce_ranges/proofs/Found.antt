@@ -41,6 +41,25 @@ pub record ArePassable (ranges : List AddressRange) (rows : List Row) (nodes : L
   pub rows_are : AreRowsOf ranges rows
   pub nodes_are : AreNodesOf ranges rows nodes
 
+-- what a node reaches is what its row says
+reached : (ranges : List AddressRange) (rows : List Row) (nodes : List Node) → ArePassable ranges rows nodes → (node last : ℕ) → node ≤ length rows → (node ≡ 0 → last ≡ 2 ^ 64 - 1) → (0 < node → last ≡ (row_at rows (node - 1)).last)
+    → (node_at nodes node).last ≡ last
+reached ranges rows nodes indexed node last within at_root at_row = elim (cases_lt 0 node) [
+  | inr le ↦ let none : node ≡ 0 = omega arith in ap (λ (n : ℕ). (node_at nodes n).last) none ∙ indexed.nodes_are.linked.root ∙ sym (at_root none)
+  | inl lt ↦
+      let k = node - 1 in
+      let is : node ≡ k + 1 = omega arith in
+      let inside : k < length rows = omega arith in
+      ap (λ (n : ℕ). (node_at nodes n).last) is ∙ indexed.nodes_are.last k inside ∙ sym (indexed.rows_are.row_is k inside).2 ∙ sym (at_row lt)
+]
+
+-- and the same of rows that are these
+pub seen_at : (ranges : List AddressRange) (rows : List Row) (nodes : List Node) → ArePassable ranges rows nodes → (node last : ℕ) (seen : List Row) → node ≤ length rows → seen ≡ rows → (node ≡ 0 → last ≡ 2 ^ 64 - 1)
+    → (0 < node → last ≡ (row_at seen (node - 1)).last) → (node_at nodes node).last ≡ last
+seen_at ranges rows nodes indexed node last seen within same at_root at_row =
+    let P : List Row → Type 0 = λ rs. 0 < node → last ≡ (row_at rs (node - 1)).last in
+    reached ranges rows nodes indexed node last within at_root (subst P same at_row)
+
 module _ (ranges : List AddressRange) (rows : List Row) (nodes : List Node) (indexed : ArePassable ranges rows nodes) (address start node : ℕ) (fits : address < 2 ^ 64) (search : Passed rows nodes address start node) where
   in_nodes : node < length nodes
   in_nodes = omega (arith, search.within, search.bound, indexed.nodes_are.count)

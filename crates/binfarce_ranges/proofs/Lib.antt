@@ -3,3 +3,5 @@ pub mod Rows
 pub mod Slices
 pub mod Found
 pub mod Digits
+pub mod Values
+pub mod HexLines

@@ -1,6 +1,6 @@
 //! Addresses as words.
 
-ghost use Rattle.std.specs.Prelude.{◌≡◌};
+ghost use Rattle.std.specs.Prelude.{◌≡◌, ◌<◌, length, slice_index_or, take, Some, IfSome};
 ghost use Rattle.binfarce_ranges.specs.Address.{address_of, hexadecimal, digit_value};
 
 /// The address that a word writes: 1 to 16 hexadecimal digits, in upper or lower case, before which `0x` may stand. `None`
@@ -13,6 +13,32 @@ pub fn parse_address(word: &[u8]) -> Option<u64>
     } else {
         hex_number(word)
     }
+}
+
+/// The address that the first line of the bytes writes, and how many bytes the line has, where these are 1 to 16 digits and
+/// nothing else. `None` doesn't say that the line writes no address: it may have `0x` before its digits.
+pub fn hex_line(bytes: &[u8]) -> Option<(u64, usize)>
+    ensures { IfSome result (λ r. (r.1 < length bytes.now) × (slice_index_or bytes.now r.1 0 ≡ 10) × (address_of (take r.1 bytes.now) ≡ Some r.0)) }
+{
+    let mut number = 0;
+    for (len, byte) in bytes.iter().enumerate() {
+        match hex_digit(*byte) {
+            Some(value) => {
+                if len == 16 {
+                    return None;
+                }
+                number = 16 * number + value;
+            }
+            None => {
+                return if *byte == b'\n' && len > 0 {
+                    Some((number, len))
+                } else {
+                    None
+                };
+            }
+        }
+    }
+    None
 }
 
 // The number that 1 to 16 digits write.
@@ -29,15 +55,29 @@ fn hex_number(digits: &[u8]) -> Option<u64>
     Some(number)
 }
 
-// What a digit is worth.
+// What each byte is worth as a digit; 16 where it is none.
+const VALUES: [u8; 256] = [
+    16, 16, 16, 16, 16, 16, 16, 16, 16, 16, 16, 16, 16, 16, 16, 16, 16, 16, 16, 16, 16, 16, 16, 16,
+    16, 16, 16, 16, 16, 16, 16, 16, 16, 16, 16, 16, 16, 16, 16, 16, 16, 16, 16, 16, 16, 16, 16, 16,
+    0, 1, 2, 3, 4, 5, 6, 7, 8, 9, 16, 16, 16, 16, 16, 16, 16, 10, 11, 12, 13, 14, 15, 16, 16, 16,
+    16, 16, 16, 16, 16, 16, 16, 16, 16, 16, 16, 16, 16, 16, 16, 16, 16, 16, 16, 16, 16, 16, 16, 10,
+    11, 12, 13, 14, 15, 16, 16, 16, 16, 16, 16, 16, 16, 16, 16, 16, 16, 16, 16, 16, 16, 16, 16, 16,
+    16, 16, 16, 16, 16, 16, 16, 16, 16, 16, 16, 16, 16, 16, 16, 16, 16, 16, 16, 16, 16, 16, 16, 16,
+    16, 16, 16, 16, 16, 16, 16, 16, 16, 16, 16, 16, 16, 16, 16, 16, 16, 16, 16, 16, 16, 16, 16, 16,
+    16, 16, 16, 16, 16, 16, 16, 16, 16, 16, 16, 16, 16, 16, 16, 16, 16, 16, 16, 16, 16, 16, 16, 16,
+    16, 16, 16, 16, 16, 16, 16, 16, 16, 16, 16, 16, 16, 16, 16, 16, 16, 16, 16, 16, 16, 16, 16, 16,
+    16, 16, 16, 16, 16, 16, 16, 16, 16, 16, 16, 16, 16, 16, 16, 16, 16, 16, 16, 16, 16, 16, 16, 16,
+    16, 16, 16, 16, 16, 16, 16, 16, 16, 16, 16, 16, 16, 16,
+];
+
+// What a digit is worth: one look, since branches on digits are guessed wrong.
 #[inline(always)]
 fn hex_digit(digit: u8) -> Option<u64>
     ensures { result ≡ digit_value digit }
 {
-    match digit {
-        b'0'..=b'9' => Some((digit - b'0') as u64),
-        b'a'..=b'f' => Some((digit - b'a' + 10) as u64),
-        b'A'..=b'F' => Some((digit - b'A' + 10) as u64),
-        _ => None,
+    let value = VALUES[digit as usize];
+    if value > 15 {
+        return None;
     }
+    Some(value as u64)
 }

@@ -1,9 +1,9 @@
 //! Which of several ranges is found at an address.
 
-ghost use Rattle.std.specs.Prelude.{◌≡◌, ◌<◌, List, length, true, MatchOption, IfOk};
+ghost use Rattle.std.specs.Prelude.{◌≡◌, ◌-◌, ◌<◌, ◌≤◌, ◌^◌, List, length, true, MatchOption, IfOk};
 ghost use Rattle.binfarce_ranges.specs.Range.{AreFound, Finds, IsFoundAt, IsFoundFrom, NoneHolds};
 ghost use Rattle.binfarce_ranges.specs.declared.ranges.AddressRange.{AddressRange};
-ghost use Rattle.binfarce_ranges.specs.machine.Index.{AreRowsOf, AreSlicesOf, AreLinked, AreNodesOf, DoRise, IsBound, IsIndexed, IsOuter, JumpsOver, Follows, last_of, slice_at};
+ghost use Rattle.binfarce_ranges.specs.machine.Index.{AreRowsOf, AreSlicesOf, AreLinked, AreNodesOf, DoRise, IsBound, IsIndexed, IsOuter, JumpsOver, Follows, last_of, row_at, slice_at};
 
 use std::alloc::{AllocError, Global};
 use std::cmp::Reverse;
@@ -34,12 +34,13 @@ pub struct Ranges {
     nodes: Vec<Node>,
 }
 
-// A range's address and its place. Rows stand in the order of their addresses, those of one address from the last place to
-// the first.
+// A range's address, its place, and the last address that it holds. Rows stand in the order of their addresses, those of one
+// address from the last place to the first.
 #[derive(Clone, Copy, PartialEq, Eq, PartialOrd, Ord)]
 struct Row {
     address: u64,
     place: Reverse<usize>,
+    last: u64,
 }
 
 // Equally large slices of the addresses: slice 0 begins with the first row, and has what lies before it too.
@@ -101,18 +102,12 @@ impl Ranges {
     pub fn find(&self, address: u64) -> Option<usize>
         ensures { MatchOption result (NoneHolds self.now address) (IsFoundAt self.now address) }
     {
-        match self.find_from(self.start_of(address), address) {
-            Some(found) => Some(found.place),
-            None => None,
-        }
+        let found = self.find_from(usize::MAX, address)?;
+        Some(found.place)
     }
 
     /// What is found at each of the addresses once the base is taken off: nothing at one below the base. All are searched in
-    /// the rows before the first is followed further: what is waited for in memory comes sooner where many wait at once.
-    ///
-    /// # Errors
-    ///
-    /// `AllocError` where an allocation failed.
+    /// the rows before the first is followed further, so that waits for memory overlap. The only error is `AllocError`.
     pub fn find_all(
         &self,
         alloc: Global,
@@ -122,7 +117,6 @@ impl Ranges {
         ensures { IfOk result (λ all. AreFound self.now base addresses.now all.items) }
     {
         let starts = self.starts_of(alloc, base, addresses)?;
-        self.lasts_of(alloc, &starts)?;
         let mut all = Vec::with_capacity(alloc, addresses.len())?;
         for k in 0..addresses.len() {
             let found = self.find_past(base, addresses[k], starts[k]);
@@ -131,7 +125,7 @@ impl Ranges {
         Ok(all)
     }
 
-    // For each address how many rows have one that isn't greater, once the base is taken off: mostly.
+    // For each address how many rows have one that isn't greater, mostly: `find_from` looks whether it is so.
     fn starts_of(
         &self,
         alloc: Global,
@@ -140,22 +134,40 @@ impl Ranges {
     ) -> Result<Vec<usize>, AllocError>
         ensures { IfOk result (λ v. length v.items ≡ length addresses.now) }
     {
-        let mut starts = Vec::with_capacity(alloc, addresses.len())?;
-        for address in addresses {
-            let start = self.near_start(address.saturating_sub(base));
-            starts.push(start)?;
+        let mut starts = self.nears_of(alloc, base, addresses)?;
+        for k in 0..addresses.len() {
+            starts[k] = self.near_start(starts[k], addresses[k].saturating_sub(base));
         }
         Ok(starts)
     }
 
-    // The same for one address: its slice's first two rows alone are looked at, without a branch. Nothing is promised:
-    // `find_from` looks whether it is so.
-    fn near_start(&self, address: u64) -> usize {
+    // For each address how many rows stand before its slice.
+    fn nears_of(
+        &self,
+        alloc: Global,
+        base: u64,
+        addresses: &[u64],
+    ) -> Result<Vec<usize>, AllocError>
+        ensures { IfOk result (λ v. length v.items ≡ length addresses.now) }
+    {
+        let mut nears = Vec::with_capacity(alloc, addresses.len())?;
+        for address in addresses {
+            let near = self.near(address.saturating_sub(base));
+            nears.push(near)?;
+        }
+        Ok(nears)
+    }
+
+    fn near(&self, address: u64) -> usize {
         let slice = slice_of(self.slices.first, self.slices.shift, address);
-        let near = match self.slices.starts.get(slice) {
+        match self.slices.starts.get(slice) {
             Some(start) => *start,
             None => self.rows.len(),
-        };
+        }
+    }
+
+    // The first two of these rows alone are looked at, without a branch.
+    fn near_start(&self, near: usize, address: u64) -> usize {
         let mut start = near;
         if let Some(row) = self.rows.get(near) {
             start = start.wrapping_add((row.address <= address) as usize);
@@ -166,25 +178,8 @@ impl Ranges {
         start
     }
 
-    // What the nodes of these rows reach. Nothing is promised: it is read ahead, so that it is near when it is asked for.
-    fn lasts_of(&self, alloc: Global, starts: &[usize]) -> Result<Vec<u64>, AllocError> {
-        let mut lasts = Vec::with_capacity(alloc, starts.len())?;
-        for start in starts {
-            let last = match self.nodes.get(*start) {
-                Some(node) => node.last,
-                None => 0,
-            };
-            lasts.push(last)?;
-        }
-        Ok(lasts)
-    }
-
-    // How many rows have an address that isn't greater. Nothing is promised: `find_from` looks whether it is so.
-    fn start_of(&self, address: u64) -> usize {
-        rows_up_to(&self.rows, &self.slices, address)
-    }
-
     // What is found at an address once the base is taken off; so many rows have an address that isn't greater, it is said.
+    #[inline(always)]
     fn find_past(&self, base: u64, address: u64, start: usize) -> Option<Found>
         ensures { IsFoundFrom self.now base address result }
     {
@@ -195,13 +190,14 @@ impl Ranges {
     }
 
     // What is found at an address; so many rows have an address that isn't greater, it is said.
+    #[inline(always)]
     fn find_from(&self, start: usize, address: u64) -> Option<Found>
         ensures { Finds self.now address result }
     {
         let mut node = start_at(&self.rows, &self.slices, start, address);
-        while self.nodes[node].last < address {
+        while last_at(&self.rows, node) < address {
             let jump = self.nodes[node].jump;
-            node = if self.nodes[jump].last < address {
+            node = if last_at(&self.rows, jump) < address {
                 jump
             } else {
                 self.nodes[node].outer
@@ -227,13 +223,14 @@ fn rows_of(alloc: Global, ranges: &[AddressRange]) -> Result<Vec<Row>, AllocErro
         rows.push(Row {
             address: range.address,
             place: Reverse(place),
+            last: last_address(*range),
         })?;
     }
     rows.sort_unstable();
     Ok(rows)
 }
 
-// The slices of the rows: about as many as rows.
+// The slices of the rows: one or two for each row, so that few slices have more than two rows.
 fn slices_of(alloc: Global, rows: &[Row]) -> Result<Slices, AllocError>
     requires { DoRise rows.now }
     ensures { IfOk result (λ s. AreSlicesOf rows.now s.first s.shift s.starts.items) }
@@ -244,7 +241,7 @@ fn slices_of(alloc: Global, rows: &[Row]) -> Result<Slices, AllocError>
         [row] => (row.address, row.address),
         [first, .., last] => (first.address, last.address),
     };
-    let shift = shift_of(last.saturating_sub(first), rows.len());
+    let shift = shift_of(last.saturating_sub(first), rows.len().saturating_mul(2));
     for (place, row) in rows.iter().enumerate() {
         let slice = slice_of(first, shift, row.address);
         while starts.len() <= slice {
@@ -321,6 +318,19 @@ fn is_start(rows: &[Row], start: usize, address: u64) -> bool
         return false;
     }
     start == rows.len() || rows[start].address > address
+}
+
+// The last address that a node reaches, which its row has too: so the nodes of most addresses aren't read.
+#[inline(always)]
+fn last_at(rows: &[Row], node: usize) -> u64
+    requires { node ≤ length rows.now }
+    ensures root { node ≡ 0 → result ≡ 2 ^ 64 - 1 }
+    ensures row { 0 < node → result ≡ (row_at rows.now (node - 1)).last }
+{
+    if node == 0 {
+        return u64::MAX;
+    }
+    rows[node - 1].last
 }
 
 // The nodes of the rows.

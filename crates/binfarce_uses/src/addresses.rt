@@ -6,3 +6,5 @@ pub mod function_at;
 pub mod is_address;
 pub mod line_of;
 pub mod lines;
+pub mod places_of_text;
+pub mod write_lines;

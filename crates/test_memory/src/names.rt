@@ -1,7 +1,7 @@
 //! Names: the answer, or `AllocError`; no name becomes Unknown since an allocation failed.
 
 use crate::tally::{Row, Tally};
-use binfarce::demangle::{Demangler, Kind, SymbolName, crate_of, push_trimmed};
+use binfarce::demangle::{Demangler, Kind, SymbolName, crate_of};
 use std::alloc::{AllocError, Global};
 
 pub(crate) struct Name {
@@ -100,45 +100,35 @@ fn is_text(text: Option<&String>, expected: Option<&str>) -> bool {
     }
 }
 
-fn is_answer(answer: &SymbolName, row: &Name) -> bool {
-    answer.kind == row.kind
-        && answer.complete.as_str() == row.complete
-        && answer.trimmed.as_str() == row.trimmed
-        && is_text(answer.crate_name.as_ref(), row.crate_name)
-}
-
-fn is_demangled(alloc: Global, row: &Name) -> Row {
-    let answer = SymbolName::demangle(alloc, row.name)?;
-    Ok(is_answer(&answer, row))
-}
-
-pub(crate) fn add_names(alloc: Global, tally: &mut Tally) {
-    for row in &NAMES {
-        tally.add(row.name, is_demangled(alloc, row));
-    }
-}
-
-fn is_kept(demangler: &mut Demangler, row: &Name, text: &mut String) -> Row {
-    text.clear();
-    demangler.push_trimmed(text, row.name)?;
+fn is_demangled(demangler: &mut Demangler, row: &Name) -> Row {
     let answer = demangler.demangle(row.name)?;
-    Ok(text.as_str() == row.trimmed && is_answer(&answer, row))
+    Ok(
+        answer.kind == row.kind
+            && answer.complete.as_str() == row.complete
+            && answer.trimmed.as_str() == row.trimmed
+            && is_text(answer.crate_name.as_ref(), row.crate_name),
+    )
 }
 
-// One demangler for all names: after an allocation that failed, it answers the next ones as before.
-pub(crate) fn add_kept(alloc: Global, tally: &mut Tally) {
+// Both texts of each name: of a demangler of its own, or of one that is kept, which answers the next names as before after
+// an allocation that failed.
+pub(crate) fn add_names(alloc: Global, tally: &mut Tally, keeps: bool) {
     let mut demangler = Demangler::new(alloc);
-    let mut text = String::new(alloc);
     for row in &NAMES {
-        tally.add(row.name, is_kept(&mut demangler, row, &mut text));
+        if keeps {
+            tally.add(row.name, is_trimmed(alloc, &mut demangler, row));
+        } else {
+            demangler = Demangler::new(alloc);
+        }
+        tally.add(row.name, is_demangled(&mut demangler, row));
     }
 }
 
 // Where an allocation fails, the text that stood before has to be as it was.
-fn is_trimmed(alloc: Global, row: &Name) -> Row {
+fn is_trimmed(alloc: Global, demangler: &mut Demangler, row: &Name) -> Row {
     const BEFORE: &str = "text before ";
     let mut text = String::from_str(alloc, BEFORE)?;
-    match push_trimmed(alloc, &mut text, row.name) {
+    match demangler.push_trimmed(&mut text, row.name) {
         Ok(()) => Ok(text.as_str().strip_prefix(BEFORE) == Some(row.trimmed)),
         Err(error) => {
             if text.as_str() == BEFORE {
@@ -152,7 +142,7 @@ fn is_trimmed(alloc: Global, row: &Name) -> Row {
 
 pub(crate) fn add_trimmed(alloc: Global, tally: &mut Tally) {
     for row in &NAMES {
-        tally.add(row.name, is_trimmed(alloc, row));
+        tally.add(row.name, is_trimmed(alloc, &mut Demangler::new(alloc), row));
     }
 }
 

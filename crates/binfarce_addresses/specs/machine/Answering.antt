@@ -1,5 +1,5 @@
 -- What the parts of an answering do.
-use Rattle.std.specs.Prelude.{◌≡◌, ◌≢◌, ◌≤◌, ℕ, List, [], ◌++◌, length, drop, Option, None, Result, Ok, Err, true, false}
+use Rattle.std.specs.Prelude.{◌≡◌, ◌≢◌, ◌≤◌, ℕ, ◌+◌, List, [], ◌∷◌, ◌++◌, length, drop, Option, None, Result, Ok, Err, true, false}
 use Rattle.std.specs.Io.KnownBytes.{Appends, Consumes, IsAtEnd}
 use Rattle.binfarce.specs.Symbol.{Entry}
 use Rattle.binfarce_tools.specs.Writing.{AppendsBeginning}
@@ -47,6 +47,15 @@ AnswersLast entries base line old new (Err Read) = ⊥
 AnswersLast entries base line old new (Err Address) = (line ≢ []) × (address_of line ≡ None) × Appends old new []
 AnswersLast entries base line old new (Err OutOfMemory) = (addresses : List ℕ) × (rest : List ℕ) × Reads line addresses rest × BreaksOff entries base addresses old new
 AnswersLast entries base line old new (Err Write) = (addresses : List ℕ) × (rest : List ℕ) × Reads line addresses rest × BreaksOff entries base addresses old new
+
+-- the first line of a text has so many bytes with its line feed, and writes this address; one that writes none ends at the first line feed
+pub record IsFirst (text : List ℕ) (address : Option ℕ) (len : ℕ) : Type 0 where
+  pub line : List ℕ
+  pub others : List ℕ
+  pub are : text ≡ line ++ 10 ∷ others
+  pub writes : address_of line ≡ address
+  pub part : address ≡ None → IsPart line
+  pub count : len ≡ length line + 1
 
 -- the lines at the text's front write the addresses; what is left begins with a line that writes no address where that is told, and has no line feed elsewhere
 pub record AreAddressesOf (text addresses : List ℕ) (answered : Answered) : Type 0 where

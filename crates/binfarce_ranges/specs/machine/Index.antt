@@ -9,7 +9,7 @@ abbrev pub no_range : AddressRange
 no_range = record { address = 0; size = 0 }
 
 abbrev pub no_row : Row
-no_row = record { address = 0; place = record { 0 = 0 } }
+no_row = record { address = 0; place = record { 0 = 0 }; last = 0 }
 
 abbrev pub no_node : Node
 no_node = record { last = 0; outer = 0; jump = 0; depth = 0 }
@@ -33,7 +33,7 @@ NotBehind x y = (x.address < y.address) ⊎ ((x.address ≡ y.address) × (y.pla
 
 -- a row for each range, in their order
 pub record AreRowsOf (ranges : List AddressRange) (rows : List Row) : Type 0 where
-  pub row_is : (k : ℕ) → k < length rows → ((row_at rows k).place.0 < length ranges) × ((row_at rows k).address ≡ (range_at ranges (row_at rows k).place.0).address)
+  pub row_is : (k : ℕ) → k < length rows → ((row_at rows k).place.0 < length ranges) × ((row_at rows k).address ≡ (range_at ranges (row_at rows k).place.0).address) × ((row_at rows k).last ≡ last_of (range_at ranges (row_at rows k).place.0))
   pub has_row : (place : ℕ) → place < length ranges → (k : ℕ) × (k < length rows) × ((row_at rows k).place.0 ≡ place)
   pub rise : (i j : ℕ) → i ≤ j → j < length rows → NotBehind (row_at rows i) (row_at rows j)
 

@@ -1,8 +1,9 @@
 //! Lines of addresses.
 
-use binfarce_addresses::at::{Places, at};
+use binfarce_addresses::at::{Places, at, at_tables};
 use binfarce_addresses::stream::push_lines;
 use binfarce_tools::list::{ListError, Out};
+use binfarce_tools::tables::Tables;
 use std::alloc::{AllocError, Global};
 use std::test::Fail;
 use test_samples::elf::ELF64_LITTLE;
@@ -52,6 +53,18 @@ const TOLD: [(u64, &[u64], &str); 5] = [
 fn lines_are_told(rt: HostRuntime) -> Result<(), Fail> {
     for (base, addresses, lines) in &TOLD {
         assert!(rt; is_told(rt.alloc(), *base, addresses, lines)?, "{lines}");
+    }
+    Ok(())
+}
+
+#[test]
+fn lines_are_told_of_tables(rt: HostRuntime) -> Result<(), Fail> {
+    let tables = Tables::Whole(Vec::from_slice(rt.alloc(), &ELF64_LITTLE)?);
+    for (base, addresses, lines) in &TOLD {
+        let mut out = Out::new(Vec::new(rt.alloc()));
+        let told = at_tables(rt.alloc(), &tables, ".text", *base, addresses, &mut out);
+        assert!(rt; told == Ok(()), "{lines}");
+        assert!(rt; out.into_inner().as_slice() == lines.as_bytes(), "{lines}");
     }
     Ok(())
 }

@@ -128,7 +128,11 @@ pub(super) fn check_after(
     for before in names.iter().copied() {
         for line in lines.lines() {
             let row = of_line(None, line).ok_or("a line without its bars")?;
-            assert!(rt; is_answered_after(&mut demangler, before, &row, &mut text)?, "{} after {before}", row.what);
+            assert!(rt;
+                is_answered_after(&mut demangler, before, &row, &mut text)?,
+                "{} after {before}",
+                row.what
+            );
         }
     }
     Ok(())

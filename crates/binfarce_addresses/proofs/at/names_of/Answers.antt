@@ -2,7 +2,6 @@ use Rattle.std.proofs.Common.{◌≡◌, ℕ, ◌+◌, ◌<◌, ◌∷◌, ◌++
 use Rattle.std.proofs.Math.Seq.{get_or-append_seam}
 use Rattle.std.proofs.lemmas.List.{get_or-map, length-map}
 use Rattle.std.specs.String.{string_bytes}
-use Rattle.binfarce.specs.Symbol.{Entry}
 use Rattle.binfarce.specs.SymbolViews.{function_view}
 use Rattle.binfarce_addresses.proofs.Names.{no_names, one_name}
 use Rattle.binfarce_addresses.proofs.at.names_of.Goals as goal

@@ -1,20 +1,36 @@
-use Rattle.std.proofs.Common.{◌≡◌, ◌∷◌, ◌++◌, drop, sym, ◌∙◌, arith}
-use Rattle.binfarce_addresses.proofs.Streams.{begun, left_of, line_within, one_more, all_lines}
+use Rattle.std.proofs.Common.{◌-◌, ℕ, Option, Some, None, drop, length, take, refl, subst, arith}
+use Rattle.binfarce_addresses.specs.machine.Answering.{IsFirst}
+use Rattle.binfarce_addresses.proofs.Streams.{begun, first_within, first_more, first_wrong, all_lines}
 use Rattle.binfarce_addresses.proofs.stream.addresses_of.Goals as goal
 
-pub loop-line-init : goal.loop-line-init
-loop-line-init c = record { within = omega arith; begins = begun c.args.bytes.now c.new-addresses.result.items c.new-addresses.ensures.items }
+pub loop-address-init : goal.loop-address-init
+loop-address-init c = record { within = omega arith; begins = begun c.args.bytes.now c.new-addresses.result.items c.new-addresses.ensures.items }
 
-pub loop-line-preserved : goal.loop-line-preserved
-loop-line-preserved c =
+pub loop-address-preserved : goal.loop-address-preserved
+loop-address-preserved c =
     let bytes = c.args.bytes.now in
-    let line = c.in-Some.line.now in
-    let found = c.in-Some.ensures.1 in
-    let is : drop c.loop-line.len bytes ≡ line ++ 10 ∷ found.0 = sym (left_of bytes c.loop-line.len) ∙ found.1 in
+    let len = c.loop-address.len in
+    let part = take (length bytes - len) (drop len bytes) in
+    let P : Option ℕ → Type 0 = λ o. IsFirst part o c.in-Some.line_len in
+    let first : P (Some c.in-Some-address.address) = subst P c.in-Some-address.is c.in-Some.ensures in
     record {
-      within = line_within bytes line found.0 c.loop-line.len c.loop-line.invariant.within is;
-      begins = one_more bytes c.loop-line.addresses.items c.push.new.self.items line found.0 c.loop-line.len c.in-Some-parse_address.address c.loop-line.invariant.begins is (sym c.in-Some-parse_address.ensures) c.in_ok-push-in-Some-parse_address.ensures.items;
+      within = first_within bytes part (Some c.in-Some-address.address) len c.in-Some.line_len c.loop-address.invariant.within refl first;
+      begins = first_more bytes part c.loop-address.addresses.items c.push.new.self.items len c.in-Some.line_len c.in-Some-address.address refl first c.loop-address.invariant.begins c.in_ok-push-in-Some-address.ensures.items;
+    }
+
+pub returns-in-None : goal.returns-in-None
+returns-in-None c =
+    let bytes = c.args.bytes.now in
+    let len = c.loop-address.len in
+    let part = take (length bytes - len) (drop len bytes) in
+    let P : Option ℕ → Type 0 = λ o. IsFirst part o c.in-Some.line_len in
+    let first : P None = subst P c.in-None.is c.in-Some.ensures in
+    record {
+      within = c.loop-address.invariant.within;
+      begins = c.loop-address.invariant.begins;
+      wrong = λ told. first_wrong bytes part len c.in-Some.line_len refl first;
+      part = λ never. absurd cc;
     }
 
 pub returns : goal.returns
-returns c = all_lines c.args.bytes.now c.loop-line.addresses.items c.loop-line.len c.loop-line.invariant.within c.loop-line.invariant.begins c.in_default.ensures
+returns c = all_lines c.args.bytes.now c.loop-address.addresses.items c.loop-address.len c.loop-address.invariant.within c.loop-address.invariant.begins c.in_default.ensures

@@ -3,11 +3,11 @@ use Rattle.binfarce_addresses.specs.Stream.{Begins}
 use Rattle.binfarce_addresses.proofs.stream.addresses_of.Given as goal
 
 -- the lines so far write the addresses
-abbrev pub invariant-loop-line : goal.invariant-loop-line
-invariant-loop-line l = record {
+abbrev pub invariant-loop-address : goal.invariant-loop-address
+invariant-loop-address l = record {
   within : l.len ≤ length l.bytes;
   begins : Begins l.bytes l.addresses.items (drop l.len l.bytes);
 }
 
-abbrev pub decreases-loop-line : goal.decreases-loop-line
-decreases-loop-line l = length l.bytes - l.len
+abbrev pub decreases-loop-address : goal.decreases-loop-address
+decreases-loop-address l = length l.bytes - l.len

@@ -1,4 +1,4 @@
-use Rattle.std.proofs.Common.{◌+◌, ◌<◌, length, map, arith}
+use Rattle.std.proofs.Common.{map, arith}
 use Rattle.std.specs.String.{string_bytes}
 use Rattle.binfarce.specs.SymbolViews.{function_view}
 use Rattle.binfarce_addresses.proofs.Names.{kept}

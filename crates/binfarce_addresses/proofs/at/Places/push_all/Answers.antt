@@ -1,4 +1,4 @@
-use Rattle.std.proofs.Common.{◌≡◌, ◌<◌, ◌∙◌, get_or, length, None, Option, subst, sym, arith}
+use Rattle.std.proofs.Common.{◌<◌, ◌∙◌, get_or, length, None, Option, subst, sym, arith}
 use Rattle.std.proofs.lemmas.List.{get_or_default}
 use Rattle.binfarce_ranges.specs.declared.ranges.Found.{Found}
 use Rattle.binfarce_addresses.specs.machine.Places.{IsShownAt}

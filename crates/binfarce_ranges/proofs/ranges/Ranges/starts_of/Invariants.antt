@@ -1,6 +1,6 @@
 use Rattle.std.proofs.Common.{◌≡◌, length}
 use Rattle.binfarce_ranges.proofs.ranges.Ranges.starts_of.Given as goal
 
--- one for each address so far
-abbrev pub invariant-loop-address : goal.invariant-loop-address
-invariant-loop-address l = length l.starts.items ≡ l.address-index
+-- as many as addresses
+abbrev pub invariant-loop-k : goal.invariant-loop-k
+invariant-loop-k l = length l.starts.items ≡ length l.addresses

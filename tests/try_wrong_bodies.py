@@ -5,9 +5,10 @@
 
 What the prover has to show of a function is made of its own body and of the contracts of what it calls, and of no other
 function's body. So the bodies of several functions can be wrong in one check, and each is refused by goals of its own function,
-as when it is wrong alone. An edit is tried alone where that can't be said: where it turns a constant, a type, a clause or a
-definition, where docs/refusals.txt has it refused in another function than its own, and where the check of several didn't
-refuse it in its function.
+as when it is wrong alone; no other function may have an open goal then. Only these functions are checked, and what they call:
+without the edits `rt ci` proves them, and all others. An edit is tried alone where it turns a constant, a type or a definition,
+where docs/refusals.txt has it refused in another function than its own, and, over the whole crate, where the check before didn't
+refuse it in its function. An edit of a clause isn't tried with a function whose proof cites what it turns.
 
 A crate's edits are tried as soon as the libraries below it are proved, in time that `rt ci` leaves over, each check over what
 those before it proved. For each edit a line is printed as `rt must-fail` prints it, with the goal that docs/refusals.txt names
@@ -26,11 +27,12 @@ from concurrent.futures import FIRST_COMPLETED, ThreadPoolExecutor, wait
 
 sys.dont_write_bytecode = True
 import wrong_bodies
-from wrong_bodies import TOP, edits, function_key, listed, place_of, read, refusals
+from wrong_bodies import TOP, edits, function_key, key_at, key_of, listed, place_of, read, told_by
 
 PARTS = ("src", "specs", "proofs")
 # What no body says: a line that begins so belongs to what callers know of a function.
-STATED = re.compile(r"\s*(pub|fn|ensures|requires|ghost|#\[|impl|trait|const|static|type)\b|\s*#\[")
+STATED = re.compile(r"\s*(pub|fn|ghost|#\[|impl|trait|const|static|type)\b|\s*#\[")
+CLAUSES = re.compile(r"\s*(ensures|requires)\b")
 # What tells of a goal that isn't proved: by its place in the source, or in the answers of its function.
 GOAL = re.compile(r"note: \S+:\d+:\d+: |\S+:\d+:\d+: error")
 # What says nothing of a contract: a text that can't be read, or a proof that names what isn't there.
@@ -86,27 +88,57 @@ class Edit:
     def __init__(self, crate, name, found):
         self.crate, self.name = crate, name
         self.pairs = pairs_of(f"crates/{crate}/must-fail/{name}.edit")
-        self.place = place_of(crate, name)
-        function, goal = found.get((crate, name), (self.place, ""))
-        self.listed = function_key(crate, function), goal
-        self.places = {function_key(crate, self.place), self.listed[0]}
+        file, old, _ = self.pairs[0]
+        self.own = key_at(file, *line_of(crate, file, old))
+        place = place_of(crate, name)
+        function, self.goal = found.get((crate, name), (place, ""))
+        # The list leaves out the type where the prover told of a line of the source.
+        is_own = function_key(crate, function) == function_key(crate, place) or key_of(function) == self.own
+        self.refused_in = self.own if is_own else key_of(function)
 
-    def is_of_a_body(self):
-        """Whether it turns the body of one function alone, and is refused there."""
+    def is_of_a_function(self):
+        """Whether it turns the body or the clauses of one function alone, beside what its file imports for them, and is refused there."""
         for file, old, _ in self.pairs:
-            text = read(f"crates/{self.crate}/{file}") if file.startswith("src/") else ""
-            if text.count(old) != 1:
+            if not file.startswith("src/") or read(f"crates/{self.crate}/{file}").count(old) != 1:
                 return False
-            start = text.index(old) + len(old) - len(old.lstrip())
-            lines, at = text.split("\n"), text.count("\n", 0, start)
-            if STATED.match(lines[at]) or not re.search(rf"\bfn {wrong_bodies.held_by(lines, at)[0]}\b", text):
+            lines, at = line_of(self.crate, file, old)
+            if lines[at].startswith("ghost use ") and (file, old) != self.pairs[0][:2]:
+                continue
+            if STATED.match(lines[at]) or key_at(file, lines, at) != self.own or not re.search(rf"\bfn {self.own[1]}\b", "\n".join(lines)):
                 return False
-            if wrong_bodies.place_at(self.crate, file, old) != self.place:
-                return False
-        return self.listed[0] == function_key(self.crate, self.place)
+        return self.refused_in == self.own
+
+    def turns_clauses(self):
+        return any(CLAUSES.match(lines[at]) for lines, at in (line_of(self.crate, *it[:2]) for it in self.pairs))
+
+    def knows(self, function):
+        """Whether its function calls one of that name, or its proof cites it."""
+        file, name = self.pairs[0][0], self.own[1]
+        lines = read(f"crates/{self.crate}/{file}").split("\n")
+        texts = [it for at, it in enumerate(lines) if it.strip() and key_at(file, lines, at) == self.own]
+        texts += [read(f"crates/{self.crate}/{it}") for it in files_of(self.crate) if f"/{name}/" in it]
+        return any(re.search(rf"\b{function}\b", it) for it in texts)
+
+    def fits(self, other):
+        """Whether both can be tried at once: what is said of a function that the other one's relies on must stay as it is."""
+        relies = self.turns_clauses() and other.knows(self.own[1]) or other.turns_clauses() and self.knows(other.own[1])
+        return self.own != other.own and not relies
 
     def label(self):
         return f"must-fail {self.crate}/{self.name}.edit"
+
+
+def line_of(crate, file, text):
+    """The lines of a crate's file, and the number of that in which a text begins."""
+    source = read(f"crates/{crate}/{file}")
+    start = source.index(text) + len(text) - len(text.lstrip())
+    return source.split("\n"), source.count("\n", 0, start)
+
+
+def files_of(crate):
+    for part in PARTS:
+        for folder, _, names in os.walk(f"{TOP}/crates/{crate}/{part}"):
+            yield from (os.path.relpath(f"{folder}/{it}", f"{TOP}/crates/{crate}") for it in names)
 
 
 def in_sets(crate, found):
@@ -114,10 +146,10 @@ def in_sets(crate, found):
     alone, sets = [], []
     for name in (it for at, it in edits() if at == crate):
         edit = Edit(crate, name, found)
-        if not edit.is_of_a_body():
+        if not edit.is_of_a_function():
             alone.append([edit])
             continue
-        fitting = next((it for it in sets if not any(edit.places & other.places for other in it)), None)
+        fitting = next((it for it in sets if all(edit.fits(other) for other in it)), None)
         if fitting is None:
             sets.append([edit])
         else:
@@ -128,7 +160,7 @@ def in_sets(crate, found):
 def texts_with(crate, these):
     """The texts of the files that these edits change, by path: of one edit, text by text in its order; of several, each at its
     place in the file without the others, the last first, so that the places before it stay."""
-    texts, changes = {}, []
+    texts, changes = {}, {}
     for edit in these:
         for file, old, new in edit.pairs:
             before = texts.get(file) if len(these) == 1 else None
@@ -136,8 +168,10 @@ def texts_with(crate, these):
             if text.count(old) != 1:
                 raise ValueError(f"{edit.label()}: BAD EDIT: an old text is in {file} {text.count(old)} times, and not once")
             texts[file] = text.replace(old, new) if len(these) == 1 else text
-            changes.append((file, text.index(old), len(old), new))
-    for file, at, length, new in sorted(changes, reverse=True) if len(these) > 1 else ():
+            # Several edits may each add something to a file's imports.
+            place = file, text.index(old), len(old)
+            changes[place] = changes.get(place, old) + new.removeprefix(old) if place in changes or new.startswith(old) else new
+    for (file, at, length), new in sorted(changes.items(), reverse=True) if len(these) > 1 else ():
         texts[file] = texts[file][:at] + new + texts[file][at + length :]
     return texts
 
@@ -148,12 +182,13 @@ def is_unread(line):
     return bool(at) and (not at[1] or bool(UNREAD.search(re.sub(r"`[^`]*`", "``", at[2]))))
 
 
-def modules_of(these):
-    """The modules whose functions these edits turn, or none where the whole crate is to be checked."""
-    files = {file for edit in these for file, _, _ in edit.pairs}
-    if any(not it.startswith("src/") or it in ("src/lib.rt", "src/main.rt") or not edit.is_of_a_body() for edit in these for it in files):
-        return []
-    return sorted(wrong_bodies.module_of(it).replace(".", "::") for it in files)
+def paths_of(these):
+    """The functions in which these edits are refused, as the prover takes their names."""
+    for crate, (holder, name) in sorted({(it.crate, it.refused_in) for it in these}):
+        files = [it for it in files_of(crate) if it.startswith("src/") and re.search(rf"\b(struct|enum|trait) {holder}\b", read(f"crates/{crate}/{it}"))]
+        modules = [wrong_bodies.module_of(it) for it in files] if holder[:1].isupper() else []
+        path = ".".join([*modules[:1], *([holder] if holder not in ("lib", "main") else []), name])
+        yield re.sub(r"^(lib|main)[.]", "", path).replace(".", "::")
 
 
 class Prover:
@@ -191,16 +226,18 @@ class Prover:
             ended = subprocess.run(words, cwd=room, **how)
         return ended.returncode, ended.stdout.rstrip("\n").split("\n")
 
-    def try_set(self, crate, these, kept):
-        """What to print of each edit that a check with all of them refuses, by name. None where a source or a definition can't be read."""
+    def try_set(self, crate, these, kept, whole=False):
+        """What to print of each edit that a check with all of them refuses, by name. None where a source or a definition can't be
+        read. Only the functions in which they are refused are checked, with what these call, or the whole crate."""
         try:
             texts = texts_with(crate, these)
         except ValueError as error:
             print(error, flush=True)
             return {}
-        status, lines = self.check(crate, texts, kept, modules_of(these))
+        only = () if whole else (*paths_of(these),)
+        status, lines = self.check(crate, texts, kept, only)
         if status not in (0, 1):
-            # Ended from outside, most likely for memory, or no module of that name: once more, of the whole crate.
+            # Ended from outside, most likely for memory, or no function of that name: once more, of the whole crate.
             time.sleep(60 if status < 0 else 0)
             status, lines = self.check(crate, texts, kept)
         if status != 1 or not lines[-1].startswith(("logic=not-proved", "only=")):
@@ -209,8 +246,11 @@ class Prover:
         if any(is_unread(it) for it in lines):
             return {}
         told, found = [*self.goals_of(crate, lines)], {}
+        if len(these) > 1 and {key for _, key, _ in told} - {it.own for it in these}:
+            # A function isn't proved that none of them turns: each is to be tried alone.
+            return {}
         for edit in these:
-            own = [it for it in told if it[:2] == edit.listed] or [it for it in told if it[0] in edit.places]
+            own = [it for it in told if it[:2] == (edit.goal, edit.refused_in)] or [it for it in told if it[1] in (edit.own, edit.refused_in)]
             # Of an edit that is tried alone any goal tells.
             own = own or told if len(these) == 1 else own
             if own:
@@ -218,11 +258,11 @@ class Prover:
         return found
 
     def goals_of(self, crate, lines):
-        """The goals that these lines tell of: the function, the goal, and the line."""
+        """The goals that these lines tell of: the goal, the function, and the line."""
         for line in lines:
             if GOAL.match(line) and not UNREAD.search(re.sub(r"`[^`]*`", "``", line)):
-                function, goal = refusals(f"must-fail {crate}/it.edit: refused, as it must be: {line}")[crate, "it"]
-                yield function_key(crate, function), goal, line
+                _, goal, key = told_by(crate, line)
+                yield goal, key, line
 
     def try_crate(self, crate, found):
         """Tries a crate's edits, prints what is to be said of each, and returns how many were refused and how many not."""
@@ -230,17 +270,15 @@ class Prover:
         with tempfile.TemporaryDirectory(prefix="edits-") as kept:
             for these in tried:
                 said.update(self.try_set(crate, these, kept))
-            is_sound = self.check(crate, {}, kept)[0] == 0
-        lost = [edit for these in tried for edit in these if not is_sound or edit.name not in said]
+        lost = [edit for these in tried for edit in these if edit.name not in said]
         with tempfile.TemporaryDirectory(prefix="edits-") as kept:
             for edit in lost:
-                said.pop(edit.name, None)
-                said.update(self.try_set(crate, [edit], kept))
+                said.update(self.try_set(crate, [edit], kept, whole=True))
         names = [edit.name for these in tried for edit in these]
         with printing:
             for name in sorted(names):
                 print(said.get(name, f"must-fail {crate}/{name}.edit: NOT REFUSED in its function"), flush=True)
-            print(f"{crate}: {len(said)} of {len(names)} edits refused, in {len(tried) + 1 + len(lost)} checks", flush=True)
+            print(f"{crate}: {len(said)} of {len(names)} edits refused, in {len(tried) + len(lost)} checks", flush=True)
         return len(said), len(names) - len(said)
 
 

@@ -40,13 +40,21 @@ def indent(line):
 
 
 def type_of(impl):
-    """The type of an impl's first line: `impl<'a> Model for Printer<'a> {` is of Printer, `impl Source for &[u8] {` of u8."""
+    """The type of an impl's first line: `impl<'a> Model for Printer<'a> {` is of Printer, `impl Source for &[u8] {` of u8. Of a trait's first line its name."""
+    if not re.match(r"(unsafe )?impl\b", impl):
+        return ITEM.match(impl)[2]
     head = re.sub(r"<[^<>]*>", "", re.sub(r"<[^<>]*>", "", impl)).rstrip(" {")
     return re.split(r" for |impl ", head)[-1].strip("&[] ").split("::")[-1]
 
 
 def held_by(lines, at):
     """The item in which a line stands, in a file as `rt fmt` lays it out: the function, or else the constant or type; and its impl's type."""
+    name, impl = item_at(lines, at)
+    return name, impl and type_of(impl)
+
+
+def item_at(lines, at):
+    """The same with the first line of its impl, or of its trait."""
     while re.match(r"\s*(#\[|///|//)", lines[at]):
         at += 1
     name, kind, holder = "", "", ""
@@ -57,7 +65,7 @@ def held_by(lines, at):
             if found[1] == "fn" and kind != "fn" or found[1] != "fn" and not kind and found[1] != "impl":
                 kind, name = found[1], found[2]
             if found[1] in ("impl", "trait"):
-                holder = type_of(line.strip()) if found[1] == "impl" else found[2]
+                holder = line.strip()
             depth = indent(line)
         if depth == 0 and kind:
             break
@@ -128,21 +136,50 @@ def refusals(text):
     """Where an output says that each edit was refused: function and goal by crate and edit."""
     found = {}
     for line in text.split("\n"):
-        at = re.match(r"(?:rt: )?must-fail (\w+)/(\S+)\.edit: refused, as it must be(.*)", line)
-        if not at:
-            continue
-        crate, edit, said = at.groups()
-        source = re.match(r": (?:note: )?(?:\./)?(src/\S+?\.rt):(\d+):\d+: (.*)", said)
-        answer = re.match(r": (?:note: )?(?:\./)?proofs/(\S+?)/[A-Z]\w*\.antt:\d+:\d+: error: `([^`]+)`", said)
-        if answer:
-            found[crate, edit] = in_answer(answer[1].replace("/", "."), answer[2])
-        elif source:
-            name, _ = held_by(read(f"crates/{crate}/{source[1]}").split("\n"), int(source[2]) - 1)
-            goal = re.search(r"\(`([^`]+)`?", source[3])
-            found[crate, edit] = (f"{module_of(source[1])}.{name}", re.sub(rf"^(?:\w+::)*{name}-", "", goal[1], count=1) if goal else "refused")
-        else:
-            found[crate, edit] = ("proofs", "refused")
+        at = re.match(r"(?:rt: )?must-fail (\w+)/(\S+)\.edit: refused, as it must be(?:: )?(.*)", line)
+        if at:
+            crate, edit, said = at.groups()
+            found[crate, edit] = told_by(crate, said)[:2]
     return found
+
+
+def told_by(crate, said):
+    """What a line of the prover's tells of: the function, the goal, and which function that is among those of its name."""
+    source = re.match(r"(?:note: )?(?:\./)?(src/\S+?\.rt):(\d+):\d+: (.*)", said)
+    answer = re.match(r"(?:note: )?(?:\./)?proofs/(\S+?)/[A-Z]\w*\.antt:\d+:\d+: error: `([^`]+)`", said)
+    if answer:
+        function, goal = in_answer(answer[1].replace("/", "."), answer[2])
+        return function, goal, key_of(function)
+    if source:
+        lines, at = read(f"crates/{crate}/{source[1]}").split("\n"), int(source[2]) - 1
+        name, _ = held_by(lines, at)
+        goal = re.search(r"\(`([^`]+)`?", source[3])
+        function = f"{module_of(source[1])}.{name}"
+        return function, re.sub(rf"^(?:\w+::)*{name}-", "", goal[1], count=1) if goal else "refused", key_at(source[1], lines, at)
+    return "proofs", "refused", ("", "proofs")
+
+
+def key_of(function):
+    """A function as the prover names it, by its type (with its trait, where it is a trait's) or else its module, and its name."""
+    *path, name = function.split(".")
+    holder = path[-1] if path and path[-1][:1].isupper() else ".".join(path)
+    return holder, name
+
+
+def key_at(file, lines, at):
+    """The same of the function in which a line of a source file stands."""
+    name, impl = item_at(lines, at)
+    return impl_name(impl) if impl else module_of(file), name
+
+
+def impl_name(impl):
+    """What the prover calls an impl by, of its first line: `impl RawNumber for u8 {` is U8RawNumber, `impl Stream<'_> {` Stream."""
+    if not re.match(r"(unsafe )?impl\b", impl):
+        return type_of(impl)
+    words = lambda text: "".join(it[:1].upper() + it[1:] for it in re.findall(r"\w+", text))
+    head = re.sub(r"\w+::", "", re.sub(r"^(unsafe )?impl(<[^>]*>)? ?", "", impl).rstrip(" {"))
+    trait, is_of_trait, name = head.rpartition(" for ")
+    return words(re.sub(r"<.*>", "", name.replace("&", " Ref ").replace("[", " Slice "))) + words(trait)
 
 
 def function_key(crate, function):

@@ -139,19 +139,19 @@ def refusals(text):
         at = re.match(r"(?:rt: )?must-fail (\w+)/(\S+)\.edit: refused, as it must be(?:: )?(.*)", line)
         if at:
             crate, edit, said = at.groups()
-            found[crate, edit] = told_by(crate, said)[:2]
+            found[crate, edit] = told_by(lambda path: read(f"crates/{crate}/{path}"), said)[:2]
     return found
 
 
-def told_by(crate, said):
-    """What a line of the prover's tells of: the function, the goal, and which function that is among those of its name."""
+def told_by(reading, said):
+    """What a line of the prover's tells of: the function, the goal, and which function that is among those of its name; `reading` gives the text of a path in the crate."""
     source = re.match(r"(?:note: )?(?:\./)?(src/\S+?\.rt):(\d+):\d+: (.*)", said)
     answer = re.match(r"(?:note: )?(?:\./)?proofs/(\S+?)/[A-Z]\w*\.antt:\d+:\d+: error: `([^`]+)`", said)
     if answer:
         function, goal = in_answer(answer[1].replace("/", "."), answer[2])
         return function, goal, key_of(function)
     if source:
-        lines, at = read(f"crates/{crate}/{source[1]}").split("\n"), int(source[2]) - 1
+        lines, at = reading(source[1]).split("\n"), int(source[2]) - 1
         name, _ = held_by(lines, at)
         goal = re.search(r"\(`([^`]+)`?", source[3])
         function = f"{module_of(source[1])}.{name}"

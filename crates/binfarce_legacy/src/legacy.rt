@@ -1,6 +1,6 @@
 //! The legacy mangling: `_ZN`, elements that are each counted, and `E`.
 
-ghost use Rattle.std.specs.Prelude.{◌≡◌, ℕ, ◌<◌, ◌≤◌, ◌++◌, List, MatchOption, IfOk, OnOk, OnErr, false, IsTrue, length, take, drop, slice_index, is_ok, if◌then◌else◌};
+ghost use Rattle.std.specs.Prelude.{◌≡◌, ℕ, ◌<◌, ◌≤◌, ◌++◌, List, MatchOption, IfOk, OnOk, OnErr, false, IsTrue, length, take, drop, slice_index};
 ghost use Rattle.std.specs.Option.{option_copied};
 ghost use Rattle.std.specs.List.{list_any};
 ghost use Rattle.std.specs.Str.{IsAscii, encode_utf8_all};

@@ -5,3 +5,5 @@ pub mod JoinLemmas
 pub mod LastElement
 pub mod PieceLemmas
 pub mod Growing
+pub mod LaneLemmas
+pub mod RunLemmas

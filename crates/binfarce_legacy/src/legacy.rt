@@ -1,17 +1,16 @@
 //! The legacy mangling: `_ZN`, elements that are each counted, and `E`.
 
-ghost use Rattle.std.specs.Prelude.{◌≡◌, ℕ, ◌+◌, ◌-◌, ◌*◌, ◌^◌, ◌<◌, ◌≤◌, ◌++◌, List, MatchOption, SomeIff, IfOk, OnOk, OnErr, IfSome, true, false, IsTrue, length, take, drop, min, nat_eq, codes, slice_index};
-ghost use Rattle.std.specs.Option.{option_copied, option_map};
-ghost use Rattle.std.specs.List.{list_any, prefix_len, starts_with};
-ghost use Rattle.std.specs.Char.{is_ascii_digit};
+ghost use Rattle.std.specs.Prelude.{◌≡◌, ℕ, ◌<◌, ◌≤◌, ◌++◌, List, MatchOption, IfOk, OnOk, OnErr, false, IsTrue, length, take, drop, slice_index};
+ghost use Rattle.std.specs.Option.{option_copied};
+ghost use Rattle.std.specs.List.{list_any};
 ghost use Rattle.std.specs.Str.{IsAscii, encode_utf8_all};
-ghost use Rattle.std.specs.Str.Parse.{digits_value};
 ghost use Rattle.std.specs.String.{string_bytes};
-ghost use Rattle.binfarce_text.specs.Letters.{is_hex_digit};
-ghost use Rattle.binfarce_legacy.specs.Legacy.{Element, Reads, IsLegacy, part_after_prefix, named_escape, numbered_escape, first_piece, name_chars, legacy_chars, is_printed, without_last_part, IsFront};
-ghost use Rattle.binfarce_legacy.specs.machine.Reading.{is_mark, is_plain, path_chars, piece_of, piece_or_all, chars_left, name_start, name_end, HasElement, Grows};
+ghost use Rattle.binfarce_legacy.specs.Legacy.{Element, Reads, IsLegacy, part_after_prefix, first_piece, name_chars, legacy_chars, without_last_part, IsFront};
+ghost use Rattle.binfarce_legacy.specs.machine.Reading.{is_mark, is_plain, path_chars, chars_left, Grows};
 
-use binfarce_text::digits::hex_value;
+use crate::elements::{element, elements_end};
+use crate::escapes::escape;
+use crate::runs::{has_mark, plain_end};
 use binfarce_text::prefixes::after_prefix;
 use binfarce_text::suffixes::is_allowed_rest;
 use std::alloc::{AllocError, Global};
@@ -22,70 +21,6 @@ fn part_after_prefix(text: &str) -> Option<&str>
     ensures { option_copied result ≡ part_after_prefix text.now }
 {
     after_prefix(text, "_ZN", "ZN", "__ZN")
-}
-
-// How long the run of digits is that `text` begins with, and the number that they write, where it
-// is below `usize::MAX`.
-fn count(text: &[u8]) -> (usize, usize)
-    ensures digits { result.0 ≡ prefix_len is_ascii_digit text.now }
-    ensures number { result.1 ≡ min (digits_value 10 (take result.0 text.now)) (2 ^ 64 - 1) }
-{
-    let mut digits = 0;
-    let mut number: usize = 0;
-    while digits < text.len() && text[digits].is_ascii_digit() {
-        let digit = text[digits] - b'0';
-        number = with_digit(number, digit);
-        digits += 1;
-    }
-    (digits, number)
-}
-
-// A number with one more digit after it, where it is below `usize::MAX`.
-#[inline(always)]
-fn with_digit(number: usize, digit: u8) -> usize
-    requires { digit < 10 }
-    ensures { result ≡ min (number * 10 + digit) (2 ^ 64 - 1) }
-{
-    if number < 0x1000_0000_0000_0000 {
-        number * 10 + usize::from(digit)
-    } else {
-        number.saturating_mul(10).saturating_add(usize::from(digit))
-    }
-}
-
-// Where the name of the element that stands at `at` begins and ends.
-fn element(text: &[u8], at: usize) -> Option<(usize, usize)>
-    requires { at ≤ length text.now }
-    ensures { SomeIff result (HasElement (drop at text.now))
-        (at + name_start (drop at text.now), at + name_end (drop at text.now)) }
-{
-    let rest = &text[at..];
-    let (digits, number) = count(rest);
-    if digits == 0 {
-        return None;
-    }
-    if rest.len() - digits < number {
-        return None;
-    }
-    let start = at + digits;
-    Some((start, start + number))
-}
-
-// Where the elements that `text` begins with end, after their `E`.
-fn elements_end(text: &[u8]) -> Option<usize>
-    ensures { MatchOption result
-        ((elements : List Element) (rest : List ℕ) → ¬ (Reads text.now elements rest))
-        (λ end. (end ≤ length text.now) × ((elements : List Element) × Reads text.now elements (drop end text.now))) }
-{
-    let mut at = 0;
-    while at < text.len() && text[at] != b'E' {
-        let (_, end) = element(text, at)?;
-        at = end;
-    }
-    if at == text.len() {
-        return None;
-    }
-    Some(at + 1)
 }
 
 /// The mangling that `text` is, without its prefix and with what may follow its `E`. None where `text` is no legacy
@@ -107,115 +42,12 @@ pub fn mangling(text: &str) -> Option<&str>
     Some(part)
 }
 
-// The character of the named escape that `name` begins with, and the escape's length.
-#[tactic(auto, unfolding(crate::specs::Legacy::named_escape))]
-fn named_escape(name: &[u8]) -> Option<(char, usize)>
-    ensures value { option_map piece_of result ≡ named_escape name.now }
-    ensures within { IfSome result (λ p. (0 < p.1) × (p.1 ≤ length name.now)) }
-{
-    if name.starts_with(b"$LT$") {
-        Some(('<', 4))
-    } else if name.starts_with(b"$GT$") {
-        Some(('>', 4))
-    } else if name.starts_with(b"$RF$") {
-        Some(('&', 4))
-    } else if name.starts_with(b"$C$") {
-        Some((',', 3))
-    } else if name.starts_with(b"$LP$") {
-        Some(('(', 4))
-    } else if name.starts_with(b"$RP$") {
-        Some((')', 4))
-    } else if name.starts_with(b"$BP$") {
-        Some(('*', 4))
-    } else if name.starts_with(b"$SP$") {
-        Some(('@', 4))
-    } else {
-        None
-    }
-}
-
-// How long the run of hexadecimal digits is that `text` begins with, and the number that they
-// write, where it is below 0x110000.
-fn hex_count(text: &[u8]) -> (usize, u32)
-    ensures digits { result.0 ≡ prefix_len is_hex_digit text.now }
-    ensures number { result.1 ≡ min (digits_value 16 (take result.0 text.now)) 0x110000 }
-{
-    let mut digits = 0;
-    let mut number: u32 = 0;
-    while digits < text.len() {
-        let Some(value) = hex_value(text[digits]) else {
-            break;
-        };
-        number = (number * 16 + u32::from(value)).min(0x11_0000);
-        digits += 1;
-    }
-    (digits, number)
-}
-
-// A character that is printed: a scalar value that is no control character.
-fn is_printed(code: u32) -> bool
-    ensures { result ≡ is_printed code }
-{
-    matches!(code, 0x20..=0x7E | 0xA0..=0xD7FF | 0xE000..=0x10_FFFF)
-}
-
-// The character of the numbered escape that `name` begins with, and the escape's length.
-fn numbered_escape(name: &[u8]) -> Option<(char, usize)>
-    requires { starts_with nat_eq name.now (codes "$u") ≡ true }
-    ensures value { option_map piece_of result ≡ numbered_escape name.now }
-    ensures within { IfSome result (λ p. (0 < p.1) × (p.1 ≤ length name.now)) }
-{
-    let (digits, code) = hex_count(&name[2..]);
-    let end = 2 + digits;
-    if digits > 0 && end < name.len() && name[end] == b'$' && is_printed(code) {
-        Some((char::from_u32(code)?, end + 1))
-    } else {
-        None
-    }
-}
-
-// Whether a byte stands for itself. Most are letters, digits and `_`, which the first test knows.
-#[inline(always)]
-fn is_plain(b: u8) -> bool
-    ensures { result ≡ is_plain b }
-{
-    b > b'.' || (b != b'.' && b != b'$')
-}
-
-// Where the bytes from `at` on end that stand for themselves.
-fn plain_end(name: &[u8], at: usize) -> usize
-    requires { at ≤ length name.now }
-    ensures value { result ≡ at + prefix_len is_plain (drop at name.now) }
-    ensures within { (at ≤ result) × (result ≤ length name.now) }
-    ensures special { result < length name.now → is_plain (slice_index name.now result) ≡ false }
-{
-    let mut end = at;
-    while end < name.len() && is_plain(name[end]) {
-        end += 1;
-    }
-    end
-}
-
 // How long the mark is that is dropped at the front of `name`: `_` before a `$`.
 fn mark_len(name: &[u8]) -> usize
     ensures within { result ≤ length name.now }
     ensures value { name_chars name.now ≡ chars_left (drop result name.now) }
 {
     if name.starts_with(b"_$") { 1 } else { 0 }
-}
-
-// The character of the escape that `name` begins with, and the escape's length, where its `$`
-// begins one.
-fn escape(name: &[u8]) -> Option<(char, usize)>
-    requires { slice_index name.now 0 ≡ 36 }
-    ensures value { first_piece name.now ≡ piece_or_all name.now (option_map piece_of result) }
-    ensures within { IfSome result (λ p. (0 < p.1) × (p.1 ≤ length name.now)) }
-{
-    if name.starts_with(b"$u") {
-        numbered_escape(name)
-    } else {
-        named_escape(name)
-    }
 }
 
 // Writes the piece that `name` begins with, and returns the piece's length.
@@ -250,9 +82,22 @@ fn push_piece(text: &mut String, name: &str) -> Result<usize, AllocError>
     }
 }
 
-// Writes an element's name in readable form.
-fn push_name(text: &mut String, name: &str) -> Result<(), AllocError>
-    requires { IsAscii name.now }
+// Writes bytes that stand for themselves. Where there are none, as between two escapes, nothing is called.
+#[inline(always)]
+fn push_run(text: &mut String, run: &str) -> Result<(), AllocError>
+    ensures bytes { OnOk result (string_bytes text.new ≡ string_bytes text.old ++ run.now) }
+    ensures grows { Grows (string_bytes text.old) (string_bytes text.new) }
+{
+    if run.is_empty() {
+        return Ok(());
+    }
+    text.push_str(run)
+}
+
+// Writes an element's name in readable form. `wide` begins with the name.
+fn push_name(text: &mut String, name: &str, wide: &[u8]) -> Result<(), AllocError>
+    requires ascii { IsAscii name.now }
+    requires wide { name.now ≡ take (length name.now) wide.now }
     ensures bytes { OnOk result (string_bytes text.new
         ≡ string_bytes text.old ++ encode_utf8_all (name_chars name.now)) }
     ensures grows { Grows (string_bytes text.old) (string_bytes text.new) }
@@ -260,52 +105,14 @@ fn push_name(text: &mut String, name: &str) -> Result<(), AllocError>
     let bytes = name.as_bytes();
     let mut at = mark_len(bytes);
     while at < name.len() {
-        let special = plain_end(bytes, at);
-        text.push_str(&name[at..special])?;
+        let special = plain_end(bytes, wide, at);
+        push_run(text, &name[at..special])?;
         if special == name.len() {
             return Ok(());
         }
         at = special + push_piece(text, &name[special..])?;
     }
     Ok(())
-}
-
-// Whether a byte begins an escape, or is a `:`.
-#[inline(always)]
-fn is_mark(b: u8) -> bool
-    ensures { result ≡ is_mark b }
-{
-    b == b'.' || b == b'$' || b == b':'
-}
-
-// How many bytes of a name are looked at together.
-const STRIDE: usize = 16;
-
-// Whether a byte of a name is such.
-#[inline(always)]
-fn has_mark(name: &[u8]) -> bool
-    ensures { result ≡ list_any is_mark name.now }
-{
-    let mut at = 0;
-    while name.len() - at >= STRIDE {
-        if has_mark_among(&name[at..at + STRIDE]) {
-            return true;
-        }
-        at += STRIDE;
-    }
-    has_mark_among(&name[at..])
-}
-
-// The same without an early end, so that the bytes are compared side by side.
-#[inline(always)]
-fn has_mark_among(bytes: &[u8]) -> bool
-    ensures { result ≡ list_any is_mark bytes.now }
-{
-    let mut found = false;
-    for b in bytes {
-        found |= is_mark(*b);
-    }
-    found
 }
 
 // Whether an element's name is the last part of a path, as it stands: where the name ends at `end`, the elements end, and it
@@ -336,7 +143,7 @@ fn push_path(text: &mut String, part: &str, trimmed: bool) -> Result<bool, Alloc
             }
             text.push_str("::")?;
         }
-        push_name(text, name)?;
+        push_name(text, name, &bytes[start..])?;
         at = end;
     }
     Ok(false)
@@ -371,7 +178,7 @@ pub fn push_front(text: &mut String, part: &str) -> Result<(), AllocError>
     if first.as_bytes().starts_with(b"_$LT$") {
         return text.push_str("<");
     }
-    push_name(text, first)?;
+    push_name(text, first, &bytes[start..])?;
     let Some(_) = element(bytes, end) else {
         return Ok(());
     };

@@ -37,7 +37,7 @@ parse errors.UnexpectedEof told = refl
 parse errors.OutOfMemory told = absurd cc
 
 gets_refusal : (memory : Result Listed Refusal → Type 0) (answer : Result Listed Refusal) (e : ParseError) → Told answer → Answers HoldsLeft memory answer (Err e) → Gets memory (Some answer) (Err (list_error_of e))
-gets_refusal memory (Ok listed) e told answers = as_memory e answers.0
+gets_refusal memory (Ok listed) e told answers = (answers.1, as_memory e answers.0)
 gets_refusal memory (Err refusal) e told (inl is) = inl (e, is, parse e (ap is_told is ∙ told))
 gets_refusal memory (Err refusal) e told (inr h) = inr (h.1, as_memory e h.0)
 

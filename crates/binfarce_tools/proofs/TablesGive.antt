@@ -1,6 +1,6 @@
 -- What the parts of a Mach-O or PE file give is what the file answers.
-use Rattle.std.proofs.Common.{◌≡◌, ℕ, Bool, true, false, ltb, List, length, Vec, Global, Option, Some, None, Result, Ok, Err, refl, sym, ap, subst, ◌∙◌, inl, inr}
-use Rattle.std.specs.Prelude.{if◌then◌else◌}
+use Rattle.std.proofs.Common.{◌≡◌, ℕ, Bool, true, false, ltb, List, [], length, Vec, Global, Option, Some, None, Result, Ok, Err, refl, sym, ap, subst, ◌∙◌, inl, inr}
+use Rattle.std.specs.Prelude.{◌≢◌, if◌then◌else◌}
 use Rattle.std.specs.Result.{IsErrAnd}
 use Rattle.binfarce.specs.declared.Format.{Format}
 use Rattle.binfarce.specs.declared.Format.TheVariants as formats
@@ -8,9 +8,10 @@ use Rattle.binfarce.specs.declared.FunctionSymbol.{FunctionSymbol}
 use Rattle.binfarce.specs.declared.ParseError.{ParseError}
 use Rattle.binfarce.specs.Format.{format_of}
 use Rattle.binfarce.specs.MachoParts.{SomeAddress}
-use Rattle.binfarce.specs.MachoSymbols.{Located, HasAddress, located, answer_of}
+use Rattle.binfarce.specs.MachoSymbols.{Located, HasAddress, located, kept, listed_of, answer_of}
 use Rattle.binfarce.specs.Refusal.{◌>>=◌, Refusal, unexpected_eof}
-use Rattle.binfarce.specs.Symbol.{Listed, Answers}
+use Rattle.binfarce.specs.Sizes.{RowAddress, arranged}
+use Rattle.binfarce.specs.Symbol.{Entry, Listed, ListsSome, Answers}
 use Rattle.binfarce.specs.SymbolViews.{HoldsFunctions}
 use Rattle.binfarce_reading.specs.MachoReading.{located_answer}
 use Rattle.binfarce_tools.specs.declared.functions.Functions.{Functions}
@@ -33,9 +34,10 @@ given memory needs answer listed functions value is answers arranged =
     subst (λ (a : Option (Result Listed Refusal)). Gets memory a (Ok value)) (sym is) (arranged_left listed functions value answers arranged)
 
 pub not_given : (memory needs : Result Listed Refusal → Type 0) (answer : Option (Result Listed Refusal)) (listed : Listed) (e : ParseError) (result : Result (Functions × ℕ) ListError)
-    → answer ≡ Some (Ok listed) → Answers HoldsFunctions needs (Ok listed) (Err e) → IsErrAnd result (λ f. f ≡ list_error_of e) → Gets memory answer result
-not_given memory needs answer listed e (Ok x) is answers err = absurd err
-not_given memory needs answer listed e (Err f) is answers err = subst (λ (a : Option (Result Listed Refusal)). Gets memory a (Err f)) (sym is) (err ∙ as_memory e answers.0)
+    → answer ≡ Some (Ok listed) → (needs (Ok listed) → memory (Ok listed)) → Answers HoldsFunctions needs (Ok listed) (Err e) → IsErrAnd result (λ f. f ≡ list_error_of e) → Gets memory answer result
+not_given memory needs answer listed e (Ok x) is more answers err = absurd err
+not_given memory needs answer listed e (Err f) is more answers err =
+    subst (λ (a : Option (Result Listed Refusal)). Gets memory a (Err f)) (sym is) (more answers.1, err ∙ as_memory e answers.0)
 
 -- where the symbols of a Mach-O file are that isn't too short
 whole_located : (short : Bool) (r : Result (Option Located) Refusal) (found : Option Located) → (if short then Err unexpected_eof else r) ≡ Ok found → r ≡ Ok found
@@ -45,6 +47,35 @@ whole_located false r found is = is
 addressed : (file : List ℕ) (found : Option Located) → located file ≡ Ok found → SomeAddress found → HasAddress file
 addressed file None is some = absurd some
 addressed file (Some found) is some = record { found = found; is_located = is; some = some }
+
+-- a table that lists some symbol has an address
+listed_entries : Result Listed Refusal → List Entry
+listed_entries (Ok listed) = listed.entries
+listed_entries (Err refusal) = []
+
+addressed_list : (found : Option Located) (listed : Listed) → answer_of found ≡ Ok listed → listed.entries ≢ [] → SomeAddress found
+unfolding answer_of arranged kept listed_entries
+addressed_list None listed is some = absurd (some (sym (ap listed_entries is)))
+addressed_list (Some found) listed is some = λ none.
+    some (sym (ap listed_entries is) ∙ ap (λ (rows : List RowAddress). listed_entries (listed_of found (arranged rows))) none)
+
+listed_address : (file : List ℕ) (r : Result (Option Located) Refusal) (listed : Listed) → located_answer file ≡ r → (r >>= answer_of) ≡ Ok listed → listed.entries ≢ [] → HasAddress file
+listed_address file (Err refusal) listed at is some = absurd cc
+listed_address file (Ok found) listed at is some =
+    addressed file found (whole_located (ltb (length file) 28) (located file) found at) (addressed_list found listed is some)
+
+some_is : (a b : Result Listed Refusal) → Some a ≡ Some b → a ≡ b
+some_is a b is = cc
+
+-- a list that isn't empty needs memory, whatever the file's format
+pub needs_memory : (format : Format) (file section : List ℕ) (listed : Listed) → symbols_answer format file section ≡ Some (Ok listed) → ListsSome (Ok listed) → NeedsMemory format file (Ok listed)
+unfolding symbols_answer NeedsMemory
+needs_memory (formats.Elf32 order) file section listed is some = some
+needs_memory (formats.Elf64 order) file section listed is some = some
+needs_memory formats.Macho file section listed is some =
+    listed_address file (located_answer file) listed refl (sym (macho_is file) ∙ some_is (macho_file_answer file) (Ok listed) is) some
+needs_memory formats.PE file section listed is some = some
+needs_memory formats.Unknown file section listed is some = absurd cc
 
 of_ok : (A B : Type 0) (answer : Result Listed Refusal) (functions : Vec FunctionSymbol Global × ℕ) (value : Functions × ℕ)
     → Answers HoldsFunctions (λ _. A) answer (Ok functions) → IsArranged functions value → Gets (λ _. B) (Some answer) (Ok value)

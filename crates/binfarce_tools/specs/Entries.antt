@@ -32,10 +32,10 @@ HoldsLeft listed answer = (functions_left answer.0 ≡ listed.entries) × (answe
 abbrev pub IsArranged : Vec FunctionSymbol × ℕ → Functions × ℕ → Type 0
 IsArranged listed answer = (functions_left answer.0 ≡ map function_view listed.0.items) × (answer.1 ≡ listed.1)
 
--- what reading the functions of a file returns: what it holds, or why it can't be had
+-- what reading the functions of a file returns: what it holds, or why it can't be had. In place of an answer that needs memory, and of no other, it may return that an allocation failed
 abbrev pub Gets : (Result Listed Refusal → Type 0) → Option (Result Listed Refusal) → Result (Functions × ℕ) ListError → Type 0
 Gets NeedsMemory (Some (Ok listed)) (Ok value) = HoldsLeft listed value
-Gets NeedsMemory (Some (Ok listed)) (Err e) = e ≡ OutOfMemory
+Gets NeedsMemory (Some (Ok listed)) (Err e) = NeedsMemory (Ok listed) × (e ≡ OutOfMemory)
 Gets NeedsMemory (Some (Err refusal)) (Ok value) = ⊥
 Gets NeedsMemory (Some (Err refusal)) (Err e) = ((p : ParseError) × (refusal_of p ≡ refusal) × (e ≡ Parse p)) ⊎ (NeedsMemory (Err refusal) × (e ≡ OutOfMemory))
 Gets NeedsMemory None (Ok value) = ⊥

@@ -30,14 +30,14 @@ loop-at-preserved c =
       written =
           ap (λ (x : List ℕ). string_bytes c.push_piece.new.text ++ encode_utf8_all (chars_left x)) (sym (drop-drop n special t))
           ∙ written_step u k n w (string_bytes c.loop-at.text) (string_bytes c.push_piece.new.text)
-          (IsAscii-drop t at c.requires) refl (ap (λ j. drop j t) here ∙ sym (drop-drop k at t))
+          (IsAscii-drop t at c.requires.ascii) refl (ap (λ j. drop j t) here ∙ sym (drop-drop k at t))
           (omega (arith, piece.0, piece.1, ap length after)) (c.in_ok-at.ensures.len ∙ ap (λ (x : List ℕ). (first_piece x).len) after) piece.0
           (c.in_ok-at.ensures.bytes
-          ∙ ap (λ (x : List ℕ). x ++ encode_utf8_all (first_piece c.range_from.result.now).chars) (c.in_ok-push_str.ensures.bytes ∙ ap (λ (x : List ℕ). string_bytes c.loop-at.text ++ x) slice)
+          ∙ ap (λ (x : List ℕ). x ++ encode_utf8_all (first_piece c.range_from.result.now).chars) (c.in_ok-push_run.ensures.bytes ∙ ap (λ (x : List ℕ). string_bytes c.loop-at.text ++ x) slice)
           ∙ ap (λ (x : List ℕ). (string_bytes c.loop-at.text ++ take k u) ++ encode_utf8_all (first_piece x).chars) after)
           ∙ c.loop-at.invariant.written;
       grows = grown (string_bytes c.args.text.now) (string_bytes c.loop-at.text) (string_bytes c.push_piece.new.text) c.loop-at.invariant.grows
-          (grown (string_bytes c.loop-at.text) (string_bytes c.push_str.new.self) (string_bytes c.push_piece.new.text) (c.range.result.now, c.in_ok-push_str.ensures.bytes) c.push_piece.ensures.grows);
+          (grown (string_bytes c.loop-at.text) (string_bytes c.push_run.new.text) (string_bytes c.push_piece.new.text) (c.range.result.now, c.in_ok-push_run.ensures.bytes) c.push_piece.ensures.grows);
     }
 
 pub returns-then-special-name-clause-bytes : goal.returns-then-special-name-clause-bytes
@@ -48,8 +48,8 @@ returns-then-special-name-clause-bytes c =
     let k : ℕ = prefix_len is_plain u in
     let here : c.plain_end-special.result ≡ at + k = c.plain_end-special.ensures.value ∙ ap (λ (x : List ℕ). at + prefix_len is_plain (drop at x)) c.as_bytes-bytes.ensures.value in
     let slice : c.range.result.now ≡ take k u = c.range.ensures.value ∙ ap (λ j. take j u) (omega (arith, here)) in
-    c.in_ok-push_str.ensures.bytes
-    ∙ ap (λ (x : List ℕ). string_bytes c.loop-at.text ++ x) (slice ∙ written_end u k (IsAscii-drop t at c.requires) refl (omega (arith, here, length-drop at t)))
+    c.in_ok-push_run.ensures.bytes
+    ∙ ap (λ (x : List ℕ). string_bytes c.loop-at.text ++ x) (slice ∙ written_end u k (IsAscii-drop t at c.requires.ascii) refl (omega (arith, here, length-drop at t)))
     ∙ c.loop-at.invariant.written
 
 pub returns-clause-bytes : goal.returns-clause-bytes

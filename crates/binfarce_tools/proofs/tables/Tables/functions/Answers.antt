@@ -6,7 +6,7 @@ use Rattle.binfarce_reading.specs.PeReading as pe
 use Rattle.binfarce_tools.specs.Answer.{symbols_answer, NeedsMemory}
 use Rattle.binfarce_tools.specs.declared.tables.Tables.{Tables}
 use Rattle.binfarce_tools.specs.Tables.{AreTablesOf}
-use Rattle.binfarce_tools.proofs.TablesGive.{given, not_given, given_macho, not_given_macho}
+use Rattle.binfarce_tools.proofs.TablesGive.{given, not_given, given_macho, not_given_macho, needs_memory}
 use Rattle.binfarce_tools.proofs.TablesRead.{of_unknown}
 use Rattle.binfarce_tools.proofs.tables.Tables.functions.Goals as goal
 
@@ -30,5 +30,6 @@ returns-in_ok-listed-in-Pe-clause-gets c = λ file are.
 
 pub returns-in_err-listed-in-Pe-clause-gets : goal.returns-in_err-listed-in-Pe-clause-gets
 returns-in_err-listed-in-Pe-clause-gets c = λ file are.
+    let holds = subst (λ (t : Tables). AreTablesOf file c.args.section.now t) c.in-Pe.is are in
     not_given (NeedsMemory (format_of file) file) ListsSome (symbols_answer (format_of file) file c.args.section.now) (pe.parts_view c.in-Pe.parts) c.in_err-listed-in-Pe.field-0.0 c.from_residual-in_err-listed-in-Pe.result
-    (subst (λ (t : Tables). AreTablesOf file c.args.section.now t) c.in-Pe.is are) c.in_err-listed-in-Pe.ensures c.from_residual-in_err-listed-in-Pe.ensures.1
+    holds (needs_memory (format_of file) file c.args.section.now (pe.parts_view c.in-Pe.parts) holds) c.in_err-listed-in-Pe.ensures c.from_residual-in_err-listed-in-Pe.ensures.1

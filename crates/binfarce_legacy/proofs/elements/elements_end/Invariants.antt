@@ -1,0 +1,13 @@
+use Rattle.std.proofs.Common.{ℕ, List, ◌-◌, ◌≤◌, length, drop}
+use Rattle.binfarce_legacy.specs.Legacy.{Element, Reads}
+use Rattle.binfarce_legacy.proofs.elements.elements_end.Given as goal
+
+abbrev pub invariant-loop-at : goal.invariant-loop-at
+invariant-loop-at l = record {
+  within : l.at ≤ length l.text;
+  after : (elements : List Element) (rest : List ℕ) → Reads (drop l.at l.text) elements rest → (all : List Element) × Reads l.text all rest;
+  ahead : (elements : List Element) (rest : List ℕ) → Reads l.text elements rest → (left : List Element) × Reads (drop l.at l.text) left rest;
+}
+
+abbrev pub decreases-loop-at : goal.decreases-loop-at
+decreases-loop-at l = length l.text - l.at

@@ -14,6 +14,7 @@ use binfarce_v0::mangling as v0;
 use binfarce_v0::mangling::Texts;
 pub use binfarce_v0_grammar::limits::{MAX_LEVELS, MAX_STEPS};
 use binfarce_v0_state::memory::Memory;
+use binfarce_v0_state::state::Printer;
 use std::alloc::{AllocError, Global};
 
 /// How a name is mangled.
@@ -165,14 +166,17 @@ impl Demangler {
         if let Some(part) = legacy::mangling(stripped) {
             return legacy::push_trimmed(text, part);
         }
-        match v0::print_mangling(&mut self.memory, stripped, false, false)? {
-            Some((_, printed)) => {
-                let pushed = text.push_str(printed.text.as_str());
-                self.memory.put_back(printed.into_buffers());
-                pushed
-            }
-            None => text.push_str(name),
+        let Some(part) = v0::candidate(stripped) else {
+            return text.push_str(name);
+        };
+        let mut printer = Printer::new(self.memory.take(), part, false, false);
+        if !v0::print_mangling(&mut printer)? {
+            self.memory.put_back(printer.into_buffers());
+            return text.push_str(name);
         }
+        let pushed = text.push_str(printer.trimmed_text());
+        self.memory.put_back(printer.into_buffers());
+        pushed
     }
 
     /// The crate that `name` tells, as `crate_of` gives it.

@@ -9,10 +9,10 @@ use Rattle.binfarce_v0_grammar.specs.declared.limits.TheConstants.{MAX_LEVELS, M
 use Rattle.binfarce_v0.specs.Mangling.{is_upper_at, PathStands, SecondPath, ReadsPaths, IsMangling, IsV0, part_after_prefix}
 use Rattle.binfarce_v0.specs.machine.Mangling.{paths_end}
 use Rattle.binfarce_v0_state.specs.machine.Outcome.{Outcome, outcome_of}
-use Rattle.binfarce_v0.specs.machine.Outcome.{ReadsUpTo, IsOutcome, AreTexts}
-use Rattle.binfarce_v0_state.specs.machine.Printing.{State, readers, first_state}
+use Rattle.binfarce_v0.specs.machine.Outcome.{ReadsUpTo, HasBegun, IsOutcome, IsOutcomeOf, AreTexts}
+use Rattle.binfarce_v0_state.specs.machine.Printing.{State, Printing, with_state, readers, first_state}
 use Rattle.binfarce_v0_grammar.specs.machine.Ends.{ends}
-use Rattle.std.specs.Prelude.{MatchOption}
+use Rattle.std.specs.Prelude.{MatchBool, not}
 use Rattle.binfarce_v0_state.proofs.SoundForms.{readers_sound}
 use Rattle.binfarce_v0_state.proofs.Complete.{path_complete}
 use Rattle.binfarce_v0.proofs.Folding.{path_folds}
@@ -103,12 +103,34 @@ not_mangling text read b e part after m =
     let paths = subst (λ n. ReadsPaths n after) (sym same) m.paths in
     let found = read_paths_at read after paths in cc
 
-pub print_gives_outcome : {P : Type 0} (seen : P → Outcome) (part : List ℕ) (full muted : Bool) (s : State) (r : Option P) → s ≡ (printed part full muted).1 → MatchOption r (s.limit_exceeded ≡ true) (λ p. (s.limit_exceeded ≡ false) × (seen p ≡ outcome_of s)) → MatchOption r ((tree : PathTree) → UnfoldsTo part tree → ⊥) (λ p. IsOutcome part full muted (seen p))
-print_gives_outcome seen part full muted s None e h =
-    let limit_exceeded : (printed part full muted).1.limit_exceeded ≡ true = ap (λ (v : State). v.limit_exceeded) (sym e) ∙ h in printed_over part full muted limit_exceeded
-print_gives_outcome seen part full muted s (Some p) e h =
-    let on : (printed part full muted).1.limit_exceeded ≡ false = ap (λ (v : State). v.limit_exceeded) (sym e) ∙ h.0 in
-    subst (IsOutcome part full muted) (sym (h.1 ∙ ap outcome_of e)) (printed_is_outcome part full muted on)
+-- what is printed stays full, or not
+full_stays : (part : List ℕ) (full muted : Bool) → (printed part full muted).1.limit_exceeded ≡ false → (printed part full muted).1.full ≡ full
+full_stays part full muted o =
+    let H = readers_sound part MAX_LEVELS in
+    let p = printed part full muted in
+    let f = H.path InValue 0 (first_state full muted) o in
+    ap (λ r. r.1.full) (path_complete p.0 part MAX_LEVELS InValue 0 (first_state full muted) p.1.at refl f.is f.height (omega arith))
+
+-- a printing within the limits, or past one
+gives_outcome : (begun p : Printing) → p.part ≡ begun.part → p.state ≡ (printed begun.part begun.state.full begun.state.muted).1 → MatchBool (not p.state.limit_exceeded) (IsOutcomeOf begun p) ((tree : PathTree) → UnfoldsTo begun.part tree → ⊥)
+gives_outcome begun p part e = by p.state e p.state.limit_exceeded refl
+  where
+    full : Bool
+    full = begun.state.full
+
+    muted : Bool
+    muted = begun.state.muted
+
+    by : (s : State) → s ≡ (printed begun.part full muted).1 → (b : Bool) → s.limit_exceeded ≡ b → MatchBool (not b) ((p.part ≡ begun.part) × (s.full ≡ full) × IsOutcome begun.part full muted (outcome_of s)) ((tree : PathTree) → UnfoldsTo begun.part tree → ⊥)
+    by s is true o = printed_over begun.part full muted (ap (λ (x : State). x.limit_exceeded) (sym is) ∙ o)
+    by s is false o =
+        let on : (printed begun.part full muted).1.limit_exceeded ≡ false = ap (λ (x : State). x.limit_exceeded) (sym is) ∙ o in
+        (part, ap (λ (x : State). x.full) is ∙ full_stays begun.part full muted on, subst (λ (x : State). IsOutcome begun.part full muted (outcome_of x)) (sym is) (printed_is_outcome begun.part full muted on))
+
+pub print_gives_outcome : (begun p : Printing) → HasBegun begun → p ≡ with_state ((readers begun.part MAX_LEVELS).path InValue 0 begun.state).1 begun → MatchBool (not p.state.limit_exceeded) (IsOutcomeOf begun p) ((tree : PathTree) → UnfoldsTo begun.part tree → ⊥)
+print_gives_outcome begun p is e =
+    let first : begun.state ≡ first_state begun.state.full begun.state.muted = ap (λ (x : Printing). x.state) is.1 in
+    gives_outcome begun p (ap (λ (x : Printing). x.part) e) (ap (λ (x : Printing). x.state) e ∙ ap (λ s. ((readers begun.part MAX_LEVELS).path InValue 0 s).1) first)
 
 -- a name unfolds to one tree
 pub unfolds_once : (part : List ℕ) (t u : PathTree) → UnfoldsTo part t → UnfoldsTo part u → t ≡ u

@@ -1,6 +1,6 @@
 //! A whole v0 mangling.
 
-ghost use Rattle.std.specs.Prelude.{◌≡◌, ◌++◌, ℕ, List, [], IfOk, OnOk, OnErr, MatchOption, Option, Some, true, is_some, option_map, unwrap_or, drop};
+ghost use Rattle.std.specs.Prelude.{◌≡◌, ◌++◌, ℕ, List, [], IfOk, OnOk, OnErr, MatchBool, MatchOption, Option, Some, true, is_some, option_map, unwrap_or, drop};
 ghost use Rattle.std.specs.Option.{option_copied};
 ghost use Rattle.std.specs.Str.{IsAscii};
 ghost use Rattle.std.specs.String.{string_bytes};
@@ -10,8 +10,7 @@ ghost use Rattle.binfarce_v0_grammar.specs.Unfolding.{UnfoldsTo};
 ghost use Rattle.binfarce_v0_grammar.specs.machine.View.{undisambiguated_view};
 ghost use Rattle.binfarce_v0.specs.Mangling.{part_after_prefix, is_upper_at, IsMangling, IsV0, HasNoTree};
 ghost use Rattle.binfarce_v0.specs.machine.Mangling.{paths_end};
-ghost use Rattle.binfarce_v0.specs.machine.Outcome.{ReadsUpTo, IsOutcome, IsCrateName, AreTexts};
-ghost use Rattle.binfarce_v0_state.specs.machine.Outcome.{printed_view};
+ghost use Rattle.binfarce_v0.specs.machine.Outcome.{ReadsUpTo, HasBegun, IsCandidate, IsOutcomeOf, IsCrateName, AreTexts};
 
 use binfarce_text::prefixes::after_prefix;
 use binfarce_text::suffixes::is_allowed_rest;
@@ -21,7 +20,7 @@ use binfarce_v0_grammar::numbers::byte_at;
 use binfarce_v0_grammar::reading::read_path;
 use binfarce_v0_print::paths::print_path;
 use binfarce_v0_state::memory::Memory;
-use binfarce_v0_state::state::{Buffers, Printed, Printer};
+use binfarce_v0_state::state::{Buffers, Printer};
 use binfarce_v0_text::position::Position;
 use binfarce_v0_text::text::Leaf;
 use std::alloc::{AllocError, Global};
@@ -59,10 +58,11 @@ fn paths_end(part: &str, first: Option<usize>) -> Option<usize>
     }
 }
 
-// What stands after the prefix of a text that may begin with a v0 mangling.
-fn candidate(text: &str) -> Option<&str>
-    ensures { MatchOption result ((part : List ℕ) (after : ℕ) → IsMangling text.now part after → ⊥)
-        (λ part. (part_after_prefix text.now ≡ Some part.now) × (is_upper_at part.now 0 ≡ true) × IsAscii part.now) }
+/// What stands after the prefix of a text that may begin with a v0 mangling. None where `text` begins with none: of most
+/// names that aren't mangled no more than the first bytes are looked at. No memory is taken.
+#[inline(always)]
+pub fn candidate(text: &str) -> Option<&str>
+    ensures { MatchOption result ((part : List ℕ) (after : ℕ) → IsMangling text.now part after → ⊥) (λ part. IsCandidate text.now part.now) }
 {
     let part = part_after_prefix(text)?;
     if is_upper_at(part.as_bytes(), 0) && part.is_ascii() {
@@ -82,21 +82,17 @@ pub fn read(text: &str) -> Option<(&str, usize)>
     Some((part, after))
 }
 
-/// The text of what `part`, which stands after a prefix, unfolds to, without the disambiguators of crates, or where `full`
-/// is true both texts, with and without them; muted it is read alike, and its texts are empty. None where it unfolds to no tree of at most `MAX_LEVELS` levels and
-/// `MAX_STEPS` steps.
-pub fn print<'a>(
-    buffers: Buffers,
-    part: &'a str,
-    full: bool,
-    muted: bool,
-) -> Result<Option<Printed<'a>>, AllocError>
-    requires { IsAscii part.now }
-    ensures { IfOk result (λ p. MatchOption p ((tree : PathTree) → UnfoldsTo part.entry.now tree → ⊥) (λ p. IsOutcome part.entry.now full muted (printed_view p))) }
+/// Prints what the part of a printing that is at its beginning unfolds to: whether that is a tree of at most `MAX_LEVELS`
+/// levels and `MAX_STEPS` steps. The printing then has the text of the tree, without the disambiguators of crates, or where
+/// it is full both texts, with and without them; muted it reads alike, and its texts are empty.
+#[inline(always)]
+pub fn print(printer: &mut Printer<'_>) -> Result<bool, AllocError>
+    requires { HasBegun printer.now }
+    ensures { IfOk result (λ within. MatchBool within (IsOutcomeOf printer.old printer.new) ((tree : PathTree) → UnfoldsTo printer.old.part tree → ⊥)) }
 {
-    let mut printer = Printer::new(buffers, part, full, muted)?;
-    print_path(&mut printer, MAX_LEVELS, 0, Position::InValue)?;
-    printer.finish()
+    printer.prepare()?;
+    print_path(printer, MAX_LEVELS, 0, Position::InValue)?;
+    Ok(!printer.limit_exceeded)
 }
 
 /// What stands after the prefix of a v0 mangling, up to the end of `text`: positions may lie in all of it.
@@ -119,35 +115,23 @@ fn rest_from(part: &[u8], at: usize) -> &[u8]
     if at <= part.len() { &part[at..] } else { &[] }
 }
 
-/// What stands after the prefix of the v0 mangling `text`, and what `print` gives of it. None where `text` is no v0 mangling
-/// whose reading has at most `MAX_LEVELS` levels, and where it unfolds to no tree of at most `MAX_LEVELS` levels and
-/// `MAX_STEPS` steps.
+/// Prints what the part of a printing that is at its beginning unfolds to, as `print` does: whether a text of which
+/// `candidate` gives this part is a v0 mangling, whose reading has at most `MAX_LEVELS` levels, and it unfolds to a tree of
+/// at most `MAX_LEVELS` levels and `MAX_STEPS` steps.
 ///
 /// What was printed without invalid syntax outside back references was read: only a second path is then still to be read.
-pub fn print_mangling<'a>(
-    memory: &mut Memory,
-    text: &'a str,
-    full: bool,
-    muted: bool,
-) -> Result<Option<(&'a str, Printed<'a>)>, AllocError>
-    ensures { IfOk result (λ p. MatchOption p (HasNoTree text.entry.now) (λ p. IsV0 text.entry.now p.0.now × IsOutcome p.0.now full muted (printed_view p.1))) }
+#[inline(always)]
+pub fn print_mangling(printer: &mut Printer<'_>) -> Result<bool, AllocError>
+    requires { HasBegun printer.now }
+    ensures { IfOk result (λ found. (text : List ℕ) → IsCandidate text printer.old.part → MatchBool found (IsV0 text printer.old.part × IsOutcomeOf printer.old printer.new) (HasNoTree text)) }
 {
-    let Some(part) = candidate(text) else {
-        return Ok(None);
-    };
-    let Some(printed) = print(memory.take(), part, full, muted)? else {
-        return Ok(None);
-    };
-    let Some(after) = paths_end(part, printed.after) else {
-        memory.put_back(printed.into_buffers());
-        return Ok(None);
-    };
-    if is_allowed_rest(rest_from(part.as_bytes(), after)) {
-        Ok(Some((part, printed)))
-    } else {
-        memory.put_back(printed.into_buffers());
-        Ok(None)
+    if !print(printer)? {
+        return Ok(false);
     }
+    let Some(after) = paths_end(printer.part, printer.at) else {
+        return Ok(false);
+    };
+    Ok(is_allowed_rest(rest_from(printer.part.as_bytes(), after)))
 }
 
 /// Both texts of a name, and its crate.
@@ -205,28 +189,36 @@ pub fn push_crate_name(alloc: Global, text: &mut String, name: &str) -> Result<b
         × (told ≡ is_some crate_name) × (string_bytes text.new ≡ string_bytes text.old ++ unwrap_or crate_name [])) }
     ensures unchanged { OnErr result (string_bytes text.new ≡ string_bytes text.old) }
 {
-    match print_mangling(&mut Memory::new(alloc), name, false, true)? {
-        Some((_, printed)) => push_root(alloc, text, printed.root),
-        None => Ok(false),
+    let Some(part) = candidate(name) else {
+        return Ok(false);
+    };
+    let mut printer = Printer::new(Buffers::empty(alloc), part, false, true);
+    if print_mangling(&mut printer)? {
+        push_root(alloc, text, printer.root)
+    } else {
+        Ok(false)
     }
 }
 
 /// Both texts of what the v0 mangling `text` unfolds to, and its crate. None where `text` is no v0 mangling that unfolds
 /// to a tree within the limits.
 ///
-/// The name is printed once. The texts are copies of what was printed, whose memory fits them: each text of a printing has
-/// room for a whole name.
+/// The name is printed once. The texts are copies of what was printed, whose memory fits them.
 pub fn both_texts(memory: &mut Memory, text: &str) -> Result<Option<Texts>, AllocError>
     ensures { IfOk result (λ t. MatchOption t (HasNoTree text.now) (λ t. AreTexts text.now (string_bytes t.complete) (string_bytes t.trimmed) (option_map string_bytes t.crate_name))) }
 {
-    let Some((_, printed)) = print_mangling(memory, text, true, false)? else {
+    let Some(part) = candidate(text) else {
         return Ok(None);
     };
     let alloc = memory.alloc;
-    let crate_name = root_text(alloc, printed.root)?;
-    let complete = String::from_str(alloc, printed.text.as_str())?;
-    let trimmed = String::from_str(alloc, printed.trimmed.as_str())?;
-    memory.put_back(printed.into_buffers());
+    let mut printer = Printer::new(memory.take(), part, true, false);
+    if !print_mangling(&mut printer)? {
+        memory.put_back(printer.into_buffers());
+        return Ok(None);
+    }
+    let crate_name = root_text(alloc, printer.root)?;
+    let (complete, trimmed) = printer.texts(alloc)?;
+    memory.put_back(printer.into_buffers());
     Ok(Some(Texts {
         complete,
         trimmed,

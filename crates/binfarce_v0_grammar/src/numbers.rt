@@ -33,18 +33,39 @@ pub fn past(part: &[u8], byte: u8, at: usize) -> usize
     }
 }
 
-// The value of a base-62 digit.
+// What each byte is worth as a base-62 digit; 62 where it is none.
+const VALUES: [u8; 256] = [
+    62, 62, 62, 62, 62, 62, 62, 62, 62, 62, 62, 62, 62, 62, 62, 62, 62, 62, 62, 62, 62, 62, 62, 62,
+    62, 62, 62, 62, 62, 62, 62, 62, 62, 62, 62, 62, 62, 62, 62, 62, 62, 62, 62, 62, 62, 62, 62, 62,
+    0, 1, 2, 3, 4, 5, 6, 7, 8, 9, 62, 62, 62, 62, 62, 62, 62, 36, 37, 38, 39, 40, 41, 42, 43, 44,
+    45, 46, 47, 48, 49, 50, 51, 52, 53, 54, 55, 56, 57, 58, 59, 60, 61, 62, 62, 62, 62, 62, 62, 10,
+    11, 12, 13, 14, 15, 16, 17, 18, 19, 20, 21, 22, 23, 24, 25, 26, 27, 28, 29, 30, 31, 32, 33, 34,
+    35, 62, 62, 62, 62, 62, 62, 62, 62, 62, 62, 62, 62, 62, 62, 62, 62, 62, 62, 62, 62, 62, 62, 62,
+    62, 62, 62, 62, 62, 62, 62, 62, 62, 62, 62, 62, 62, 62, 62, 62, 62, 62, 62, 62, 62, 62, 62, 62,
+    62, 62, 62, 62, 62, 62, 62, 62, 62, 62, 62, 62, 62, 62, 62, 62, 62, 62, 62, 62, 62, 62, 62, 62,
+    62, 62, 62, 62, 62, 62, 62, 62, 62, 62, 62, 62, 62, 62, 62, 62, 62, 62, 62, 62, 62, 62, 62, 62,
+    62, 62, 62, 62, 62, 62, 62, 62, 62, 62, 62, 62, 62, 62, 62, 62, 62, 62, 62, 62, 62, 62, 62, 62,
+    62, 62, 62, 62, 62, 62, 62, 62, 62, 62, 62, 62, 62, 62,
+];
+
+// The value of a base-62 digit: one look, where a disambiguator has eleven.
 #[inline(always)]
-#[tactic(auto, unfolding(crate::specs::Base62::digit_62))]
 fn digit_62(c: u8) -> Option<u8>
     ensures { SomeIff result (is_ascii_alphanumeric c ≡ true) (digit_62 c) }
 {
-    match c {
-        b'0'..=b'9' => Some(c - b'0'),
-        b'a'..=b'z' => Some(c - b'a' + 10),
-        b'A'..=b'Z' => Some(c - b'A' + 36),
-        _ => None,
+    let value = VALUES[c as usize];
+    if value > 61 {
+        return None;
     }
+    Some(value)
+}
+
+// Whether a byte is a base-62 digit.
+#[inline(always)]
+fn is_digit_62(c: u8) -> bool
+    ensures { result ≡ is_ascii_alphanumeric c }
+{
+    digit_62(c).is_some()
 }
 
 // A number with one more digit after it, where it is below 2^64.
@@ -132,7 +153,7 @@ fn digits_end(part: &[u8], start: usize) -> usize
     ensures within { (start ≤ result) × (result ≤ length part.now) }
 {
     let mut end = start;
-    while end < part.len() && part[end].is_ascii_alphanumeric() {
+    while end < part.len() && is_digit_62(part[end]) {
         end += 1;
     }
     end

@@ -128,27 +128,19 @@ impl Fragments {
         }
     }
 
-    /// No fragment yet, for a printing of `part`.
-    pub fn begin(&mut self, part: &[u8]) -> Result<(), AllocError>
-        ensures { OnOk result (self.new.fragments.items ≡ []) }
-    {
-        self.clear();
-        self.silent = false;
-        self.look_for_targets(part)
-    }
-
-    /// No fragment yet, for a printing that is muted from its beginning. No memory is taken.
-    pub fn begin_silent(&mut self)
+    /// No fragment yet, and no target, for a printing that may be muted from its beginning. No memory is taken.
+    #[inline(always)]
+    pub fn begin(&mut self, silent: bool)
         ensures { self.new.fragments.items ≡ [] }
     {
         self.clear();
-        self.silent = true;
+        self.silent = silent;
         self.targets.clear();
         self.looked_for = false;
     }
 
     // Looks for what the name's back references may mean.
-    fn look_for_targets(&mut self, part: &[u8]) -> Result<(), AllocError>
+    pub(crate) fn look_for_targets(&mut self, part: &[u8]) -> Result<(), AllocError>
         ensures { self.new.fragments ≡ self.old.fragments }
     {
         self.looked_for = true;
@@ -165,6 +157,7 @@ impl Fragments {
     }
 
     // Forgets all fragments.
+    #[inline(always)]
     fn clear(&mut self)
         ensures { self.new.fragments.items ≡ [] }
     {

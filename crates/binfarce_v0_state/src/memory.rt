@@ -24,6 +24,7 @@ impl Memory {
     }
 
     /// The buffers of an earlier printing, or new ones.
+    #[inline(always)]
     pub fn take(&mut self) -> Buffers {
         match self.buffers.take() {
             Some(buffers) => buffers,
@@ -32,6 +33,7 @@ impl Memory {
     }
 
     /// Keeps the buffers of a printing for the next one, unless they take more than `MOST_BYTES`.
+    #[inline(always)]
     pub fn put_back(&mut self, buffers: Buffers) {
         if buffers.bytes() <= MOST_BYTES {
             self.buffers = Some(buffers);

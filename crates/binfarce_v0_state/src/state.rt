@@ -1,6 +1,6 @@
 //! The state of a printing: where it reads, what it has counted, and what it has written.
 
-ghost use Rattle.std.specs.Prelude.{◌≡◌, ◌-◌, ◌≤◌, IfOk, OnOk, IsTrue, MatchOption, option_map, true, false, if◌then◌else◌, ◌&&◌, nat_le};
+ghost use Rattle.std.specs.Prelude.{◌≡◌, ◌-◌, ◌≤◌, ◌++◌, IfOk, OnOk, IsTrue, MatchOption, option_map, true, false, if◌then◌else◌, ◌&&◌, nat_le};
 ghost use Rattle.std.specs.Str.{IsAscii};
 ghost use Rattle.std.specs.String.{string_bytes};
 ghost use Rattle.binfarce_v0_grammar.specs.Tree.{lifetime_steps};
@@ -15,7 +15,6 @@ use binfarce_v0_grammar::positions::lifetime_steps;
 use binfarce_v0_text::text::{Disambiguator, Leaf};
 use std::alloc::{AllocError, Global};
 use std::marker::Model;
-use std::mem;
 
 /// The memory of a printing, which the next one takes: what was written to it isn't seen there.
 #[derive(Drop)]
@@ -23,26 +22,6 @@ pub struct Buffers {
     complete: String,
     trimmed: String,
     text: String,
-    kept: Fragments,
-}
-
-/// What a name means, as a text.
-#[derive(Drop)]
-pub struct Printed<'a> {
-    /// The text of the tree.
-    pub text: String,
-    /// The same without the disambiguators of crates, where those were written.
-    pub trimmed: String,
-    /// The name of the first crate root.
-    pub root: Option<UndisambiguatedIdentifier<'a>>,
-    /// How many levels the tree has.
-    pub levels: usize,
-    /// How many steps the tree takes.
-    pub steps: usize,
-    /// The position after the path, None after invalid syntax outside back references.
-    pub after: Option<usize>,
-    // What else the printing took of its buffers.
-    rest: String,
     kept: Fragments,
 }
 
@@ -67,16 +46,14 @@ impl Buffers {
     }
 }
 
-impl<'a> Printed<'a> {
-    /// The buffers of the printing.
-    pub fn into_buffers(self) -> Buffers {
-        Buffers {
-            complete: self.rest,
-            trimmed: self.trimmed,
-            text: self.text,
-            kept: self.kept,
-        }
-    }
+// Two texts, one after the other.
+fn joined(alloc: Global, front: &str, back: &str) -> Result<String, AllocError>
+    ensures { IfOk result (λ t. string_bytes t ≡ front.now ++ back.now) }
+{
+    let mut text = String::with_capacity(alloc, front.len().saturating_add(back.len()))?;
+    text.push_str(front)?;
+    text.push_str(back)?;
+    Ok(text)
 }
 
 /// A printing of a name: it is read and written in one pass.
@@ -131,18 +108,12 @@ impl<'a> Model for Printer<'a> {
 }
 
 impl<'a> Printer<'a> {
-    ghost use Rattle.binfarce_v0_state.specs.machine.Outcome.{outcome_of, printed_view};
-
-    /// A printing of `part` that begins at its first position, with memory for texts of as many bytes; of a muted one
-    /// nothing is written, and no memory is taken. Nothing that the buffers held is seen.
-    pub fn new(
-        buffers: Buffers,
-        part: &'a str,
-        full: bool,
-        muted: bool,
-    ) -> Result<Printer<'a>, AllocError>
+    /// A printing of `part` that begins at its first position; of a muted one nothing is written. Nothing that the buffers
+    /// held is seen, and no memory is taken.
+    #[inline(always)]
+    pub fn new(buffers: Buffers, part: &'a str, full: bool, muted: bool) -> Printer<'a>
         requires { IsAscii part.now }
-        ensures { IfOk result (λ p. p ≡ first_printing part.entry.now full muted) }
+        ensures { result ≡ first_printing part.entry.now full muted }
     {
         let Buffers {
             mut complete,
@@ -153,17 +124,8 @@ impl<'a> Printer<'a> {
         complete.clear();
         trimmed.clear();
         text.clear();
-        if muted {
-            kept.begin_silent();
-        } else {
-            text.reserve(part.len())?;
-            kept.begin(part.as_bytes())?;
-        }
-        if full && !muted {
-            complete.reserve(part.len())?;
-            trimmed.reserve(part.len())?;
-        }
-        Ok(Printer {
+        kept.begin(muted);
+        Printer {
             part,
             at: Some(0),
             steps_left: MAX_STEPS,
@@ -178,46 +140,68 @@ impl<'a> Printer<'a> {
             root: None,
             kept,
             visits: 0,
-        })
+        }
     }
 
-    /// What was printed, or None where a limit was passed.
-    pub fn finish(self) -> Result<Option<Printed<'a>>, AllocError>
-        ensures { IfOk result (λ result. MatchOption result (self.entry.state.limit_exceeded ≡ true) (λ p. (self.entry.state.limit_exceeded ≡ false) × (printed_view p ≡ outcome_of self.entry.state))) }
+    /// Takes memory for texts of as many bytes as the part has, and looks for what its back references may mean. Muted,
+    /// nothing is done.
+    pub fn prepare(&mut self) -> Result<(), AllocError>
+        ensures { self.new ≡ self.old }
     {
+        if self.muted {
+            return Ok(());
+        }
+        self.text.reserve(self.part.len())?;
+        if self.full {
+            self.complete.reserve(self.part.len())?;
+            self.trimmed.reserve(self.part.len())?;
+        }
+        self.kept.look_for_targets(self.part.as_bytes())
+    }
+
+    /// The text that was written, where disambiguators aren't.
+    #[inline(always)]
+    pub fn trimmed_text(&self) -> &str
+        requires { self.now.state.full ≡ false }
+        ensures { result.now ≡ self.now.state.text }
+    {
+        self.text.as_str()
+    }
+
+    /// Copies of the text that was written, and of the same without the disambiguators of crates, in memory that fits them.
+    pub fn texts(&self, alloc: Global) -> Result<(String, String), AllocError>
+        ensures { IfOk result (λ t. (string_bytes t.0 ≡ self.now.state.text) × (string_bytes t.1 ≡ self.now.state.trimmed)) }
+    {
+        let complete = joined(alloc, self.complete.as_str(), self.text.as_str())?;
+        let trimmed = joined(alloc, self.trimmed.as_str(), self.text.as_str())?;
+        Ok((complete, trimmed))
+    }
+
+    /// The buffers of the printing.
+    #[inline(always)]
+    pub fn into_buffers(self) -> Buffers {
         let Printer {
             part: _,
-            at,
-            steps_left,
-            least_levels_left,
-            limit_exceeded,
-            mut complete,
-            mut trimmed,
-            mut text,
+            at: _,
+            steps_left: _,
+            least_levels_left: _,
+            limit_exceeded: _,
+            complete,
+            trimmed,
+            text,
             muted: _,
-            full,
+            full: _,
             in_back_reference: _,
-            root,
+            root: _,
             kept,
             visits: _,
         } = self;
-        if limit_exceeded {
-            return Ok(None);
-        }
-        if full {
-            share(&mut complete, &mut trimmed, &mut text)?;
-            mem::swap(&mut complete, &mut text);
-        }
-        Ok(Some(Printed {
-            text,
+        Buffers {
+            complete,
             trimmed,
-            root,
-            levels: MAX_LEVELS - least_levels_left,
-            steps: MAX_STEPS - steps_left,
-            after: at,
-            rest: complete,
+            text,
             kept,
-        }))
+        }
     }
 
     /// Reads on at a position, or nowhere after invalid syntax.

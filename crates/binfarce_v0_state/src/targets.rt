@@ -29,16 +29,16 @@ impl Targets {
     }
 
     /// Forgets all targets.
+    #[inline(always)]
     pub fn clear(&mut self) {
         self.any = 0;
         self.near = [0; 4];
         self.far.clear();
     }
 
-    /// Looks for the targets of a name. Nothing is allocated but for those from position 256 on.
+    /// Looks for the targets of a name, where none was added yet. Nothing is allocated but for those from position 256 on.
     #[inline(never)]
     pub fn look_for(&mut self, part: &[u8]) -> Result<(), AllocError> {
-        self.clear();
         let words = part.len() / 8;
         for word in 0..words {
             let flags = b_flags(part, 8 * word);
@@ -46,7 +46,18 @@ impl Targets {
                 self.add_flagged(part, 8 * word, flags)?;
             }
         }
-        for at in 8 * words..part.len() {
+        self.look_at_the_last(part)
+    }
+
+    // Adds the targets of what stands behind the last whole 8 bytes.
+    fn look_at_the_last(&mut self, part: &[u8]) -> Result<(), AllocError> {
+        let last = part.len() % 8;
+        if part.len() >= 8 && last > 0 {
+            let start = part.len() - 8;
+            let flags = b_flags(part, start) & (u64::MAX << (64 - 8 * last));
+            return self.add_flagged(part, start, flags);
+        }
+        for at in part.len() - last..part.len() {
             self.add_target(part, at)?;
         }
         Ok(())

@@ -170,6 +170,7 @@ pub struct AfterMark<'a> {
 impl<'a> Leaf for AfterMark<'a> {
     ghost text = { λ m. after_mark m.mark.now (undisambiguated_view m.name) };
 
+    #[inline(always)]
     fn push(self, out: &mut String) -> Result<(), AllocError> {
         if self.name.ascii.is_empty() && self.name.punycode.is_empty() {
             return Ok(());

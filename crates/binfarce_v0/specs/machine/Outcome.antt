@@ -1,18 +1,23 @@
 -- What a whole printing tells of a name.
 use Rattle.std.specs.Prelude.{◌≡◌, ◌⊎◌, ℕ, List, [], if◌then◌else◌, Option, Some, None, Bool, true, false, ⊤}
 use Rattle.std.specs.Option.{option_map}
+use Rattle.std.specs.Str.{IsAscii}
 use Rattle.binfarce_v0_grammar.specs.Tree.{PathTree, path_height, path_steps, path_root}
 use Rattle.binfarce_v0_text.specs.LeafTexts.{identifier_text}
 use Rattle.binfarce_v0_text.specs.TreeTexts.{name_text}
 use Rattle.binfarce_v0_grammar.specs.Unfolding.{UnfoldsTo}
-use Rattle.binfarce_v0.specs.Mangling.{PathStands, IsV0, HasNoTree}
-use Rattle.binfarce_v0_state.specs.machine.Outcome.{Outcome}
-use Rattle.binfarce_v0_state.specs.machine.Printing.{heard}
+use Rattle.binfarce_v0.specs.Mangling.{PathStands, IsV0, HasNoTree, part_after_prefix, is_upper_at}
+use Rattle.binfarce_v0_state.specs.machine.Outcome.{Outcome, outcome_of}
+use Rattle.binfarce_v0_state.specs.machine.Printing.{Printing, first_printing, heard}
 
 -- where a position is known, the first path of a name reads up to it
 abbrev pub ReadsUpTo : List ℕ → Option ℕ → Type 0
 ReadsUpTo part None = ⊤
 ReadsUpTo part (Some after) = PathStands part 0 after
+
+-- text may be a v0 mangling, of which part is what stands after the prefix
+abbrev pub IsCandidate : (text part : List ℕ) → Type 0
+IsCandidate text part = (part_after_prefix text ≡ Some part) × (is_upper_at part 0 ≡ true) × IsAscii part
 
 -- they are the text, the trimmed one where both were printed, the crate root, the levels and the steps of the tree that a name unfolds to
 -- within the limits; no text where it was muted
@@ -25,6 +30,15 @@ pub record IsOutcome (part : List ℕ) (full muted : Bool) (outcome : Outcome) :
   pub levels_are : outcome.levels ≡ path_height tree
   pub steps_are : outcome.steps ≡ path_steps tree
   pub reads : ReadsUpTo part outcome.after
+
+-- a printing is at its beginning, and what it prints is ASCII
+abbrev pub HasBegun : Printing → Type 0
+HasBegun p = IsAscii p.part × (p ≡ first_printing p.part p.state.full p.state.muted)
+
+-- what a printing that was at its beginning has printed is the outcome of its part
+abbrev pub IsOutcomeOf : (begun printed : Printing) → Type 0
+IsOutcomeOf begun printed =
+    (printed.part ≡ begun.part) × (printed.state.full ≡ begun.state.full) × IsOutcome begun.part begun.state.full begun.state.muted (outcome_of printed.state)
 
 -- text is a v0 mangling that unfolds to a tree within the limits
 pub record HasTree (text : List ℕ) (tree : PathTree) : Type 0 where

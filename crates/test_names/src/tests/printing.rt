@@ -1,7 +1,7 @@
 //! Levels and steps of names within the limits.
 
 use binfarce_v0::mangling::print;
-use binfarce_v0_grammar::limits::MAX_LEVELS;
+use binfarce_v0_grammar::limits::{MAX_LEVELS, MAX_STEPS};
 use binfarce_v0_print::paths::print_path;
 use binfarce_v0_state::state::{Buffers, Printer};
 use binfarce_v0_text::position::Position;
@@ -17,13 +17,13 @@ fn check_counts(
     steps: usize,
 ) -> Result<(), AllocError> {
     assert!(rt; name.is_ascii(), "a name is ASCII: {name}");
-    match print(Buffers::empty(alloc), name, true, false)? {
-        Some(printed) => {
-            assert_eq!(rt; printed.levels, levels, "levels: {name}");
-            assert_eq!(rt; printed.steps, steps, "steps: {name}");
-        }
-        None => assert!(rt; false, "within the limits: {name}"),
-    }
+    let mut printer = Printer::new(Buffers::empty(alloc), name, true, false);
+    let within = print(&mut printer)?;
+    assert!(rt; within, "within the limits: {name}");
+    let levels_taken = MAX_LEVELS.saturating_sub(printer.least_levels_left);
+    assert_eq!(rt; levels_taken, levels, "levels: {name}");
+    let steps_taken = MAX_STEPS.saturating_sub(printer.steps_left);
+    assert_eq!(rt; steps_taken, steps, "steps: {name}");
     Ok(())
 }
 
@@ -75,7 +75,8 @@ fn check_visits(
     visits: usize,
 ) -> Result<(), AllocError> {
     assert!(rt; name.is_ascii(), "a name is ASCII: {name}");
-    let mut printer = Printer::new(Buffers::empty(alloc), name, full, muted)?;
+    let mut printer = Printer::new(Buffers::empty(alloc), name, full, muted);
+    printer.prepare()?;
     print_path(&mut printer, MAX_LEVELS, 0, Position::InValue)?;
     assert_eq!(rt; printer.visits, visits, "visits: {name}");
     Ok(())

@@ -1,0 +1,7 @@
+use Rattle.std.proofs.Common.{None, inr, refl, sym, append-nil}
+use Rattle.binfarce_v0.proofs.Validating.{no_mangling}
+use Rattle.binfarce_v0.proofs.mangling.push_crate_name.Goals as goal
+
+pub returns-in_default-clause-told : goal.returns-in_default-clause-told
+returns-in_default-clause-told c =
+    (None, inr (no_mangling c.args.name.now c.in_default.ensures, refl), refl, sym (append-nil _))

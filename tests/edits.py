@@ -105,7 +105,15 @@ class Edit:
         for file, old, new in self.pairs:
             text = text.replace(old, new) if file == self.file else text
         text = re.sub(rf"\bfn {self.own[1]}\b", f"fn {self.key()[1]}", text, count=1)
-        return [self.impl(), *text.split("\n"), "}"] if self.impl() else text.split("\n")
+        return [*self.head(), *text.split("\n"), "}"] if self.impl() else text.split("\n")
+
+    def head(self):
+        """The first line of its impl, if it stands in one, and what the impl imports."""
+        if not self.impl():
+            return []
+        begin = max(it for it in range(self.at) if self.lines[it] == self.impl())
+        end = next(it for it in range(begin, len(self.lines)) if self.lines[it] == "}")
+        return [self.impl(), *(it for it in self.lines[begin:end] if it.startswith("    ghost use "))]
 
     def proofs(self):
         """The files of the function's proof, and for each its copy's path and text."""
@@ -164,7 +172,7 @@ class Sources:
             self.texts[file] = self.texts[file][:at] + new + self.texts[file][at + length :]
         for edit in (it for it in these if it.number > 1):
             lines = self.texts[edit.file].rstrip("\n").split("\n")
-            self.begins[edit.key()] = len(lines) + 1 + bool(edit.impl())
+            self.begins[edit.key()] = len(lines) + 1 + len(edit.head())
             self.texts[edit.file] = "\n".join([*lines, "", *edit.copy(), ""])
             self.texts.update(edit.proofs())
 

@@ -1,6 +1,6 @@
 //! A whole v0 mangling.
 
-ghost use Rattle.std.specs.Prelude.{◌≡◌, ◌++◌, ℕ, List, [], IfOk, OnOk, OnErr, MatchBool, MatchOption, Option, Some, true, is_some, option_map, unwrap_or, drop};
+ghost use Rattle.std.specs.Prelude.{◌≡◌, ◌++◌, ℕ, List, [], IfOk, OnOk, OnErr, MatchBool, MatchOption, Option, is_some, option_map, unwrap_or, drop};
 ghost use Rattle.std.specs.Option.{option_copied};
 ghost use Rattle.std.specs.Str.{IsAscii};
 ghost use Rattle.std.specs.String.{string_bytes};

@@ -1,6 +1,7 @@
 pub mod Numbers
-pub mod Names
+pub mod KeptNames
 pub mod Shown
 pub mod AddressLines
 pub mod Streams
 pub mod Answering
+pub mod NameCells

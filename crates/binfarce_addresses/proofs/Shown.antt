@@ -1,7 +1,6 @@
 -- The range that is found at an address is that of the entry which the address is shown by.
 use Rattle.std.proofs.Common.{◌≡◌, ℕ, zero, suc, ◌+◌, ◌-◌, ◌<◌, ◌≤◌, ◌⊎◌, inl, inr, Bool, true, false, cond, ◌&&◌, max, List, [], ◌∷◌, map, filter, length, get_or, Option, Some, None, SomeIff, MatchOption, refl, sym, ap, subst, ◌∙◌, arith, nat_lt, nat_le}
 use Rattle.std.proofs.lemmas.Bool.Decides.{nat_tests}
-use Rattle.std.proofs.lemmas.Bool.{cases_lt}
 use Rattle.std.proofs.lemmas.List.{get_or-map, get_or_default, length-map}
 use Rattle.std.proofs.lemmas.List.Elements.{All-head, All-tail}
 use Rattle.binfarce.specs.Symbol.{Entry}
@@ -12,7 +11,7 @@ use Rattle.binfarce_ranges.specs.Range.{Holds, NoneHolds, IsFoundAt}
 use Rattle.binfarce.specs.Found.{holds, higher_of, highest, entry_at}
 use Rattle.binfarce_addresses.specs.Lines.{in_file, found_at}
 use Rattle.binfarce_ranges.specs.declared.ranges.Found.{Found}
-use Rattle.binfarce_ranges.specs.Range.{Finds, IsFoundFrom}
+use Rattle.binfarce_ranges.specs.Range.{Finds}
 use Rattle.binfarce_addresses.specs.machine.Places.{range_of, ranges_of, IsShownAt, StandsAt}
 
 lies_in : (low high address : ℕ) → low ≤ address → address < high → (nat_le low address && nat_lt address high) ≡ true
@@ -215,20 +214,6 @@ module _ (functions : List FunctionSymbol) (ranges : List AddressRange) (entries
         finds.1 (range_of d) ∙ ap (λ n. x - n) begins ∙ ap (λ n. n - entry.address) left,
         (lt, get_or_default entries f.place entry d lt),
       )
-
--- an address below the base isn't in the file
-below_base : (base address : ℕ) → address < base → in_file base address ≡ None
-below_base base address lt = rw (less base address lt) refl
-  where
-    less : (a b : ℕ) → b < a → nat_lt b a ≡ true
-    less a b lt = grind (arith, nat_tests)
-
--- what is found once the base is taken off is what the address is shown by
-pub shown_from : (functions : List FunctionSymbol) (ranges : List AddressRange) (entries : List Entry) → ranges ≡ ranges_of functions → map function_view functions ≡ entries → (base address : ℕ) (found : Option Found) → IsFoundFrom ranges base address found → IsShownAt entries base address found
-shown_from functions ranges entries are seen base address found is = elim (cases_lt address base) [
-  | inl lt ↦ at_none found _ _ (is.below lt) (ap (found_at entries) (below_base base address lt))
-  | inr le ↦ shown_by functions ranges entries are seen base address (address - base) (is_in_file base address (address - base) le refl) found refl (is.finds le)
-]
 
 -- what holds where something is found, and where nothing is
 pub where_found : (entries : List Entry) (base address : ℕ) (shown : Option Found) (f : Found) → IsShownAt entries base address shown → shown ≡ Some f

@@ -1,6 +1,6 @@
 //! What stands at addresses in an executable, a line each.
 
-ghost use Rattle.std.specs.Prelude.{◌≡◌, ◌≢◌, ◌++◌, ◌-◌, ◌<◌, ℕ, List, length, Some, None, map, IfErr, IfOk, IfSome, MatchOption, OnOk};
+ghost use Rattle.std.specs.Prelude.{◌≡◌, ◌≢◌, ◌++◌, ◌-◌, ◌<◌, ℕ, List, length, Some, None, true, map, IfErr, IfOk, IfSome, MatchOption, OnOk};
 ghost use Rattle.std.specs.String.{string_bytes};
 ghost use Rattle.binfarce.specs.Format.{format_of};
 ghost use Rattle.binfarce.specs.Symbol.{Entry};
@@ -14,11 +14,13 @@ ghost use Rattle.binfarce_tools.specs.declared.list.ListError.TheVariants.{Write
 ghost use Rattle.binfarce_tools.specs.Writing.{Tells, Takes, Fails, Leaves};
 ghost use Rattle.binfarce_addresses.specs.Lines.{in_file, found_at, IsLineAt, AreLinesOf, AreLinesAt};
 ghost use Rattle.binfarce_addresses.specs.PlacesViews.{IsMadeOf};
-ghost use Rattle.binfarce_addresses.specs.machine.Places.{ArePlacesOf, AreNamesOf, AreAllShown, IsNamedAt, IsNameOf, IsShownAt, StandsAt};
+ghost use Rattle.binfarce_addresses.specs.machine.Cells.{IsNameAt};
+ghost use Rattle.binfarce_addresses.specs.machine.Places.{ArePlacesOf, IsNamedAt, IsShownAt, StandsAt};
 
+use crate::cells::Cells;
 use crate::digits::{push_address, push_offset};
+use crate::names::{Names, name_of, names_of};
 use binfarce::FunctionSymbol;
-use binfarce::demangle::{Demangler, push_trimmed};
 use binfarce_ranges::ranges::{AddressRange, Found, Ranges};
 use binfarce_tools::functions::{Functions, functions_of_file};
 use binfarce_tools::list::{ListError, Sink};
@@ -35,14 +37,7 @@ pub struct Places<'a> {
     functions: Vec<FunctionSymbol<'a>>,
     ranges: Ranges,
     names: Names,
-}
-
-// The trimmed names of the first function symbols, one behind the other.
-#[derive(Drop)]
-struct Names {
-    text: String,
-    // Where each begins, and where the last one ends.
-    bounds: Vec<usize>,
+    cells: Cells,
 }
 
 impl<'a> Model for Places<'a> {
@@ -50,7 +45,7 @@ impl<'a> Model for Places<'a> {
 
     ghost view = { λ s. map function_view s.functions.items };
 
-    ghost invariant = { λ s. ArePlacesOf s.functions.items s.ranges (string_bytes s.names.text) s.names.bounds.items };
+    ghost invariant = { λ s. ArePlacesOf s.functions.items s.ranges (string_bytes s.names.text) s.names.bounds.items s.cells.cells.items };
 }
 
 impl<'a> Places<'a> {
@@ -93,7 +88,9 @@ impl<'a> Places<'a> {
     pub fn keep_names(&mut self, alloc: Global) -> Result<(), AllocError>
         ensures { self.new ≡ self.old }
     {
-        self.names = names_of(alloc, &self.functions)?;
+        let names = names_of(alloc, &self.functions)?;
+        self.cells = Cells::new(alloc, &self.ranges, &names.bounds)?;
+        self.names = names;
         Ok(())
     }
 
@@ -136,8 +133,8 @@ impl<'a> Places<'a> {
         self.push_shown(alloc, text, base, address, shown)
     }
 
-    // Writes the lines of addresses after the text. All are looked up before the first is written: what is waited for in
-    // memory comes sooner where many wait at once.
+    // Writes the lines of addresses after the text. What all need of memory is read before the first is written: it comes
+    // sooner where many wait at once.
     pub(crate) fn push_all(
         &self,
         alloc: Global,
@@ -147,68 +144,67 @@ impl<'a> Places<'a> {
     ) -> Result<(), AllocError>
         ensures { OnOk result ((lines : List ℕ) × AreLinesOf self.now base addresses.now lines × (text.new.items ≡ text.old.items ++ lines)) }
     {
-        let all = self.find_all(alloc, base, addresses)?;
-        self.ends_of_names(alloc, &all)?;
+        let nears = self.cells.nears(alloc, base, addresses)?;
+        let names = self.names.text.as_bytes();
+        self.cells.ends_of_names(alloc, &nears, names)?;
         for k in 0..addresses.len() {
-            let shown = all[k];
-            self.push_shown(alloc, text, base, addresses[k], shown)?;
+            self.push_near(alloc, text, base, addresses[k], nears[k])?;
         }
         Ok(())
     }
 
-    // What each of the addresses is shown by.
-    fn find_all(
+    // Writes the line of an address after the text: what the cell at this place tells, or what is found.
+    fn push_near(
         &self,
         alloc: Global,
+        text: &mut Vec<u8>,
         base: u64,
-        addresses: &[u64],
-    ) -> Result<Vec<Option<Found>>, AllocError>
-        ensures { IfOk result (λ all. AreAllShown self.now base addresses.now all.items) }
+        address: u64,
+        near: usize,
+    ) -> Result<(), AllocError>
+        ensures { OnOk result ((line : List ℕ) × IsLineAt self.now base address line × (text.new.items ≡ text.old.items ++ line)) }
     {
-        let all = self.ranges.find_all(alloc, base, addresses)?;
-        Ok(all)
+        if let Some((name, offset)) = self.near_name(base, address, near) {
+            push_address(text, address)?;
+            text.extend_from_slice(name)?;
+            push_offset(text, offset)?;
+            return Ok(());
+        }
+        if self.is_free(base, address, near) {
+            return self.push_shown(alloc, text, base, address, None);
+        }
+        self.push_line(alloc, text, base, address)
     }
 
-    // The first and the last byte of each name that is kept: read ahead, so that it is near when it is written.
-    fn ends_of_names(
-        &self,
-        alloc: Global,
-        all: &[Option<Found>],
-    ) -> Result<Vec<(u8, u8)>, AllocError> {
-        let parts = self.parts_of_names(alloc, all)?;
+    // The kept name of the function symbol that an address is shown by, and the offset into that, if the cell at this place
+    // tells it.
+    #[inline(always)]
+    fn near_name(&self, base: u64, address: u64, near: usize) -> Option<(&[u8], u64)>
+        ensures { IfSome result (λ s. IsNameAt self.now base address s.0.now s.1) }
+    {
+        let cell = *self.cells.cells.get(near)?;
+        if address < base {
+            return None;
+        }
+        let in_file = address - base;
+        if in_file < cell.address || in_file >= cell.end {
+            return None;
+        }
         let text = self.names.text.as_bytes();
-        let mut ends = Vec::with_capacity(alloc, parts.len())?;
-        for k in 0..parts.len() {
-            let (start, last) = parts[k];
-            let end = match (text.get(start), text.get(last)) {
-                (Some(first), Some(last)) => (*first, *last),
-                _ => (0, 0),
-            };
-            ends.push(end)?;
-        }
-        Ok(ends)
+        Some((&text[cell.start..cell.stop], in_file - cell.address))
     }
 
-    // Where each of these names begins, and its last byte.
-    fn parts_of_names(
-        &self,
-        alloc: Global,
-        all: &[Option<Found>],
-    ) -> Result<Vec<(usize, usize)>, AllocError> {
-        let bounds = self.names.bounds.as_slice();
-        let mut parts = Vec::with_capacity(alloc, all.len())?;
-        for shown in all {
-            let place = match shown {
-                Some(found) => found.place,
-                None => 0,
-            };
-            let part = match (bounds.get(place), bounds.get(place.wrapping_add(1))) {
-                (Some(start), Some(end)) => (*start, end.wrapping_sub(1)),
-                _ => (0, 0),
-            };
-            parts.push(part)?;
+    // Whether the cell at this place tells that none is shown at the address.
+    #[inline(always)]
+    fn is_free(&self, base: u64, address: u64, near: usize) -> bool
+        ensures { result ≡ true → found_at self.now (in_file base address) ≡ None }
+    {
+        match self.cells.cells.get(near) {
+            Some(cell) if address >= base => {
+                cell.end <= address - base && address - base < cell.until
+            }
+            _ => false,
         }
-        Ok(parts)
     }
 
     // What an address is shown by: the place of a function symbol, and the offset into that.
@@ -283,31 +279,6 @@ impl<'a> Places<'a> {
     }
 }
 
-// The trimmed names of function symbols.
-fn names_of(alloc: Global, functions: &Vec<FunctionSymbol<'_>>) -> Result<Names, AllocError>
-    ensures { IfOk result (λ n. AreNamesOf (map function_view functions.now.items) (string_bytes n.text) n.bounds.items) }
-{
-    let mut demangler = Demangler::new(alloc);
-    let mut text = String::new(alloc);
-    let mut bounds = Vec::new(alloc);
-    bounds.push(0)?;
-    for place in 0..functions.len() {
-        let function = functions[place];
-        demangler.push_trimmed(&mut text, function.name)?;
-        bounds.push(text.as_bytes().len())?;
-    }
-    Ok(Names { text, bounds })
-}
-
-// The trimmed name of a function symbol.
-fn name_of(alloc: Global, function: FunctionSymbol<'_>) -> Result<String, AllocError>
-    ensures { IfOk result (λ t. IsNameOf function.entry t) }
-{
-    let mut name = String::new(alloc);
-    push_trimmed(alloc, &mut name, function.name)?;
-    Ok(name)
-}
-
 // The places of function symbols.
 fn places_of(alloc: Global, functions: Functions<'_>) -> Result<Places<'_>, AllocError>
     ensures { IfOk result (λ p. p ≡ functions_left functions.entry) }
@@ -328,6 +299,7 @@ fn places_of(alloc: Global, functions: Functions<'_>) -> Result<Places<'_>, Allo
             text: String::new(alloc),
             bounds: Vec::new(alloc),
         },
+        cells: Cells::none(alloc),
     })
 }
 

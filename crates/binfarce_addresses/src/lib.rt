@@ -2,7 +2,9 @@
 #![tactic(auto)]
 
 pub mod at;
+mod cells;
 mod digits;
+mod names;
 pub mod stream;
 
 pub use binfarce_ranges::address::parse_address;

@@ -1,12 +1,9 @@
 -- What a search finds.
-use Rattle.std.proofs.Common.{◌≡◌, ℕ, ◌+◌, ◌-◌, ◌^◌, ◌<◌, ◌≤◌, ◌⊎◌, inl, inr, List, [], ◌∷◌, ◌++◌, length, get_or, Option, None, sym, ap, subst, ◌∙◌, arith, length-append}
-use Rattle.std.proofs.Math.ListN.{get_or-append}
-use Rattle.std.proofs.Math.Seq.{get_or-append_seam}
+use Rattle.std.proofs.Common.{◌≡◌, ℕ, ◌+◌, ◌-◌, ◌^◌, ◌<◌, ◌≤◌, ◌⊎◌, inl, inr, List, length, get_or, sym, ap, subst, ◌∙◌, arith}
 use Rattle.std.proofs.lemmas.Bool.{cases_lt}
 use Rattle.std.proofs.lemmas.List.{get_or_default}
 use Rattle.std.proofs.lemmas.List.Elements.{All-from_get_or}
-use Rattle.binfarce_ranges.specs.Range.{Holds, NoneHolds, IsFoundAt, IsFoundFrom}
-use Rattle.binfarce_ranges.specs.declared.ranges.Found.{Found}
+use Rattle.binfarce_ranges.specs.Range.{Holds, NoneHolds, IsFoundAt}
 use Rattle.binfarce_ranges.specs.declared.ranges.AddressRange.{AddressRange}
 use Rattle.binfarce_ranges.specs.declared.ranges.Row.{Row}
 use Rattle.binfarce_ranges.specs.declared.ranges.Node.{Node}
@@ -164,16 +161,3 @@ offset_at ranges rows are view seen k row address lt is d =
     ap (λ (r : Row). r.address) is ∙ of_row.1 ∙ ap (λ (r : AddressRange). r.address) here
     ∙ ap (λ (r : Row). (get_or ranges r.place.0 d).address) (sym is) ∙ ap (λ (rs : List AddressRange). (get_or rs row.place.0 d).address) seen in
     ap (λ n. address - n) begins
-
--- one more is found
-pub one_found : (ranges : List AddressRange) (base : ℕ) (addresses : List ℕ) (all new : List (Option Found)) (found : Option Found) → ((k : ℕ) → k < length all → IsFoundFrom ranges base (get_or addresses k 0) (get_or all k None)) → IsFoundFrom ranges base (get_or addresses (length all) 0) found → new ≡ all ++ found ∷ []
-    → (k : ℕ) → k < length new → IsFoundFrom ranges base (get_or addresses k 0) (get_or new k None)
-one_found ranges base addresses all new found are is grown k lt = elim (cases_lt k (length all)) [
-  | inl old ↦
-      let here : get_or new k None ≡ get_or all k None = ap (λ (fs : List (Option Found)). get_or fs k None) grown ∙ get_or-append all (found ∷ []) None k old in
-      subst (λ (f : Option Found). IsFoundFrom ranges base (get_or addresses k 0) f) (sym here) (are k old)
-  | inr ge ↦
-      let last : k ≡ length all = omega (arith, lt, ap (length {A = Option Found}) grown, length-append all (found ∷ [])) in
-      let here : get_or new k None ≡ found = ap (λ (fs : List (Option Found)). get_or fs k None) grown ∙ ap (λ n. get_or (all ++ found ∷ []) n None) last ∙ get_or-append_seam all found [] None in
-      subst (λ (f : Option Found). IsFoundFrom ranges base (get_or addresses k 0) f) (sym here) (subst (λ n. IsFoundFrom ranges base (get_or addresses n 0) found) (sym last) is)
-]

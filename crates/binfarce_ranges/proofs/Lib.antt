@@ -5,3 +5,4 @@ pub mod Found
 pub mod Digits
 pub mod Values
 pub mod HexLines
+pub mod Spans

@@ -1,7 +1,8 @@
 -- Ranges of addresses, and which of several is found at an address.
-use Rattle.std.specs.Prelude.{◌≡◌, ℕ, ◌+◌, ◌-◌, ◌<◌, ◌≤◌, ◌⊎◌, max, List, All, length, slice_index_or, Option, None, MatchOption}
+use Rattle.std.specs.Prelude.{◌≡◌, ℕ, ◌+◌, ◌-◌, ◌<◌, ◌≤◌, ◌⊎◌, max, List, All, length, slice_index_or, Option, MatchOption}
 use Rattle.binfarce_ranges.specs.declared.ranges.AddressRange.{AddressRange}
 use Rattle.binfarce_ranges.specs.declared.ranges.Found.{Found}
+use Rattle.binfarce_ranges.specs.declared.ranges.Span.{Span}
 
 -- the address lies in the range: from the range's address on, and before its end, which may lie past 64 bits; a range of size 0 holds its own address alone
 abbrev pub Holds : AddressRange → ℕ → Type 0
@@ -24,12 +25,9 @@ abbrev pub Finds : List AddressRange → ℕ → Option Found → Type 0
 Finds ranges address found =
     MatchOption found (NoneHolds ranges address) (λ f. IsFoundAt ranges address f.place × ((d : AddressRange) → f.offset ≡ address - (slice_index_or ranges f.place d).address))
 
--- the same once the base is taken off: nothing is found at an address below it
-pub record IsFoundFrom (ranges : List AddressRange) (base address : ℕ) (found : Option Found) : Type 0 where
-  pub below : address < base → found ≡ None
-  pub finds : base ≤ address → Finds ranges (address - base) found
-
--- what is found at each of the addresses
-pub record AreFound (ranges : List AddressRange) (base : ℕ) (addresses : List ℕ) (all : List (Option Found)) : Type 0 where
-  pub count : length all ≡ length addresses
-  pub each : (k : ℕ) → k < length all → IsFoundFrom ranges base (slice_index_or addresses k 0) (slice_index_or all k None)
+-- what is found from the range's address up to the span's end is the range, and from there on nothing
+pub record IsSpanOf (ranges : List AddressRange) (span : Span) : Type 0 where
+  pub within : span.place < length ranges
+  pub address : (d : AddressRange) → (slice_index_or ranges span.place d).address ≡ span.address
+  pub found : (address : ℕ) → span.address ≤ address → address < span.end → IsFoundAt ranges address span.place
+  pub none : (address : ℕ) → span.end ≤ address → address < span.until → NoneHolds ranges address

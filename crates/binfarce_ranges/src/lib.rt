@@ -2,4 +2,5 @@
 #![tactic(auto)]
 
 pub mod address;
+pub mod marks;
 pub mod ranges;

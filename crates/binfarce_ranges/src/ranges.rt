@@ -1,7 +1,7 @@
 //! Which of several ranges is found at an address.
 
-ghost use Rattle.std.specs.Prelude.{◌≡◌, ◌-◌, ◌<◌, ◌≤◌, ◌^◌, List, length, true, MatchOption, IfOk};
-ghost use Rattle.binfarce_ranges.specs.Range.{AreFound, Finds, IsFoundAt, IsFoundFrom, NoneHolds};
+ghost use Rattle.std.specs.Prelude.{◌≡◌, ◌+◌, ◌-◌, ◌<◌, ◌≤◌, ◌^◌, List, length, MatchOption, IfOk, IfSome};
+ghost use Rattle.binfarce_ranges.specs.Range.{Finds, IsFoundAt, IsSpanOf, NoneHolds};
 ghost use Rattle.binfarce_ranges.specs.declared.ranges.AddressRange.{AddressRange};
 ghost use Rattle.binfarce_ranges.specs.machine.Index.{AreRowsOf, AreSlicesOf, AreLinked, AreNodesOf, DoRise, IsBound, IsIndexed, IsOuter, JumpsOver, Follows, last_of, row_at, slice_at};
 
@@ -14,6 +14,16 @@ use std::marker::Model;
 pub struct AddressRange {
     pub address: u64,
     pub size: u64,
+}
+
+/// What is found at the addresses from a range's own on: from `address` up to `end` this range, and from there up to `until`
+/// none.
+#[derive(Debug, Clone, Copy, PartialEq)]
+pub struct Span {
+    pub place: usize,
+    pub address: u64,
+    pub end: u64,
+    pub until: u64,
 }
 
 /// What is found at an address: the place of a range, and the offset of the address into that.
@@ -102,99 +112,36 @@ impl Ranges {
     pub fn find(&self, address: u64) -> Option<usize>
         ensures { MatchOption result (NoneHolds self.now address) (IsFoundAt self.now address) }
     {
-        let found = self.find_from(usize::MAX, address)?;
+        let found = self.find_from(address)?;
         Some(found.place)
     }
 
-    /// What is found at each of the addresses once the base is taken off: nothing at one below the base. All are searched in
-    /// the rows before the first is followed further, so that waits for memory overlap. The only error is `AllocError`.
-    pub fn find_all(
-        &self,
-        alloc: Global,
-        base: u64,
-        addresses: &[u64],
-    ) -> Result<Vec<Option<Found>>, AllocError>
-        ensures { IfOk result (λ all. AreFound self.now base addresses.now all.items) }
+    /// The span of the range that has this place in the order of addresses, where ranges of one address stand from the last
+    /// to the first; `None` past the end.
+    pub fn span(&self, row: usize) -> Option<Span>
+        ensures { IfSome result (IsSpanOf self.now) }
     {
-        let starts = self.starts_of(alloc, base, addresses)?;
-        let mut all = Vec::with_capacity(alloc, addresses.len())?;
-        for k in 0..addresses.len() {
-            let found = self.find_past(base, addresses[k], starts[k]);
-            all.push(found)?;
-        }
-        Ok(all)
+        let here = *self.rows.get(row)?;
+        let behind = address_behind(&self.rows, row);
+        let end = behind.min(here.last.saturating_add(1));
+        let until = if self.nodes[row + 1].outer == 0 {
+            behind
+        } else {
+            end
+        };
+        Some(Span {
+            place: here.place.0,
+            address: here.address,
+            end,
+            until,
+        })
     }
 
-    // For each address how many rows have one that isn't greater, mostly: `find_from` looks whether it is so.
-    fn starts_of(
-        &self,
-        alloc: Global,
-        base: u64,
-        addresses: &[u64],
-    ) -> Result<Vec<usize>, AllocError>
-        ensures { IfOk result (λ v. length v.items ≡ length addresses.now) }
-    {
-        let mut starts = self.nears_of(alloc, base, addresses)?;
-        for k in 0..addresses.len() {
-            starts[k] = self.near_start(starts[k], addresses[k].saturating_sub(base));
-        }
-        Ok(starts)
-    }
-
-    // For each address how many rows stand before its slice.
-    fn nears_of(
-        &self,
-        alloc: Global,
-        base: u64,
-        addresses: &[u64],
-    ) -> Result<Vec<usize>, AllocError>
-        ensures { IfOk result (λ v. length v.items ≡ length addresses.now) }
-    {
-        let mut nears = Vec::with_capacity(alloc, addresses.len())?;
-        for address in addresses {
-            let near = self.near(address.saturating_sub(base));
-            nears.push(near)?;
-        }
-        Ok(nears)
-    }
-
-    fn near(&self, address: u64) -> usize {
-        let slice = slice_of(self.slices.first, self.slices.shift, address);
-        match self.slices.starts.get(slice) {
-            Some(start) => *start,
-            None => self.rows.len(),
-        }
-    }
-
-    // The first two of these rows alone are looked at, without a branch.
-    fn near_start(&self, near: usize, address: u64) -> usize {
-        let mut start = near;
-        if let Some(row) = self.rows.get(near) {
-            start = start.wrapping_add((row.address <= address) as usize);
-        }
-        if let Some(row) = self.rows.get(near.wrapping_add(1)) {
-            start = start.wrapping_add((row.address <= address) as usize);
-        }
-        start
-    }
-
-    // What is found at an address once the base is taken off; so many rows have an address that isn't greater, it is said.
-    #[inline(always)]
-    fn find_past(&self, base: u64, address: u64, start: usize) -> Option<Found>
-        ensures { IsFoundFrom self.now base address result }
-    {
-        if address < base {
-            return None;
-        }
-        self.find_from(start, address - base)
-    }
-
-    // What is found at an address; so many rows have an address that isn't greater, it is said.
-    #[inline(always)]
-    fn find_from(&self, start: usize, address: u64) -> Option<Found>
+    // What is found at an address.
+    fn find_from(&self, address: u64) -> Option<Found>
         ensures { Finds self.now address result }
     {
-        let mut node = start_at(&self.rows, &self.slices, start, address);
+        let mut node = rows_up_to(&self.rows, &self.slices, address);
         while last_at(&self.rows, node) < address {
             let jump = self.nodes[node].jump;
             node = if last_at(&self.rows, jump) < address {
@@ -230,7 +177,7 @@ fn rows_of(alloc: Global, ranges: &[AddressRange]) -> Result<Vec<Row>, AllocErro
     Ok(rows)
 }
 
-// The slices of the rows: one or two for each row, so that few slices have more than two rows.
+// The slices of the rows: one or two for four rows.
 fn slices_of(alloc: Global, rows: &[Row]) -> Result<Slices, AllocError>
     requires { DoRise rows.now }
     ensures { IfOk result (λ s. AreSlicesOf rows.now s.first s.shift s.starts.items) }
@@ -241,7 +188,7 @@ fn slices_of(alloc: Global, rows: &[Row]) -> Result<Slices, AllocError>
         [row] => (row.address, row.address),
         [first, .., last] => (first.address, last.address),
     };
-    let shift = shift_of(last.saturating_sub(first), rows.len().saturating_mul(2));
+    let shift = shift_of(last.saturating_sub(first), rows.len() / 4);
     for (place, row) in rows.iter().enumerate() {
         let slice = slice_of(first, shift, row.address);
         while starts.len() <= slice {
@@ -257,7 +204,7 @@ fn slices_of(alloc: Global, rows: &[Row]) -> Result<Slices, AllocError>
 }
 
 // How often so many addresses are halved until they are at most so many slices.
-fn shift_of(addresses: u64, slices: usize) -> u32
+pub(crate) fn shift_of(addresses: u64, slices: usize) -> u32
     ensures { result < 64 }
 {
     let mut shift = 0;
@@ -291,33 +238,15 @@ fn rows_up_to(rows: &[Row], slices: &Slices, address: u64) -> usize
     start + rows[start..end].partition_point(|row| row.address <= address)
 }
 
-// How many rows have an address that isn't greater: as many as is said, if it is so.
-#[inline(always)]
-fn start_at(rows: &[Row], slices: &Slices, start: usize, address: u64) -> usize
-    requires rise { DoRise rows.now }
-    requires slices { AreSlicesOf rows.now slices.now.first slices.now.shift slices.now.starts.items }
-    ensures { IsBound rows.now address result }
+// The address of the row behind this one, or the last of all.
+fn address_behind(rows: &[Row], row: usize) -> u64
+    requires { row < length rows.now }
+    ensures { row + 1 < length rows.now → result ≡ (row_at rows.now (row + 1)).address }
 {
-    if is_start(rows, start, address) {
-        start
-    } else {
-        rows_up_to(rows, slices, address)
+    match rows.get(row + 1) {
+        Some(next) => next.address,
+        None => u64::MAX,
     }
-}
-
-// So many rows have an address that isn't greater.
-#[inline(always)]
-fn is_start(rows: &[Row], start: usize, address: u64) -> bool
-    requires { DoRise rows.now }
-    ensures { result ≡ true → IsBound rows.now address start }
-{
-    if start > rows.len() {
-        return false;
-    }
-    if start > 0 && rows[start - 1].address > address {
-        return false;
-    }
-    start == rows.len() || rows[start].address > address
 }
 
 // The last address that a node reaches, which its row has too: so the nodes of most addresses aren't read.

@@ -8,6 +8,8 @@ use Rattle.binfarce.specs.Symbol.{Entry}
 use Rattle.binfarce.specs.SymbolViews.{function_view}
 use Rattle.binfarce.specs.declared.FunctionSymbol.{FunctionSymbol}
 use Rattle.binfarce_addresses.specs.Lines.{in_file, found_at}
+use Rattle.binfarce_addresses.specs.declared.cells.Cell.{Cell}
+use Rattle.binfarce_addresses.specs.machine.Cells.{AreCellsOf}
 use Rattle.binfarce_ranges.specs.declared.ranges.AddressRange.{AddressRange}
 use Rattle.binfarce_ranges.specs.declared.ranges.Found.{Found}
 
@@ -34,17 +36,13 @@ pub record AreNamesOf (entries : List Entry) (text bounds : List ℕ) : Type 0 w
   pub rise : (place : ℕ) → place + 1 < length bounds → (slice_index_or bounds place 0 ≤ slice_index_or bounds (place + 1) 0) × (slice_index_or bounds (place + 1) 0 ≤ length text)
   pub named : (place : ℕ) → place + 1 < length bounds → IsNamedAt entries place (take (slice_index_or bounds (place + 1) 0 - slice_index_or bounds place 0) (drop (slice_index_or bounds place 0) text))
 
-pub record ArePlacesOf (functions : List FunctionSymbol) (ranges : List AddressRange) (text bounds : List ℕ) : Type 0 where
+pub record ArePlacesOf (functions : List FunctionSymbol) (ranges : List AddressRange) (text bounds : List ℕ) (cells : List Cell) : Type 0 where
   pub are : ranges ≡ ranges_of functions
   pub named : AreNamesOf (map function_view functions) text bounds
+  pub cells_are : AreCellsOf ranges bounds cells
 
 -- the address is shown by this: the place of an entry, and the offset into that
 abbrev pub IsShownAt : List Entry → ℕ → ℕ → Option Found → Type 0
 IsShownAt entries base address shown =
     MatchOption shown (found_at entries (in_file base address) ≡ None)
     (λ f. (entry : Entry) × (found_at entries (in_file base address) ≡ Some entry) × (f.offset ≡ address - base - entry.address) × StandsAt entries f.place entry)
-
--- each of the addresses is shown by what stands at its place
-pub record AreAllShown (entries : List Entry) (base : ℕ) (addresses : List ℕ) (all : List (Option Found)) : Type 0 where
-  pub count : length all ≡ length addresses
-  pub each : (k : ℕ) → k < length all → IsShownAt entries base (slice_index_or addresses k 0) (slice_index_or all k None)

@@ -1,6 +1,7 @@
 //! Which of several ranges is found at an address.
 
-use binfarce_ranges::ranges::{AddressRange, Found, Ranges};
+use binfarce_ranges::marks::Marks;
+use binfarce_ranges::ranges::{AddressRange, Ranges, Span};
 use std::alloc::{AllocError, Global};
 
 fn ranges_of(alloc: Global, ranges: &[(u64, u64)]) -> Result<Ranges, AllocError> {
@@ -146,42 +147,71 @@ fn finds_the_range(rt: HostRuntime) -> Result<(), AllocError> {
     Ok(())
 }
 
+// Where a span tells what is found at an address, it tells the truth.
+fn is_told(span: Option<Span>, address: u64, place: Option<usize>) -> bool {
+    match span {
+        Some(span) => {
+            if span.address <= address && address < span.end {
+                return place == Some(span.place);
+            }
+            address < span.end || span.until <= address || place.is_none()
+        }
+        None => false,
+    }
+}
+
 #[test]
-fn finds_many_at_once(rt: HostRuntime) -> Result<(), AllocError> {
+fn spans_tell_what_is_found(rt: HostRuntime) -> Result<(), AllocError> {
     for (label, ranges, places) in &TABLE {
+        let count = ranges.len();
         let ranges = ranges_of(rt.alloc(), ranges)?;
-        let mut addresses = Vec::new(rt.alloc());
-        for (address, _) in places.iter() {
-            addresses.push(*address)?;
+        for row in 0..count {
+            for (address, place) in places.iter() {
+                assert!(&rt;
+                    is_told(ranges.span(row), *address, *place),
+                    "{label}: {address:x}"
+                );
+            }
         }
-        let all = ranges.find_all(rt.alloc(), 0, &addresses)?;
-        assert!(&rt; all.len() == places.len(), "{label}");
-        for (k, (address, place)) in places.iter().enumerate() {
-            let found = match all.get(k) {
-                Some(Some(found)) => Some(found.place),
-                _ => None,
-            };
-            assert!(&rt; found == *place, "{label}: {address:x}");
-        }
+        assert!(&rt; ranges.span(count) == None, "{label}");
     }
     Ok(())
 }
 
-// With the offset into each, once the base is taken off.
+// Behind a range up to the next one nothing is found; behind one within another nothing is said.
 #[test]
-fn takes_the_base_off(rt: HostRuntime) -> Result<(), AllocError> {
-    let ranges = ranges_of(rt.alloc(), &[(0x40, 0x10), (0x10, 0x10)])?;
-    let all = ranges.find_all(rt.alloc(), 0x100, &[0xff, 0x110, 0x14f, 0x150, 0x40])?;
-    let first = Some(Found {
-        place: 1,
-        offset: 0,
-    });
-    let second = Some(Found {
-        place: 0,
-        offset: 0xf,
-    });
-    let wanted = [None, first, second, None, None];
-    assert!(&rt; all.as_slice() == wanted.as_slice());
+fn spans_end_at_the_next_range(rt: HostRuntime) -> Result<(), AllocError> {
+    let apart = ranges_of(rt.alloc(), &[(0x40, 0x10), (0x10, 0x10)])?;
+    assert!(&rt; apart.span(0) == Some(span_of(1, 0x10, 0x20, 0x40)));
+    assert!(&rt; apart.span(1) == Some(span_of(0, 0x40, 0x50, u64::MAX)));
+    let nested = ranges_of(rt.alloc(), &[(0x10, 0x40), (0x20, 8)])?;
+    assert!(&rt; nested.span(0) == Some(span_of(0, 0x10, 0x20, 0x20)));
+    assert!(&rt; nested.span(1) == Some(span_of(1, 0x20, 0x28, 0x28)));
+    Ok(())
+}
+
+fn span_of(place: usize, address: u64, end: u64, until: u64) -> Span {
+    Span {
+        place,
+        address,
+        end,
+        until,
+    }
+}
+
+// Of addresses that lie far enough apart the marks say which is the last that isn't greater.
+#[test]
+fn marks_tell_the_last(rt: HostRuntime) -> Result<(), AllocError> {
+    let addresses = [0x1000, 0x2000, 0x2800, 0x3000, 0x4000];
+    let mut marks = Marks::new(rt.alloc(), 0x1000, 0x4000, addresses.len());
+    for address in &addresses {
+        marks.push(*address)?;
+    }
+    for (place, address) in addresses.iter().enumerate() {
+        assert!(&rt; marks.near(*address) == place, "{address:x}");
+    }
+    assert!(&rt; marks.near(0x2fff) == 2);
+    assert!(&rt; marks.near(u64::MAX) == 4);
     Ok(())
 }
 

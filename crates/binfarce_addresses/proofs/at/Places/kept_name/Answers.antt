@@ -1,7 +1,7 @@
 use Rattle.std.proofs.Common.{map, arith}
 use Rattle.std.specs.String.{string_bytes}
 use Rattle.binfarce.specs.SymbolViews.{function_view}
-use Rattle.binfarce_addresses.proofs.Names.{kept}
+use Rattle.binfarce_addresses.proofs.KeptNames.{kept}
 use Rattle.binfarce_addresses.proofs.at.Places.kept_name.Goals as goal
 
 pub returns : goal.returns

@@ -1,5 +1,5 @@
 use Rattle.std.proofs.Common.{◌≡◌, length}
-use Rattle.binfarce_ranges.proofs.ranges.Ranges.nears_of.Given as goal
+use Rattle.binfarce_addresses.proofs.cells.Cells.marked.Given as goal
 
 -- one for each address so far
 abbrev pub invariant-loop-address : goal.invariant-loop-address

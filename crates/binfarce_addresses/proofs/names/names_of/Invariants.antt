@@ -2,7 +2,7 @@ use Rattle.std.proofs.Common.{◌≡◌, ◌+◌, length, get_or, map}
 use Rattle.std.specs.String.{string_bytes}
 use Rattle.binfarce.specs.SymbolViews.{function_view}
 use Rattle.binfarce_addresses.specs.machine.Places.{AreNamesOf}
-use Rattle.binfarce_addresses.proofs.at.names_of.Given as goal
+use Rattle.binfarce_addresses.proofs.names.names_of.Given as goal
 
 -- the names so far
 abbrev pub invariant-loop-place : goal.invariant-loop-place

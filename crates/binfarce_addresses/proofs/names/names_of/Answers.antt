@@ -3,8 +3,8 @@ use Rattle.std.proofs.Math.Seq.{get_or-append_seam}
 use Rattle.std.proofs.lemmas.List.{get_or-map, length-map}
 use Rattle.std.specs.String.{string_bytes}
 use Rattle.binfarce.specs.SymbolViews.{function_view}
-use Rattle.binfarce_addresses.proofs.Names.{no_names, one_name}
-use Rattle.binfarce_addresses.proofs.at.names_of.Goals as goal
+use Rattle.binfarce_addresses.proofs.KeptNames.{no_names, one_name}
+use Rattle.binfarce_addresses.proofs.names.names_of.Goals as goal
 
 pub loop-place-init : goal.loop-place-init
 loop-place-init c = record {

@@ -1,0 +1,62 @@
+-- What a cell tells of the addresses that lie in it.
+use Rattle.std.proofs.Common.{◌≡◌, ℕ, ◌+◌, ◌-◌, ◌<◌, ◌≤◌, inl, inr, List, [], ◌∷◌, ◌++◌, length, get_or, take, drop, map, Some, None, true, nat_lt, sym, ap, subst, ◌∙◌, arith, length-append}
+use Rattle.std.proofs.Math.ListN.{get_or-append}
+use Rattle.std.proofs.Math.Seq.{get_or-append_seam}
+use Rattle.std.proofs.lemmas.Bool.Decides.{nat_tests}
+use Rattle.std.proofs.lemmas.Bool.{cases_lt}
+use Rattle.std.proofs.lemmas.List.{get_or_default}
+use Rattle.binfarce.specs.Symbol.{Entry}
+use Rattle.binfarce.specs.SymbolViews.{function_view}
+use Rattle.binfarce.specs.declared.FunctionSymbol.{FunctionSymbol}
+use Rattle.binfarce_ranges.specs.declared.ranges.AddressRange.{AddressRange}
+use Rattle.binfarce_ranges.specs.declared.ranges.Found.{Found}
+use Rattle.binfarce_addresses.specs.Lines.{in_file, found_at}
+use Rattle.binfarce_addresses.specs.declared.cells.Cell.{Cell}
+use Rattle.binfarce_addresses.specs.machine.Cells.{AreCellsOf, IsCellOf, IsNameAt, cell_at, no_cell}
+use Rattle.binfarce_addresses.specs.machine.Places.{AreNamesOf, ranges_of}
+use Rattle.binfarce_addresses.proofs.KeptNames.{kept}
+use Rattle.binfarce_addresses.proofs.Shown.{found_none, shown_by}
+
+-- no cell yet
+pub no_cells : (ranges : List AddressRange) (bounds : List ℕ) (cells : List Cell) → length cells ≡ 0 → AreCellsOf ranges bounds cells
+no_cells ranges bounds cells none = record { each = λ k lt. absurd (omega arith) }
+
+-- one more
+pub one_cell : (ranges : List AddressRange) (bounds : List ℕ) (cells new : List Cell) (cell : Cell) → AreCellsOf ranges bounds cells → IsCellOf ranges bounds cell → new ≡ cells ++ cell ∷ [] → AreCellsOf ranges bounds new
+one_cell ranges bounds cells new cell are is grown = record {
+  each = λ k lt. elim (cases_lt k (length cells)) [
+    | inl old ↦
+        let here : cell_at new k ≡ cell_at cells k = ap (λ (cs : List Cell). get_or cs k no_cell) grown ∙ get_or-append cells (cell ∷ []) no_cell k old in
+        subst (λ (x : Cell). IsCellOf ranges bounds x) (sym here) (are.each k old)
+    | inr ge ↦
+        let last : k ≡ length cells = omega (arith, lt, ap (length {A = Cell}) grown, length-append cells (cell ∷ [])) in
+        let here : cell_at new k ≡ cell = ap (λ (cs : List Cell). get_or cs k no_cell) grown ∙ ap (λ n. get_or (cells ++ cell ∷ []) n no_cell) last ∙ get_or-append_seam cells cell [] no_cell in
+        subst (λ (x : Cell). IsCellOf ranges bounds x) (sym here) is
+  ];
+}
+
+-- a cell that is read is one of them
+pub cell_is : (ranges : List AddressRange) (bounds : List ℕ) (cells : List Cell) (k : ℕ) (cell : Cell) → AreCellsOf ranges bounds cells → k < length cells → cell ≡ cell_at cells k → IsCellOf ranges bounds cell
+cell_is ranges bounds cells k cell are lt is = subst (λ (x : Cell). IsCellOf ranges bounds x) (sym is) (are.each k lt)
+
+module _ (functions : List FunctionSymbol) (ranges : List AddressRange) (entries : List Entry) (text bounds : List ℕ) (are : ranges ≡ ranges_of functions) (named : AreNamesOf (map function_view functions) text bounds) (seen : map function_view functions ≡ entries) (cell : Cell) (is : IsCellOf ranges bounds cell) where
+  -- its name stands in the text
+  pub in_text : (cell.start ≤ cell.stop) × (cell.stop ≤ length text)
+  in_text = let rise = named.rise is.place is.kept in (omega (arith, rise.0, is.starts, is.stops), omega (arith, rise.1, is.stops))
+
+  -- and is that of the entry which the address is shown by
+  pub name_at : (base address x : ℕ) (shown : List ℕ) → in_file base address ≡ Some x → x ≡ address - base → shown ≡ text → cell.address ≤ x → x < cell.end → IsNameAt entries base address (take (cell.stop - cell.start) (drop cell.start shown)) (x - cell.address)
+  name_at base address x shown inside left same low high =
+      let found : Found = record { place = is.place; offset = x - cell.address } in
+      let by = shown_by functions ranges entries are seen base address x inside (Some found) left (is.span.found x low high, λ d. ap (λ n. x - n) (sym (is.span.address d))) in
+      let starts : cell.start ≡ get_or bounds is.place cell.start = is.starts ∙ get_or_default bounds is.place 0 cell.start (omega (arith, is.kept)) in
+      let stops : cell.stop ≡ get_or bounds (is.place + 1) cell.stop = is.stops ∙ get_or_default bounds (is.place + 1) 0 cell.stop is.kept in
+      (by.0, by.1, by.2, kept (map function_view functions) entries text shown bounds is.place cell.start cell.stop named seen is.kept same starts stops by.0 by.3)
+
+  -- behind the entry none shows the address
+  pub free_at : (base address x : ℕ) → in_file base address ≡ Some x → cell.end ≤ x → x < cell.until → found_at entries (in_file base address) ≡ None
+  free_at base address x inside low high = found_none functions ranges entries are seen base address x inside (is.span.none x low high)
+
+-- what a test tells
+pub is_less : (a b : ℕ) → nat_lt a b ≡ true → a < b
+is_less a b e = grind (arith, nat_tests)

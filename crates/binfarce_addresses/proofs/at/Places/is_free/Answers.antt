@@ -1,0 +1,18 @@
+use Rattle.std.proofs.Common.{◌≡◌, ◌-◌, ◌<◌, ◌∙◌, List, length, get_or, ap, refl, arith}
+use Rattle.std.specs.String.{string_bytes}
+use Rattle.binfarce_addresses.specs.declared.cells.Cell.{Cell}
+use Rattle.binfarce_addresses.specs.machine.Cells.{IsCellOf, cell_at, no_cell}
+use Rattle.binfarce_addresses.proofs.NameCells.{cell_is, free_at, is_less}
+use Rattle.binfarce_addresses.proofs.Shown.{is_in_file}
+use Rattle.binfarce_addresses.proofs.at.Places.is_free.Goals as goal
+
+pub returns-then-cell-address : goal.returns-then-cell-address
+returns-then-cell-address c = λ less.
+    let cells = c.self.inside.cells.cells.items in
+    let cell = c.in-Some.cell.now in
+    let read = c.in-Some.ensures.lookup.3 in
+    let lt : c.args.near < length cells = omega (arith, read.0, ap (length {A = Cell}) c.deref.ensures.value) in
+    let here : cell ≡ cell_at cells c.args.near = read.1 no_cell ∙ ap (λ (cs : List Cell). get_or cs c.args.near no_cell) c.deref.ensures.value in
+    let is : IsCellOf c.self.inside.ranges c.self.inside.names.bounds.items cell = cell_is c.self.inside.ranges c.self.inside.names.bounds.items cells c.args.near cell c.self.invariant.cells_are lt here in
+    free_at c.self.inside.functions.items c.self.inside.ranges c.args.self.now (string_bytes c.self.inside.names.text) c.self.inside.names.bounds.items c.self.invariant.are c.self.invariant.named c.self.view_is cell is
+    c.args.base c.args.address (c.args.address - c.args.base) (is_in_file c.args.base c.args.address (c.args.address - c.args.base) c.if-address-base.true refl) c.if-cell-address.true (is_less (c.args.address - c.args.base) cell.until less)

@@ -1,0 +1,32 @@
+-- What cells tell of addresses, and where the names stand that they tell of.
+use Rattle.std.specs.Prelude.{◌≡◌, ℕ, ◌+◌, ◌-◌, ◌<◌, List, length, slice_index_or, Some}
+use Rattle.binfarce.specs.Name.{Name}
+use Rattle.binfarce.specs.Named.{IsNamed}
+use Rattle.binfarce.specs.Symbol.{Entry}
+use Rattle.binfarce_ranges.specs.declared.ranges.AddressRange.{AddressRange}
+use Rattle.binfarce_ranges.specs.Range.{IsSpanOf}
+use Rattle.binfarce_addresses.specs.Lines.{in_file, found_at}
+use Rattle.binfarce_addresses.specs.declared.cells.Cell.{Cell}
+
+-- what is read past the end
+abbrev pub no_cell : Cell
+no_cell = record { address = 0; end = 0; until = 0; start = 0; stop = 0 }
+
+abbrev pub cell_at : List Cell → ℕ → Cell
+cell_at cells k = slice_index_or cells k no_cell
+
+-- the cell is the span of a range whose name is kept between these bounds
+pub record IsCellOf (ranges : List AddressRange) (bounds : List ℕ) (cell : Cell) : Type 0 where
+  pub place : ℕ
+  pub kept : place + 1 < length bounds
+  pub starts : cell.start ≡ slice_index_or bounds place 0
+  pub stops : cell.stop ≡ slice_index_or bounds (place + 1) 0
+  pub span : IsSpanOf ranges (record { place = place; address = cell.address; end = cell.end; until = cell.until })
+
+pub record AreCellsOf (ranges : List AddressRange) (bounds : List ℕ) (cells : List Cell) : Type 0 where
+  pub each : (k : ℕ) → k < length cells → IsCellOf ranges bounds (cell_at cells k)
+
+-- the address is shown by an entry of this trimmed name, with this offset into it
+abbrev pub IsNameAt : List Entry → ℕ → ℕ → List ℕ → ℕ → Type 0
+IsNameAt entries base address text offset =
+    (entry : Entry) × (found_at entries (in_file base address) ≡ Some entry) × (offset ≡ address - base - entry.address) × ((name : Name) × IsNamed entry.name name × (text ≡ name.trimmed))

@@ -1,0 +1,154 @@
+//! What is known of the addresses from each function symbol's own on, so that most lines of many addresses take one look.
+
+ghost use Rattle.std.specs.Prelude.{◌≡◌, length, IfOk, IfSome};
+ghost use Rattle.binfarce_addresses.specs.machine.Cells.{AreCellsOf, IsCellOf};
+
+use binfarce_ranges::marks::Marks;
+use binfarce_ranges::ranges::Ranges;
+use std::alloc::{AllocError, Global};
+
+/// The addresses from `address` up to `end` are shown by one function symbol, those from there up to `until` by none. Its
+/// name is kept from `start` up to `stop`.
+#[derive(Clone, Copy)]
+pub(crate) struct Cell {
+    pub(crate) address: u64,
+    pub(crate) end: u64,
+    pub(crate) until: u64,
+    pub(crate) start: usize,
+    pub(crate) stop: usize,
+}
+
+/// Cells in the order of their addresses, and marks of these.
+#[derive(Drop)]
+pub(crate) struct Cells {
+    pub(crate) cells: Vec<Cell>,
+    marks: Marks,
+}
+
+impl Cells {
+    pub(crate) fn none(alloc: Global) -> Cells
+        ensures { length result.cells.items ≡ 0 }
+    {
+        Cells {
+            cells: Vec::new(alloc),
+            marks: Marks::new(alloc, 0, 0, 0),
+        }
+    }
+
+    /// The cells of ranges whose names are kept between these bounds.
+    pub(crate) fn new(alloc: Global, ranges: &Ranges, bounds: &[usize]) -> Result<Cells, AllocError>
+        ensures { IfOk result (λ c. AreCellsOf ranges.now bounds.now c.cells.items) }
+    {
+        let cells = cells_of(alloc, ranges, bounds)?;
+        let marks = marks_of(alloc, &cells)?;
+        Ok(Cells { cells, marks })
+    }
+
+    /// Where the cell of each address stands, once the base is taken off: mostly, so that it has to be looked at. All cells
+    /// are read before the first is used, so that waits for memory overlap.
+    pub(crate) fn nears(
+        &self,
+        alloc: Global,
+        base: u64,
+        addresses: &[u64],
+    ) -> Result<Vec<usize>, AllocError>
+        ensures { IfOk result (λ v. length v.items ≡ length addresses.now) }
+    {
+        let mut nears = self.marked(alloc, base, addresses)?;
+        for k in 0..addresses.len() {
+            nears[k] = self.not_behind(nears[k], addresses[k].saturating_sub(base));
+        }
+        Ok(nears)
+    }
+
+    // The same as the marks say.
+    fn marked(&self, alloc: Global, base: u64, addresses: &[u64]) -> Result<Vec<usize>, AllocError>
+        ensures { IfOk result (λ v. length v.items ≡ length addresses.now) }
+    {
+        let mut nears = Vec::with_capacity(alloc, addresses.len())?;
+        for address in addresses {
+            let near = self.marks.near(address.saturating_sub(base));
+            nears.push(near)?;
+        }
+        Ok(nears)
+    }
+
+    // The cell before this one, if this one begins behind the address.
+    #[inline(always)]
+    fn not_behind(&self, near: usize, address: u64) -> usize {
+        match self.cells.get(near) {
+            Some(cell) => near.wrapping_sub((cell.address > address) as usize),
+            None => near,
+        }
+    }
+
+    /// The first and the last byte of the name of each of these cells: read ahead, so that it is near when it is written.
+    pub(crate) fn ends_of_names(
+        &self,
+        alloc: Global,
+        nears: &[usize],
+        text: &[u8],
+    ) -> Result<Vec<(u8, u8)>, AllocError> {
+        let mut ends = Vec::with_capacity(alloc, nears.len())?;
+        for near in nears {
+            let end = match self.cells.get(*near) {
+                Some(cell) => ends_of(text, *cell),
+                None => (0, 0),
+            };
+            ends.push(end)?;
+        }
+        Ok(ends)
+    }
+}
+
+#[inline(always)]
+fn ends_of(text: &[u8], cell: Cell) -> (u8, u8) {
+    match (text.get(cell.start), text.get(cell.stop.wrapping_sub(1))) {
+        (Some(first), Some(last)) => (*first, *last),
+        _ => (0, 0),
+    }
+}
+
+// The cells of ranges whose names are kept between these bounds.
+fn cells_of(alloc: Global, ranges: &Ranges, bounds: &[usize]) -> Result<Vec<Cell>, AllocError>
+    ensures { IfOk result (λ v. AreCellsOf ranges.now bounds.now v.items) }
+{
+    let mut cells = Vec::with_capacity(alloc, bounds.len())?;
+    for row in 0..bounds.len() {
+        if let Some(cell) = cell_of(ranges, bounds, row) {
+            cells.push(cell)?;
+        }
+    }
+    Ok(cells)
+}
+
+// The cell of the range that has this place in the order of addresses, if it is found at any and its name is kept.
+fn cell_of(ranges: &Ranges, bounds: &[usize], row: usize) -> Option<Cell>
+    ensures { IfSome result (IsCellOf ranges.now bounds.now) }
+{
+    let span = ranges.span(row)?;
+    let count = bounds.len().saturating_sub(1);
+    if span.end <= span.address || span.place >= count {
+        return None;
+    }
+    Some(Cell {
+        address: span.address,
+        end: span.end,
+        until: span.until,
+        start: bounds[span.place],
+        stop: bounds[span.place + 1],
+    })
+}
+
+fn marks_of(alloc: Global, cells: &[Cell]) -> Result<Marks, AllocError> {
+    let (first, last) = match cells {
+        [] => (0, 0),
+        [cell] => (cell.address, cell.address),
+        [first, .., last] => (first.address, last.address),
+    };
+    let mut marks = Marks::new(alloc, first, last, cells.len());
+    for cell in cells {
+        marks.push(cell.address)?;
+    }
+    Ok(marks)
+}

@@ -13,9 +13,17 @@ pub fn line_of(alloc: Global, file: &[u8], address: u64) -> Result<Vec<u8>, List
     ensures { IfOk result (λ line. (listed : Listed) × (symbols_answer (format_of file.now) file.now (codes ".text") ≡ Some (Ok listed))
         × IsLineAt listed.entries 0 address line.items) }
 {
-    let mut places = Places::of_file(alloc, file, ".text")?;
+    let mut places = places_of(alloc, file)?;
     places.keep_names(alloc)?;
     let mut line = Vec::new(alloc);
     places.push_line(alloc, &mut line, 0, address)?;
     Ok(line)
+}
+
+/// The places of a file's text.
+pub fn places_of(alloc: Global, file: &[u8]) -> Result<Places<'_>, ListError>
+    ensures { IfOk result (λ places. (listed : Listed) × (symbols_answer (format_of file.entry.now) file.entry.now (codes ".text") ≡ Some (Ok listed))
+        × (places ≡ listed.entries)) }
+{
+    Places::of_file(alloc, file, ".text")
 }

@@ -8,32 +8,14 @@ its name and with the same proof, which nothing calls: so is an edit of a clause
 import os
 import re
 
-from wrong_bodies import TOP, function_key, edits, item_at, key_at, key_of, module_of, place_of, read
+from wrong_bodies import TOP, edits, function_key, item_at, key_at, key_of, line_of, module_of, pairs_of, place_of, read
 
 PARTS = ("src", "specs", "proofs")
 # What no body says: a line that begins so belongs to what callers know of a function.
 STATED = re.compile(r"\s*(pub|fn|ghost|impl|trait|const|static|type)\b|\s*#\[")
 CLAUSES = re.compile(r"\s*(ensures|requires)\b")
-
-
-def pairs_of(edit):
-    """What an edit replaces: the file, the old text, the new one."""
-    file, old, found = "", "", []
-    for line in read(edit).split("\n"):
-        if line.startswith("file: "):
-            file = line.removeprefix("file: ").strip()
-        elif line.startswith("old: "):
-            old = line.removeprefix("old: ")
-        elif line.startswith("new:"):
-            found.append((file, old, line.removeprefix("new:").removeprefix(" ")))
-    return found
-
-
-def line_of(crate, file, text):
-    """The lines of a crate's file, and the number of that in which a text begins."""
-    source = read(f"crates/{crate}/{file}")
-    start = source.index(text) + len(text) - len(text.lstrip())
-    return source.split("\n"), source.count("\n", 0, start)
+# A check takes some seconds for each edit, and sets are tried beside each other.
+MOST = 30
 
 
 def files_of(crate):
@@ -43,7 +25,7 @@ def files_of(crate):
 
 
 class Edit:
-    """A crate's edit: what it replaces, its function, and where the list has it refused. It is made in the function's copy of its number, or from 1 on in the function itself."""
+    """A crate's edit: what it replaces, its function, and where the list has it refused. It is made in the function itself where its number is 1, and else in the copy of that number."""
 
     def __init__(self, crate, name, found):
         self.crate, self.name, self.number = crate, name, 1
@@ -132,23 +114,21 @@ class Edit:
 
 
 def in_sets(crate, found):
-    """A crate's edits, those that can be tried at once together."""
-    alone, sets = [], [[]]
+    """A crate's edits, those that can be tried at once together, and no more than can be waited for."""
+    alone, sets = [], []
     for edit in (Edit(at, name, found) for at, name in edits() if at == crate):
         if not edit.is_of_a_function() or edit.turns_clauses() and not edit.has_copies():
             alone.append([edit])
             continue
-        numbers = {it.number for it in sets[0] if it.own == edit.own}
-        if edit.has_copies():
-            edit.number = max(numbers | {int(edit.turns_clauses())}) + 1
-            sets[0].append(edit)
-            continue
-        fitting = next((it for it in sets if all(edit.own != other.own for other in it)), None)
+        fitting = next((it for it in sets if len(it) < MOST and (edit.has_copies() or all(edit.own != other.own for other in it))), None)
         if fitting is None:
-            sets.append([edit])
-        else:
-            fitting.append(edit)
-    return [it for it in sets if it] + alone
+            fitting = []
+            sets.append(fitting)
+        if edit.has_copies():
+            numbers = {it.number for it in fitting if it.own == edit.own}
+            edit.number = max(numbers | {int(edit.turns_clauses())}) + 1
+        fitting.append(edit)
+    return sets + alone
 
 
 class Sources:

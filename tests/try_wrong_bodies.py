@@ -157,19 +157,14 @@ class Prover:
             found.update(self.try_set(crate, [edit], whole=True))
         return found, 1 + len(lost)
 
-    def try_crate(self, crate, known):
-        """Tries a crate's edits, prints what is to be said of each, and returns how many were refused and how many not."""
-        found, names, checks = {}, [], 0
-        for these in in_sets(crate, known):
-            said, count = self.try_together(crate, these)
-            found.update(said)
-            names += [it.name for it in these]
-            checks += count
+    def try_and_tell(self, crate, these):
+        """Tries edits of a crate, prints what is to be said of each, and returns how many were refused and how many not."""
+        found, checks = self.try_together(crate, these)
         with printing:
-            for name in sorted(names):
-                print(found.get(name, f"must-fail {crate}/{name}.edit: NOT REFUSED in its function"), flush=True)
-            print(f"{crate}: {len(found)} of {len(names)} edits refused, in {checks} checks", flush=True)
-        return len(found), len(names) - len(found)
+            for edit in these:
+                print(found.get(edit.name, f"{edit.label()}: NOT REFUSED in its function"), flush=True)
+            print(f"{crate}: {len(found)} of {len(these)} edits refused, checks: {checks}", flush=True)
+        return len(found), len(these) - len(found)
 
 
 def has_room():
@@ -188,17 +183,20 @@ def proved(gate):
 def main(crates, gate):
     os.nice(19)
     prover, found = Prover(crates), listed()
-    left, running, counts = sorted({it for it, _ in edits()}), set(), []
+    # The largest first.
+    left = [(crate, these) for crate in sorted({it for it, _ in edits()}) for these in in_sets(crate, found)]
+    left.sort(key=lambda it: -len(it[1]))
+    running, counts = set(), []
     with ThreadPoolExecutor(os.cpu_count() or 1) as pool:
         while left or running:
             done, has_ended = proved(gate)
-            ready = [it for it in left if {*below(it, prover.uses)} <= done]
+            ready = [it for it in left if {*below(it[0], prover.uses)} <= done]
             lanes = (os.cpu_count() or 1) if has_ended else max(1, (os.cpu_count() or 1) // 2)
             for it in ready[: max(0, lanes - len(running)) if not running or has_room() else 0]:
                 left.remove(it)
-                running.add(pool.submit(prover.try_crate, it, found))
+                running.add(pool.submit(prover.try_and_tell, *it))
             if has_ended and left and not running:
-                print(f"not tried, since what is below them isn't proved: {' '.join(left)}")
+                print(f"not tried, since what is below them isn't proved: {' '.join(sorted({it for it, _ in left}))}")
                 return 1
             ended, running = wait(running, timeout=2, return_when=FIRST_COMPLETED) if running else (time.sleep(2), running)
             counts += [it.result() for it in ended or ()]

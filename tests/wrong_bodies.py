@@ -77,15 +77,24 @@ def module_of(path):
     return path.removeprefix("src/").removesuffix(".rt").replace("/", ".")
 
 
-def texts_of(edit):
-    """The files and the texts that an edit replaces, in order."""
-    file, found = "", []
+def pairs_of(edit):
+    """What an edit replaces, in order: the file, the old text, the new one."""
+    file, old, found = "", "", []
     for line in read(edit).split("\n"):
         if line.startswith("file: "):
             file = line.removeprefix("file: ").strip()
         elif line.startswith("old: "):
-            found.append((file, line.removeprefix("old: ")))
+            old = line.removeprefix("old: ")
+        elif line.startswith("new:"):
+            found.append((file, old, line.removeprefix("new:").removeprefix(" ")))
     return found
+
+
+def line_of(crate, file, text):
+    """The lines of a crate's file, and the number of that in which a text begins."""
+    source = read(f"crates/{crate}/{file}")
+    start = source.index(text) + len(text) - len(text.lstrip())
+    return source.split("\n"), source.count("\n", 0, start)
 
 
 def edits():
@@ -98,16 +107,11 @@ def edits():
 
 
 def place_of(crate, edit):
-    """The module and the function in which an edit's first text stands."""
-    return place_at(crate, *texts_of(f"crates/{crate}/must-fail/{edit}.edit")[0])
-
-
-def place_at(crate, file, text):
-    """The module and the function in which a text of a file stands, with its type where the module has another of that name."""
-    source = read(f"crates/{crate}/{file}")
-    start = source.index(text) + len(text) - len(text.lstrip())
-    name, holder = held_by(source.split("\n"), source.count("\n", 0, start))
-    alone = len(re.findall(rf"\b(?:fn|const|static) {name}\b", source)) < 2
+    """The module and the function in which an edit's first text stands, with its type where the module has another of that name."""
+    file, text, _ = pairs_of(f"crates/{crate}/must-fail/{edit}.edit")[0]
+    lines, at = line_of(crate, file, text)
+    name, holder = held_by(lines, at)
+    alone = len(re.findall(rf"\b(?:fn|const|static) {name}\b", "\n".join(lines))) < 2
     return ".".join([module_of(file), *([holder] if holder and not alone else []), name])
 
 

@@ -10,8 +10,8 @@ returns-then-others-eq0 c =
     run_of_all is_ascii_alphanumeric v 16 _ long
     (masked _ (λ x. not (is_ascii_alphanumeric x)) v _ long c.type_inv.bytes
     (joined bit_and _ _ v
-    (joined (λ a b. cond (leb a b) 255 0) _ _ v (each_is v 16 26 long) (joined _ _ _ v (joined bit_or _ _ v (loaded v 16 long) (each_is v 16 32 long)) (each_is v 16 97 long)))
-    (joined (λ a b. cond (leb a b) 255 0) _ _ v (each_is v 16 10 long) (joined _ _ _ v (loaded v 16 long) (each_is v 16 48 long))))
+    (joined (λ a b. cond (leb a b) 255 0) _ _ v (each_is v 16 _ long) (joined _ _ _ v (joined bit_or _ _ v (loaded v 16 long) (each_is v 16 _ long)) (each_is v 16 _ long)))
+    (joined (λ a b. cond (leb a b) 255 0) _ _ v (each_is v 16 _ long) (joined _ _ _ v (loaded v 16 long) (each_is v 16 _ long))))
     refl)
     c.if-others-eq0.true
 
@@ -22,7 +22,7 @@ returns-else-others-eq0 c =
     run_to_first is_ascii_alphanumeric v 16 _ long (omega arith)
     (masked _ (λ x. not (is_ascii_alphanumeric x)) v _ long c.type_inv.bytes
     (joined bit_and _ _ v
-    (joined (λ a b. cond (leb a b) 255 0) _ _ v (each_is v 16 26 long) (joined _ _ _ v (joined bit_or _ _ v (loaded v 16 long) (each_is v 16 32 long)) (each_is v 16 97 long)))
-    (joined (λ a b. cond (leb a b) 255 0) _ _ v (each_is v 16 10 long) (joined _ _ _ v (loaded v 16 long) (each_is v 16 48 long))))
+    (joined (λ a b. cond (leb a b) 255 0) _ _ v (each_is v 16 _ long) (joined _ _ _ v (joined bit_or _ _ v (loaded v 16 long) (each_is v 16 _ long)) (each_is v 16 _ long)))
+    (joined (λ a b. cond (leb a b) 255 0) _ _ v (each_is v 16 _ long) (joined _ _ _ v (loaded v 16 long) (each_is v 16 _ long))))
     refl)
     (omega (arith, c.if-others-eq0.false))

@@ -6,7 +6,9 @@ ghost use Rattle.std.specs.String.{string_bytes};
 ghost use Rattle.binfarce_legacy.specs.Legacy.{Element, Reads, legacy_chars};
 ghost use Rattle.binfarce_names.specs.Crates.{GrowsByCrate, crate_of, first_part, path_crate};
 ghost use Rattle.binfarce_names.specs.Name.{Name, mangled_view, name_view};
-ghost use Rattle.binfarce_names.specs.Named.{IsNamed, IsMangled, legacy, unknown};
+ghost use Rattle.binfarce_names.specs.Named.{IsNamed, IsMangled, IsNotLegacy, legacy, unknown};
+ghost use Rattle.binfarce_text.specs.Suffixes.{without_llvm};
+ghost use Rattle.binfarce_v0.specs.machine.Outcome.{IsCandidate};
 
 use binfarce_legacy::legacy;
 use binfarce_text::suffixes::without_llvm;
@@ -169,6 +171,23 @@ impl Demangler {
         let Some(part) = v0::candidate(stripped) else {
             return text.push_str(name);
         };
+        self.push_candidate(text, name, part)
+    }
+
+    // The same of a name that is no legacy mangling and may be a v0 one. A printing is a large value, to which zeros are
+    // written where a function begins: other names don't come here.
+    #[inline(never)]
+    fn push_candidate(
+        &mut self,
+        text: &mut String,
+        name: &str,
+        part: &str,
+    ) -> Result<(), AllocError>
+        requires not_legacy { IsNotLegacy name.now }
+        requires candidate { IsCandidate (without_llvm name.now) part.now }
+        ensures trimmed { OnOk result ((n : Name) × IsNamed name.now n × (string_bytes text.new ≡ string_bytes text.old ++ n.trimmed)) }
+        ensures unchanged { OnErr result (string_bytes text.new ≡ string_bytes text.old) }
+    {
         let mut printer = Printer::new(self.memory.take(), part, false, false);
         if !v0::print_mangling(&mut printer)? {
             self.memory.put_back(printer.into_buffers());

@@ -1,3 +1,4 @@
+pub mod DigitRuns
 pub mod NumberLemmas
 pub mod ReadingComplete
 pub mod ReadingForward

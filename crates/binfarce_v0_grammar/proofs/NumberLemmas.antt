@@ -6,9 +6,9 @@ use Rattle.std.specs.List.{prefix_len}
 use Rattle.std.specs.Int.{is_in_range}
 use Rattle.std.specs.Char.{is_ascii_alphanumeric, is_ascii_digit, digit_value}
 use Rattle.std.specs.Str.Parse.{digits_value_after}
-use Rattle.std.proofs.lemmas.List.{at_drop_more, length-take-le, get_or-drop}
+use Rattle.std.proofs.lemmas.List.{at_drop_all, at_drop_more, length-take-le, get_or-drop}
 use Rattle.std.proofs.lemmas.List.Sums.{prefix_len-le-length}
-use Rattle.std.proofs.lemmas.Bool.{cases_Bool, cases_eq, cond-true, cond-false, eq-eqb, ne_eqb}
+use Rattle.std.proofs.lemmas.Bool.{cases_Bool, cases_eq, cases_lt, cond-true, cond-false, eq-eqb, ne_eqb}
 use Rattle.std.proofs.lemmas.Bool.Decides.{nat_tests}
 use Rattle.std.proofs.Math.ListN.{drop_of_length-le}
 use Rattle.std.proofs.Math.Nat.{pow-le-pow_right}
@@ -71,6 +71,25 @@ decimal_from_grows (c ∷ s) value at =
 pub length_from_large : (s : List ℕ) (value at : ℕ) → 2 ^ 64 ≤ value → length_from s value at ≡ None
 length_from_large s value at h =
     limited_large (decimal_from s value at).0 (decimal_from s value at).1 (omega (arith, decimal_from_grows s value at))
+
+-- A length of one digit
+
+length_ends : (s : List ℕ) (at value : ℕ) → value < 2 ^ 64 → is_ascii_digit (get_or s at 0) ≡ false → length_from (drop at s) value at ≡ Some (value, at)
+length_ends s at value small other = elim (cases_lt at (length s)) [
+  | inl inside ↦ length_from_step s at value inside ∙ cond-false (is_ascii_digit (get_or s at 0)) _ _ other ∙ limited_small value at small
+  | inr past ↦ at_drop_all (λ l. length_from l value at) s at past ∙ limited_small value at small
+]
+
+decimal_within : (c : ℕ) → is_ascii_digit c ≡ true → (0 < c) × (c < 58)
+decimal_within c digit = (grind (arith, nat_tests), grind (arith, nat_tests))
+
+pub one_digit : (s : List ℕ) (at first second v : ℕ) → at < length s → first ≡ get_or s at 0 → is_ascii_digit first ≡ true
+    → second ≡ get_or s (at + 1) 0 → is_ascii_digit second ≡ false → v ≡ first - 48 → Some (v, at + 1) ≡ length_from (drop at s) 0 at
+one_digit s at first second v inside here digit next other is =
+    let value : ℕ = 0 * 10 + (get_or s at 0 - 48) in
+    let same : value ≡ v = omega (arith, here, is) in
+    sym (length_from_step s at 0 inside ∙ cond-true (is_ascii_digit (get_or s at 0)) _ _ (ap is_ascii_digit (sym here) ∙ digit)
+    ∙ length_ends s (at + 1) value (omega (arith, here, decimal_within first digit)) (ap is_ascii_digit (sym next) ∙ other) ∙ ap (λ v. Some (v, at + 1)) same)
 
 -- Runs
 

@@ -10,6 +10,7 @@ ghost use Rattle.binfarce_v0_grammar.specs.Identifiers.{length_at, past};
 ghost use Rattle.binfarce_v0_grammar.specs.machine.Numbers.{number_from, length_from, hex_length};
 
 use binfarce_text::digits::hex_value;
+use std::simd::prelude::*;
 
 /// The byte at a position, and 0 from the end on.
 #[inline(always)]
@@ -145,9 +146,46 @@ pub fn optional_base_62_number(part: &[u8], tag: u8, at: usize) -> Option<(u64, 
     }
 }
 
+// How many bytes are looked at together.
+const STRIDE: usize = 16;
+
+// How many of 16 bytes are base-62 digits before one that isn't.
+#[inline(always)]
+fn digit_run(bytes: &[u8]) -> usize
+    requires { length bytes.now ≡ 16 }
+    ensures { result ≡ prefix_len is_ascii_alphanumeric bytes.now }
+{
+    let v = u8x16::from_slice(bytes);
+    let letter = (v | u8x16::splat(0x20)) - u8x16::splat(b'a');
+    let digit = v - u8x16::splat(b'0');
+    let is_other = letter.simd_ge(u8x16::splat(26)) & digit.simd_ge(u8x16::splat(10));
+    let others = is_other.to_bitmask();
+    if others == 0 {
+        STRIDE
+    } else {
+        others.trailing_zeros() as usize
+    }
+}
+
 // The position after the longest run of base-62 digits from a position on.
 #[inline(always)]
 fn digits_end(part: &[u8], start: usize) -> usize
+    requires { start ≤ length part.now }
+    ensures value { result ≡ start + prefix_len is_ascii_alphanumeric (drop start part.now) }
+    ensures within { (start ≤ result) × (result ≤ length part.now) }
+{
+    if part.len() - start >= STRIDE {
+        let run = digit_run(&part[start..start + STRIDE]);
+        if run < STRIDE {
+            return start + run;
+        }
+    }
+    digits_end_slowly(part, start)
+}
+
+// The same, a byte at a time.
+#[inline(never)]
+fn digits_end_slowly(part: &[u8], start: usize) -> usize
     requires { start ≤ length part.now }
     ensures value { result ≡ start + prefix_len is_ascii_alphanumeric (drop start part.now) }
     ensures within { (start ≤ result) × (result ≤ length part.now) }
@@ -232,7 +270,7 @@ fn decimal_digit(c: u8) -> Option<u8>
 }
 
 // The longest run of decimal digits.
-#[inline(always)]
+#[inline(never)]
 #[tactic(auto, using(crate::proofs::NumberLemmas::length_from_step, crate::proofs::NumberLemmas::length_from_large))]
 fn digits_10(part: &[u8], start: usize) -> Option<(u64, usize)>
     ensures { result ≡ length_from (drop start part.now) 0 start }
@@ -249,6 +287,25 @@ fn digits_10(part: &[u8], start: usize) -> Option<(u64, usize)>
     Some((value, after))
 }
 
+// The longest run of decimal digits, of which one stands there. Most runs have one digit or two, which need no loop.
+#[inline(always)]
+fn few_digits_10(part: &[u8], start: usize, first: u8) -> Option<(u64, usize)>
+    requires within { start < length part.now }
+    requires first { first ≡ slice_index part.now start }
+    requires digit { is_ascii_digit first ≡ true }
+    ensures { result ≡ length_from (drop start part.now) 0 start }
+{
+    let second = byte_at(part, start + 1);
+    if !second.is_ascii_digit() {
+        return Some((u64::from(first - b'0'), start + 1));
+    }
+    if byte_at(part, start + 2).is_ascii_digit() {
+        return digits_10(part, start);
+    }
+    let value = (first - b'0') * 10 + (second - b'0');
+    Some((u64::from(value), start + 2))
+}
+
 /// `<decimal-number>` at a position: a `0` alone, or the longest run of digits. None where it is invalid.
 #[inline(always)]
 #[tactic(auto, using(crate::proofs::NumberLemmas::length_step))]
@@ -257,7 +314,7 @@ pub fn length_at(part: &[u8], at: usize) -> Option<(u64, usize)>
 {
     match byte_at(part, at) {
         b'0' => Some((0, at + 1)),
-        b'1'..=b'9' => digits_10(part, at),
+        first @ b'1'..=b'9' => few_digits_10(part, at, first),
         _ => None,
     }
 }

@@ -279,7 +279,7 @@ impl<'a> Printer<'a> {
     pub fn write(&mut self, text: &str) -> Result<(), AllocError>
         ensures { OnOk result (self.new ≡ with_state (write text.now self.old.state) self.old) }
     {
-        if !self.muted {
+        if !self.muted && !text.is_empty() {
             self.text.push_str(text)?;
         }
         Ok(())

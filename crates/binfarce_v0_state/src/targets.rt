@@ -1,9 +1,13 @@
 //! Which positions of a name its back references may mean.
 
-ghost use Rattle.std.specs.Prelude.{◌≤◌, ◌+◌, length};
+ghost use Rattle.std.specs.Prelude.{◌≡◌, ◌<◌, ◌≤◌, ◌+◌, length};
 
-use binfarce_v0_grammar::numbers::back_reference;
+use binfarce_v0_grammar::numbers::{back_reference, byte_at};
 use std::alloc::{AllocError, Global};
+use std::simd::prelude::*;
+
+// How many bytes of a name are looked at together.
+const STRIDE: usize = 16;
 
 /// The positions that the back references of a name may mean, where a `B` and a number stand, whether or not a back
 /// reference is read there. A printing keeps what it prints there and nothing else. That changes no text, so that nothing
@@ -39,46 +43,53 @@ impl Targets {
     /// Looks for the targets of a name, where none was added yet. Nothing is allocated but for those from position 256 on.
     #[inline(never)]
     pub fn look_for(&mut self, part: &[u8]) -> Result<(), AllocError> {
-        let words = part.len() / 8;
-        for word in 0..words {
-            let flags = b_flags(part, 8 * word);
-            if flags != 0 {
-                self.add_flagged(part, 8 * word, flags)?;
-            }
+        let strides = part.len() / STRIDE;
+        for stride in 0..strides {
+            let start = STRIDE * stride;
+            self.add_flagged(part, start, b_flags(&part[start..start + STRIDE]))?;
         }
         self.look_at_the_last(part)
     }
 
-    // Adds the targets of what stands behind the last whole 8 bytes.
+    // Adds the targets of what stands behind the last whole stride.
+    #[inline(always)]
     fn look_at_the_last(&mut self, part: &[u8]) -> Result<(), AllocError> {
-        let last = part.len() % 8;
-        if part.len() >= 8 && last > 0 {
-            let start = part.len() - 8;
-            let flags = b_flags(part, start) & (u64::MAX << (64 - 8 * last));
+        let last = part.len() % STRIDE;
+        if last == 0 {
+            return Ok(());
+        }
+        if part.len() >= STRIDE {
+            let start = part.len() - STRIDE;
+            let flags = b_flags(&part[start..start + STRIDE]) & (u64::MAX << (STRIDE - last));
             return self.add_flagged(part, start, flags);
         }
-        for at in part.len() - last..part.len() {
+        for at in 0..part.len() {
             self.add_target(part, at)?;
         }
         Ok(())
     }
 
-    // Adds the targets of the flagged ones of 8 bytes.
+    // Adds the targets of the flagged ones of a stride.
+    #[inline(always)]
     fn add_flagged(&mut self, part: &[u8], start: usize, flags: u64) -> Result<(), AllocError>
-        requires { start + 8 ≤ length part.now }
+        requires { start + STRIDE ≤ length part.now }
     {
-        let mut levels_left = flags;
-        for _turn in 0..8 {
-            if levels_left == 0 {
+        let mut left = flags;
+        for _turn in 0..STRIDE {
+            if left == 0 {
                 break;
             }
-            self.add_target(part, start + levels_left.trailing_zeros() as usize % 64 / 8)?;
-            levels_left &= levels_left - 1;
+            let at = start + left.trailing_zeros() as usize % STRIDE;
+            if !leads_to_a_root(part, at) {
+                self.add_target(part, at)?;
+            }
+            left &= left - 1;
         }
         Ok(())
     }
 
     // Adds the target of a back reference, where one may stand.
+    #[inline(never)]
     fn add_target(&mut self, part: &[u8], at: usize) -> Result<(), AllocError> {
         if at >= part.len() || part[at] != b'B' {
             return Ok(());
@@ -145,21 +156,30 @@ fn is_read_again(part: &[u8], at: usize) -> bool {
     )
 }
 
-// Of 8 bytes, the highest bit of each that is `B`.
+// Whether a back reference of one digit leads to a crate root, which is read again: that is told without reading the number.
 #[inline(always)]
-fn b_flags(part: &[u8], at: usize) -> u64
-    requires { at + 8 ≤ length part.now }
+fn leads_to_a_root(part: &[u8], at: usize) -> bool
+    requires { at < length part.now }
 {
-    let word = u64::from_le_bytes([
-        part[at],
-        part[at + 1],
-        part[at + 2],
-        part[at + 3],
-        part[at + 4],
-        part[at + 5],
-        part[at + 6],
-        part[at + 7],
-    ]);
-    // The part is ASCII: no sum goes beyond its byte.
-    !(word ^ 0x4242_4242_4242_4242).wrapping_add(0x7f7f_7f7f_7f7f_7f7f) & 0x8080_8080_8080_8080
+    if part.len() > SHORT_NAME || byte_at(part, at + 1) == 0 || byte_at(part, at + 2) != b'_' {
+        return false;
+    }
+    let digit = byte_at(part, at + 1);
+    let target = match digit {
+        b'0'..=b'9' => digit - b'0' + 1,
+        b'a'..=b'z' => digit - b'a' + 11,
+        b'A'..=b'Z' => digit - b'A' + 37,
+        _ => return false,
+    };
+    byte_at(part, target as usize) == b'C'
+}
+
+// Of 16 bytes, a bit for each that is `B`.
+#[inline(always)]
+fn b_flags(bytes: &[u8]) -> u64
+    requires { length bytes.now ≡ STRIDE }
+{
+    u8x16::from_slice(bytes)
+        .simd_eq(u8x16::splat(b'B'))
+        .to_bitmask()
 }

@@ -1,6 +1,6 @@
 //! The section headers of an ELF file of either class and the section names, read where they are.
 
-ghost use Rattle.std.specs.Prelude.{◌≡◌, ◌≤◌, List, ℕ, Ok, Some, length};
+ghost use Rattle.std.specs.Prelude.{◌≡◌, List, ℕ, Ok, Some};
 ghost use Rattle.std.specs.Option.{option_map};
 ghost use Rattle.binfarce_elf.specs.Elf.{walk};
 ghost use Rattle.binfarce_elf.specs.ElfParts.{headers_alone};

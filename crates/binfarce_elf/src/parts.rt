@@ -11,7 +11,7 @@ ghost use Rattle.binfarce_elf.specs.ElfViews.{section_view, functions_view};
 ghost use Rattle.binfarce_elf.specs.machine.RawElf.{table_view, name_among};
 
 use crate::class::{Class, Half};
-use crate::sections::{Section, Table, first_section, is_named, name_at};
+use crate::sections::{Section, Sections, Table, first_section, is_named, name_at, sections_of};
 use crate::symbols::{Functions, linked_section, string_table, symbol_table};
 use binfarce_bytes::parser::UnexpectedEof;
 use binfarce_bytes::{ByteOrder, ParseError};
@@ -36,14 +36,38 @@ pub fn needed_sections<C: Class>(
     ensures { Gives refusal_of (needed_view C.number_of)
         (needed C.table (headers_alone byte_order headers.now count) (option_map (λ b. b.now) names.entry) section_name.now) result }
 {
-    let table = Table {
+    needed_of::<C>(
+        headers_alone(headers, byte_order, count),
+        names,
+        section_name,
+    )
+}
+
+/// The sections of `count` section headers, in order; `UnexpectedEof` where the headers end before, or there are no bytes.
+pub fn sections_in<C: Class>(headers: &[u8], byte_order: ByteOrder, count: Half) -> Sections<'_, C>
+    ensures { result ≡ walk C.table (headers_alone byte_order headers.entry.now count) }
+{
+    sections_of::<C>(headers_alone(headers, byte_order, count))
+}
+
+/// The section's name among these section names.
+pub fn name_in<'a, C: Class>(names: Option<&'a [u8]>, section: &Section<C>) -> Option<&'a str>
+    ensures { option_map (λ t. t.now) result ≡ name_among (option_map (λ b. b.now) names.entry) (section_view C.number_of section.now).name_offset }
+{
+    name_at(names, section.name_offset)
+}
+
+// The section headers alone, as a table that begins at its first byte.
+fn headers_alone(headers: &[u8], byte_order: ByteOrder, count: Half) -> Table<'_>
+    ensures { table_view result ≡ headers_alone byte_order headers.entry.now count }
+{
+    Table {
         data: headers,
         byte_order,
         shoff: 0,
         shnum: count,
         shstrndx: 0,
-    };
-    needed_of::<C>(table, names, section_name)
+    }
 }
 
 #[tactic(auto, unfolding(crate::specs::ElfParts::needed))]

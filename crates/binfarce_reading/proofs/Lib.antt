@@ -8,3 +8,5 @@ mod PeSteps
 mod MachoPrefix
 mod MachoLocated
 mod SomeAddress
+mod SectionsRead
+mod PeBeginning

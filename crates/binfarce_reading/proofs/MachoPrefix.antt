@@ -14,6 +14,7 @@ use Rattle.binfarce_macho.specs.Macho.{Command, Section, header_of, header_field
 use Rattle.binfarce_macho.specs.MachoSymbols.{SymbolTable, symbol_table_at, symbol_table_fields, text_section, some_size, symbol_command, whole_table}
 use Rattle.binfarce_macho.specs.MachoParts.{NeededTables, needed, named_table, holds_body, holds_from, holds_commands}
 use Rattle.binfarce_macho.proofs.CommandWalks.{bad, given}
+use Rattle.binfarce_reading.specs.BeginningReading.{macho_sections}
 use Rattle.binfarce_reading.specs.machine.MachoPlaces.{said_end, command_bytes}
 use Rattle.binfarce_reading.proofs.HeadersAlone.{bytes_in}
 
@@ -214,7 +215,7 @@ module _ (file bytes : List ℕ) (short : length bytes ≤ length file) (same : 
     unfolding header_of header_fields
     commands_same = agrees.0 ∙ ap (λ (n : ℕ). commands_from file n header_length) (number_same 0 header_fields.ncmds (omega (arith, whole)))
 
-    walk_same : walk bytes ≡ walk file
+    pub walk_same : walk bytes ≡ walk file
     unfolding walk
     walk_same = sections_same (commands bytes).items (commands bytes).refusal agrees.1 ∙ ap (λ (w : Walk Command). sections_of file w.items w.refusal) commands_same
 
@@ -264,3 +265,17 @@ needed_of_bytes file inside = by_held (holds_commands (bytes_at file 0 (said_end
         let long = prefix_long file (said_end file) (omega arith) in
         needed_held file (bytes_at file 0 (said_end file)) (omega (arith, long)) (λ k width h. prefix_same file (said_end file) k width (omega arith) h) (omega (arith, long, inside)) held
     by_held false held = refl
+
+-- the file's sections
+walk_of_bytes : (file : List ℕ) → 28 ≤ length file → walk (command_bytes file) ≡ walk file
+walk_of_bytes file inside = by_held (holds_commands (bytes_at file 0 (said_end file))) refl
+  where
+    by_held : (b : Bool) → holds_commands (bytes_at file 0 (said_end file)) ≡ b → walk (cond b (bytes_at file 0 (said_end file)) file) ≡ walk file
+    by_held true held =
+        let long = prefix_long file (said_end file) (omega arith) in
+        walk_same file (bytes_at file 0 (said_end file)) (omega (arith, long)) (λ k width h. prefix_same file (said_end file) k width (omega arith) h) (omega (arith, long, inside)) held
+    by_held false held = refl
+
+pub sections_of_bytes : (file bytes : List ℕ) → 28 ≤ length file → bytes ≡ command_bytes file → macho_sections bytes ≡ macho_sections file
+sections_of_bytes file bytes inside is =
+    ap macho_sections is ∙ rw (le-ltb (length (command_bytes file)) 28 (command_bytes_long file inside), le-ltb (length file) 28 inside) (ap Ok (walk_of_bytes file inside))

@@ -45,7 +45,7 @@ section_part file start len k index h = rw (
     turned a b c = omega arith
 
 -- functions that agree on so many numbers
-filter_map_same : {X : Type 0} (f g : ℕ → Option X) (a n : ℕ) → ((i : ℕ) → i < a + n → f i ≡ g i) → filter_map f (range_with_len a n) ≡ filter_map g (range_with_len a n)
+pub filter_map_same : {X : Type 0} (f g : ℕ → Option X) (a n : ℕ) → ((i : ℕ) → i < a + n → f i ≡ g i) → filter_map f (range_with_len a n) ≡ filter_map g (range_with_len a n)
 filter_map_same f g a zero agree = refl
 filter_map_same f g a (suc n) agree = ap₂ cons_option (agree a (omega arith)) (filter_map_same f g (a + 1) n (λ i lt. agree i (omega arith)))
 

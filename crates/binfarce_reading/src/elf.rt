@@ -59,11 +59,11 @@ impl<C: Class> Parts<C> {
 
 // Where the section headers of a file are, as its header says, and the order of its numbers' bytes.
 #[derive(Clone, Copy)]
-struct Place {
-    byte_order: ByteOrder,
-    shoff: usize,
-    shnum: Half,
-    shstrndx: Half,
+pub(crate) struct Place {
+    pub(crate) byte_order: ByteOrder,
+    pub(crate) shoff: usize,
+    pub(crate) shnum: Half,
+    pub(crate) shstrndx: Half,
 }
 
 /// The parts of the section with this name. Refused as `functions` of a reader is.
@@ -89,7 +89,7 @@ pub(crate) fn read_parts<C: Class, S: Source>(
     })
 }
 
-fn read_place<C: Class, S: Source>(
+pub(crate) fn read_place<C: Class, S: Source>(
     alloc: Global,
     source: &S,
     len: usize,
@@ -146,7 +146,7 @@ fn needed_in<C: Class>(
     needed_sections::<C>(headers, place.byte_order, place.shnum, names, section_name)
 }
 
-fn slice_of(bytes: &Option<Vec<u8>>) -> Option<&[u8]>
+pub(crate) fn slice_of(bytes: &Option<Vec<u8>>) -> Option<&[u8]>
     ensures { option_map (λ b. b.now) result ≡ option_map (λ v. v.items) bytes.entry.now }
 {
     match bytes {
@@ -156,7 +156,7 @@ fn slice_of(bytes: &Option<Vec<u8>>) -> Option<&[u8]>
 }
 
 // The section headers that are whole, up to the count.
-fn read_headers<C: Class, S: Source>(
+pub(crate) fn read_headers<C: Class, S: Source>(
     alloc: Global,
     source: &S,
     len: usize,
@@ -170,7 +170,7 @@ fn read_headers<C: Class, S: Source>(
 }
 
 // The section names, where the file has them.
-fn read_names<C: Class, S: Source>(
+pub(crate) fn read_names<C: Class, S: Source>(
     alloc: Global,
     source: &S,
     len: usize,
@@ -222,7 +222,12 @@ fn read_section<C: Class, S: Source>(
     part(alloc, source, range.start, range.end - range.start)
 }
 
-pub(crate) fn part<S: Source>(
+/// The `size` bytes of a file from the offset on, in memory of that size.
+///
+/// # Errors
+///
+/// `Unreadable` where a read of the source fails, as where it ends before, and `OutOfMemory` where the allocation fails.
+pub fn part<S: Source>(
     alloc: Global,
     source: &S,
     offset: usize,

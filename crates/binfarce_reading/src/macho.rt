@@ -8,10 +8,12 @@ ghost use Rattle.binfarce_macho.specs.MachoSymbols.{answer_of, slice_at};
 ghost use Rattle.binfarce_macho.specs.MachoViews.{section_view};
 ghost use Rattle.binfarce_symbols.specs.Symbol.{Answers, HoldsSymbols};
 ghost use Rattle.binfarce_symbols.specs.SymbolViews.{HoldsFunctions};
+ghost use Rattle.binfarce_reading.specs.BeginningReading.{ReadsBeginning, macho_sections};
 ghost use Rattle.binfarce_reading.specs.MachoReading.{located_answer, parts_view, tables_view};
 ghost use Rattle.binfarce_reading.specs.Reading.{Reads, Known};
 ghost use Rattle.binfarce_reading.specs.machine.MachoPlaces.{said_end, command_bytes};
 
+use crate::beginning::Beginning;
 use crate::elf::part;
 use crate::error::ReadError;
 use binfarce_bytes::ParseError;
@@ -104,6 +106,26 @@ pub fn read<S: Source>(alloc: Global, source: &S) -> Result<Parts, ReadError>
     let commands = read_commands(alloc, source, len)?;
     let needed = needed_in(&commands)?;
     read_tables(alloc, source, len, needed)
+}
+
+/// Reads the file's first bytes that its sections are read from, without a look at the magic number: the header of 28 bytes,
+/// and the bytes up to where the load commands end as the header says (`sizeofcmds`), or where the commands, or the sections
+/// of a segment command, go on past that end, all bytes. They take no more memory than what the file holds of them.
+///
+/// # Errors
+///
+/// `Refused` with `UnexpectedEof` for fewer than 28 bytes; `Unreadable` where the source can't be read at offsets, or a
+/// read of it fails, and never of a source that can't fail, as bytes in memory are; `OutOfMemory` where an allocation fails.
+pub fn read_sections<S: Source>(alloc: Global, source: &S) -> Result<Beginning, ReadError>
+    ensures { (file : List ℕ) → S.bytes source.now ≡ Some file → ReadsBeginning (S.may_fail source.now) macho_sections file result }
+{
+    let file_length = source.length()?;
+    let len = file_length as usize;
+    if HEADER > len {
+        return Err(ReadError::Refused(ParseError::UnexpectedEof));
+    }
+    let bytes = read_commands(alloc, source, len)?;
+    Ok(Beginning { bytes, file_length })
 }
 
 // The bytes that the load commands are in, from the file's first on.

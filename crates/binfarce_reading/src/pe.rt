@@ -4,10 +4,12 @@ ghost use Rattle.std.specs.Prelude.{◌≡◌, List, ℕ, Ok, Some};
 ghost use Rattle.binfarce_symbols.specs.Symbol.{Answers, HoldsSymbols, ListsSome};
 ghost use Rattle.binfarce_symbols.specs.SymbolViews.{HoldsFunctions};
 ghost use Rattle.binfarce_pe.specs.PeParts.{places_view, text_view};
+ghost use Rattle.binfarce_reading.specs.BeginningReading.{ReadsBeginning, pe_sections};
 ghost use Rattle.binfarce_reading.specs.PeReading.{file_answer, parts_view};
 ghost use Rattle.binfarce_reading.specs.Reading.{Reads, Known};
 ghost use Rattle.binfarce_reading.specs.machine.PePlaces.{signature_step, places_step, text_at, answer_at};
 
+use crate::beginning::Beginning;
 use crate::elf::part;
 use crate::error::ReadError;
 use binfarce_bytes::ParseError;
@@ -19,6 +21,9 @@ use binfarce_pe::parts::{
 use binfarce_source::Source;
 use binfarce_symbols::functions::{FunctionSymbol, symbols_of};
 use std::alloc::Global;
+
+// How many bytes the MS-DOS stub has.
+const STUB_LENGTH: usize = 64;
 
 /// The parts of a file that the function symbols of `.text` are read from, in memory.
 #[derive(Drop)]
@@ -75,6 +80,30 @@ pub fn read<S: Source>(alloc: Global, source: &S) -> Result<Parts, ReadError>
     let places = read_places(alloc, source, len)?;
     let text = read_text(alloc, source, len, places)?;
     read_symbols(alloc, source, len, places, text)
+}
+
+/// Reads the file's first bytes that its sections are read from, without a look at the signature: those up to the end of the
+/// section headers, or of the first byte after the file header where there are none. They take no more memory than what the
+/// file holds of them.
+///
+/// # Errors
+///
+/// `Refused` with `UnexpectedEof` where the file is too short for its file header; `Unreadable` where the source can't be
+/// read at offsets, or a read of it fails, and never of a source that can't fail, as bytes in memory are; `OutOfMemory`
+/// where an allocation fails.
+pub fn read_sections<S: Source>(alloc: Global, source: &S) -> Result<Beginning, ReadError>
+    ensures { (file : List ℕ) → S.bytes source.now ≡ Some file → ReadsBeginning (S.may_fail source.now) pe_sections file result }
+{
+    let file_length = source.length()?;
+    let len = file_length as usize;
+    let places = read_places(alloc, source, len)?;
+    let headers = places.section_count as usize * SECTION_LENGTH;
+    let end = places
+        .sections
+        .saturating_add(headers.max(1))
+        .max(STUB_LENGTH);
+    let bytes = part(alloc, source, 0, end.min(len))?;
+    Ok(Beginning { bytes, file_length })
 }
 
 fn read_places<S: Source>(alloc: Global, source: &S, len: usize) -> Result<Places, ReadError>

@@ -131,7 +131,12 @@ fn read_to_the_end<F: Read>(alloc: Global, file: &mut F) -> Result<Tables, ReadE
     Ok(Tables::Whole(bytes))
 }
 
-fn read_format<S: Source>(alloc: Global, source: &S, len: usize) -> Result<Format, ReadError>
+/// The format that the first 8 bytes of a source of this length name. Of a shorter one all bytes are read.
+///
+/// # Errors
+///
+/// `Unreadable` where a read fails, and `OutOfMemory` where an allocation fails.
+pub fn read_format<S: Source>(alloc: Global, source: &S, len: usize) -> Result<Format, ReadError>
     ensures { (file : List ℕ) → Known (S.bytes source.now) len file → Reads (S.may_fail source.now) (λ f. f) (Ok (format_of file)) result }
 {
     let magic = read_magic(alloc, source, len)?;

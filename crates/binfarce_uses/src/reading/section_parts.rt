@@ -1,0 +1,19 @@
+ghost use Rattle.std.specs.Prelude.{◌≡◌, List, ℕ, Some};
+ghost use Rattle.binfarce.specs.Elf.{elf64};
+ghost use Rattle.binfarce.specs.declared.ByteOrder.TheVariants.{LittleEndian};
+ghost use Rattle.binfarce_reading.specs.Reading.{Reads};
+ghost use Rattle.binfarce_reading.specs.SectionReading.{file_sections, sections_view};
+
+use binfarce::ByteOrder;
+use binfarce_reading::ReadError;
+use binfarce_reading::elf64::{SectionParts, read_sections};
+use binfarce_source::Source;
+use std::alloc::Global;
+
+/// What the sections of a file and their names are read from.
+pub fn section_parts<S: Source>(alloc: Global, source: &S) -> Result<SectionParts, ReadError>
+    ensures { (file : List ℕ) → S.bytes source.now ≡ Some file
+        → Reads (S.may_fail source.now) (sections_view elf64) (file_sections elf64 LittleEndian file) result }
+{
+    read_sections(alloc, source, ByteOrder::LittleEndian)
+}

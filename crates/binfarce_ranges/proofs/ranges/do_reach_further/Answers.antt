@@ -1,4 +1,4 @@
-use Rattle.std.proofs.Common.{◌≡◌, ℕ, ◌<◌, inl, inr, arith, ap}
+use Rattle.std.proofs.Common.{◌≡◌, ℕ, inl, inr, arith, ap}
 use Rattle.std.proofs.lemmas.Bool.{cases_lt}
 use Rattle.binfarce_ranges.specs.machine.Index.{row_at}
 use Rattle.binfarce_ranges.proofs.ranges.do_reach_further.Goals as goal

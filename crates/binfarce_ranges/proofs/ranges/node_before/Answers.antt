@@ -1,4 +1,4 @@
-use Rattle.std.proofs.Common.{◌<◌, ◌∙◌, sym, arith}
+use Rattle.std.proofs.Common.{◌∙◌, sym, arith}
 use Rattle.binfarce_ranges.specs.machine.Index.{AreLinksOf}
 use Rattle.binfarce_ranges.proofs.Found.{are_some, not_root, step_over}
 use Rattle.binfarce_ranges.proofs.ranges.node_before.Goals as goal

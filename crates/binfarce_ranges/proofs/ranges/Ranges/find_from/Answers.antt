@@ -1,12 +1,10 @@
-use Rattle.std.proofs.Common.{◌≡◌, ◌<◌, ◌≤◌, ◌+◌, ◌-◌, ◌^◌, ℕ, List, length, sym, ap, subst, ◌∙◌, arith}
-use Rattle.binfarce_ranges.specs.declared.ranges.Node.{Node}
+use Rattle.std.proofs.Common.{◌≡◌, ◌<◌, ◌+◌, ◌-◌, List, length, sym, ap, subst, ◌∙◌, arith}
 use Rattle.binfarce_ranges.specs.declared.ranges.Row.{Row}
 use Rattle.std.proofs.lemmas.List.{get_or_default}
 use Rattle.binfarce_ranges.specs.Range.{NoneHolds, IsFoundAt}
 use Rattle.binfarce_ranges.specs.declared.ranges.AddressRange.{AddressRange}
-use Rattle.binfarce_ranges.specs.machine.Index.{AreNodesOf, AreSlicesOf, ArePast, DoRise, IsBound, row_at, no_row}
-use Rattle.binfarce_ranges.proofs.Found.{searched, passed_on, not_root, none_holds, is_found, offset_at}
-use Rattle.binfarce_ranges.proofs.Links.{read_node}
+use Rattle.binfarce_ranges.specs.machine.Index.{AreSlicesOf, ArePast, DoRise, IsBound, row_at, no_row}
+use Rattle.binfarce_ranges.proofs.Found.{searched, passed_on, none_holds, is_found, offset_at}
 use Rattle.binfarce_ranges.proofs.Rows.{addresses_rise}
 use Rattle.binfarce_ranges.proofs.ranges.Ranges.find_from.Goals as goal
 

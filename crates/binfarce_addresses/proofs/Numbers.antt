@@ -1,7 +1,7 @@
 -- The hexadecimal digits of a number, put one by one from the last on.
 use Rattle.std.proofs.Common.{◌≡◌, ℕ, zero, suc, ◌+◌, ◌-◌, ◌/◌, ◌%◌, ◌^◌, ◌<◌, ◌≤◌, List, [], ◌∷◌, ◌++◌, length, set, drop, take, false, eqb, inl, inr, refl, ap, sym, subst, ◌∙◌, arith, replicate}
 use Rattle.std.specs.Fmt.{digit_glyph, digits, digits_onto}
-use Rattle.std.proofs.lemmas.List.{drop-set, take-set-le, set_split, length-drop, take-take, take-replicate}
+use Rattle.std.proofs.lemmas.List.{drop-set, take-set-le, take-take, take-replicate}
 use Rattle.std.proofs.lemmas.Bool.{cases_lt, cond-true, cond-false, eq-eqb, ne_eqb}
 use Rattle.std.proofs.lemmas.Grind.{pow_more}
 use Rattle.binfarce_tools.specs.Listing.{address_text}

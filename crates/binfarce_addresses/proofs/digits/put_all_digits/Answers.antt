@@ -1,4 +1,4 @@
-use Rattle.std.proofs.Common.{◌-◌, ◌+◌, ◌/◌, ◌≡◌, ◌++◌, ◌∙◌, List, ℕ, suc, ap, sym, drop, set, length, refl, arith}
+use Rattle.std.proofs.Common.{◌-◌, ◌+◌, ◌/◌, ◌≡◌, ◌++◌, ◌∙◌, List, ℕ, suc, ap, sym, drop, set, refl, arith}
 use Rattle.std.proofs.Math.ListN.{length-set}
 use Rattle.binfarce_addresses.proofs.Numbers.{all_digits, digit_before, digits_before, digits_onward, none_left}
 use Rattle.binfarce_addresses.proofs.digits.put_all_digits.Goals as goal

@@ -1,4 +1,4 @@
-use Rattle.std.proofs.Common.{◌≡◌, ◌+◌, ◌-◌, ◌<◌, ◌≤◌, ◌∙◌, List, length, get_or, ap, refl, arith}
+use Rattle.std.proofs.Common.{◌≡◌, ◌-◌, ◌<◌, ◌≤◌, ◌∙◌, List, length, get_or, ap, refl, arith}
 use Rattle.std.specs.String.{string_bytes}
 use Rattle.binfarce_addresses.specs.declared.cells.Cell.{Cell}
 use Rattle.binfarce_addresses.specs.machine.Cells.{IsCellOf, cell_at, no_cell}

@@ -1,5 +1,5 @@
 -- What a cell tells of the addresses that lie in it.
-use Rattle.std.proofs.Common.{◌≡◌, ℕ, ◌+◌, ◌-◌, ◌<◌, ◌≤◌, inl, inr, List, [], ◌∷◌, ◌++◌, length, get_or, take, drop, map, Some, None, true, nat_lt, sym, ap, subst, ◌∙◌, arith, length-append}
+use Rattle.std.proofs.Common.{◌≡◌, ℕ, ◌+◌, ◌-◌, ◌<◌, ◌≤◌, inl, inr, max, List, [], ◌∷◌, ◌++◌, length, get_or, take, drop, map, Some, None, true, nat_lt, sym, ap, subst, ◌∙◌, arith, length-append}
 use Rattle.std.proofs.Math.ListN.{get_or-append}
 use Rattle.std.proofs.Math.Seq.{get_or-append_seam}
 use Rattle.std.proofs.lemmas.Bool.Decides.{nat_tests}
@@ -10,6 +10,8 @@ use Rattle.binfarce.specs.SymbolViews.{function_view}
 use Rattle.binfarce.specs.declared.FunctionSymbol.{FunctionSymbol}
 use Rattle.binfarce_ranges.specs.declared.ranges.AddressRange.{AddressRange}
 use Rattle.binfarce_ranges.specs.declared.ranges.Found.{Found}
+use Rattle.binfarce_ranges.specs.declared.ranges.Span.{Span}
+use Rattle.binfarce_ranges.specs.Range.{IsSpanOf}
 use Rattle.binfarce_addresses.specs.Lines.{in_file, found_at}
 use Rattle.binfarce_addresses.specs.declared.cells.Cell.{Cell}
 use Rattle.binfarce_addresses.specs.machine.Cells.{AreCellsOf, IsCellOf, IsNameAt, cell_at, no_cell}
@@ -41,21 +43,36 @@ cell_is ranges bounds cells k cell are lt is = subst (λ (x : Cell). IsCellOf ra
 
 module _ (functions : List FunctionSymbol) (ranges : List AddressRange) (entries : List Entry) (text bounds : List ℕ) (are : ranges ≡ ranges_of functions) (named : AreNamesOf (map function_view functions) text bounds) (seen : map function_view functions ≡ entries) (cell : Cell) (is : IsCellOf ranges bounds cell) where
   -- its name stands in the text
-  pub in_text : (cell.start ≤ cell.stop) × (cell.stop ≤ length text)
-  in_text = let rise = named.rise is.place is.kept in (omega (arith, rise.0, is.starts, is.stops), omega (arith, rise.1, is.stops))
+  pub in_text : cell.start + cell.len ≤ length text
+  in_text = let rise = named.rise is.place is.kept in omega (arith, rise.1, is.stops)
 
   -- and is that of the entry which the address is shown by
-  pub name_at : (base address x : ℕ) (shown : List ℕ) → in_file base address ≡ Some x → x ≡ address - base → shown ≡ text → cell.address ≤ x → x < cell.end → IsNameAt entries base address (take (cell.stop - cell.start) (drop cell.start shown)) (x - cell.address)
-  name_at base address x shown inside left same low high =
+  pub name_at : (base address x stop : ℕ) (shown : List ℕ) → in_file base address ≡ Some x → x ≡ address - base → shown ≡ text → stop ≡ cell.start + cell.len → cell.address ≤ x → x - cell.address < cell.size → IsNameAt entries base address (take (stop - cell.start) (drop cell.start shown)) (x - cell.address)
+  name_at base address x stop shown inside left same ends low high =
       let found : Found = record { place = is.place; offset = x - cell.address } in
-      let by = shown_by functions ranges entries are seen base address x inside (Some found) left (is.span.found x low high, λ d. ap (λ n. x - n) (sym (is.span.address d))) in
+      let by = shown_by functions ranges entries are seen base address x inside (Some found) left (is.span.found x low (omega arith), λ d. ap (λ n. x - n) (sym (is.span.address d))) in
       let starts : cell.start ≡ get_or bounds is.place cell.start = is.starts ∙ get_or_default bounds is.place 0 cell.start (omega (arith, is.kept)) in
-      let stops : cell.stop ≡ get_or bounds (is.place + 1) cell.stop = is.stops ∙ get_or_default bounds (is.place + 1) 0 cell.stop is.kept in
-      (by.0, by.1, by.2, kept (map function_view functions) entries text shown bounds is.place cell.start cell.stop named seen is.kept same starts stops by.0 by.3)
+      let stops : stop ≡ get_or bounds (is.place + 1) stop = ends ∙ is.stops ∙ get_or_default bounds (is.place + 1) 0 stop is.kept in
+      (by.0, by.1, by.2, kept (map function_view functions) entries text shown bounds is.place cell.start stop named seen is.kept same starts stops by.0 by.3)
 
   -- behind the entry none shows the address
-  pub free_at : (base address x : ℕ) → in_file base address ≡ Some x → cell.end ≤ x → x < cell.until → found_at entries (in_file base address) ≡ None
-  free_at base address x inside low high = found_none functions ranges entries are seen base address x inside (is.span.none x low high)
+  pub free_at : (base address x : ℕ) → in_file base address ≡ Some x → cell.address ≤ x → cell.size ≤ x - cell.address → x - cell.address < cell.until → found_at entries (in_file base address) ≡ None
+  free_at base address x inside above low high = found_none functions ranges entries are seen base address x inside (is.span.none x (omega arith) (omega arith))
+
+-- a cell of a span: it may tell less of what is behind the range
+pub made_cell : (ranges : List AddressRange) (bounds : List ℕ) (span : Span) (cell : Cell) → IsSpanOf ranges span → span.place + 1 < length bounds → cell.address ≡ span.address → cell.address + cell.size ≡ span.end → cell.address + cell.until ≤ max span.until span.address → cell.start ≡ get_or bounds span.place 0 → cell.start + cell.len ≡ get_or bounds (span.place + 1) 0 → IsCellOf ranges bounds cell
+made_cell ranges bounds span cell is kept begins ends until starts stops = record {
+  place = span.place;
+  kept = kept;
+  starts = starts;
+  stops = stops;
+  span = record {
+    within = is.within;
+    address = λ d. is.address d ∙ sym begins;
+    found = λ address low high. is.found address (omega (arith, begins)) (omega (arith, ends));
+    none = λ address low high. is.none address (omega (arith, ends)) (omega (arith, until, begins, ends));
+  };
+}
 
 -- what a test tells
 pub is_less : (a b : ℕ) → nat_lt a b ≡ true → a < b

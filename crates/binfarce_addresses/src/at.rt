@@ -187,11 +187,13 @@ impl<'a> Places<'a> {
             return None;
         }
         let in_file = address - base;
-        if in_file < cell.address || in_file >= cell.end {
+        if in_file < cell.address || in_file - cell.address >= u64::from(cell.size) {
             return None;
         }
         let text = self.names.text.as_bytes();
-        Some((&text[cell.start..cell.stop], in_file - cell.address))
+        let start = cell.start as usize;
+        let stop = start + cell.len as usize;
+        Some((&text[start..stop], in_file - cell.address))
     }
 
     // Whether the cell at this place tells that none is shown at the address.
@@ -200,8 +202,9 @@ impl<'a> Places<'a> {
         ensures { result ≡ true → found_at self.now (in_file base address) ≡ None }
     {
         match self.cells.cells.get(near) {
-            Some(cell) if address >= base => {
-                cell.end <= address - base && address - base < cell.until
+            Some(cell) if address >= base && address - base >= cell.address => {
+                let offset = address - base - cell.address;
+                u64::from(cell.size) <= offset && offset < u64::from(cell.until)
             }
             _ => false,
         }

@@ -1,21 +1,24 @@
 //! What is known of the addresses from each function symbol's own on, so that most lines of many addresses take one look.
 
-ghost use Rattle.std.specs.Prelude.{◌≡◌, length, IfOk, IfSome};
+ghost use Rattle.std.specs.Prelude.{◌≡◌, ◌+◌, ◌≤◌, max, length, IfOk, IfSome};
 ghost use Rattle.binfarce_addresses.specs.machine.Cells.{AreCellsOf, IsCellOf};
 
 use binfarce_ranges::marks::Marks;
 use binfarce_ranges::ranges::Ranges;
 use std::alloc::{AllocError, Global};
 
-/// The addresses from `address` up to `end` are shown by one function symbol, those from there up to `until` by none. Its
-/// name is kept from `start` up to `stop`.
+// How many cells are looked at where slices of the marks have several.
+const FURTHER: usize = 16;
+
+/// So many addresses from `address` on are shown by one function symbol, those behind them up to the offset `until` by none.
+/// Its name is kept from `start` on. A cell is small, so that many stay near.
 #[derive(Clone, Copy)]
 pub(crate) struct Cell {
     pub(crate) address: u64,
-    pub(crate) end: u64,
-    pub(crate) until: u64,
-    pub(crate) start: usize,
-    pub(crate) stop: usize,
+    pub(crate) size: u32,
+    pub(crate) until: u32,
+    pub(crate) start: u32,
+    pub(crate) len: u32,
 }
 
 /// Cells in the order of their addresses, and marks of these.
@@ -73,13 +76,31 @@ impl Cells {
         Ok(nears)
     }
 
-    // The cell before this one, if this one begins behind the address.
+    // The cell before this one, if this one begins behind the address, and one behind it, if it tells nothing of the address.
     #[inline(always)]
     fn not_behind(&self, near: usize, address: u64) -> usize {
         match self.cells.get(near) {
-            Some(cell) => near.wrapping_sub((cell.address > address) as usize),
+            Some(cell) => {
+                if address.saturating_sub(cell.address) >= u64::from(cell.until) {
+                    return self.further(near, address);
+                }
+                near.wrapping_sub((cell.address > address) as usize)
+            }
             None => near,
         }
+    }
+
+    // The last cell of a few that doesn't begin behind the address.
+    fn further(&self, near: usize, address: u64) -> usize {
+        let mut last = near;
+        for k in 0..FURTHER {
+            let next = near.wrapping_add(k);
+            match self.cells.get(next) {
+                Some(cell) if cell.address <= address => last = next,
+                _ => return last,
+            }
+        }
+        last
     }
 
     /// The first and the last byte of the name of each of these cells: read ahead, so that it is near when it is written.
@@ -103,7 +124,9 @@ impl Cells {
 
 #[inline(always)]
 fn ends_of(text: &[u8], cell: Cell) -> (u8, u8) {
-    match (text.get(cell.start), text.get(cell.stop.wrapping_sub(1))) {
+    let start = cell.start as usize;
+    let last = start.wrapping_add(cell.len as usize).wrapping_sub(1);
+    match (text.get(start), text.get(last)) {
         (Some(first), Some(last)) => (*first, *last),
         _ => (0, 0),
     }
@@ -122,7 +145,8 @@ fn cells_of(alloc: Global, ranges: &Ranges, bounds: &[usize]) -> Result<Vec<Cell
     Ok(cells)
 }
 
-// The cell of the range that has this place in the order of addresses, if it is found at any and its name is kept.
+// The cell of the range that has this place in the order of addresses, if it is found at any, its name is kept, and the numbers
+// fit.
 fn cell_of(ranges: &Ranges, bounds: &[usize], row: usize) -> Option<Cell>
     ensures { IfSome result (IsCellOf ranges.now bounds.now) }
 {
@@ -131,13 +155,22 @@ fn cell_of(ranges: &Ranges, bounds: &[usize], row: usize) -> Option<Cell>
     if span.end <= span.address || span.place >= count {
         return None;
     }
+    let start = bounds[span.place];
+    let len = bounds[span.place + 1].checked_sub(start)?;
     Some(Cell {
         address: span.address,
-        end: span.end,
-        until: span.until,
-        start: bounds[span.place],
-        stop: bounds[span.place + 1],
+        size: u32::try_from(span.end - span.address).ok()?,
+        until: offset_of(span.until, span.address),
+        start: u32::try_from(start).ok()?,
+        len: u32::try_from(len).ok()?,
     })
+}
+
+// The offset of an end into what begins at an address, and at most the greatest one.
+fn offset_of(end: u64, address: u64) -> u32
+    ensures { address + result ≤ max end address }
+{
+    end.saturating_sub(address).min(u32::MAX as u64) as u32
 }
 
 fn marks_of(alloc: Global, cells: &[Cell]) -> Result<Marks, AllocError> {

@@ -1,6 +1,6 @@
 //! Numbers in hexadecimal digits.
 
-ghost use Rattle.std.specs.Prelude.{◌≡◌, ◌<◌, ◌++◌, OnOk, false, codes, drop, replicate};
+ghost use Rattle.std.specs.Prelude.{◌≡◌, ◌<◌, ◌++◌, OnOk, false, codes, drop, length, replicate};
 ghost use Rattle.std.specs.Fmt.{digits, digit_glyph};
 ghost use Rattle.binfarce_tools.specs.Listing.{address_text};
 
@@ -10,10 +10,9 @@ use std::alloc::AllocError;
 pub(crate) fn push_address(text: &mut Vec<u8>, address: u64) -> Result<(), AllocError>
     ensures { OnOk result (text.new.items ≡ text.old.items ++ (address_text address ++ codes " ")) }
 {
-    let mut shown = [b'0'; 16];
-    put_digits(&mut shown, address);
+    let mut shown = [b' '; 17];
+    put_all_digits(&mut shown, address);
     text.extend_from_slice(&shown)?;
-    text.push(b' ')?;
     Ok(())
 }
 
@@ -54,11 +53,22 @@ fn push_any_offset(text: &mut Vec<u8>, offset: u64) -> Result<(), AllocError>
     Ok(())
 }
 
+// Puts all 16 digits of a number before a last byte: how many of them there are in steps is known, so none is guessed wrong.
+fn put_all_digits(shown: &mut [u8], number: u64)
+    requires { length shown.old ≡ 17 }
+    ensures { shown.new ≡ address_text number ++ drop 16 shown.old }
+{
+    let mut rest = number;
+    for k in 0..16 {
+        shown[15 - k] = hex_digit(rest % 16);
+        rest /= 16;
+    }
+}
+
 // Puts a number in the last of 16 zeros, and gives where it begins.
 fn put_digits(shown: &mut [u8], number: u64) -> usize
     requires { shown.old ≡ replicate 16 48 }
     ensures within { result < 16 }
-    ensures address { shown.new ≡ address_text number }
     ensures number { drop result shown.new ≡ digits 16 false number }
 {
     let mut rest = number;

@@ -98,7 +98,7 @@ pub fn push_lines(
 fn addresses_of(alloc: Global, bytes: &[u8]) -> Result<(Vec<u64>, Answered), AllocError>
     ensures { IfOk result (λ r. AreAddressesOf bytes.now r.0.items r.1) }
 {
-    let mut addresses = Vec::new(alloc);
+    let mut addresses = Vec::with_capacity(alloc, bytes.len() / 8)?;
     let mut len = 0;
     while let Some((address, line_len)) = first_address(&bytes[len..]) {
         match address {

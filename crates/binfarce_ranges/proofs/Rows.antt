@@ -10,7 +10,7 @@ use Rattle.std.proofs.Math.Seq.{get_or-append_seam}
 use Rattle.std.proofs.lemmas.Bool.{cases_lt}
 use Rattle.std.proofs.lemmas.List.{get_or_default}
 use Rattle.std.proofs.lemmas.List.Elements.{All-get_or, All-from_get_or, Contains-get_or}
-use Rattle.std.proofs.lemmas.List.Sorted.{sorted_far, All-permutation, Contains-permutation}
+use Rattle.std.proofs.lemmas.List.Sorted.{sorted_far, All-permutation, Contains-permutation, length_permutation}
 use Rattle.binfarce_ranges.specs.declared.ranges.AddressRange.{AddressRange}
 use Rattle.binfarce_ranges.specs.declared.ranges.Row.{Row}
 use Rattle.binfarce_ranges.specs.machine.Index.{AreRowsOf, DoRise, NotBehind, last_of, range_at, row_at, no_row}
@@ -107,6 +107,7 @@ made_row ranges rows k made lt =
 -- the same rows in the order of a sort
 pub arranged_rows : (ranges : List AddressRange) (rows sorted : List Row) → AreMade ranges rows (length ranges) → IsPermutation rows sorted → IsSortedBy comes_before sorted → AreRowsOf ranges sorted
 arranged_rows ranges rows sorted made same up = record {
+  count = length_permutation rows sorted same ∙ made.count;
   row_is = λ k lt. All-get_or (IsRow ranges) sorted k no_row lt (All-permutation (IsRow ranges) rows sorted same (All-from_get_or (IsRow ranges) rows no_row (λ i within. made_row ranges rows i made within)));
   has_row = λ place lt.
       let row = row_at rows place in

@@ -5,13 +5,13 @@ use Rattle.binfarce_ranges.specs.Range.{NoneHolds, IsFoundAt, IsSpanOf}
 use Rattle.binfarce_ranges.specs.declared.ranges.AddressRange.{AddressRange}
 use Rattle.binfarce_ranges.specs.declared.ranges.Row.{Row}
 use Rattle.binfarce_ranges.specs.declared.ranges.Node.{Node}
-use Rattle.binfarce_ranges.specs.machine.Index.{IsBound, DoRise, row_at, node_at, no_range}
+use Rattle.binfarce_ranges.specs.machine.Index.{AreNodesOf, AreRowsOf, IsBound, DoRise, row_at, node_at, no_range}
 use Rattle.binfarce_ranges.proofs.Rows.{addresses_rise}
-use Rattle.binfarce_ranges.proofs.Found.{ArePassable, Passed, searched, step_out, is_found, none_holds}
+use Rattle.binfarce_ranges.proofs.Found.{Passed, searched, passed_on, reach_further, is_found, none_holds}
 
-module _ (ranges : List AddressRange) (rows : List Row) (nodes : List Node) (indexed : ArePassable ranges rows nodes) (k next : ℕ) (inside : k < length rows) (behind : k + 1 < length rows → next ≤ (row_at rows (k + 1)).address) (address : ℕ) (fits : address < 2 ^ 64) (low : (row_at rows k).address ≤ address) (high : address < next) where
+module _ (ranges : List AddressRange) (rows : List Row) (rows_are : AreRowsOf ranges rows) (k next : ℕ) (inside : k < length rows) (behind : k + 1 < length rows → next ≤ (row_at rows (k + 1)).address) (address : ℕ) (fits : address < 2 ^ 64) (low : (row_at rows k).address ≤ address) (high : address < next) where
   rise : DoRise rows
-  rise = addresses_rise ranges rows indexed.rows_are
+  rise = addresses_rise ranges rows rows_are
 
   bound : IsBound rows address (k + 1)
   bound = record {
@@ -20,25 +20,22 @@ module _ (ranges : List AddressRange) (rows : List Row) (nodes : List Node) (ind
     behind = λ j le lt. omega (arith, behind (omega arith), rise (k + 1) j le lt);
   }
 
-  passed : Passed rows nodes address (k + 1) (k + 1)
-  passed = searched rows nodes address (k + 1) bound
-
-  reach : (node_at nodes (k + 1)).last ≡ (row_at rows k).last
-  reach = omega (arith, indexed.nodes_are.last k inside, (indexed.rows_are.row_is k inside).2)
+  passed : Passed rows address (k + 1) (k + 1)
+  passed = searched rows address (k + 1) bound
 
   -- the range, as far as it reaches
   pub found_in_span : address ≤ (row_at rows k).last → IsFoundAt ranges address (row_at rows k).place.0
-  found_in_span reaches = is_found ranges rows nodes indexed address (k + 1) (k + 1) fits passed k refl (omega (arith, reach))
+  found_in_span reaches = is_found ranges rows rows_are address (k + 1) (k + 1) fits passed k refl reaches
 
   -- and behind it nothing, where none before it reaches further
-  pub none_in_span : (node_at nodes (k + 1)).outer ≡ 0 → (row_at rows k).last < address → NoneHolds ranges address
-  none_in_span alone past = none_holds ranges rows nodes indexed address (k + 1) (node_at nodes (k + 1)).outer fits (step_out ranges rows nodes indexed address (k + 1) (k + 1) fits passed (omega (arith, reach))) alone
+  pub none_in_span : ((j : ℕ) → j ≤ k → (row_at rows j).last ≤ (row_at rows k).last) → (row_at rows k).last < address → NoneHolds ranges address
+  none_in_span further past = none_holds ranges rows rows_are address (k + 1) 0 fits (passed_on rows address (k + 1) (k + 1) 0 passed (omega arith) (λ j low high. omega (arith, further j (omega arith), past))) refl
 
 -- the span of a row
-pub span_is : (ranges : List AddressRange) (rows : List Row) (nodes : List Node) → ArePassable ranges rows nodes → (k : ℕ) → k < length rows → (here : Row) → here ≡ row_at rows k → (behind end until : ℕ) → behind < 2 ^ 64 → (k + 1 < length rows → behind ≡ (row_at rows (k + 1)).address)
+pub span_is : (ranges : List AddressRange) (rows : List Row) (nodes : List Node) → AreRowsOf ranges rows → AreNodesOf rows nodes → (k : ℕ) → k < length rows → (here : Row) → here ≡ row_at rows k → (behind end until : ℕ) → behind < 2 ^ 64 → (k + 1 < length rows → behind ≡ (row_at rows (k + 1)).address)
     → end ≡ min behind (min (here.last + 1) (2 ^ 64 - 1)) → (until ≡ end) ⊎ (((node_at nodes (k + 1)).outer ≡ 0) × (until ≡ behind)) → IsSpanOf ranges (record { place = here.place.0; address = here.address; end = end; until = until })
-span_is ranges rows nodes indexed k inside here is behind end until fits next ends untils =
-    let row = indexed.rows_are.row_is k inside in
+span_is ranges rows nodes rows_are nodes_are k inside here is behind end until fits next ends untils =
+    let row = rows_are.row_is k inside in
     let from : here.address ≡ (row_at rows k).address = ap (λ (r : Row). r.address) is in
     let to : here.last ≡ (row_at rows k).last = ap (λ (r : Row). r.last) is in
     let place : here.place.0 ≡ (row_at rows k).place.0 = ap (λ (r : Row). r.place.0) is in
@@ -47,9 +44,9 @@ span_is ranges rows nodes indexed k inside here is behind end until fits next en
       within = omega (arith, row.0, place);
       address = λ d. sym (from ∙ row.1 ∙ ap (λ (r : AddressRange). r.address) (get_or_default ranges (row_at rows k).place.0 no_range d row.0) ∙ ap (λ n. (get_or ranges n d).address) (sym place));
       found = λ address low high. subst (λ n. IsFoundAt ranges address n) (sym place)
-          (found_in_span ranges rows nodes indexed k behind inside follows address (omega arith) (omega arith) (omega arith) (omega arith));
+          (found_in_span ranges rows rows_are k behind inside follows address (omega arith) (omega arith) (omega arith) (omega arith));
       none = λ address low high. elim untils [
         | inl cut ↦ absurd (omega arith)
-        | inr free ↦ none_in_span ranges rows nodes indexed k behind inside follows address (omega (arith, free.1)) (omega arith) (omega (arith, free.1)) free.0 (omega (arith, free.1))
+        | inr free ↦ none_in_span ranges rows rows_are k behind inside follows address (omega (arith, free.1)) (omega arith) (omega (arith, free.1)) (reach_further rows nodes nodes_are k inside free.0) (omega (arith, free.1))
       ];
     }

@@ -1,7 +1,7 @@
 -- What a table says of each byte: what it is worth as a digit.
-use Rattle.std.proofs.Common.{◌≡◌, ℕ, zero, suc, ◌<◌, ◌≤◌, inl, inr, Bool, true, false, ◌&&◌, nat_eq, nat_le, nat_lt, List, ◌∷◌, ◌++◌, get_or, Option, Some, None, refl, subst, arith, replicate}
+use Rattle.std.proofs.Common.{◌≡◌, ℕ, ◌<◌, ◌≤◌, Bool, true, ◌&&◌, nat_eq, nat_le, nat_lt, List, ◌∷◌, ◌++◌, get_or, Option, Some, None, refl, arith, replicate}
 use Rattle.std.proofs.lemmas.Bool.Decides.{nat_tests}
-use Rattle.std.proofs.lemmas.Bool.{cases_lt}
+use Rattle.std.proofs.lemmas.Bool.{agree_below_at}
 use Rattle.binfarce_ranges.specs.Address.{digit_value}
 
 -- before `0`, to `9`, before `A`, to `F`, before `a`, to `f`, and behind
@@ -12,29 +12,8 @@ abbrev agrees : ℕ → Option ℕ → Bool
 agrees value None = nat_lt 15 value
 agrees value (Some worth) = nat_le worth 15 && nat_eq value worth
 
-all_below : ℕ → (ℕ → Bool) → Bool
-all_below zero test = true
-all_below (suc n) test = test n && all_below n test
-
-both : (a b : Bool) → (a && b) ≡ true → (a ≡ true) × (b ≡ true)
-both true true e = (refl, refl)
-both true false e = absurd cc
-both false b e = absurd cc
-
-each_below : (n : ℕ) (test : ℕ → Bool) → all_below n test ≡ true → (i : ℕ) → i < n → test i ≡ true
-unfolding all_below
-each_below zero test all i lt = absurd (omega arith)
-each_below (suc n) test all i lt =
-    let halves = both (test n) (all_below n test) all in
-    let P : ℕ → Type 0 = λ k. test k ≡ true in
-    elim (cases_lt i n) [
-      | inl before ↦ each_below n test halves.1 i before
-      | inr after ↦ let same : n ≡ i = omega arith in subst P same halves.0
-    ]
-
 told : (d digit : ℕ) → digit < 256 → agrees (get_or values digit d) (digit_value digit) ≡ true
-unfolding all_below
-told d digit lt = each_below 256 (λ i. agrees (get_or values i d) (digit_value i)) refl digit lt
+told d digit lt = agree_below_at (λ i. agrees (get_or values i d) (digit_value i)) (λ _. true) 256 digit refl lt
 
 worth_none : (value : ℕ) (worth : Option ℕ) → agrees value worth ≡ true → 15 < value → None ≡ worth
 worth_none value None e lt = refl

@@ -25,7 +25,7 @@ abbrev pub Finds : List AddressRange → ℕ → Option Found → Type 0
 Finds ranges address found =
     MatchOption found (NoneHolds ranges address) (λ f. IsFoundAt ranges address f.place × ((d : AddressRange) → f.offset ≡ address - (slice_index_or ranges f.place d).address))
 
--- what is found from the range's address up to the span's end is the range, and from there on nothing
+-- what is found from the range's address up to the span's end is the range, and from there up to where the span is free nothing
 pub record IsSpanOf (ranges : List AddressRange) (span : Span) : Type 0 where
   pub within : span.place < length ranges
   pub address : (d : AddressRange) → (slice_index_or ranges span.place d).address ≡ span.address

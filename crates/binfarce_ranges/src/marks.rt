@@ -15,14 +15,16 @@ pub struct Marks {
     shift: u32,
     marks: Vec<Mark>,
     // How many addresses were marked.
-    count: usize,
+    count: u32,
 }
 
-// Of 64 slices: how many addresses were marked before the first of them, and in which of them one was.
+// Of 64 slices: how many addresses were marked before the first of them, and in which of them one was: the first half, and
+// the second. The marks of a program are small enough for a near cache.
 #[derive(Clone, Copy)]
 struct Mark {
-    before: usize,
-    slices: u64,
+    before: u32,
+    low: u32,
+    high: u32,
 }
 
 impl Marks {
@@ -43,11 +45,17 @@ impl Marks {
         for _ in self.marks.len()..=place {
             self.marks.push(Mark {
                 before: self.count,
-                slices: 0,
+                low: 0,
+                high: 0,
             })?;
         }
         if let Some(mark) = self.marks.get_mut(place) {
-            mark.slices |= 1 << (slice % 64);
+            let bit = 1 << (slice % 32);
+            if slice % 64 < 32 {
+                mark.low |= bit;
+            } else {
+                mark.high |= bit;
+            }
         }
         self.count = self.count.wrapping_add(1);
         Ok(())
@@ -58,13 +66,8 @@ impl Marks {
     pub fn near(&self, address: u64) -> usize {
         let slice = self.slice_of(address);
         match self.marks.get((slice / 64) as usize) {
-            Some(mark) => {
-                let up_to = mark.slices & (u64::MAX >> (63 - slice % 64));
-                mark.before
-                    .wrapping_add(up_to.count_ones() as usize)
-                    .wrapping_sub(1)
-            }
-            None => self.count.wrapping_sub(1),
+            Some(mark) => last_in(*mark, slice % 64),
+            None => (self.count as usize).wrapping_sub(1),
         }
     }
 
@@ -72,4 +75,14 @@ impl Marks {
     fn slice_of(&self, address: u64) -> u64 {
         address.saturating_sub(self.first).wrapping_shr(self.shift)
     }
+}
+
+// Where the last address stands that was marked up to this one of the 64 slices.
+#[inline(always)]
+fn last_in(mark: Mark, slice: u64) -> usize {
+    let slices = (mark.high as u64) << 32 | mark.low as u64;
+    let up_to = slices & (u64::MAX >> (63 - slice % 64));
+    (mark.before as usize)
+        .wrapping_add(up_to.count_ones() as usize)
+        .wrapping_sub(1)
 }

@@ -1,9 +1,9 @@
 //! Which of several ranges is found at an address.
 
-ghost use Rattle.std.specs.Prelude.{◌≡◌, ◌+◌, ◌-◌, ◌<◌, ◌≤◌, ◌^◌, List, length, MatchOption, IfOk, IfSome};
+ghost use Rattle.std.specs.Prelude.{◌≡◌, ◌+◌, ◌-◌, ◌<◌, ◌≤◌, ◌^◌, ◌⊎◌, List, length, true, MatchOption, IfOk};
 ghost use Rattle.binfarce_ranges.specs.Range.{Finds, IsFoundAt, IsSpanOf, NoneHolds};
 ghost use Rattle.binfarce_ranges.specs.declared.ranges.AddressRange.{AddressRange};
-ghost use Rattle.binfarce_ranges.specs.machine.Index.{AreRowsOf, AreSlicesOf, AreLinked, AreNodesOf, DoRise, IsBound, IsIndexed, IsOuter, JumpsOver, Follows, last_of, row_at, slice_at};
+ghost use Rattle.binfarce_ranges.specs.machine.Index.{AreRowsOf, AreSlicesOf, AreLinked, AreLinksOf, AreNodesOf, ArePast, DoReachFurther, DoRise, IsBound, IsIndexed, IsOuter, JumpsOver, Follows, last_of, node_at, row_at, slice_at};
 
 use std::alloc::{AllocError, Global};
 use std::cmp::Reverse;
@@ -63,7 +63,8 @@ struct Slices {
     starts: Vec<usize>,
 }
 
-// What is known of a row beside its place. Node 0 stands before all rows, node k + 1 for row k.
+// Which earlier rows reach further than one. Node 0 stands before all rows, node k + 1 for row k. Where each row reaches as
+// far as the one before it, there are no nodes: no row that ends before an address has an earlier one that holds it.
 #[derive(Clone, Copy)]
 struct Node {
     // The last address that the range holds; of node 0 the last of all.
@@ -98,7 +99,7 @@ impl Ranges {
     {
         let rows = rows_of(alloc, &ranges)?;
         let slices = slices_of(alloc, &rows)?;
-        let nodes = nodes_of(alloc, &ranges, &rows)?;
+        let nodes = nodes_of(alloc, &rows)?;
         Ok(Ranges {
             ranges,
             rows,
@@ -119,16 +120,15 @@ impl Ranges {
     /// The span of the range that has this place in the order of addresses, where ranges of one address stand from the last
     /// to the first; `None` past the end.
     pub fn span(&self, row: usize) -> Option<Span>
-        ensures { IfSome result (IsSpanOf self.now) }
+        ensures { MatchOption result (length self.now ≤ row) (IsSpanOf self.now) }
     {
-        let here = *self.rows.get(row)?;
+        if row >= self.rows.len() {
+            return None;
+        }
+        let here = self.rows[row];
         let behind = address_behind(&self.rows, row);
         let end = behind.min(here.last.saturating_add(1));
-        let until = if self.nodes[row + 1].outer == 0 {
-            behind
-        } else {
-            end
-        };
+        let until = free_until(outer_at(&self.nodes, row + 1), behind, end);
         Some(Span {
             place: here.place.0,
             address: here.address,
@@ -143,12 +143,7 @@ impl Ranges {
     {
         let mut node = rows_up_to(&self.rows, &self.slices, address);
         while last_at(&self.rows, node) < address {
-            let jump = self.nodes[node].jump;
-            node = if last_at(&self.rows, jump) < address {
-                jump
-            } else {
-                self.nodes[node].outer
-            };
+            node = node_before(&self.rows, &self.nodes, node, address);
         }
         if node == 0 {
             return None;
@@ -249,6 +244,13 @@ fn address_behind(rows: &[Row], row: usize) -> u64
     }
 }
 
+// Up to where nothing is found behind a range's end: the next row's address, if no earlier row reaches as far as this one.
+fn free_until(outer: usize, behind: u64, end: u64) -> u64
+    ensures { (result ≡ end) ⊎ ((outer ≡ 0) × (result ≡ behind)) }
+{
+    if outer == 0 { behind } else { end }
+}
+
 // The last address that a node reaches, which its row has too: so the nodes of most addresses aren't read.
 #[inline(always)]
 fn last_at(rows: &[Row], node: usize) -> u64
@@ -262,19 +264,71 @@ fn last_at(rows: &[Row], node: usize) -> u64
     rows[node - 1].last
 }
 
-// The nodes of the rows.
-fn nodes_of(alloc: Global, ranges: &[AddressRange], rows: &[Row]) -> Result<Vec<Node>, AllocError>
-    requires { AreRowsOf ranges.now rows.now }
-    ensures { IfOk result (λ v. AreNodesOf ranges.now rows.now v.items) }
+// The nodes of the rows, if they are needed.
+fn nodes_of(alloc: Global, rows: &[Row]) -> Result<Vec<Node>, AllocError>
+    ensures { IfOk result (λ v. AreNodesOf rows.now v.items) }
+{
+    if do_reach_further(rows) {
+        return Ok(Vec::new(alloc));
+    }
+    linked_nodes(alloc, rows)
+}
+
+// Whether each row reaches as far as the one before it.
+fn do_reach_further(rows: &[Row]) -> bool
+    ensures { result ≡ true → DoReachFurther rows.now }
+{
+    let mut furthest = 0;
+    for row in rows {
+        if row.last < furthest {
+            return false;
+        }
+        furthest = row.last;
+    }
+    true
+}
+
+// A node before the rows, and one for each.
+fn linked_nodes(alloc: Global, rows: &[Row]) -> Result<Vec<Node>, AllocError>
+    ensures { IfOk result (λ v. AreLinksOf rows.now v.items) }
 {
     let mut nodes = Vec::with_capacity(alloc, rows.len())?;
     nodes.push(ROOT)?;
     for row in rows {
-        let last = last_address(ranges[row.place.0]);
-        let node = next_node(&nodes, last);
+        let node = next_node(&nodes, row.last);
         nodes.push(node)?;
     }
     Ok(nodes)
+}
+
+// The node to look at next, where this one doesn't reach the address: none between them does.
+fn node_before(rows: &[Row], nodes: &[Node], node: usize, address: u64) -> usize
+    requires nodes { AreNodesOf rows.now nodes.now }
+    requires some { 0 < node }
+    requires within { node ≤ length rows.now }
+    requires past { (row_at rows.now (node - 1)).last < address }
+    ensures below { result < node }
+    ensures passed { ArePast rows.now address result node }
+{
+    if nodes.is_empty() {
+        return 0;
+    }
+    let jump = nodes[node].jump;
+    if last_at(rows, jump) < address {
+        jump
+    } else {
+        nodes[node].outer
+    }
+}
+
+// The nearest earlier node that reaches as far as this one: 0 where there are no nodes.
+fn outer_at(nodes: &[Node], node: usize) -> usize
+    ensures { result ≡ (node_at nodes.now node).outer }
+{
+    match nodes.get(node) {
+        Some(node) => node.outer,
+        None => 0,
+    }
 }
 
 // The last address that a range holds, and at most the last of all.

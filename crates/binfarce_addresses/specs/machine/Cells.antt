@@ -10,7 +10,7 @@ use Rattle.binfarce_addresses.specs.declared.cells.Cell.{Cell}
 
 -- what is read past the end
 abbrev pub no_cell : Cell
-no_cell = record { address = 0; end = 0; until = 0; start = 0; stop = 0 }
+no_cell = record { address = 0; size = 0; until = 0; start = 0; len = 0 }
 
 abbrev pub cell_at : List Cell → ℕ → Cell
 cell_at cells k = slice_index_or cells k no_cell
@@ -20,8 +20,8 @@ pub record IsCellOf (ranges : List AddressRange) (bounds : List ℕ) (cell : Cel
   pub place : ℕ
   pub kept : place + 1 < length bounds
   pub starts : cell.start ≡ slice_index_or bounds place 0
-  pub stops : cell.stop ≡ slice_index_or bounds (place + 1) 0
-  pub span : IsSpanOf ranges (record { place = place; address = cell.address; end = cell.end; until = cell.until })
+  pub stops : cell.start + cell.len ≡ slice_index_or bounds (place + 1) 0
+  pub span : IsSpanOf ranges (record { place = place; address = cell.address; end = cell.address + cell.size; until = cell.address + cell.until })
 
 pub record AreCellsOf (ranges : List AddressRange) (bounds : List ℕ) (cells : List Cell) : Type 0 where
   pub each : (k : ℕ) → k < length cells → IsCellOf ranges bounds (cell_at cells k)

@@ -33,6 +33,7 @@ NotBehind x y = (x.address < y.address) ⊎ ((x.address ≡ y.address) × (y.pla
 
 -- a row for each range, in their order
 pub record AreRowsOf (ranges : List AddressRange) (rows : List Row) : Type 0 where
+  pub count : length rows ≡ length ranges
   pub row_is : (k : ℕ) → k < length rows → ((row_at rows k).place.0 < length ranges) × ((row_at rows k).address ≡ (range_at ranges (row_at rows k).place.0).address) × ((row_at rows k).last ≡ last_of (range_at ranges (row_at rows k).place.0))
   pub has_row : (place : ℕ) → place < length ranges → (k : ℕ) × (k < length rows) × ((row_at rows k).place.0 ≡ place)
   pub rise : (i j : ℕ) → i ≤ j → j < length rows → NotBehind (row_at rows i) (row_at rows j)
@@ -74,17 +75,30 @@ pub record AreLinked (nodes : List Node) : Type 0 where
   pub jump_below : (v : ℕ) → 0 < v → v < length nodes → (node_at nodes v).jump < v
   pub jump_covers : (v k : ℕ) → v < length nodes → (node_at nodes v).jump ≤ k → k ≤ v → (node_at nodes k).last ≤ (node_at nodes (node_at nodes v).jump).last
 
--- the nodes of these rows: each has the last address that the row's range holds
-pub record AreNodesOf (ranges : List AddressRange) (rows : List Row) (nodes : List Node) : Type 0 where
+-- nodes of these rows: each has the last address that the row's range holds
+pub record AreLinksOf (rows : List Row) (nodes : List Node) : Type 0 where
   pub linked : AreLinked nodes
   pub count : length nodes ≡ length rows + 1
-  pub last : (k : ℕ) → k < length rows → (node_at nodes (k + 1)).last ≡ last_of (range_at ranges (row_at rows k).place.0)
+  pub last : (k : ℕ) → k < length rows → (node_at nodes (k + 1)).last ≡ (row_at rows k).last
+
+-- each row reaches as far as those before it
+abbrev pub DoReachFurther : List Row → Type 0
+DoReachFurther rows = (i j : ℕ) → i ≤ j → j < length rows → (row_at rows i).last ≤ (row_at rows j).last
+
+-- the nodes that are needed of these rows
+pub record AreNodesOf (rows : List Row) (nodes : List Node) : Type 0 where
+  pub none : length nodes ≡ 0 → DoReachFurther rows
+  pub some : 0 < length nodes → AreLinksOf rows nodes
+
+-- the rows from one place up to another end before the address
+abbrev pub ArePast : List Row → ℕ → ℕ → ℕ → Type 0
+ArePast rows address from to = (k : ℕ) → from ≤ k → k < to → (row_at rows k).last < address
 
 -- what stands in an index of ranges
 pub record IsIndexed (ranges : List AddressRange) (rows : List Row) (first shift : ℕ) (starts : List ℕ) (nodes : List Node) : Type 0 where
   pub rows_are : AreRowsOf ranges rows
   pub slices_are : AreSlicesOf rows first shift starts
-  pub nodes_are : AreNodesOf ranges rows nodes
+  pub nodes_are : AreNodesOf rows nodes
 
 -- the nearest node whose `last` isn't less
 pub record IsOuter (nodes : List Node) (last outer : ℕ) : Type 0 where

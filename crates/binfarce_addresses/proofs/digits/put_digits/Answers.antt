@@ -1,6 +1,6 @@
 use Rattle.std.proofs.Common.{◌-◌, ◌+◌, ◌≡◌, ◌∙◌, ap, length, take, arith}
 use Rattle.std.proofs.Math.ListN.{length-set}
-use Rattle.binfarce_addresses.proofs.Numbers.{none_put, digit_put, digits_left, zeros_left, number_put, address_put}
+use Rattle.binfarce_addresses.proofs.Numbers.{none_put, digit_put, digits_left, zeros_left, number_put}
 use Rattle.binfarce_addresses.proofs.digits.put_digits.Goals as goal
 
 pub loop-rest-init : goal.loop-rest-init
@@ -24,11 +24,6 @@ loop-rest-preserved c =
       zeros = zeros_left (c.loop-rest.at - 1) c.loop-rest.at _ c.loop-rest.shown (omega arith) v.zeros;
       left = digit_put (c.loop-rest.at - 1) c.loop-rest.at c.loop-rest.rest c.hex_digit.result c.loop-rest.shown (omega arith) (omega arith) c.loop-rest-test.true c.hex_digit.ensures ∙ v.left;
     }
-
-pub returns-clause-address : goal.returns-clause-address
-returns-clause-address c =
-    let v = c.loop-rest.invariant in
-    address_put c.loop-rest.at c.loop-rest.rest c.args.number c.hex_digit-2.result c.loop-rest.shown v.whole v.within (omega arith) c.hex_digit-2.ensures v.left v.zeros
 
 pub returns-clause-number : goal.returns-clause-number
 returns-clause-number c =

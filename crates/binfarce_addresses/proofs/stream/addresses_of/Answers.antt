@@ -4,7 +4,7 @@ use Rattle.binfarce_addresses.proofs.Streams.{begun, first_within, first_more, f
 use Rattle.binfarce_addresses.proofs.stream.addresses_of.Goals as goal
 
 pub loop-address-init : goal.loop-address-init
-loop-address-init c = record { within = omega arith; begins = begun c.args.bytes.now c.new-addresses.result.items c.new-addresses.ensures.items }
+loop-address-init c = record { within = omega arith; begins = begun c.args.bytes.now c.in_ok-addresses.addresses.items c.in_ok-addresses.ensures.items }
 
 pub loop-address-preserved : goal.loop-address-preserved
 loop-address-preserved c =

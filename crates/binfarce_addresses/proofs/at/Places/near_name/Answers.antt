@@ -16,4 +16,4 @@ returns c =
     let is : IsCellOf c.self.inside.ranges c.self.inside.names.bounds.items cell = cell_is c.self.inside.ranges c.self.inside.names.bounds.items cells c.args.near cell c.self.invariant.cells_are lt here in
     let le : c.args.base ≤ c.args.address = omega (arith, c.if-address-base.false) in
     name_at c.self.inside.functions.items c.self.inside.ranges c.args.self.now (string_bytes c.self.inside.names.text) c.self.inside.names.bounds.items c.self.invariant.are c.self.invariant.named c.self.view_is cell is
-    c.args.base c.args.address (c.args.address - c.args.base) c.as_bytes-text.result.now (is_in_file c.args.base c.args.address (c.args.address - c.args.base) le refl) refl c.as_bytes-text.ensures.value (omega arith) (omega arith)
+    c.args.base c.args.address (c.args.address - c.args.base) _ c.as_bytes-text.result.now (is_in_file c.args.base c.args.address (c.args.address - c.args.base) le refl) refl c.as_bytes-text.ensures.value refl (omega arith) (omega (arith, c.from.ensures))

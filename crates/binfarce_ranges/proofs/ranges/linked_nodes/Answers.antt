@@ -1,9 +1,9 @@
 use Rattle.std.proofs.Common.{◌≡◌, ℕ, ◌+◌, List, [], ◌∷◌, ◌++◌, length, length-append, refl, sym, ap, subst, ◌∙◌, arith, inl, inr}
 use Rattle.std.proofs.lemmas.Bool.{cases_lt}
 use Rattle.binfarce_ranges.specs.declared.ranges.Node.{Node}
-use Rattle.binfarce_ranges.specs.machine.Index.{AreLinked, Follows, node_at, range_at, row_at, last_of}
+use Rattle.binfarce_ranges.specs.machine.Index.{AreLinked, Follows, node_at, row_at}
 use Rattle.binfarce_ranges.proofs.Links.{linked_on, old_node, new_node, first_node}
-use Rattle.binfarce_ranges.proofs.ranges.nodes_of.Goals as goal
+use Rattle.binfarce_ranges.proofs.ranges.linked_nodes.Goals as goal
 
 pub loop-row-init : goal.loop-row-init
 loop-row-init c = record {
@@ -11,9 +11,6 @@ loop-row-init c = record {
   count = omega (arith, ap (length {A = Node}) c.in_ok-push.ensures.items, length-append c.in_ok-nodes.nodes.items (record { last = 18446744073709551615; outer = 0; jump = 0; depth = 0 } ∷ []), ap (length {A = Node}) c.in_ok-nodes.ensures.items);
   last = λ k lt. absurd (omega arith);
 }
-
-pub bounds-ranges-row : goal.bounds-ranges-row
-bounds-ranges-row c = (c.requires.row_is c.loop-row.row-index c.loop-row-test.true).0
 
 pub next_node-node-requires : goal.next_node-node-requires
 next_node-node-requires c = subst AreLinked (sym c.deref.ensures.value) c.loop-row.invariant.linked
@@ -34,6 +31,6 @@ loop-row-preserved c =
         | inr ge ↦
             let here : k ≡ i = omega arith in
             ap (λ (ns : List Node). (node_at ns (k + 1)).last) is ∙ ap (λ (n : Node). n.last) (new_node nodes node (k + 1) (omega (arith, c.loop-row.invariant.count)))
-            ∙ c.next_node-node.ensures.last ∙ c.last_address-last.ensures ∙ ap (λ (n : ℕ). last_of (range_at c.args.ranges.now (row_at c.args.rows.now n).place.0)) (sym here)
+            ∙ c.next_node-node.ensures.last ∙ ap (λ (n : ℕ). (row_at c.args.rows.now n).last) (sym here)
       ];
     }

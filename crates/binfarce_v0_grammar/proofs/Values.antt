@@ -1,7 +1,7 @@
 -- What a table says of each byte: what it is worth as a base-62 digit.
-use Rattle.std.proofs.Common.{◌≡◌, ℕ, ◌<◌, ◌≤◌, inl, inr, Bool, true, nat_eq, if◌then◌else◌, List, ◌∷◌, ◌++◌, get_or, refl, ◌∙◌, arith, replicate}
+use Rattle.std.proofs.Common.{◌≡◌, ℕ, zero, suc, ◌<◌, ◌≤◌, inl, inr, Bool, true, false, ◌&&◌, nat_eq, if◌then◌else◌, List, ◌∷◌, ◌++◌, get_or, refl, ◌∙◌, subst, arith, replicate}
 use Rattle.std.proofs.lemmas.Bool.Decides.{nat_tests}
-use Rattle.std.proofs.lemmas.Bool.{agree_below_at, cases_Bool, cond-true, cond-false}
+use Rattle.std.proofs.lemmas.Bool.{cases_Bool, cases_lt, cond-true, cond-false}
 use Rattle.std.specs.Char.{is_ascii_alphanumeric}
 use Rattle.binfarce_v0_grammar.specs.Base62.{digit_62}
 use Rattle.binfarce_v0_grammar.proofs.NumberLemmas.{digit_below}
@@ -13,9 +13,29 @@ values = replicate 48 62 ++ (0 ∷ 1 ∷ 2 ∷ 3 ∷ 4 ∷ 5 ∷ 6 ∷ 7 ∷ 8 �
 abbrev worth : ℕ → ℕ
 worth byte = if is_ascii_alphanumeric byte then digit_62 byte else 62
 
+all_below : ℕ → (ℕ → Bool) → Bool
+all_below zero test = true
+all_below (suc n) test = test n && all_below n test
+
+both : (a b : Bool) → (a && b) ≡ true → (a ≡ true) × (b ≡ true)
+both true true e = (refl, refl)
+both true false e = absurd cc
+both false b e = absurd cc
+
+each_below : (n : ℕ) (test : ℕ → Bool) → all_below n test ≡ true → (i : ℕ) → i < n → test i ≡ true
+unfolding all_below
+each_below zero test all i lt = absurd (omega arith)
+each_below (suc n) test all i lt =
+    let halves = both (test n) (all_below n test) all in
+    let P : ℕ → Type 0 = λ k. test k ≡ true in
+    elim (cases_lt i n) [
+      | inl before ↦ each_below n test halves.1 i before
+      | inr after ↦ let same : n ≡ i = omega arith in subst P same halves.0
+    ]
+
 told : (d byte : ℕ) → byte < 256 → nat_eq (get_or values byte d) (worth byte) ≡ true
-unfolding digit_62
-told d byte lt = agree_below_at (λ i. nat_eq (get_or values i d) (worth i)) (λ _. true) 256 byte refl lt
+unfolding all_below digit_62
+told d byte lt = each_below 256 (λ i. nat_eq (get_or values i d) (worth i)) refl byte lt
 
 value_is : (d byte : ℕ) → byte < 256 → get_or values byte d ≡ worth byte
 value_is d byte lt = by (get_or values byte d) (worth byte) (told d byte lt)

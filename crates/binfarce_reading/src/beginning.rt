@@ -1,6 +1,7 @@
 //! The beginning of a Mach-O or PE file, of which its sections are read.
 
 ghost use Rattle.std.specs.Prelude.{◌≡◌};
+ghost use Rattle.binfarce_reading.specs.BeginningReading.{bytes_of, file_length_of};
 
 /// A file's first bytes, in memory, whose sections are those of the file, and the file's length.
 #[derive(Drop)]
@@ -12,14 +13,14 @@ pub struct Beginning {
 impl Beginning {
     /// The file's first bytes.
     pub fn bytes(&self) -> &[u8]
-        ensures { result.now ≡ self.entry.now.bytes.items }
+        ensures { result.now ≡ bytes_of self.entry.now }
     {
         self.bytes.as_slice()
     }
 
     /// How many bytes the file had when they were read.
     pub fn file_length(&self) -> u64
-        ensures { result ≡ self.now.file_length }
+        ensures { result ≡ file_length_of self.now }
     {
         self.file_length
     }

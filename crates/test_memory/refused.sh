@@ -35,7 +35,7 @@ truncated 7
 counts 8
 without_allocation 1"
 case $crate in
-    test_sections) rows="sections 60" ;;
+    test_sections) rows="sections 140" ;;
     test_reading) rows="reading 80" ;;
 esac
 

@@ -27,6 +27,11 @@ fault_of failures.File = File
 fault_of failures.OutOfMemory = OfSection errors.OutOfMemory
 fault_of failures.Write = OfSection errors.Write
 
+-- the fault that each error of a call is: a file that can't be read is reported as such
+abbrev pub section_fault : SectionError → Fault
+section_fault errors.Unreadable = File
+section_fault e = OfSection e
+
 -- whether a fault is that the arguments are wrong
 abbrev pub is_usage : Fault → Bool
 is_usage Usage = true

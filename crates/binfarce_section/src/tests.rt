@@ -5,7 +5,7 @@ use crate::program::{run, words};
 use binfarce_tools::list::Out;
 use std::alloc::{AllocError, Global};
 use std::io::ErrorKind;
-use test_streams::{READERS, Source, Target, ended_with, failed_with, large_file};
+use test_streams::{HELD, Held, READERS, Source, Target, ended_with, failed_with, large_file};
 
 const USAGE: &str = "usage: binfarce-section FILE [SECTION]";
 
@@ -62,6 +62,25 @@ fn tells_why_nothing_is_written(rt: HostRuntime) -> Result<(), AllocError> {
     Ok(())
 }
 
+#[test]
+fn tells_why_a_file_is_not_read_at_offsets(rt: HostRuntime) -> Result<(), AllocError> {
+    for name in [None, Some(".text")] {
+        for (label, bytes, length, end, want) in &HELD {
+            let mut out = Out::new(Vec::new(rt.alloc()));
+            let mut held = Held {
+                bytes,
+                length: *length,
+                end: *end,
+            };
+            let written = run(rt.alloc(), &mut held, name, &mut out);
+            let is_told = failed_with(rt.alloc(), written, "binfarce-section", want)?;
+            assert!(&rt; is_told, "{label}");
+            assert!(&rt; out.into_inner().is_empty(), "{label}");
+        }
+    }
+    Ok(())
+}
+
 // A Mach-O file without load commands has no sections.
 #[test]
 fn reads_a_large_file(rt: HostRuntime) -> Result<(), AllocError> {
@@ -86,6 +105,31 @@ const PE: &[u8] =
     b"MZ\0\0\0\0\0\0\0\0\0\0\0\0\0\0\0\0\0\0\0\0\0\0\0\0\0\0\0\0\0\0\0\0\0\0\0\0\0\0\0\0\0\0\0\0\0\0\0\0\0\0\0\0\0\0\0\0\0\0\x40\0\0\0\
     PE\0\0\x64\x86\x01\0\0\0\0\0\0\0\0\0\0\0\0\0\0\0\0\0\
     .dep-v0\0\0\0\0\0\0\x10\0\0\x05\0\0\0\x80\0\0\0\0\0\0\0\0\0\0\0\0\0\0\0\0\0\0\0bytes";
+
+// The section is the file's end: where the file became shorter, its lines can be read, and its bytes can't.
+#[test]
+fn reads_a_section_where_it_lies(rt: HostRuntime) -> Result<(), AllocError> {
+    for missing in 0..6 {
+        let mut held = Held {
+            bytes: PE.get(..PE.len().saturating_sub(missing)).unwrap_or(PE),
+            length: PE.len() as u64,
+            end: None,
+        };
+        let mut out = Out::new(Vec::new(rt.alloc()));
+        let listed = run(rt.alloc(), &mut held, None, &mut out);
+        assert!(&rt; listed.is_ok(), "{missing}");
+        let mut out = Out::new(Vec::new(rt.alloc()));
+        let written = run(rt.alloc(), &mut held, Some(".dep-v0"), &mut out);
+        let want = if missing == 0 { "bytes" } else { "" };
+        let is_told = match missing {
+            0 => written.is_ok(),
+            _ => failed_with(rt.alloc(), written, "binfarce-section", "cannot read file")?,
+        };
+        assert!(&rt; is_told, "{missing}");
+        assert!(&rt; out.into_inner().as_slice() == want.as_bytes(), "{missing}");
+    }
+    Ok(())
+}
 
 #[test]
 fn writes_a_section_by_few_bytes(rt: HostRuntime) -> Result<(), AllocError> {

@@ -5,18 +5,13 @@ use Rattle.std.specs.Result.{IsErrAnd}
 use Rattle.binfarce.specs.Refusal.{refusal_of}
 use Rattle.binfarce.specs.Walk.{Walk, first}
 use Rattle.binfarce_sections.specs.declared.error.SectionError.{SectionError}
-use Rattle.binfarce_sections.specs.declared.error.SectionError.TheVariants.{Unknown, Parse, NoSection, NoBytes, PastEnd, OutOfMemory, Write}
+use Rattle.binfarce_sections.specs.declared.error.SectionError.TheVariants.{Unknown, Parse, NoSection, NoBytes, PastEnd, OutOfMemory, Write, Unreadable}
 use Rattle.binfarce_sections.specs.Named.{is_named, bytes_found, bytes_named, unknown_format, refused}
 use Rattle.binfarce_sections.specs.Section.{Section}
 use Rattle.binfarce_sections.specs.Telling.{Hands, TakesLines}
 use Rattle.binfarce_sections.specs.declared.sections.Sections.{Sections}
 use Rattle.binfarce_sections.specs.Views.{Opens}
 use Rattle.binfarce_sections.specs.machine.Found.{Finds}
-
--- what is found in the whole walk is what is found in what is left of it
-abbrev pub GoesOn : Option (Walk Section) → List ℕ → Walk Section → Type 0
-GoesOn None word left = ⊥
-GoesOn (Some walk) word left = first (is_named word) walk ≡ first (is_named word) left
 
 found_not : {X : Type 0} (view : X → List ℕ) (walk : Option (Walk Section)) (file word : List ℕ) (e : SectionError) → Finds walk word (Err e) → Hands view (bytes_named walk file word) (Err e)
 unfolding bytes_named
@@ -28,6 +23,7 @@ found_not view (Some walk) file word NoBytes is = absurd is
 found_not view (Some walk) file word PastEnd is = absurd is
 found_not view (Some walk) file word OutOfMemory is = absurd is
 found_not view (Some walk) file word Write is = absurd is
+found_not view (Some walk) file word Unreadable is = absurd is
 
 -- where no section is found, why is handed on
 pub hands_on : {X : Type 0} (view : X → List ℕ) (walk : Option (Walk Section)) (file word : List ℕ) (e : SectionError) (result : Result X SectionError)

@@ -19,16 +19,19 @@ pub record Section : Type 0 where
   pub size : ℕ
   pub has_bytes : Bool
 
--- of an ELF section: a section of type 8 (SHT_NOBITS) has no bytes in the file (gABI, "Sections")
-abbrev pub elf_section : elf.ElfClass → elf.SectionTable → elf.Section → Section
-elf_section class table s = record {
+-- of an ELF section with such a name: a section of type 8 (SHT_NOBITS) has no bytes in the file (gABI, "Sections")
+abbrev pub elf_named : (elf.Section → Option (List ℕ)) → elf.Section → Section
+elf_named name s = record {
   segment = None;
-  name = elf.name_of class table s;
+  name = name s;
   address = s.address;
   offset = s.offset;
   size = s.size;
   has_bytes = not (nat_eq s.kind 8);
 }
+
+abbrev pub elf_section : elf.ElfClass → elf.SectionTable → elf.Section → Section
+elf_section class table = elf_named (elf.name_of class table)
 
 -- of a Mach-O section: one whose offset is 0, as that of a section that is filled with zeros, has no bytes in the file
 abbrev pub macho_section : macho.Section → Section

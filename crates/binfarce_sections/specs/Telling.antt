@@ -3,9 +3,11 @@ use Rattle.std.specs.Prelude.{◌≡◌, ℕ, List, [], Bool, true, codes, Optio
 use Rattle.std.specs.Io.KnownBytes.{Appends}
 use Rattle.binfarce.specs.Refusal.{refusal_of, words}
 use Rattle.binfarce.specs.Walk.{Walk}
+use Rattle.binfarce_reading.specs.declared.error.ReadError as reading
+use Rattle.binfarce_reading.specs.declared.error.ReadError.TheVariants as read_errors
 use Rattle.binfarce_tools.specs.Writing.{AppendsBeginning}
 use Rattle.binfarce_sections.specs.declared.error.SectionError.{SectionError}
-use Rattle.binfarce_sections.specs.declared.error.SectionError.TheVariants.{Unknown, Parse, NoSection, NoBytes, PastEnd, OutOfMemory, Write}
+use Rattle.binfarce_sections.specs.declared.error.SectionError.TheVariants.{Unknown, Parse, NoSection, NoBytes, PastEnd, OutOfMemory, Write, Unreadable}
 use Rattle.binfarce_sections.specs.Lines.{section_lines}
 use Rattle.binfarce_sections.specs.Named.{Lack, unknown_format, refused, no_section, no_bytes, past_end}
 use Rattle.binfarce_sections.specs.Section.{Section}
@@ -19,6 +21,13 @@ section_words NoBytes = codes "section has no bytes in the file"
 section_words PastEnd = codes "section reaches past the end of the file"
 section_words OutOfMemory = codes "out of memory"
 section_words Write = codes "write failed"
+section_words Unreadable = codes "cannot read file"
+
+-- what an error of a reading is told as: a refusal is the file's
+abbrev pub told_of : reading.ReadError → SectionError
+told_of (read_errors.Refused e) = Parse e
+told_of read_errors.Unreadable = Unreadable
+told_of read_errors.OutOfMemory = OutOfMemory
 
 -- the error is that the bytes can't be had, for this reason
 abbrev pub IsLack : Lack → SectionError → Type 0
@@ -29,6 +38,7 @@ IsLack lack NoBytes = lack ≡ no_bytes
 IsLack lack PastEnd = lack ≡ past_end
 IsLack lack OutOfMemory = ⊥
 IsLack lack Write = ⊥
+IsLack lack Unreadable = ⊥
 
 -- a call gives these bytes, or tells why they can't be had
 abbrev pub Hands : {X : Type 0} → (X → List ℕ) → Result (List ℕ) Lack → Result X SectionError → Type 0
@@ -49,6 +59,18 @@ TakesLines (Some walk) old new (Err (Parse e)) = (walk.refusal ≡ Some (refusal
 TakesLines (Some walk) old new (Err OutOfMemory) = Appends old new []
 TakesLines (Some walk) old new (Err Write) = AppendsBeginning old new (section_lines walk.items)
 TakesLines (Some walk) old new (Err e) = ⊥
+
+-- the same of a source's bytes: where it can't be read, which it may only where it may fail, or an allocation failed, nothing was taken
+abbrev pub TakesRead : Bool → Result (List ℕ) Lack → Option (List ℕ) → Option (List ℕ) → Result (Unit {0}) SectionError → Type 0
+TakesRead may_fail answer old new (Err Unreadable) = (may_fail ≡ true) × Appends old new []
+TakesRead may_fail answer old new (Err OutOfMemory) = Appends old new []
+TakesRead may_fail answer old new result = TakesBytes answer old new result
+
+-- and of the lines of its sections
+abbrev pub TakesReadLines : Bool → Option (Walk Section) → Option (List ℕ) → Option (List ℕ) → Result (Unit {0}) SectionError → Type 0
+TakesReadLines may_fail sections old new (Err Unreadable) = (may_fail ≡ true) × Appends old new []
+TakesReadLines may_fail sections old new (Err OutOfMemory) = Appends old new []
+TakesReadLines may_fail sections old new result = TakesLines sections old new result
 
 -- whether the sink has failed afterwards: where a write failed; anything else leaves it as it was
 abbrev pub Fails : Bool → Bool → Result (Unit {0}) SectionError → Type 0

@@ -1,3 +1,4 @@
 pub mod Opened
 pub mod Found
 pub mod Listed
+pub mod Tables

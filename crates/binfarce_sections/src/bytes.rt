@@ -1,18 +1,25 @@
 //! The bytes of the first section of a name.
 
-ghost use Rattle.std.specs.Prelude.{◌≡◌, ◌∷◌};
+ghost use Rattle.std.specs.Prelude.{◌≡◌, ◌∷◌, ℕ, List, Ok, Some};
+ghost use Rattle.std.specs.Option.{option_map};
 ghost use Rattle.std.specs.Str.{bytes_eq};
 ghost use Rattle.binfarce.specs.Format.{format_of};
+ghost use Rattle.binfarce.specs.Refusal.{Gives, refusal_of};
+ghost use Rattle.binfarce.specs.Walk.{first};
 ghost use Rattle.binfarce_sections.specs.Named.{full_name, is_named, bytes_of, bytes_named};
 ghost use Rattle.binfarce_sections.specs.Section.{sections_of};
-ghost use Rattle.binfarce_sections.specs.Telling.{Hands, TakesBytes, Fails};
-ghost use Rattle.binfarce_sections.specs.Views.{section_view};
+ghost use Rattle.binfarce_sections.specs.Telling.{Hands, TakesBytes, TakesRead, Fails};
+ghost use Rattle.binfarce_sections.specs.Views.{section_view, sections_left};
 ghost use Rattle.binfarce_sections.specs.machine.Found.{Finds};
 
 use crate::error::SectionError;
-use crate::sections::{Section, sections_of};
+use crate::sections::{Section, Sections, sections_of};
+use crate::tables::read_named;
+use binfarce::ParseError;
+use binfarce_source::Source;
 use binfarce_tools::list::Sink;
 use binfarce_tools::writing::write_whole;
+use std::alloc::Global;
 
 /// The bytes of the first section of this name, a part of the file; nothing is copied or allocated.
 ///
@@ -46,14 +53,54 @@ pub fn write_section<S: Sink>(data: &[u8], name: &str, out: &mut S) -> Result<()
     ensures fails { Fails (S.has_failed out.old) (S.has_failed out.new) result }
 {
     let bytes = section_bytes(data, name)?;
+    write_all(bytes, out)
+}
+
+// Writes all of the bytes.
+fn write_all<S: Sink>(bytes: &[u8], out: &mut S) -> Result<(), SectionError>
+    ensures takes { TakesBytes (Ok bytes.now) (S.taken out.old) (S.taken out.new) result }
+    ensures fails { Fails (S.has_failed out.old) (S.has_failed out.new) result }
+{
     write_whole(out, bytes).map_err(|_| SectionError::Write)
+}
+
+/// The same of the bytes of a source, of which only these are read: the first 8 bytes, what `read_sections` of
+/// `binfarce_reading` reads of a file of their format, and the section's bytes, in memory of its size.
+///
+/// # Errors
+///
+/// As `write_section`, and before anything is written `Unreadable` where the source can't be read at offsets, or a read of it
+/// fails, and `OutOfMemory` where an allocation fails.
+pub fn write_section_of<F: Source, S: Sink>(
+    alloc: Global,
+    source: &F,
+    name: &str,
+    out: &mut S,
+) -> Result<(), SectionError>
+    ensures takes { (file : List ℕ) → F.bytes source.now ≡ Some file
+        → TakesRead (F.may_fail source.now) (bytes_named (sections_of (format_of file) file) file name.now) (S.taken out.old) (S.taken out.new) result }
+    ensures fails { Fails (S.has_failed out.old) (S.has_failed out.new) result }
+{
+    let bytes = read_named(alloc, source, name)?;
+    write_all(bytes.as_slice(), out)
 }
 
 // The first section of this name.
 fn first_section<'a>(data: &'a [u8], name: &str) -> Result<Option<Section<'a>>, SectionError>
     ensures { Finds (sections_of (format_of data.entry.now) data.entry.now) name.now result }
 {
-    for section in sections_of(data)? {
+    let sections = sections_of(data)?;
+    Ok(first_in(sections, name)?)
+}
+
+// The first of the sections that are left that has this name.
+pub(crate) fn first_in<'a>(
+    sections: Sections<'a>,
+    name: &str,
+) -> Result<Option<Section<'a>>, ParseError>
+    ensures { Gives refusal_of (option_map section_view) (first (is_named name.now) (sections_left sections.entry)) result }
+{
+    for section in sections {
         let section = section?;
         if is_named(&section, name) {
             return Ok(Some(section));

@@ -3,6 +3,7 @@
 ghost use Rattle.std.specs.Prelude.{◌≡◌, Some};
 
 use binfarce::ParseError;
+use binfarce_reading::ReadError;
 use std::alloc::AllocError;
 use std::error::Error;
 use std::fmt;
@@ -24,6 +25,8 @@ pub enum SectionError {
     OutOfMemory,
     /// A write of the sink failed. What it took before is a beginning of what was due.
     Write,
+    /// The source can't be read at offsets, or a read of it failed, as where it became shorter. Bytes in memory never are it.
+    Unreadable,
 }
 
 impl fmt::Display for SectionError {
@@ -40,6 +43,7 @@ impl fmt::Display for SectionError {
             SectionError::PastEnd => write!(f, "section reaches past the end of the file"),
             SectionError::OutOfMemory => write!(f, "out of memory"),
             SectionError::Write => write!(f, "write failed"),
+            SectionError::Unreadable => write!(f, "cannot read file"),
         }
     }
 }
@@ -63,5 +67,20 @@ impl From<AllocError> for SectionError {
 
     fn from(_: AllocError) -> Self {
         SectionError::OutOfMemory
+    }
+}
+
+impl From<ReadError> for SectionError {
+    ghost use Rattle.binfarce_sections.specs.Telling.{told_of};
+
+    ghost from_gives = { λ e s. s ≡ told_of e };
+
+    /// A refusal is that of the file.
+    fn from(e: ReadError) -> Self {
+        match e {
+            ReadError::Refused(e) => SectionError::Parse(e),
+            ReadError::Unreadable => SectionError::Unreadable,
+            ReadError::OutOfMemory => SectionError::OutOfMemory,
+        }
     }
 }

@@ -5,3 +5,4 @@ pub mod bytes;
 pub mod error;
 pub mod list;
 pub mod sections;
+mod tables;

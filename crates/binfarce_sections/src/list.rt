@@ -1,18 +1,20 @@
 //! Lists the sections of an executable, a line each.
 
-ghost use Rattle.std.specs.Prelude.{◌≡◌, ◌++◌, OnOk, IfOk};
+ghost use Rattle.std.specs.Prelude.{◌≡◌, ◌++◌, ℕ, List, Some, OnOk, IfOk};
 ghost use Rattle.std.specs.Option.{option_map};
 ghost use Rattle.std.specs.String.{string_bytes};
 ghost use Rattle.binfarce.specs.Format.{format_of};
 ghost use Rattle.binfarce_sections.specs.Lines.{section_line, line_head, name_text};
 ghost use Rattle.binfarce_sections.specs.Section.{sections_of};
-ghost use Rattle.binfarce_sections.specs.Telling.{TakesLines, Fails};
+ghost use Rattle.binfarce_sections.specs.Telling.{TakesLines, TakesReadLines, Fails};
 ghost use Rattle.binfarce_sections.specs.Views.{section_view, sections_left};
 ghost use Rattle.binfarce_sections.specs.machine.Listed.{Lists};
 
 use crate::error::SectionError;
 use crate::sections::{Section, Sections, sections_of};
+use crate::tables::read;
 use binfarce::ParseError;
+use binfarce_source::Source;
 use binfarce_tools::list::Sink;
 use binfarce_tools::writing::write_whole;
 use std::alloc::{AllocError, Global};
@@ -37,6 +39,39 @@ pub fn list_sections<S: Sink>(alloc: Global, data: &[u8], out: &mut S) -> Result
         Ok(sections) => sections,
         Err(e) => return Err(e),
     };
+    write_lines(alloc, sections, out)
+}
+
+/// The same of the bytes of a source, of which only these are read: the first 8 bytes, and what `read_sections` of
+/// `binfarce_reading` reads of a file of their format.
+///
+/// # Errors
+///
+/// As `list_sections`, and `Unreadable` where the source can't be read at offsets, or a read of it fails: nothing is written
+/// then.
+pub fn list_source<F: Source, S: Sink>(
+    alloc: Global,
+    source: &F,
+    out: &mut S,
+) -> Result<(), SectionError>
+    ensures takes { (file : List ℕ) → F.bytes source.now ≡ Some file
+        → TakesReadLines (F.may_fail source.now) (sections_of (format_of file) file) (S.taken out.old) (S.taken out.new) result }
+    ensures fails { Fails (S.has_failed out.old) (S.has_failed out.new) result }
+{
+    let tables = read(alloc, source)?;
+    let sections = tables.sections()?;
+    write_lines(alloc, sections, out)
+}
+
+// Writes the lines of all sections that are left.
+fn write_lines<S: Sink>(
+    alloc: Global,
+    sections: Sections<'_>,
+    out: &mut S,
+) -> Result<(), SectionError>
+    ensures takes { TakesLines (Some (sections_left sections.entry)) (S.taken out.old) (S.taken out.new) result }
+    ensures fails { Fails (S.has_failed out.old) (S.has_failed out.new) result }
+{
     let (text, refusal) = lines_of(alloc, sections)?;
     write_whole(out, text.as_bytes()).map_err(|_| SectionError::Write)?;
     match refusal {

@@ -1,6 +1,7 @@
 //! The sections of a file of any format, one after the other.
 
 ghost use Rattle.std.specs.Prelude.{◌≡◌};
+ghost use Rattle.std.specs.Option.{option_map};
 ghost use Rattle.binfarce.specs.Elf as elf;
 ghost use Rattle.binfarce.specs.ElfViews as elf_views;
 ghost use Rattle.binfarce.specs.Format.{format_of};
@@ -8,8 +9,9 @@ ghost use Rattle.binfarce.specs.MachoViews as macho_views;
 ghost use Rattle.binfarce.specs.PeViews as pe_views;
 ghost use Rattle.binfarce.specs.Refusal.{refusal_of};
 ghost use Rattle.binfarce.specs.Walk.{YieldsNext};
-ghost use Rattle.binfarce_sections.specs.Section.{elf_section, macho_section, pe_section, pe_size, mapped, sections_of, elf_sections, macho_sections, pe_sections};
-ghost use Rattle.binfarce_sections.specs.Views.{section_view, elf32_left, elf64_left, Opens};
+ghost use Rattle.binfarce_reading.specs.SectionReading.{sections_view};
+ghost use Rattle.binfarce_sections.specs.Section.{elf_named, macho_section, pe_section, pe_size, mapped, sections_of, elf_sections, macho_sections, pe_sections};
+ghost use Rattle.binfarce_sections.specs.Views.{section_view, sections_left, elf32_left, elf64_left, elf32_name, elf64_name, Opens};
 ghost use Rattle.binfarce_sections.specs.machine.Opened.{OpensWalk};
 
 use crate::error::SectionError;
@@ -47,18 +49,32 @@ pub enum Sections<'a> {
     Pe(pe::Sections<'a>),
 }
 
-/// The sections of a 32-bit ELF file that are left, and the file, which has their names.
+/// The sections of a 32-bit ELF file that are left, and what has their names.
 #[derive(Drop)]
 pub struct Elf32Sections<'a> {
-    file: elf32::Elf32<'a>,
+    names: Elf32Names<'a>,
     left: elf32::Sections<'a>,
 }
 
-/// The sections of a 64-bit ELF file that are left, and the file, which has their names.
+// What has the names of the sections of a 32-bit ELF file: the whole file, or what was read of it.
+#[derive(Drop)]
+enum Elf32Names<'a> {
+    File(elf32::Elf32<'a>),
+    Parts(&'a binfarce_reading::elf32::SectionParts),
+}
+
+/// The sections of a 64-bit ELF file that are left, and what has their names.
 #[derive(Drop)]
 pub struct Elf64Sections<'a> {
-    file: elf64::Elf64<'a>,
+    names: Elf64Names<'a>,
     left: elf64::Sections<'a>,
+}
+
+// What has the names of the sections of a 64-bit ELF file: the whole file, or what was read of it.
+#[derive(Drop)]
+enum Elf64Names<'a> {
+    File(elf64::Elf64<'a>),
+    Parts(&'a binfarce_reading::elf64::SectionParts),
 }
 
 impl<'a> Iterator for Sections<'a> {
@@ -106,7 +122,17 @@ fn open_elf32(data: &[u8], byte_order: ByteOrder) -> Result<Sections<'_>, ParseE
 {
     let file = elf32::parse(data, byte_order)?;
     let left = file.sections();
-    Ok(Sections::Elf32(Elf32Sections { file, left }))
+    let names = Elf32Names::File(file);
+    Ok(Sections::Elf32(Elf32Sections { names, left }))
+}
+
+// The sections of a file, by what was read of it.
+pub(crate) fn elf32_sections(parts: &binfarce_reading::elf32::SectionParts) -> Sections<'_>
+    ensures { let seen = sections_view elf.elf32 parts.entry.now in sections_left result ≡ mapped (elf_named seen.name) seen.sections }
+{
+    let left = parts.sections();
+    let names = Elf32Names::Parts(parts);
+    Sections::Elf32(Elf32Sections { names, left })
 }
 
 #[tactic(auto, using(crate::proofs::Opening::of_64_bits))]
@@ -115,17 +141,27 @@ fn open_elf64(data: &[u8], byte_order: ByteOrder) -> Result<Sections<'_>, ParseE
 {
     let file = elf64::parse(data, byte_order)?;
     let left = file.sections();
-    Ok(Sections::Elf64(Elf64Sections { file, left }))
+    let names = Elf64Names::File(file);
+    Ok(Sections::Elf64(Elf64Sections { names, left }))
 }
 
-fn open_macho(data: &[u8]) -> Result<Sections<'_>, ParseError>
+// The sections of a file, by what was read of it.
+pub(crate) fn elf64_sections(parts: &binfarce_reading::elf64::SectionParts) -> Sections<'_>
+    ensures { let seen = sections_view elf.elf64 parts.entry.now in sections_left result ≡ mapped (elf_named seen.name) seen.sections }
+{
+    let left = parts.sections();
+    let names = Elf64Names::Parts(parts);
+    Sections::Elf64(Elf64Sections { names, left })
+}
+
+pub(crate) fn open_macho(data: &[u8]) -> Result<Sections<'_>, ParseError>
     ensures { OpensWalk (macho_sections data.entry.now) result }
 {
     let file = macho::parse(data)?;
     Ok(Sections::Macho(file.sections()))
 }
 
-fn open_pe(data: &[u8]) -> Result<Sections<'_>, ParseError>
+pub(crate) fn open_pe(data: &[u8]) -> Result<Sections<'_>, ParseError>
     ensures { OpensWalk (pe_sections data.entry.now) result }
 {
     let file = pe::parse(data)?;
@@ -138,7 +174,7 @@ impl<'a> Elf32Sections<'a> {
         ensures { YieldsNext refusal_of section_view (elf32_left self.old) result (elf32_left self.new) }
     {
         match self.left.next() {
-            Some(Ok(section)) => Some(Ok(elf32_section(&self.file, section))),
+            Some(Ok(section)) => Some(Ok(elf32_section(&self.names, section))),
             Some(Err(e)) => Some(Err(e)),
             None => None,
         }
@@ -151,7 +187,7 @@ impl<'a> Elf64Sections<'a> {
         ensures { YieldsNext refusal_of section_view (elf64_left self.old) result (elf64_left self.new) }
     {
         match self.left.next() {
-            Some(Ok(section)) => Some(Ok(elf64_section(&self.file, section))),
+            Some(Ok(section)) => Some(Ok(elf64_section(&self.names, section))),
             Some(Err(e)) => Some(Err(e)),
             None => None,
         }
@@ -178,12 +214,12 @@ fn next_pe<'a>(left: &mut pe::Sections<'a>) -> Option<Result<Section<'a>, ParseE
     }
 }
 
-fn elf32_section<'a>(file: &elf32::Elf32<'a>, section: elf32::Section) -> Section<'a>
-    ensures { section_view result ≡ elf_section elf.elf32 (elf.section_table elf.elf32 file.now) (elf_views.section_view (λ n. n) section) }
+fn elf32_section<'a>(names: &Elf32Names<'a>, section: elf32::Section) -> Section<'a>
+    ensures { section_view result ≡ elf_named (elf32_name names.now) (elf_views.section_view (λ n. n) section) }
 {
     Section {
         segment: None,
-        name: section.name(file),
+        name: elf32_name(names, &section),
         address: u64::from(section.address()),
         offset: u64::from(section.offset()),
         size: u64::from(section.size()),
@@ -191,16 +227,34 @@ fn elf32_section<'a>(file: &elf32::Elf32<'a>, section: elf32::Section) -> Sectio
     }
 }
 
-fn elf64_section<'a>(file: &elf64::Elf64<'a>, section: elf64::Section) -> Section<'a>
-    ensures { section_view result ≡ elf_section elf.elf64 (elf.section_table elf.elf64 file.now) (elf_views.section_view (λ n. n) section) }
+fn elf32_name<'a>(names: &Elf32Names<'a>, section: &elf32::Section) -> Option<&'a str>
+    ensures { option_map (λ t. t.now) result ≡ elf32_name names.now (elf_views.section_view (λ n. n) section.now) }
+{
+    match names {
+        Elf32Names::File(file) => section.name(file),
+        Elf32Names::Parts(parts) => parts.name(section),
+    }
+}
+
+fn elf64_section<'a>(names: &Elf64Names<'a>, section: elf64::Section) -> Section<'a>
+    ensures { section_view result ≡ elf_named (elf64_name names.now) (elf_views.section_view (λ n. n) section) }
 {
     Section {
         segment: None,
-        name: section.name(file),
+        name: elf64_name(names, &section),
         address: section.address(),
         offset: section.offset(),
         size: section.size(),
         has_bytes: section.section_type() != SHT_NOBITS,
+    }
+}
+
+fn elf64_name<'a>(names: &Elf64Names<'a>, section: &elf64::Section) -> Option<&'a str>
+    ensures { option_map (λ t. t.now) result ≡ elf64_name names.now (elf_views.section_view (λ n. n) section.now) }
+{
+    match names {
+        Elf64Names::File(file) => section.name(file),
+        Elf64Names::Parts(parts) => parts.name(section),
     }
 }
 

@@ -1,9 +1,9 @@
 //! Files, their lines, and the bytes of one of their sections.
 
 use crate::expected::Expected;
-use binfarce_sections::bytes::write_section;
+use binfarce_sections::bytes::{write_section, write_section_of};
 use binfarce_sections::error::SectionError;
-use binfarce_sections::list::list_sections;
+use binfarce_sections::list::{list_sections, list_source};
 use binfarce_tools::list::Out;
 use std::alloc::{AllocError, Global};
 use test_samples::elf::Layout;
@@ -142,15 +142,27 @@ pub(crate) fn given_by_samples(alloc: Global) -> Rows {
 fn is_right(alloc: Global, row: &Row) -> Result<bool, AllocError> {
     let (_, sample, patches, lines, name, bytes) = row;
     let file = patched(alloc, sample.bytes(), patches)?;
+    let source = file.as_slice();
     let mut out = Out::new(Expected::new(bytes));
-    let written = write_section(&file, name, &mut out);
-    if written.is_err() || !out.into_inner().is_whole() {
-        return Ok(false);
-    }
+    let written = write_section(source, name, &mut out);
+    let is_written = is_whole(written, out)?;
+    let mut out = Out::new(Expected::new(bytes));
+    let written = write_section_of(alloc, &source, name, &mut out);
+    let is_read = is_whole(written, out)?;
     let mut out = Out::new(Expected::new(lines.as_bytes()));
-    match list_sections(alloc, &file, &mut out) {
-        Ok(()) => Ok(out.into_inner().is_whole()),
-        Err(SectionError::OutOfMemory) if out.into_inner().is_empty => Err(AllocError),
+    let listed = list_sections(alloc, source, &mut out);
+    let is_listed = is_whole(listed, out)?;
+    let mut out = Out::new(Expected::new(lines.as_bytes()));
+    let listed = list_source(alloc, &source, &mut out);
+    Ok(is_written && is_read && is_listed && is_whole(listed, out)?)
+}
+
+// Whether all was written; an error where an allocation failed, before anything was.
+fn is_whole(ended: Result<(), SectionError>, out: Out<Expected<'_>>) -> Result<bool, AllocError> {
+    let out = out.into_inner();
+    match ended {
+        Ok(()) => Ok(out.is_whole()),
+        Err(SectionError::OutOfMemory) if out.is_empty => Err(AllocError),
         Err(_) => Ok(false),
     }
 }

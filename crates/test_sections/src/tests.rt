@@ -1,3 +1,4 @@
 mod bytes;
+mod fronts;
 mod lines;
 mod prefixes;

@@ -1,13 +1,15 @@
 -- What is found before its bytes are cut.
-use Rattle.std.specs.Prelude.{◌≡◌, ℕ, List, Option, Some, None, Result, Ok, Err}
+use Rattle.std.specs.Prelude.{◌≡◌, ℕ, Bool, true, List, Vec, Option, Some, None, Result, Ok, Err}
+use Rattle.std.specs.Global.{Global}
 use Rattle.std.specs.Option.{option_map}
 use Rattle.binfarce.specs.Refusal.{refusal_of}
 use Rattle.binfarce.specs.Walk.{Walk, first}
 use Rattle.binfarce_sections.specs.declared.error.SectionError.{SectionError}
-use Rattle.binfarce_sections.specs.declared.error.SectionError.TheVariants.{Unknown, Parse}
+use Rattle.binfarce_sections.specs.declared.error.SectionError.TheVariants.{Unknown, Parse, OutOfMemory, Unreadable}
 use Rattle.binfarce_sections.specs.declared.sections.Section as code
-use Rattle.binfarce_sections.specs.Named.{is_named}
+use Rattle.binfarce_sections.specs.Named.{is_named, Lack}
 use Rattle.binfarce_sections.specs.Section.{Section}
+use Rattle.binfarce_sections.specs.Telling.{IsLack}
 use Rattle.binfarce_sections.specs.Views.{section_view}
 
 -- the first section that the word names, or why the walk doesn't come to it
@@ -17,3 +19,10 @@ Finds (Some walk) word (Err (Parse e)) = first (is_named word) walk ≡ Err (ref
 Finds (Some walk) word (Err e) = ⊥
 Finds None word (Ok found) = ⊥
 Finds None word (Err e) = e ≡ Unknown
+
+-- the bytes that a search gives, read from a source: or why there are none; or it can't be read, where it may fail, or an allocation failed
+abbrev pub ReadsBytes : Bool → Result (List ℕ) Lack → Result (Vec ℕ Global) SectionError → Type 0
+ReadsBytes may_fail answer (Ok v) = answer ≡ Ok v.items
+ReadsBytes may_fail answer (Err Unreadable) = may_fail ≡ true
+ReadsBytes may_fail answer (Err OutOfMemory) = Unit {0}
+ReadsBytes may_fail answer (Err e) = (lack : Lack) × (answer ≡ Err lack) × IsLack lack e

@@ -1,5 +1,6 @@
 //! The lines of sections.
 
+use super::fronts::are_alike;
 use crate::rows::{File, ROWS, given_by_samples};
 use binfarce::ParseError;
 use binfarce_sections::error::SectionError;
@@ -98,6 +99,7 @@ fn lines(rt: HostRuntime) -> Result<(), Fail> {
         let file = patched(rt.alloc(), file.bytes(), patches)?;
         let text = listed(rt.alloc(), &file)?;
         assert_eq!(rt; text.as_slice(), want.as_bytes(), "{what}");
+        assert!(rt; are_alike(rt.alloc(), &file, ".text")?, "{what}");
     }
     Ok(())
 }

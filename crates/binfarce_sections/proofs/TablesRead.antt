@@ -1,0 +1,153 @@
+-- What was read of a file has its sections.
+use Rattle.std.proofs.Common.{◌≡◌, ℕ, Bool, true, false, cond, ltb, List, length, Option, Some, None, Result, Ok, Err, refl, sym, ap, subst, ◌∙◌}
+use Rattle.std.specs.Prelude.{IfSome}
+use Rattle.std.specs.Result.{IsErr, IsErrAnd}
+use Rattle.binfarce.specs.declared.ByteOrder.{ByteOrder}
+use Rattle.binfarce.specs.declared.Format.{Format}
+use Rattle.binfarce.specs.declared.Format.TheVariants as formats
+use Rattle.binfarce.specs.Elf as elf
+use Rattle.binfarce.specs.Elf.{elf32, elf64}
+use Rattle.binfarce.specs.Format.{format_of}
+use Rattle.binfarce.specs.Macho as macho
+use Rattle.binfarce.specs.Pe as pe
+use Rattle.binfarce.specs.Refusal.{Refusal, refusal_of, unexpected_eof}
+use Rattle.binfarce.specs.Walk.{Walk, ended}
+use Rattle.binfarce_reading.specs.BeginningReading as beginning
+use Rattle.binfarce_reading.specs.BeginningReading.{ReadsBeginning}
+use Rattle.binfarce_reading.specs.Reading.{Reads}
+use Rattle.binfarce_reading.specs.SectionReading.{FileSections, file_sections}
+use Rattle.binfarce_reading.specs.declared.error.ReadError.{ReadError}
+use Rattle.binfarce_reading.specs.declared.error.ReadError.TheVariants.{Refused, Unreadable, OutOfMemory}
+use Rattle.binfarce_sections.specs.Section.{Section, elf_named, macho_section, pe_section, mapped, sections_of, elf_sections, macho_sections, pe_sections}
+use Rattle.binfarce_sections.specs.Views.{Opens}
+use Rattle.binfarce_sections.specs.declared.error.SectionError.TheVariants as errors
+use Rattle.binfarce_sections.specs.declared.sections.Sections.{Sections}
+use Rattle.binfarce_sections.specs.declared.tables.Tables.{Tables}
+use Rattle.binfarce_sections.specs.declared.tables.Tables.TheVariants.{Elf32, Elf64, Macho, Pe, Unknown}
+use Rattle.binfarce_sections.specs.machine.Tables.{Has, AreTablesOf, HasLength, ReadsTables}
+
+-- what a step gave of a known file
+pub taken : {Y : Type 0} {a b : Y} → Path (Result Y Refusal) (Ok a) (Ok b) → b ≡ a
+taken step = cc
+
+-- what a source says of its length is the file's
+pub length_told : (known : Option (List ℕ)) (file : List ℕ) (len : ℕ) → known ≡ Some file → IfSome known (λ all. len ≡ length all) → len ≡ length file
+length_told None file len is told = absurd cc
+length_told (Some bytes) file len is told =
+    let same : bytes ≡ file = cc in
+    told ∙ ap length same
+
+-- the sections of a file are those of its format
+pub of_elf32 : (order : ByteOrder) (file : List ℕ) → format_of file ≡ formats.Elf32 order → Has file (elf_sections elf32 order file)
+unfolding sections_of
+of_elf32 order file format = ap (λ (f : Format). sections_of f file) format
+
+pub of_elf64 : (order : ByteOrder) (file : List ℕ) → format_of file ≡ formats.Elf64 order → Has file (elf_sections elf64 order file)
+unfolding sections_of
+of_elf64 order file format = ap (λ (f : Format). sections_of f file) format
+
+pub of_macho : (file : List ℕ) → format_of file ≡ formats.Macho → Has file (macho_sections file)
+unfolding sections_of
+of_macho file format = ap (λ (f : Format). sections_of f file) format
+
+pub of_pe : (file : List ℕ) → format_of file ≡ formats.PE → Has file (pe_sections file)
+unfolding sections_of
+of_pe file format = ap (λ (f : Format). sections_of f file) format
+
+pub of_unknown : (file : List ℕ) → format_of file ≡ formats.Unknown → sections_of (format_of file) file ≡ None
+unfolding sections_of
+of_unknown file format = ap (λ (f : Format). sections_of f file) format
+
+-- what a reading gives of a format, as a walk of sections of any format
+abbrev pub walk_of : {S : Type 0} → (S → Walk Section) → Result S Refusal → Walk Section
+walk_of seen (Ok s) = seen s
+walk_of seen (Err refusal) = ended (Some refusal)
+
+abbrev pub elf_walk : FileSections → Walk Section
+elf_walk seen = mapped (elf_named seen.name) seen.sections
+
+abbrev table_of : elf.ElfClass → ByteOrder → List ℕ → elf.SectionTable
+table_of class order file = elf.section_table class (record { order = order; bytes = file })
+
+abbrev whole : elf.ElfClass → ByteOrder → List ℕ → FileSections
+whole class order file = record { sections = elf.walk class (table_of class order file); name = elf.name_of class (table_of class order file); file_length = length file }
+
+pub elf_is : (class : elf.ElfClass) (order : ByteOrder) (file : List ℕ) → elf_sections class order file ≡ walk_of elf_walk (file_sections class order file)
+elf_is class order file = by_test (ltb (length file) class.header_length)
+  where
+    by_test : (short : Bool) → cond short (ended (Some unexpected_eof)) (elf_walk (whole class order file)) ≡ walk_of elf_walk (cond short (Err unexpected_eof) (Ok (whole class order file)))
+    by_test true = refl
+    by_test false = refl
+
+pub macho_is : (file : List ℕ) → macho_sections file ≡ walk_of (mapped macho_section) (beginning.macho_sections file)
+macho_is file = by_test (ltb (length file) macho.least_length)
+  where
+    by_test : (short : Bool) → cond short (ended (Some unexpected_eof)) (mapped macho_section (macho.walk file)) ≡ walk_of (mapped macho_section) (cond short (Err unexpected_eof) (Ok (macho.walk file)))
+    by_test true = refl
+    by_test false = refl
+
+pub pe_is : (file : List ℕ) → pe_sections file ≡ walk_of (mapped pe_section) (beginning.pe_sections file)
+pe_is file = by_test (ltb (length file) (pe.least_length file))
+  where
+    by_test : (short : Bool) → cond short (ended (Some unexpected_eof)) (mapped pe_section (pe.walk file)) ≡ walk_of (mapped pe_section) (cond short (Err unexpected_eof) (Ok (pe.walk file)))
+    by_test true = refl
+    by_test false = refl
+
+-- the length that a reading gives is the file's
+pub elf_long : (class : elf.ElfClass) (order : ByteOrder) (file : List ℕ) (seen : FileSections) → file_sections class order file ≡ Ok seen → seen.file_length ≡ length file
+elf_long class order file seen is = by_test (ltb (length file) class.header_length) is
+  where
+    by_test : (short : Bool) → Path (Result FileSections Refusal) (cond short (Err unexpected_eof) (Ok (whole class order file))) (Ok seen) → seen.file_length ≡ length file
+    by_test true is = absurd cc
+    by_test false is = ap (λ (s : FileSections). s.file_length) (taken is)
+
+-- the sections of what was read of an ELF file
+pub elf_has : (class : elf.ElfClass) (order : ByteOrder) (file : List ℕ) (seen : FileSections) → Has file (elf_sections class order file) → file_sections class order file ≡ Ok seen
+    → Has file (elf_walk seen) × (seen.file_length ≡ length file)
+elf_has class order file seen of_class is = (of_class ∙ ap Some (elf_is class order file ∙ ap (walk_of elf_walk) is), elf_long class order file seen is)
+
+-- and of a beginning
+pub macho_has : (file bytes : List ℕ) → Has file (macho_sections file) → beginning.macho_sections bytes ≡ beginning.macho_sections file → Has file (macho_sections bytes)
+macho_has file bytes of_format same = of_format ∙ ap Some (macho_is file ∙ ap (walk_of (mapped macho_section)) (sym same) ∙ sym (macho_is bytes))
+
+pub pe_has : (file bytes : List ℕ) → Has file (pe_sections file) → beginning.pe_sections bytes ≡ beginning.pe_sections file → Has file (pe_sections bytes)
+pe_has file bytes of_format same = of_format ∙ ap Some (pe_is file ∙ ap (walk_of (mapped pe_section)) (sym same) ∙ sym (pe_is bytes))
+
+-- why nothing was read, as `?` passes it on
+not_read : {S X : Type 0} (may_fail : Bool) (view : X → S) (seen : S → Walk Section) (answer : Result S Refusal) (file : List ℕ) (e : ReadError)
+    → Has file (walk_of seen answer) → Reads may_fail view answer (Err e) → ReadsTables may_fail file (Err e)
+not_read may_fail view seen answer file (Refused p) has reads = has ∙ ap (λ (a : Result _ Refusal). Some (walk_of seen a)) reads
+not_read may_fail view seen answer file Unreadable has reads = reads
+not_read may_fail view seen answer file OutOfMemory has reads = tt
+
+passed_on : (may_fail : Bool) (file : List ℕ) (e : ReadError) (r : Result Tables ReadError) → ReadsTables may_fail file (Err e) → (IsErr r × IsErrAnd r (λ x. x ≡ e)) → ReadsTables may_fail file r
+passed_on may_fail file e (Ok x) step err = let never : false ≡ true = err.0 in absurd cc
+passed_on may_fail file e (Err x) step err = subst (λ (error : ReadError). ReadsTables may_fail file (Err error)) (sym err.1) step
+
+pub unread : {S X : Type 0} (may_fail : Bool) (view : X → S) (seen : S → Walk Section) (answer : Result S Refusal) (file : List ℕ) (e : ReadError) (r : Result Tables ReadError)
+    → Has file (walk_of seen answer) → Reads may_fail view answer (Err e) → (IsErr r × IsErrAnd r (λ x. x ≡ e)) → ReadsTables may_fail file r
+unread may_fail view seen answer file e r has reads err = passed_on may_fail file e r (not_read may_fail view seen answer file e has reads) err
+
+not_begun : {S : Type 0} (may_fail : Bool) (seen : S → Walk Section) (answer : List ℕ → Result S Refusal) (file : List ℕ) (e : ReadError)
+    → Has file (walk_of seen (answer file)) → ReadsBeginning may_fail answer file (Err e) → ReadsTables may_fail file (Err e)
+not_begun may_fail seen answer file (Refused p) has reads = has ∙ ap (λ (a : Result _ Refusal). Some (walk_of seen a)) reads
+not_begun may_fail seen answer file Unreadable has reads = reads
+not_begun may_fail seen answer file OutOfMemory has reads = tt
+
+pub unbegun : {S : Type 0} (may_fail : Bool) (seen : S → Walk Section) (answer : List ℕ → Result S Refusal) (file : List ℕ) (e : ReadError) (r : Result Tables ReadError)
+    → Has file (walk_of seen (answer file)) → ReadsBeginning may_fail answer file (Err e) → (IsErr r × IsErrAnd r (λ x. x ≡ e)) → ReadsTables may_fail file r
+unbegun may_fail seen answer file e r has reads err = passed_on may_fail file e r (not_begun may_fail seen answer file e has reads) err
+
+-- the length of tables that have sections is the file's
+pub length_is : (file : List ℕ) (tables : Tables) (n : ℕ) (sections : Sections) → AreTablesOf file tables → HasLength tables n → Opens (sections_of (format_of file) file) (Ok sections) → n ≡ length file
+length_is file (Elf32 parts) n sections are has opened = has ∙ are.1
+length_is file (Elf64 parts) n sections are has opened = has ∙ are.1
+length_is file (Macho begun) n sections are has opened = has ∙ are.1
+length_is file (Pe begun) n sections are has opened = has ∙ are.1
+length_is file Unknown n sections are has opened = absurd (subst (λ (w : Option (Walk Section)). Opens w (Ok sections)) (of_unknown file are) opened)
+
+-- a file of an unknown format
+pub unknown_opens : (file : List ℕ) (tables : Tables) → tables ≡ Unknown → AreTablesOf file tables → Opens (sections_of (format_of file) file) (Err errors.Unknown)
+unknown_opens file tables is are =
+    let format : format_of file ≡ formats.Unknown = subst (λ (t : Tables). AreTablesOf file t) is are in
+    subst (λ (w : Option (Walk Section)). Opens w (Err errors.Unknown)) (sym (of_unknown file format)) refl

@@ -1,0 +1,41 @@
+-- What is read of a file for its sections.
+use Rattle.std.specs.Prelude.{◌≡◌, ℕ, Bool, true, List, length, Some, Result, Ok, Err}
+use Rattle.binfarce.specs.declared.Format.TheVariants as formats
+use Rattle.binfarce.specs.Elf.{elf32, elf64}
+use Rattle.binfarce.specs.Format.{format_of}
+use Rattle.binfarce.specs.Refusal.{refusal_of}
+use Rattle.binfarce.specs.Walk.{Walk, ended}
+use Rattle.binfarce_reading.specs.BeginningReading.{bytes_of, file_length_of}
+use Rattle.binfarce_reading.specs.SectionReading.{sections_view}
+use Rattle.binfarce_reading.specs.declared.error.ReadError.{ReadError}
+use Rattle.binfarce_reading.specs.declared.error.ReadError.TheVariants.{Refused, Unreadable, OutOfMemory}
+use Rattle.binfarce_sections.specs.Section.{Section, elf_named, mapped, sections_of, macho_sections, pe_sections}
+use Rattle.binfarce_sections.specs.declared.tables.Tables.{Tables}
+use Rattle.binfarce_sections.specs.declared.tables.Tables.TheVariants.{Elf32, Elf64, Macho, Pe, Unknown}
+
+-- the file's sections are these
+abbrev pub Has : List ℕ → Walk Section → Type 0
+Has file walk = sections_of (format_of file) file ≡ Some walk
+
+-- the sections of what was read are the file's, and so is the length
+abbrev pub AreTablesOf : List ℕ → Tables → Type 0
+AreTablesOf file (Elf32 parts) = let seen = sections_view elf32 parts in Has file (mapped (elf_named seen.name) seen.sections) × (seen.file_length ≡ length file)
+AreTablesOf file (Elf64 parts) = let seen = sections_view elf64 parts in Has file (mapped (elf_named seen.name) seen.sections) × (seen.file_length ≡ length file)
+AreTablesOf file (Macho begun) = Has file (macho_sections (bytes_of begun)) × (file_length_of begun ≡ length file)
+AreTablesOf file (Pe begun) = Has file (pe_sections (bytes_of begun)) × (file_length_of begun ≡ length file)
+AreTablesOf file Unknown = format_of file ≡ formats.Unknown
+
+-- such a length
+abbrev pub HasLength : Tables → ℕ → Type 0
+HasLength (Elf32 parts) n = n ≡ (sections_view elf32 parts).file_length
+HasLength (Elf64 parts) n = n ≡ (sections_view elf64 parts).file_length
+HasLength (Macho begun) n = n ≡ file_length_of begun
+HasLength (Pe begun) n = n ≡ file_length_of begun
+HasLength Unknown n = n ≡ 0
+
+-- what a reading of this file gives: its tables, or the refusal that comes before any section; or a source that may fail can't be read, or an allocation failed
+abbrev pub ReadsTables : Bool → List ℕ → Result Tables ReadError → Type 0
+ReadsTables may_fail file (Ok tables) = AreTablesOf file tables
+ReadsTables may_fail file (Err (Refused e)) = Has file (ended (Some (refusal_of e)))
+ReadsTables may_fail file (Err Unreadable) = may_fail ≡ true
+ReadsTables may_fail file (Err OutOfMemory) = Unit {0}

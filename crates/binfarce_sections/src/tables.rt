@@ -1,0 +1,132 @@
+//! What is read of a file for its sections.
+
+ghost use Rattle.std.specs.Prelude.{◌≡◌, ◌≢◌, ℕ, List, Some, IfErr, length};
+ghost use Rattle.binfarce.specs.Format.{format_of};
+ghost use Rattle.binfarce_sections.specs.Named.{bytes_of, bytes_named};
+ghost use Rattle.binfarce_sections.specs.Section.{sections_of};
+ghost use Rattle.binfarce_sections.specs.Views.{section_view, Opens};
+ghost use Rattle.binfarce_sections.specs.declared.error.SectionError.TheVariants.{Write};
+ghost use Rattle.binfarce_sections.specs.machine.Found.{ReadsBytes};
+ghost use Rattle.binfarce_sections.specs.machine.Tables.{AreTablesOf, ReadsTables, HasLength};
+
+use crate::bytes::first_in;
+use crate::error::SectionError;
+use crate::sections::{Section, Sections, elf32_sections, elf64_sections, open_macho, open_pe};
+use binfarce::Format;
+use binfarce_reading::{Beginning, ReadError, elf32, elf64, macho, part, pe};
+use binfarce_source::Source;
+use binfarce_tools::tables::read_format;
+use std::alloc::Global;
+
+// What was read of a file for its sections.
+#[derive(Drop)]
+pub(crate) enum Tables {
+    Elf32(elf32::SectionParts),
+    Elf64(elf64::SectionParts),
+    Macho(Beginning),
+    Pe(Beginning),
+    Unknown,
+}
+
+impl Tables {
+    // The sections of the file.
+    pub(crate) fn sections(&self) -> Result<Sections<'_>, SectionError>
+        ensures opens { (file : List ℕ) → AreTablesOf file self.entry.now → Opens (sections_of (format_of file) file) result }
+        ensures unwritten { IfErr result (λ e. e ≢ Write) }
+    {
+        match self {
+            Tables::Elf32(parts) => Ok(elf32_sections(parts)),
+            Tables::Elf64(parts) => Ok(elf64_sections(parts)),
+            Tables::Macho(begun) => Ok(open_macho(begun.bytes())?),
+            Tables::Pe(begun) => Ok(open_pe(begun.bytes())?),
+            Tables::Unknown => Err(SectionError::Unknown),
+        }
+    }
+
+    // How many bytes the file had.
+    pub(crate) fn file_length(&self) -> u64
+        ensures { HasLength self.now result }
+    {
+        match self {
+            Tables::Elf32(parts) => parts.file_length(),
+            Tables::Elf64(parts) => parts.file_length(),
+            Tables::Macho(begun) => begun.file_length(),
+            Tables::Pe(begun) => begun.file_length(),
+            Tables::Unknown => 0,
+        }
+    }
+}
+
+// Reads of a file its first bytes, which name its format, and what `binfarce_reading` reads for the sections of a file of
+// that format. Refused where the file is too short for its header.
+pub(crate) fn read<S: Source>(alloc: Global, source: &S) -> Result<Tables, ReadError>
+    ensures { (file : List ℕ) → S.bytes source.now ≡ Some file → ReadsTables (S.may_fail source.now) file result }
+{
+    let len = source.length()? as usize;
+    match read_format(alloc, source, len)? {
+        Format::Elf32 { byte_order } => {
+            let parts = elf32::read_sections(alloc, source, byte_order)?;
+            Ok(Tables::Elf32(parts))
+        }
+        Format::Elf64 { byte_order } => {
+            let parts = elf64::read_sections(alloc, source, byte_order)?;
+            Ok(Tables::Elf64(parts))
+        }
+        Format::Macho => {
+            let begun = macho::read_sections(alloc, source)?;
+            Ok(Tables::Macho(begun))
+        }
+        Format::PE => {
+            let begun = pe::read_sections(alloc, source)?;
+            Ok(Tables::Pe(begun))
+        }
+        Format::Unknown => Ok(Tables::Unknown),
+    }
+}
+
+// The bytes of the first section of this name, read from the source.
+pub(crate) fn read_named<F: Source>(
+    alloc: Global,
+    source: &F,
+    name: &str,
+) -> Result<Vec<u8>, SectionError>
+    ensures unwritten { IfErr result (λ e. e ≢ Write) }
+    ensures reads { (file : List ℕ) → F.bytes source.now ≡ Some file → ReadsBytes (F.may_fail source.now) (bytes_named (sections_of (format_of file) file) file name.now) result }
+{
+    let tables = read(alloc, source)?;
+    let sections = tables.sections()?;
+    let found = first_in(sections, name)?;
+    match found {
+        Some(section) => read_bytes(alloc, source, tables.file_length(), section),
+        None => Err(SectionError::NoSection),
+    }
+}
+
+// The bytes of a section, read from a source of this length.
+#[tactic(auto, unfolding(crate::specs::Named::bytes_of))]
+fn read_bytes<F: Source>(
+    alloc: Global,
+    source: &F,
+    len: u64,
+    section: Section<'_>,
+) -> Result<Vec<u8>, SectionError>
+    ensures unwritten { IfErr result (λ e. e ≢ Write) }
+    ensures reads { (file : List ℕ) → F.bytes source.now ≡ Some file → len ≡ length file → ReadsBytes (F.may_fail source.now) (bytes_of file (section_view section.entry)) result }
+{
+    if !section.has_bytes {
+        return Err(SectionError::NoBytes);
+    }
+    let end = section
+        .offset
+        .checked_add(section.size)
+        .ok_or(SectionError::PastEnd)?;
+    if end > len {
+        return Err(SectionError::PastEnd);
+    }
+    Ok(part(
+        alloc,
+        source,
+        section.offset as usize,
+        section.size as usize,
+    )?)
+}

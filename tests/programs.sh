@@ -60,7 +60,7 @@ for name in list size map; do
 done
 
 # An ELF file of 8 GiB whose tables are small, in 64 MiB of memory.
-for program in binfarce_list binfarce_size binfarce_map; do
+for program in binfarce_list binfarce_size binfarce_map binfarce_section; do
     (ulimit -v 65536 && "crates/$program/out/run/$program" "$scratch/sparse") | cmp "crates/$program/stdout" -
     echo "$program $scratch/sparse: the same in 64 MiB"
 done

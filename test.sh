@@ -1,12 +1,18 @@
 #!/bin/sh
 # Runs all tests: the sizes of crates; definitions that no clause reaches; the documents; the gate (`rt ci`); beside it the
-# wrong bodies, `run` and `install`, the programs that must not compile, and each allocation failing in turn; after it whether
-# the wrong bodies are refused where their list says, and the programs where no stored run can have them.
+# wrong bodies, the tests of crates, `run` and `install`, the programs that must not compile, and each allocation failing in
+# turn; after it whether the wrong bodies are refused where their list says, and the programs where no stored run can have
+# them.
+#
+# Usage: ./test.sh [--whole]
 #
 # The gate runs in a copy of the repository that has no must-fail folders. It would try one wrong body after the other, which
 # takes as long as all proofs; tests/try_wrong_bodies.py tries those of different functions at once, over the libraries that the
-# gate has proved. With another version of the toolchain than tools/build-program knows, the copy has them, and the gate tries
-# them. The last line counts what the gate passed and each wrong body that was refused.
+# gate has proved: of each function the first, and with --whole all. The copy has no tests either: a test is proved not to do
+# what the checks would stop it at when it runs, so tests/crates.sh runs them all, with these checks, in a tenth of the time.
+# With --whole the gate proves and runs them too. With another version of the toolchain than tools/build-program knows, the copy
+# has all, and the gate tries the wrong bodies. The last line counts what the gate passed, each wrong body that was refused, and
+# each test.
 #
 # crates/NAME/must-not-compile/*.txt: code that calls the crate NAME. WHAT_outlives_WHAT.txt begins with `// wants: ERROR`,
 # and must be refused with that error and no other. WHAT_within_WHAT.txt begins with `// compiles`, and must not be refused:
@@ -14,6 +20,10 @@
 # are modules of one crate in a copy of the repository.
 set -eu
 cd "$(dirname "$0")"
+case $* in
+    "" | --whole) whole=$* ;;
+    *) echo "usage: ./test.sh [--whole]" >&2 && exit 2 ;;
+esac
 
 scratch=$(mktemp -d)
 copy="$scratch/copy"
@@ -100,6 +110,7 @@ must_not_compile() {
 beside_the_gate() {
     tests/run.sh
     tests/install.sh
+    tests/crates.sh
     must_not_compile
     crates/test_memory/refused.sh
     crates/test_memory/refused.sh test_sections
@@ -122,10 +133,17 @@ hand_over() {
     done
 }
 
-# The copy in which the gate runs, with these folders left out.
+# The copy in which the gate runs, with these files left out.
 copy_for_the_gate() {
     mkdir "$gate" "$gate/.git"
     tar -c --exclude=.git --exclude=out "$@" . | tar -x -C "$gate"
+}
+
+# The same without tests: those of programs, and the crates that have nothing else, which stand last in crates.txt.
+copy_without_tests() {
+    of_tests=$(sed '1,/^# Tests/d; s|^\([a-z_]*\):.*|--exclude=crates/\1|' crates.txt)
+    copy_for_the_gate --exclude='crates/binfarce_*/src/tests.rt' $of_tests "$@"
+    sed -i '/^# Tests/,$d' "$gate/crates.txt"
 }
 
 bench/count.py >"$scratch/sizes" || { cat "$scratch/sizes" && exit 1; }
@@ -138,8 +156,8 @@ beside=$!
 : >"$scratch/tried"
 case $(sed q "$scratch/binfarce_list") in
     "$(sed -n 's/^known="\(.*\)"$/\1/p' tools/build-program)"*)
-        copy_for_the_gate --exclude=must-fail
-        tests/try_wrong_bodies.py "$gate/crates" "$scratch/proved" >"$scratch/tried" 2>&1 &
+        if [ -n "$whole" ]; then copy_for_the_gate --exclude=must-fail; else copy_without_tests --exclude=must-fail; fi
+        tests/try_wrong_bodies.py $whole "$gate/crates" "$scratch/proved" >"$scratch/tried" 2>&1 &
         trying=$!
         ;;
     *) copy_for_the_gate ;;
@@ -160,13 +178,14 @@ if [ -n "$trying" ]; then
     [ "$status" -eq 0 ] || { echo "$last" && exit 1; }
 fi
 cat "$scratch/proved" "$scratch/tried" >"$scratch/said"
-tests/wrong_bodies.py "$scratch/said"
+if [ -n "$whole" ]; then tests/wrong_bodies.py "$scratch/said"; else tests/wrong_bodies.py --first "$scratch/said"; fi
 case $last in
     *" passed, 0 failed")
         hand_over
         tests/programs.sh
         refused=$(sed -n 's/^wrong bodies: \([0-9]*\) refused, 0 not$/\1/p' "$scratch/said")
-        echo "$((${last%% *} + ${refused:-0})) passed, 0 failed"
+        tested=$(sed -n 's/^tests: \([0-9]*\) passed, 0 failed$/\1/p' "$scratch/beside")
+        echo "$((${last%% *} + ${refused:-0} + tested)) passed, 0 failed"
         ;;
     *) echo "$last" && exit 1 ;;
 esac

@@ -14,8 +14,10 @@ PARTS = ("src", "specs", "proofs")
 # What no body says: a line that begins so belongs to what callers know of a function.
 STATED = re.compile(r"\s*(pub|fn|ghost|impl|trait|const|static|type)\b|\s*#\[")
 CLAUSES = re.compile(r"\s*(ensures|requires)\b")
+# An arm of a match that is one line.
+ARM = re.compile(r"\s*\S.* => .*,")
 # A check takes some seconds for each edit, and sets are tried beside each other.
-MOST = 30
+MOST = 70
 
 
 def files_of(crate):
@@ -41,18 +43,28 @@ class Edit:
 
     def is_of_a_function(self):
         """Whether it turns the body or the clauses of one function alone, beside what its file imports for them, and is refused there."""
-        for file, old, _ in self.pairs:
+        for file, old, new in self.pairs:
             if not file.startswith("src/") or read(f"crates/{self.crate}/{file}").count(old) != 1:
                 return False
             lines, at = line_of(self.crate, file, old)
             if lines[at].startswith("ghost use ") and (file, old) != self.pairs[0][:2]:
                 continue
-            if STATED.match(lines[at]) or key_at(file, lines, at) != self.own or not self.span():
+            if key_at(file, lines, at) != self.own or not self.span():
+                return False
+            if STATED.match(lines[at]) and not self.is_in_body(at) and not (old.endswith("{") and new.startswith(old)):
                 return False
         return self.refused_in == self.own
 
     def turns_clauses(self):
         return any(CLAUSES.match(lines[at]) for lines, at in (line_of(self.crate, *it[:2]) for it in self.pairs))
+
+    def is_of_an_arm(self):
+        """Whether it turns an arm of a match, whose goals are then those of no other arm."""
+        return len(self.pairs) == 1 and bool(ARM.fullmatch(self.lines[self.at]))
+
+    def may_share(self, other):
+        """Whether both may be made in one body: in it each has a goal of its own."""
+        return self.own != other.own or self.is_of_an_arm() and other.is_of_an_arm() and "" != self.goal != other.goal != ""
 
     def span(self):
         """The first line of its function, and the one after its last."""
@@ -65,6 +77,12 @@ class Edit:
         while begin and self.lines[begin - 1].startswith(f"{pad}#["):
             begin -= 1
         return begin, end + 1
+
+    def is_in_body(self, at):
+        """Whether a line stands between the brackets of its function."""
+        begin, end = self.span()
+        pad = re.match(r"\s*", self.lines[begin])[0]
+        return any(re.fullmatch(pad + r"(\S.*)?\{", it) for it in self.lines[begin : min(at, end)])
 
     def impl(self):
         return item_at(self.lines, self.at)[1]
@@ -113,14 +131,26 @@ class Edit:
         return f"must-fail {self.crate}/{self.name}.edit"
 
 
-def in_sets(crate, found):
-    """A crate's edits, those that can be tried at once together, and no more than can be waited for."""
+def chosen(crate, found, every):
+    """A crate's edits: every one, or the first of each function, and what can be tried in the same body."""
+    these = [Edit(at, name, found) for at, name in edits() if at == crate]
+    if every:
+        return these
+    first = []
+    for edit in these:
+        if all(map(edit.may_share, first)):
+            first.append(edit)
+    return first
+
+
+def in_sets(crate, found, every=True):
+    """The same, those that can be tried at once together, and no more than can be waited for."""
     alone, sets = [], []
-    for edit in (Edit(at, name, found) for at, name in edits() if at == crate):
+    for edit in chosen(crate, found, every):
         if not edit.is_of_a_function() or edit.turns_clauses() and not edit.has_copies():
             alone.append([edit])
             continue
-        fitting = next((it for it in sets if len(it) < MOST and (edit.has_copies() or all(edit.own != other.own for other in it))), None)
+        fitting = next((it for it in sets if len(it) < MOST and (edit.has_copies() or all(map(edit.may_share, it)))), None)
         if fitting is None:
             fitting = []
             sets.append(fitting)

@@ -1,7 +1,7 @@
 #!/usr/bin/env python3
-"""Tries all wrong bodies, as many as can be in one check.
+"""Tries wrong bodies, as many as can be in one check: of each function the first, or with --whole all.
 
-    tests/try_wrong_bodies.py CRATES GATE     CRATES: the folder of the crates that `rt ci` proves; GATE: what it prints, as it grows; a line `ended` comes last
+    tests/try_wrong_bodies.py [--whole] CRATES GATE     CRATES: the folder of the crates that `rt ci` proves; GATE: what it prints, as it grows; a line `ended` comes last
 
 What the prover has to show of a function is made of its own body and of the contracts of what it calls, and of no other
 function's body. So the bodies of several functions can be wrong in one check, and each is refused by goals of its own function,
@@ -127,11 +127,14 @@ class Prover:
         if any(is_unread(it) for it in lines):
             return {}
         told, found = [*self.goals_of(sources, lines)], {}
+        bodies = [it.key() for it in these]
         if len(these) > 1 and {key for _, key, _ in told} - {it.key() for it in these}:
             # A function isn't proved that none of them turns: each is to be tried alone.
             return {}
         for edit in these:
-            own = [it for it in told if it[:2] == (edit.goal, edit.key())] or [it for it in told if it[1] == edit.key()]
+            own = [it for it in told if it[:2] == (edit.goal, edit.key())]
+            # Where its body has another edit too, no other goal tells.
+            own = own or [it for it in told if it[1] == edit.key()] if bodies.count(edit.key()) == 1 else own
             # Of an edit that is tried alone any goal tells.
             own = own or told if len(these) == 1 else own
             if own:
@@ -180,11 +183,12 @@ def proved(gate):
     return {*re.findall(r"^rt: (\w+) (?:proved$|is kept: )", text, re.M)}, text.endswith("\nended\n")
 
 
-def main(crates, gate):
+def main(*words):
     os.nice(19)
+    every, (crates, gate) = words[0] == "--whole", words[-2:]
     prover, found = Prover(crates), listed()
     # The largest first.
-    left = [(crate, these) for crate in sorted({it for it, _ in edits()}) for these in in_sets(crate, found)]
+    left = [(crate, these) for crate in sorted({it for it, _ in edits()}) for these in in_sets(crate, found, every)]
     left.sort(key=lambda it: -len(it[1]))
     running, counts = set(), []
     with ThreadPoolExecutor(os.cpu_count() or 1) as pool:

@@ -2,6 +2,7 @@
 """Checks the wrong bodies against their table (docs/WRONG_BODIES.md) and against where the prover refuses them (docs/refusals.txt).
 
     tests/wrong_bodies.py [TRIED]          checks; with TRIED, what tests/try_wrong_bodies.py or `rt must-fail` printed, also that each edit was refused; prints where one was refused elsewhere than the list says
+    tests/wrong_bodies.py --first TRIED    the same where of each function the first was tried
     tests/wrong_bodies.py --write TRIED    writes the list from what was printed
 
 What is checked, for each crates/CRATE/must-fail/MODULE.FUNCTION.EDIT.edit:
@@ -249,6 +250,14 @@ def elsewhere(found, tried):
             yield f"note: {'/'.join(it)}: refused at {function} {goal}, and {LIST} has {listed_function} {listed_goal}"
 
 
+def first_of(known, found):
+    """The edits that are tried where not every one is."""
+    # edits.py stands on what is here.
+    from edits import chosen
+
+    return [(it.crate, it.name) for crate in sorted({crate for crate, _ in known}) for it in chosen(crate, found, every=False)]
+
+
 def main(words):
     if words[:1] == ["--write"] and len(words) == 2:
         with open(words[1], encoding="utf-8", errors="replace") as file:
@@ -257,12 +266,13 @@ def main(words):
             file.write(HEAD + "".join(f"{' '.join([*it, *tried[it]])}\n" for it in sorted(tried)))
         return 0
     known, found = list(edits()), listed()
+    to_try = first_of(known, found) if words[:1] == ["--first"] else known
     wrong, said = wrong_table(known)
     wrong += [*wrong_places(known), *wrong_refusals(known, said, found)]
     if words:
-        with open(words[0], encoding="utf-8", errors="replace") as file:
+        with open(words[-1], encoding="utf-8", errors="replace") as file:
             tried = refusals(file.read())
-        wrong += [f"{'/'.join(it)}: it wasn't refused" for it in known if it not in tried]
+        wrong += [f"{'/'.join(it)}: it wasn't refused" for it in to_try if it not in tried]
         print("".join(f"{it}\n" for it in elsewhere(found, tried)), end="")
     print("\n".join(wrong or [f"wrong bodies: {len(known)} edits, each in one row, in the function that it names and in {LIST}"]))
     return 1 if wrong else 0

@@ -144,6 +144,7 @@ copy_without_tests() {
     of_tests=$(sed '1,/^# Tests/d; s|^\([a-z_]*\):.*|--exclude=crates/\1|' crates.txt)
     copy_for_the_gate --exclude='crates/binfarce_*/src/tests.rt' $of_tests "$@"
     sed -i '/^# Tests/,$d' "$gate/crates.txt"
+    sed -i '/^#\[cfg(test)\]$/,/^mod tests;$/d' "$gate"/crates/binfarce_*/src/main.rt
 }
 
 bench/count.py >"$scratch/sizes" || { cat "$scratch/sizes" && exit 1; }

@@ -168,7 +168,7 @@ def key_of(function):
     """A function as the prover names it, by its type (with its trait, where it is a trait's) or else its module, and its name."""
     *path, name = function.split(".")
     holder = path[-1] if path and path[-1][:1].isupper() else ".".join(path)
-    return holder, name
+    return holder or "lib", name
 
 
 def key_at(file, lines, at):

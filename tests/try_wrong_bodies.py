@@ -187,9 +187,9 @@ def main(*words):
     os.nice(19)
     every, (crates, gate) = words[0] == "--whole", words[-2:]
     prover, found = Prover(crates), listed()
-    # The largest first.
+    # First what takes longest: many edits, over many crates.
     left = [(crate, these) for crate in sorted({it for it, _ in edits()}) for these in in_sets(crate, found, every)]
-    left.sort(key=lambda it: -len(it[1]))
+    left.sort(key=lambda it: -len(it[1]) - len(below(it[0], prover.uses)))
     running, counts = set(), []
     with ThreadPoolExecutor(os.cpu_count() or 1) as pool:
         while left or running:

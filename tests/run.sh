@@ -1,5 +1,5 @@
 #!/bin/sh
-# Tries `run` and `tools/build-program` on a repository of two crates, with a toolchain that proves nothing: what it makes of
+# Tries `run` and `tools/build-program` on a repository of some crates, with a toolchain that proves nothing: what it makes of
 # a crate are the lines `// says TEXT` of the crate and of those below it, and a program prints them. So this takes seconds,
 # and shows when a program is built, what is built again, and what is said. Status 1 where anything is otherwise than it must
 # be.
@@ -12,6 +12,7 @@ trap 'exit 130' HUP INT TERM
 
 kit="$scratch/kit" top="$scratch/top"
 mkdir -p "$kit/bin" "$kit/rlibs" "$top/crates/lower/src" "$top/crates/upper/src" "$top/tools"
+mkdir -p "$top/crates/test_lower/src" "$top/crates/test_upper/src"
 known=$(sed -n 's/^known="\(.*\)"$/\1/p' tools/build-program)
 echo "$known" >"$kit/KIT-ID"
 : >"$kit/rlibs/std.rlib"
@@ -48,9 +49,11 @@ chmod +x "out/$crate"
 exit 2
 END
 chmod +x "$kit/bin/"*
-printf 'lower:\nupper: lower\nffi staticlib: lower\n' >"$top/crates.txt"
+printf 'lower:\nupper: lower test_lower\nffi staticlib: lower\ntest_lower:\ntest_upper: test_lower lower\n' >"$top/crates.txt"
 echo '// says below' >"$top/crates/lower/src/lib.rt"
 echo '// says above' >"$top/crates/upper/src/main.rt"
+echo '// says what tests share' >"$top/crates/test_lower/src/lib.rt"
+echo '// says a test' >"$top/crates/test_upper/src/main.rt"
 mkdir -p "$top/crates/ffi/src"
 echo '// is for C' >"$top/crates/ffi/src/lib.rt"
 cp run "$top/run"
@@ -75,7 +78,7 @@ runs() {
     : >"$PROVED"
     ended=0
     "$@" >"$scratch/output" 2>"$scratch/error" || ended=$?
-    found="$ended|$(tr '\n' ' ' <"$scratch/output")|$(grep -v 'logic=\|^lower: $\|^upper: $' "$scratch/error" || true)|$(cut -d' ' -f1 "$PROVED" | tr '\n' ' ')"
+    found="$ended|$(tr '\n' ' ' <"$scratch/output")|$(grep -v 'logic=\|^[a-z_]*: $' "$scratch/error" || true)|$(cut -d' ' -f1 "$PROVED" | tr '\n' ' ')"
     if [ "$found" != "$status|$output|$error|$proved" ]; then
         echo "$what: '$found', and must be '$status|$output|$error|$proved'"
         exit 1
@@ -152,6 +155,9 @@ error: src/main.rt is wrong" "upper " "$top/run" upper
 what="after it was mended"
 echo '// says last' >"$top/crates/upper/src/main.rt"
 runs 0 "deepes last  " "$building" "upper " "$top/run" upper
+
+what="a program of tests"
+runs 0 "what tests share deepes a test  " "$building" "test_lower test_upper " "$top/run" test_upper
 
 archive="$top/crates/ffi/out/run/libffi.a"
 what="a static library"

@@ -1,14 +1,17 @@
 -- What is shown of an identifier: a disambiguator that isn't shown need not be known.
-use Rattle.std.proofs.Common.{◌≡◌, ℕ, List, [], ◌++◌, Bool, true, false, Option, Some, None, codes, refl, ap, ◌∙◌, append-nil}
+use Rattle.std.proofs.Common.{◌≡◌, ℕ, ◌+◌, ◌==◌, List, [], ◌++◌, Bool, true, false, if◌then◌else◌, Option, Some, None, codes, slice_index, refl, ap, ◌∙◌, append-nil}
 use Rattle.std.specs.Option.{option_map, option_map_or}
-use Rattle.std.specs.Char.{is_ascii_uppercase}
+use Rattle.std.specs.Char.{is_ascii_uppercase, is_ascii_alphabetic}
 use Rattle.std.proofs.lemmas.Bool.{cond-false}
-use Rattle.binfarce_v0_grammar.specs.Identifiers.{UndisambiguatedIdentifier, Identifier}
+use Rattle.binfarce_text.specs.Letters.{'B', 'C', 'I', 'M', 'N', 'X', 'Y', 's'}
+use Rattle.binfarce_v0_grammar.specs.Base62.{optional_base_62_number}
+use Rattle.binfarce_v0_grammar.specs.Identifiers.{UndisambiguatedIdentifier, Identifier, identifier}
+use Rattle.binfarce_v0_grammar.specs.Tree.{PathTree}
 use Rattle.binfarce_v0_text.specs.LeafTexts.{identifier_text}
-use Rattle.binfarce_v0_grammar.specs.Forms.{PathForm, NoPathForm, CrateRoot}
+use Rattle.binfarce_v0_grammar.specs.Forms.{PathForm, NoPathForm, CrateRoot, InherentImpl, TraitImpl, path_form}
 use Rattle.binfarce_v0_text.specs.TreeTexts.{Position, is_left_open}
 use Rattle.binfarce_v0_text.specs.LeafTexts.{after_mark, nested_text, disambiguator_text}
-use Rattle.binfarce_v0_state.specs.machine.Printing.{State, Readers, heard, write, seek, after_invalid_syntax, rooted, named_state, crate_state, path_rule}
+use Rattle.binfarce_v0_state.specs.machine.Printing.{State, Readers, heard, write, seek, after_invalid_syntax, rooted, named_state, named_tree, crate_state, path_rule}
 
 -- an identifier without its disambiguator, and the position after it
 abbrev name_of : Option (Identifier × ℕ) → Option (UndisambiguatedIdentifier × ℕ)
@@ -56,7 +59,28 @@ unfolding path_rule
 root_state part R position binder_depth s None = refl
 root_state part R position binder_depth s (Some l) = refl
 
-pub root_closed : (part : List ℕ) (R : Readers) (position : Position) (binder_depth : ℕ) (s : State) (l : Option (Identifier × ℕ)) → is_left_open (path_rule part R position binder_depth s (crate_form l)).0 position ≡ false
-unfolding path_rule
-root_closed part R position binder_depth s None = refl
-root_closed part R position binder_depth s (Some l) = refl
+-- what holds in either case holds of a choice
+
+either : {A : Type 0} (P : A → Type 0) (b : Bool) (x y : A) → P x → P y → P (if b then x else y)
+either P true x y of_x of_y = of_x
+either P false x y of_x of_y = of_y
+
+of_option : {A B : Type 0} (P : B → Type 0) (f : A → B) (l : Option A) (none : B) → ((x : A) → P (f x)) → P none → P (option_map_or f l none)
+of_option P f None none of_some of_none = of_none
+of_option P f (Some x) none of_some of_none = of_some x
+
+nested_closed : (namespace : ℕ) (parent : PathTree) (l : Option (Identifier × ℕ)) (position : Position) → is_left_open (named_tree namespace parent l) position ≡ false
+nested_closed namespace parent None position = refl
+nested_closed namespace parent (Some l) position = refl
+
+-- a path without arguments that is no back reference isn't left open
+pub path_closed : (part : List ℕ) (R : Readers) (position : Position) (binder_depth : ℕ) (s : State) (at : ℕ) → (slice_index part at == 'I') ≡ false → (slice_index part at == 'B') ≡ false → is_left_open (path_rule part R position binder_depth s (path_form part (Some at))).0 position ≡ false
+unfolding path_rule path_form
+path_closed part R position binder_depth s at no_arguments no_back_reference =
+    let IsClosed : PathForm → Type 0 = λ form. is_left_open (path_rule part R position binder_depth s form).0 position ≡ false in
+    let tag = slice_index part at in
+    either IsClosed (tag == 'C') _ _ (of_option IsClosed (λ i. CrateRoot i.0 i.1) (identifier part (at + 1)) NoPathForm (λ i. refl) refl) (
+    either IsClosed (tag == 'N') _ _ (either IsClosed (is_ascii_alphabetic (slice_index part (at + 1))) _ _ (nested_closed _ _ _ position) refl) (
+    either IsClosed (tag == 'M') _ _ (of_option IsClosed (λ d. InherentImpl d.1) (optional_base_62_number part 's' (at + 1)) NoPathForm (λ d. refl) refl) (
+    either IsClosed (tag == 'X') _ _ (of_option IsClosed (λ d. TraitImpl d.1) (optional_base_62_number part 's' (at + 1)) NoPathForm (λ d. refl) refl) (
+    either IsClosed (tag == 'Y') _ _ refl (rw (no_arguments, no_back_reference) refl)))))

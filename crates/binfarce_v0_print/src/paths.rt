@@ -1,8 +1,10 @@
 //! Printing a v0 name: what a position unfolds to is written as it is read, by the letter that a form begins with.
 
-ghost use Rattle.std.specs.Prelude.{◌≡◌, ◌+◌, ◌<◌, IfOk, IsTrue, OnOk, Some, true};
+ghost use Rattle.std.specs.Prelude.{◌≡◌, ◌+◌, ◌<◌, ◌==◌, IfOk, IsTrue, OnOk, Some, true, false, length, slice_index};
+ghost use Rattle.std.specs.Option.{option_map_or};
 ghost use Rattle.std.specs.Char.{is_ascii_alphabetic};
-ghost use Rattle.binfarce_v0_grammar.specs.Forms.{InherentImpl, TraitImpl, path_form};
+ghost use Rattle.binfarce_v0_grammar.specs.Base62.{optional_base_62_number};
+ghost use Rattle.binfarce_v0_grammar.specs.Forms.{NoPathForm, InherentImpl, TraitImpl, nested_form, path_form};
 ghost use Rattle.binfarce_v0_text.specs.TreeTexts.{parent_position, is_left_open};
 ghost use Rattle.binfarce_v0_text.specs.machine.View.{position_view};
 ghost use Rattle.binfarce_v0_state.specs.machine.Printing.{WithinLevels, with_state, readers, path_rule, qualified, generic_rule, seek, set_muted};
@@ -50,7 +52,7 @@ pub fn print_path(
 // A path by the letter that it begins with.
 #[cycle(printing)]
 #[inline(always)]
-#[tactic(auto, using(crate::proofs::Shown::root_state, crate::proofs::Shown::root_closed), unfolding(binfarce_v0_state::specs::machine::Printing::path_rule, binfarce_v0_grammar::specs::Forms::path_form))]
+#[tactic(auto, unfolding(binfarce_v0_state::specs::machine::Printing::path_rule, binfarce_v0_grammar::specs::Forms::path_form))]
 pub(crate) fn print_path_by_letter(
     printer: &mut Printer<'_>,
     levels_left: usize,
@@ -68,38 +70,9 @@ pub(crate) fn print_path_by_letter(
     };
     let bytes = printer.part.as_bytes();
     match byte_at(bytes, at) {
-        b'C' => print_crate_root(printer, at + 1)?,
-        b'N' => {
-            let namespace = byte_at(bytes, at + 1);
-            if is_namespace(namespace) {
-                printer.seek(Some(at + 2));
-                print_path(printer, levels_left, binder_depth, parent(position))?;
-                print_nested_name(printer, namespace)?;
-            } else {
-                printer.invalid_syntax()?;
-            }
-        }
-        b'M' => match skip_optional_base_62_number(bytes, b's', at + 1) {
-            Some(after) => print_inherent_impl(
-                printer,
-                levels_left,
-                binder_depth,
-                position,
-                after,
-            )?,
-            None => printer.invalid_syntax()?,
-        },
-        b'X' => match skip_optional_base_62_number(bytes, b's', at + 1) {
-            Some(after) => print_trait_impl(printer, levels_left, binder_depth, position, after)?,
-            None => printer.invalid_syntax()?,
-        },
-        b'Y' => {
-            printer.seek(Some(at + 1));
-            print_qualified(printer, levels_left, binder_depth)?;
-        }
         b'I' => {
             print_generic(printer, levels_left, binder_depth, position, at + 1)?;
-            return Ok(is_open_trait(position));
+            Ok(is_open_trait(position))
         }
         b'B' => match back_reference(bytes, at) {
             Some((target, after)) => {
@@ -112,14 +85,71 @@ pub(crate) fn print_path_by_letter(
                     after,
                 );
             }
-            None => printer.invalid_syntax()?,
+            None => {
+                printer.invalid_syntax()?;
+                Ok(false)
+            }
         },
-        _ => printer.invalid_syntax()?,
+        _ => {
+            print_closed_path(printer, levels_left, binder_depth, position, at)?;
+            Ok(false)
+        }
     }
-    Ok(false)
 }
 
-// `"M" [<disambiguator>] ..`
+// A path that is never left open: it has no arguments and is no back reference.
+#[cycle(printing)]
+#[inline(always)]
+#[tactic(auto, using(crate::proofs::Shown::root_state), unfolding(binfarce_v0_state::specs::machine::Printing::path_rule, binfarce_v0_grammar::specs::Forms::path_form))]
+fn print_closed_path(
+    printer: &mut Printer<'_>,
+    levels_left: usize,
+    binder_depth: usize,
+    position: Position,
+    at: usize,
+) -> Result<(), AllocError>
+    requires levels { WithinLevels (levels_left + 1) binder_depth }
+    requires no_arguments { (slice_index printer.now.part at == 73) ≡ false }
+    requires no_back_reference { (slice_index printer.now.part at == 66) ≡ false }
+    ensures { OnOk result (printer.new ≡ with_state ((path_rule printer.old.part (readers printer.old.part levels_left) (position_view position) binder_depth printer.old.state (path_form printer.old.part (Some at))).1) printer.old) }
+{
+    match byte_at(printer.part.as_bytes(), at) {
+        b'C' => print_crate_root(printer, at + 1),
+        b'N' => print_nested(printer, levels_left, binder_depth, position, at),
+        b'M' => print_inherent_impl(printer, levels_left, binder_depth, position, at),
+        b'X' => print_trait_impl(printer, levels_left, binder_depth, position, at),
+        b'Y' => {
+            printer.seek(Some(at + 1));
+            print_qualified(printer, levels_left, binder_depth)
+        }
+        _ => printer.invalid_syntax(),
+    }
+}
+
+// `"N" <namespace> <path> <identifier>`, with its `N` at `at`.
+#[cycle(printing)]
+#[tactic(auto, unfolding(binfarce_v0_state::specs::machine::Printing::path_rule))]
+fn print_nested(
+    printer: &mut Printer<'_>,
+    levels_left: usize,
+    binder_depth: usize,
+    position: Position,
+    at: usize,
+) -> Result<(), AllocError>
+    requires levels { WithinLevels levels_left binder_depth }
+    requires within { at < length printer.now.part }
+    ensures { OnOk result (printer.new ≡ with_state ((path_rule printer.old.part (readers printer.old.part levels_left) (position_view position) binder_depth printer.old.state (nested_form (slice_index printer.old.part (at + 1)) (at + 2))).1) printer.old) }
+{
+    let namespace = byte_at(printer.part.as_bytes(), at + 1);
+    if !is_namespace(namespace) {
+        return printer.invalid_syntax();
+    }
+    printer.seek(Some(at + 2));
+    print_path(printer, levels_left, binder_depth, parent(position))?;
+    print_nested_name(printer, namespace)
+}
+
+// `"M" <impl-path> <type>`, with its `M` at `at`.
 #[cycle(printing)]
 #[tactic(auto, unfolding(binfarce_v0_state::specs::machine::Printing::path_rule))]
 fn print_inherent_impl(
@@ -127,18 +157,23 @@ fn print_inherent_impl(
     levels_left: usize,
     binder_depth: usize,
     position: Position,
-    after: usize,
+    at: usize,
 ) -> Result<(), AllocError>
     requires levels { WithinLevels levels_left binder_depth }
-    ensures { OnOk result (printer.new ≡ with_state ((path_rule printer.old.part (readers printer.old.part levels_left) (position_view position) binder_depth printer.old.state (InherentImpl after)).1) printer.old) }
+    requires within { at < length printer.now.part }
+    ensures { OnOk result (printer.new ≡ with_state ((path_rule printer.old.part (readers printer.old.part levels_left) (position_view position) binder_depth printer.old.state (option_map_or (λ d. InherentImpl d.1) (optional_base_62_number printer.old.part 115 (at + 1)) NoPathForm)).1) printer.old) }
 {
+    let bytes = printer.part.as_bytes();
+    let Some(after) = skip_optional_base_62_number(bytes, b's', at + 1) else {
+        return printer.invalid_syntax();
+    };
     print_impl_path(printer, levels_left, binder_depth, position, after)?;
     printer.write("<")?;
     print_type(printer, levels_left, binder_depth)?;
     printer.write(">")
 }
 
-// `"X" [<disambiguator>] ..`
+// `"X" <impl-path> <type> <path>`, with its `X` at `at`.
 #[cycle(printing)]
 #[tactic(auto, unfolding(binfarce_v0_state::specs::machine::Printing::path_rule))]
 fn print_trait_impl(
@@ -146,11 +181,16 @@ fn print_trait_impl(
     levels_left: usize,
     binder_depth: usize,
     position: Position,
-    after: usize,
+    at: usize,
 ) -> Result<(), AllocError>
     requires levels { WithinLevels levels_left binder_depth }
-    ensures { OnOk result (printer.new ≡ with_state ((path_rule printer.old.part (readers printer.old.part levels_left) (position_view position) binder_depth printer.old.state (TraitImpl after)).1) printer.old) }
+    requires within { at < length printer.now.part }
+    ensures { OnOk result (printer.new ≡ with_state ((path_rule printer.old.part (readers printer.old.part levels_left) (position_view position) binder_depth printer.old.state (option_map_or (λ d. TraitImpl d.1) (optional_base_62_number printer.old.part 115 (at + 1)) NoPathForm)).1) printer.old) }
 {
+    let bytes = printer.part.as_bytes();
+    let Some(after) = skip_optional_base_62_number(bytes, b's', at + 1) else {
+        return printer.invalid_syntax();
+    };
     print_impl_path(printer, levels_left, binder_depth, position, after)?;
     print_qualified(printer, levels_left, binder_depth)
 }

@@ -1,11 +1,13 @@
-use Rattle.std.proofs.Common.{◌≡◌, ◌+◌, ◌-◌, ◌<◌, ◌==◌, true, false, ap, ◌∙◌, arith}
+use Rattle.std.proofs.Common.{◌≡◌, ◌+◌, ◌-◌, ◌<◌, ◌==◌, slice_index, true, false, sym, ap, ◌∙◌, arith}
 use Rattle.std.proofs.lemmas.Bool.Decides.{nat_tests}
 use Rattle.binfarce_v0_text.specs.TreeTexts.{separator}
 use Rattle.binfarce_v0_grammar.specs.Unfolding.{list_goes_on}
 use Rattle.binfarce_v0_grammar.specs.machine.View.{listed_view}
-use Rattle.binfarce_v0_state.specs.machine.Printing.{Printing, with_state, write}
+use Rattle.binfarce_v0_text.specs.machine.View.{position_view}
+use Rattle.binfarce_v0_state.specs.machine.Printing.{Printing, with_state, write, readers}
 use Rattle.binfarce_v0_state.specs.machine.Kept.{production_view}
 use Rattle.binfarce_v0_print.proofs.ListLemmas.{items_next}
+use Rattle.binfarce_v0_print.proofs.Shown.{path_closed}
 use Rattle.binfarce_v0_state.proofs.KeptLemmas.{may_be_kept}
 use Rattle.binfarce_v0_print.proofs.+printing.Goals as goal
 use Rattle.binfarce_v0_print.proofs.+printing.Goals.{lists::print_items-then-count-eq0, lists::print_items-else-count-eq0}
@@ -40,3 +42,11 @@ productions::print_by_letter-returns-in_ok-print_type_by_letter-in-Type-clause-p
 
 pub productions::print_by_letter-returns-in_ok-print_const_by_letter-in-Const-clause-printed : goal.productions::print_by_letter-returns-in_ok-print_const_by_letter-in-Const-clause-printed
 productions::print_by_letter-returns-in_ok-print_const_by_letter-in-Const-clause-printed t c = rw c.in-Const.is c.in_ok-print_const_by_letter-in-Const.ensures
+
+pub paths::print_path_by_letter-returns-in_ok-print_closed_path-in_default-byte_at-clause-opened : goal.paths::print_path_by_letter-returns-in_ok-print_closed_path-in_default-byte_at-clause-opened
+paths::print_path_by_letter-returns-in_ok-print_closed_path-in_default-byte_at-clause-opened t c =
+    let part = c.args.printer.now.part in
+    let at = c.in-Some.at in
+    let no_arguments : (slice_index part at == 73) ≡ false = grind (arith, nat_tests) in
+    let no_back_reference : (slice_index part at == 66) ≡ false = grind (arith, nat_tests) in
+    rw c.in-Some.is (sym (path_closed part (readers part c.args.levels_left) (position_view c.args.position) c.args.binder_depth c.args.printer.now.state at no_arguments no_back_reference))

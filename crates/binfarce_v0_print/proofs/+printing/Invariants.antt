@@ -36,6 +36,12 @@ decreases-paths::print_inherent_impl l = 12 * l.levels_left + 8
 abbrev pub decreases-paths::print_trait_impl : goal.decreases-paths::print_trait_impl
 decreases-paths::print_trait_impl l = 12 * l.levels_left + 8
 
+abbrev pub decreases-paths::print_nested : goal.decreases-paths::print_nested
+decreases-paths::print_nested l = 12 * l.levels_left + 8
+
+abbrev pub decreases-paths::print_closed_path : goal.decreases-paths::print_closed_path
+decreases-paths::print_closed_path l = 12 * l.levels_left + 9
+
 abbrev pub decreases-paths::print_path_by_letter : goal.decreases-paths::print_path_by_letter
 decreases-paths::print_path_by_letter l = 12 * l.levels_left + 10
 

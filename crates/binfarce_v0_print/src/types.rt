@@ -1,8 +1,9 @@
 //! Printing a type, by the letter that its form begins with.
 
 ghost use Rattle.std.specs.Prelude.{◌≡◌, ℕ, ◌+◌, ◌<◌, ◌==◌, OnOk, Some, None, [], if◌then◌else◌, codes, length};
+ghost use Rattle.std.specs.Option.{option_map_or};
 ghost use Rattle.binfarce_v0_grammar.specs.Base62.{optional_base_62_number};
-ghost use Rattle.binfarce_v0_grammar.specs.Forms.{lifetime, reference_form, function_form, type_form_by, type_form};
+ghost use Rattle.binfarce_v0_grammar.specs.Forms.{SliceOf, DynOf, InvalidDyn, lifetime, reference_form, function_form, type_form_by, type_form};
 ghost use Rattle.binfarce_v0_grammar.specs.Tree.{Items, NoType, Types};
 ghost use Rattle.binfarce_v0_grammar.specs.machine.View.{signature_view};
 ghost use Rattle.binfarce_v0_state.specs.machine.Printing.{WithinLevels, with_state, readers, type_rule, items_from, function_rule, dyn_rule, dyn_life, taking, seek, write, array_rule, tuple_end, invalid_reference, invalid_function};
@@ -94,29 +95,15 @@ fn print_other_type(
         b'Q' => print_reference(printer, levels_left, binder_depth, true, after),
         b'P' => print_pointer(printer, levels_left, binder_depth, "*const ", after),
         b'O' => print_pointer(printer, levels_left, binder_depth, "*mut ", after),
-        b'S' => {
-            printer.seek(Some(after));
-            printer.write("[")?;
-            print_type(printer, levels_left, binder_depth)?;
-            printer.write("]")
-        }
+        b'S' => print_slice(printer, levels_left, binder_depth, after),
         b'A' => print_array(printer, levels_left, binder_depth, after),
         b'T' => print_tuple(printer, levels_left, binder_depth, after),
         b'F' => print_function_form(printer, levels_left, binder_depth, after),
-        b'D' => match optional_base_62_number(bytes, b'G', after) {
-            Some((binder, end)) => print_dyn(printer, levels_left, binder_depth, binder, end),
-            None => print_invalid_dyn(printer),
-        },
+        b'D' => print_dyn_form(printer, levels_left, binder_depth, after),
         b'B' => match back_reference(bytes, at) {
             Some((target, end)) => {
-                print_target(
-                    printer,
-                    levels_left,
-                    binder_depth,
-                    Production::Type,
-                    target,
-                    end,
-                )?;
+                let production = Production::Type;
+                print_target(printer, levels_left, binder_depth, production, target, end)?;
                 Ok(())
             }
             None => printer.invalid_syntax(),
@@ -125,6 +112,42 @@ fn print_other_type(
             print_path(printer, levels_left, binder_depth, Position::InType)?;
             Ok(())
         }
+    }
+}
+
+// `"S" <type>`, after the letter.
+#[cycle(printing)]
+#[tactic(auto, unfolding(binfarce_v0_state::specs::machine::Printing::type_rule))]
+fn print_slice(
+    printer: &mut Printer<'_>,
+    levels_left: usize,
+    binder_depth: usize,
+    after: usize,
+) -> Result<(), AllocError>
+    requires levels { WithinLevels levels_left binder_depth }
+    ensures { OnOk result (printer.new ≡ with_state ((type_rule printer.old.part (readers printer.old.part levels_left) binder_depth printer.old.state (SliceOf after)).1) printer.old) }
+{
+    printer.seek(Some(after));
+    printer.write("[")?;
+    print_type(printer, levels_left, binder_depth)?;
+    printer.write("]")
+}
+
+// `"D" ..`, after the letter.
+#[cycle(printing)]
+#[tactic(auto, unfolding(binfarce_v0_state::specs::machine::Printing::type_rule))]
+fn print_dyn_form(
+    printer: &mut Printer<'_>,
+    levels_left: usize,
+    binder_depth: usize,
+    at: usize,
+) -> Result<(), AllocError>
+    requires levels { WithinLevels (levels_left + 1) binder_depth }
+    ensures { OnOk result (printer.new ≡ with_state ((type_rule printer.old.part (readers printer.old.part levels_left) binder_depth printer.old.state (option_map_or (λ b. DynOf b.0 b.1) (optional_base_62_number printer.old.part 71 at) InvalidDyn)).1) printer.old) }
+{
+    match optional_base_62_number(printer.part.as_bytes(), b'G', at) {
+        Some((binder, after)) => print_dyn(printer, levels_left, binder_depth, binder, after),
+        None => print_invalid_dyn(printer),
     }
 }
 

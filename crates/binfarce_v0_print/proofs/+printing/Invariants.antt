@@ -63,6 +63,12 @@ decreases-types::print_type l = 12 * l.levels_left + 3
 abbrev pub decreases-types::print_pointer : goal.decreases-types::print_pointer
 decreases-types::print_pointer l = 12 * l.levels_left + 7
 
+abbrev pub decreases-types::print_slice : goal.decreases-types::print_slice
+decreases-types::print_slice l = 12 * l.levels_left + 7
+
+abbrev pub decreases-types::print_dyn_form : goal.decreases-types::print_dyn_form
+decreases-types::print_dyn_form l = 12 * l.levels_left + 8
+
 abbrev pub decreases-types::print_array : goal.decreases-types::print_array
 decreases-types::print_array l = 12 * l.levels_left + 7
 

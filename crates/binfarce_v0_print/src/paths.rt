@@ -77,7 +77,14 @@ pub(crate) fn print_path_by_letter(
         b'B' => match back_reference(bytes, at) {
             Some((target, after)) => {
                 let production = Production::Path(position);
-                print_target(printer, levels_left, binder_depth, production, target, after)
+                print_target(
+                    printer,
+                    levels_left,
+                    binder_depth,
+                    production,
+                    target,
+                    after,
+                )
             }
             None => {
                 printer.invalid_syntax()?;

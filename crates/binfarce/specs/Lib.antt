@@ -8,7 +8,7 @@ pub use Rattle.binfarce_bytes.specs.Text
 pub use Rattle.binfarce_bytes.specs.Steps
 pub use Rattle.binfarce_bytes.specs.Refusal
 pub use Rattle.binfarce_bytes.specs.Walk
-pub use Rattle.binfarce_symbols.specs.Symbol
+pub use Rattle.binfarce_symbols.specs.Entries
 pub use Rattle.binfarce_symbols.specs.SymbolViews
 pub use Rattle.binfarce_symbols.specs.Found
 pub use Rattle.binfarce_symbols.specs.Sizes

@@ -10,7 +10,7 @@ use Rattle.binfarce_elf.specs.ElfViews.{functions_left}
 use Rattle.binfarce_elf.specs.declared.symbols.Functions.{Functions}
 use Rattle.binfarce_names.specs.declared.demangle.SymbolData.{SymbolData}
 use Rattle.binfarce_symbols.specs.declared.functions.FunctionSymbol.{FunctionSymbol}
-use Rattle.binfarce_symbols.specs.Symbol.{Entry, AreSymbolsOf}
+use Rattle.binfarce_symbols.specs.Entries.{Entry, AreSymbolsOf}
 use Rattle.binfarce_symbols.specs.SymbolViews.{function_view}
 use Rattle.binfarce_symbols.specs.Found.{entry_at}
 use Rattle.binfarce_symbols.proofs.FoundLaws as FoundLaws

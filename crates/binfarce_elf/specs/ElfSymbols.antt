@@ -9,7 +9,7 @@ use Rattle.binfarce_bytes.specs.Refusal.{◌>>=◌, Refusal, required, symbols_s
 use Rattle.binfarce_bytes.specs.Walk.{Walk, first}
 use Rattle.binfarce_bytes.specs.Field.{value_at}
 use Rattle.binfarce_elf.specs.Elf.{ElfClass, SectionTable, Section, SymbolRow, walk, name_of}
-use Rattle.binfarce_symbols.specs.Symbol.{Entry, Listed}
+use Rattle.binfarce_symbols.specs.Entries.{Entry, Listed}
 
 -- the row that begins at start
 unfoldable pub symbol_at : ElfClass → ByteOrder → List ℕ → ℕ → SymbolRow ℕ

@@ -4,7 +4,7 @@ ghost use Rattle.std.specs.Prelude.{◌≡◌, ◌<◌, ◌≤◌, length, All, 
 ghost use Rattle.std.specs.Option.{option_map};
 ghost use Rattle.binfarce_bytes.specs.Refusal.{Gives, refusal_of, unexpected_eof};
 ghost use Rattle.binfarce_bytes.specs.Walk.{MayBeAsked, FirstAccepted, first};
-ghost use Rattle.binfarce_symbols.specs.Symbol.{Answers, HoldsSymbols, ListsSome};
+ghost use Rattle.binfarce_symbols.specs.Entries.{Answers, HoldsSymbols, ListsSome};
 ghost use Rattle.binfarce_elf.specs.Elf.{header_of, section_table, walk, name_of};
 ghost use Rattle.binfarce_elf.specs.ElfSymbols.{is_named, section_data, elf_answer};
 ghost use Rattle.binfarce_elf.specs.ElfViews.{header_view, section_view, functions_view};

@@ -10,7 +10,7 @@ use Rattle.binfarce_bytes.specs.declared.error.ParseError.{ParseError}
 use Rattle.binfarce_bytes.specs.declared.error.ParseError.TheVariants.{OutOfMemory}
 use Rattle.binfarce_bytes.specs.Refusal.{◌>>=◌, Refusal, refusal_of}
 use Rattle.binfarce_symbols.specs.declared.functions.FunctionSymbol.{FunctionSymbol}
-use Rattle.binfarce_symbols.specs.Symbol.{Entry, Listed, Answers}
+use Rattle.binfarce_symbols.specs.Entries.{Entry, Listed, Answers}
 use Rattle.binfarce_symbols.specs.SymbolViews.{function_view, HoldsFunctions}
 use Rattle.binfarce_symbols.specs.Sizes.{RowAddress, arranged}
 use Rattle.binfarce_macho.specs.MachoSymbols.{Located, located, answer_of, listed_of, macho_answer, entry_of, kept, row_addresses, HasAddress}

@@ -6,7 +6,7 @@ ghost use Rattle.binfarce_bytes.specs.Refusal.{Gives, refusal_of, unexpected_eof
 ghost use Rattle.binfarce_bytes.specs.Walk.{MayBeAsked, FirstAccepted, first};
 ghost use Rattle.binfarce_macho.specs.Macho.{header_of, section_data, walk, is_named, least_length};
 ghost use Rattle.binfarce_macho.specs.MachoSymbols.{ArrangesRows, SizesEntries, HasAddress, macho_answer};
-ghost use Rattle.binfarce_symbols.specs.Symbol.{HoldsSymbols, Answers};
+ghost use Rattle.binfarce_symbols.specs.Entries.{HoldsSymbols, Answers};
 ghost use Rattle.binfarce_symbols.specs.SymbolViews.{HoldsFunctions};
 ghost use Rattle.binfarce_macho.specs.MachoViews.{header_view, section_view};
 

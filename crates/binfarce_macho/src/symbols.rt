@@ -8,7 +8,7 @@ ghost use Rattle.binfarce_macho.specs.MachoParts.{located_in, located_view, tabl
 ghost use Rattle.binfarce_macho.specs.MachoSymbols.{answer_of, listed_of, located, text_section, some_size, symbol_command, symbol_table_at, text_end_of, row_addresses, symbol_at, is_candidate, size_up_to, sized_entry, entry_of};
 ghost use Rattle.binfarce_symbols.specs.Sizes.{addresses_of, least_above};
 ghost use Rattle.binfarce_symbols.specs.RowViews.{row_view, rows_view};
-ghost use Rattle.binfarce_symbols.specs.Symbol.{Answers};
+ghost use Rattle.binfarce_symbols.specs.Entries.{Answers};
 ghost use Rattle.binfarce_symbols.specs.SymbolViews.{function_view, HoldsFunctions};
 ghost use Rattle.binfarce_macho.specs.MachoViews.{section_view};
 ghost use Rattle.binfarce_macho.specs.machine.RawMacho.{command_view, symbol_view};

@@ -9,7 +9,7 @@ use Rattle.std.proofs.lemmas.Iterator.{items_from_drains}
 use Rattle.std.proofs.lemmas.Iterator.Adapters.{YieldsList-from_vec}
 use Rattle.binfarce_names.specs.declared.demangle.SymbolData.{SymbolData}
 use Rattle.binfarce_bytes.specs.Refusal.{◌>>=◌, Refusal}
-use Rattle.binfarce_symbols.specs.Symbol.{Answers, HoldsSymbols, ListsSome}
+use Rattle.binfarce_symbols.specs.Entries.{Answers, HoldsSymbols, ListsSome}
 use Rattle.binfarce_pe.specs.PeSymbols.{Located, entries_of, located, pe_answer, EqualAddressesEqualSizes}
 use Rattle.binfarce_pe.proofs.Listing.{equal_sizes}
 

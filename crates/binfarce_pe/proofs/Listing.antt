@@ -10,7 +10,7 @@ use Rattle.std.proofs.lemmas.Slice.Zip.{AllZip-long}
 use Rattle.binfarce_names.specs.declared.demangle.SymbolData.{SymbolData}
 use Rattle.binfarce_symbols.specs.declared.sizes.RowAddress as code
 use Rattle.binfarce_symbols.specs.Sizes.{RowAddress, comes_before, put_in, arranged, addresses_of, least, least_of, least_above}
-use Rattle.binfarce_symbols.specs.Symbol.{Entry, AreSymbolsOf}
+use Rattle.binfarce_symbols.specs.Entries.{Entry, AreSymbolsOf}
 use Rattle.binfarce_symbols.specs.RowViews.{row_view, rows_view}
 use Rattle.binfarce_pe.specs.PeSymbols.{SymbolTable, symbol_of, name_of, kept_rows, size_among, size_members, entry_of, entries_of, EqualAddressesEqualSizes}
 use Rattle.binfarce_pe.specs.machine.RawPe.{numbered, IsNameOf, HoldsKept, function_at}

@@ -4,7 +4,7 @@ ghost use Rattle.std.specs.Prelude.{◌≡◌, ◌<◌, ◌≤◌, length, All, 
 ghost use Rattle.std.specs.Option.{option_map};
 ghost use Rattle.binfarce_bytes.specs.Refusal.{Gives, refusal_of, unexpected_eof};
 ghost use Rattle.binfarce_bytes.specs.Walk.{MayBeAsked, FirstAccepted, first};
-ghost use Rattle.binfarce_symbols.specs.Symbol.{Answers, HoldsSymbols, ListsSome};
+ghost use Rattle.binfarce_symbols.specs.Entries.{Answers, HoldsSymbols, ListsSome};
 ghost use Rattle.binfarce_symbols.specs.SymbolViews.{HoldsFunctions};
 ghost use Rattle.binfarce_pe.specs.Pe.{least_length, signature_offset, header_of, section_data, walk, is_named};
 ghost use Rattle.binfarce_pe.specs.PeSymbols.{pe_answer, ArrangesRows, EqualAddressesEqualSizes};

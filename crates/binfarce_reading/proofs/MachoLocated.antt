@@ -7,7 +7,7 @@ use Rattle.binfarce_macho.specs.MachoParts.{NeededTables, needed, located_in, ta
 use Rattle.binfarce_macho.specs.MachoSymbols.{SymbolTable, slice_at, symbol_length, text_end_of, Located, located, answer_of}
 use Rattle.binfarce_macho.proofs.Needs.{located_refused, located_at}
 use Rattle.binfarce_symbols.specs.declared.functions.FunctionSymbol.{FunctionSymbol}
-use Rattle.binfarce_symbols.specs.Symbol.{Listed, Answers}
+use Rattle.binfarce_symbols.specs.Entries.{Listed, Answers}
 use Rattle.binfarce_symbols.specs.SymbolViews.{HoldsFunctions}
 use Rattle.binfarce_reading.specs.MachoReading.{located_answer}
 use Rattle.binfarce_reading.specs.machine.MachoPlaces.{command_bytes}

@@ -4,7 +4,7 @@ use Rattle.std.specs.Global.{Vec}
 use Rattle.binfarce_macho.specs.MachoParts.{SomeAddress}
 use Rattle.binfarce_macho.specs.MachoSymbols.{Located, row_addresses, answer_of, listed_of, kept}
 use Rattle.binfarce_symbols.specs.Sizes.{RowAddress, arranged}
-use Rattle.binfarce_symbols.specs.Symbol.{Answers}
+use Rattle.binfarce_symbols.specs.Entries.{Answers}
 use Rattle.binfarce_symbols.specs.SymbolViews.{function_view, HoldsFunctions}
 use Rattle.binfarce_symbols.specs.declared.functions.FunctionSymbol.{FunctionSymbol}
 

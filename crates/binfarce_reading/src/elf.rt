@@ -9,7 +9,7 @@ ghost use Rattle.binfarce_elf.specs.ElfParts.{headers_alone, needed, needed_view
 ghost use Rattle.binfarce_elf.specs.ElfSymbols.{section_data};
 ghost use Rattle.binfarce_elf.specs.ElfViews.{section_view, functions_view};
 ghost use Rattle.binfarce_elf.specs.machine.RawElf.{names_bytes};
-ghost use Rattle.binfarce_symbols.specs.Symbol.{Answers, HoldsSymbols, ListsSome};
+ghost use Rattle.binfarce_symbols.specs.Entries.{Answers, HoldsSymbols, ListsSome};
 ghost use Rattle.binfarce_reading.specs.Reading.{Reads, Known, file_answer, parts_view};
 ghost use Rattle.binfarce_reading.specs.machine.Places.{table_at, table_step, headers_of};
 

@@ -6,7 +6,7 @@ ghost use Rattle.binfarce_macho.specs.Macho.{least_length};
 ghost use Rattle.binfarce_macho.specs.MachoParts.{SomeAddress, needed, needed_view, table_view, located_in, tables_in, holds_commands};
 ghost use Rattle.binfarce_macho.specs.MachoSymbols.{answer_of, slice_at};
 ghost use Rattle.binfarce_macho.specs.MachoViews.{section_view};
-ghost use Rattle.binfarce_symbols.specs.Symbol.{Answers, HoldsSymbols};
+ghost use Rattle.binfarce_symbols.specs.Entries.{Answers, HoldsSymbols};
 ghost use Rattle.binfarce_symbols.specs.SymbolViews.{HoldsFunctions};
 ghost use Rattle.binfarce_reading.specs.BeginningReading.{ReadsBeginning, macho_sections};
 ghost use Rattle.binfarce_reading.specs.MachoReading.{located_answer, parts_view, tables_view};

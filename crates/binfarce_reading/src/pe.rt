@@ -1,7 +1,7 @@
 //! PE files, read where their tables are (Microsoft PE Format).
 
 ghost use Rattle.std.specs.Prelude.{◌≡◌, List, ℕ, Ok, Some};
-ghost use Rattle.binfarce_symbols.specs.Symbol.{Answers, HoldsSymbols, ListsSome};
+ghost use Rattle.binfarce_symbols.specs.Entries.{Answers, HoldsSymbols, ListsSome};
 ghost use Rattle.binfarce_symbols.specs.SymbolViews.{HoldsFunctions};
 ghost use Rattle.binfarce_pe.specs.PeParts.{places_view, text_view};
 ghost use Rattle.binfarce_reading.specs.BeginningReading.{ReadsBeginning, pe_sections};

@@ -1,5 +1,5 @@
 pub mod Rows
-pub mod Made
+pub mod Drained
 pub mod FoundLaws
 pub mod Arranging
 pub mod Arrangement

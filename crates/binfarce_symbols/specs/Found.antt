@@ -1,6 +1,6 @@
 -- Which entry an address is shown by.
 use Rattle.std.specs.Prelude.{ℕ, ◌+◌, Bool, ◌&&◌, List, [], ◌∷◌, filter, max, Option, Some, None, nat_lt, nat_le, if◌then◌else◌}
-use Rattle.binfarce_symbols.specs.Symbol.{Entry}
+use Rattle.binfarce_symbols.specs.Entries.{Entry}
 
 -- the address lies in the entry's range: from the entry's address on, and before its end, which may lie past 64 bits; an entry of size 0 holds its own address alone
 abbrev pub holds : ℕ → Entry → Bool

@@ -1,4 +1,4 @@
-pub mod Symbol
+pub mod Entries
 pub mod SymbolViews
 pub mod Found
 pub mod Sizes

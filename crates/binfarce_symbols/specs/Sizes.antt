@@ -1,7 +1,7 @@
 -- Rows arranged by address, and the least address above another: what sizes are made of where a format stores none.
 use Rattle.std.specs.Prelude.{◌≡◌, ℕ, ◌+◌, ◌<◌, Bool, true, ◌&&◌, ◌||◌, List, [], ◌∷◌, length, map, filter, min, Option, Some, None, nat_lt, nat_eq, slice_index_or, if◌then◌else◌}
 use Rattle.std.specs.List.Sorted.{IsPermutation}
-use Rattle.binfarce_symbols.specs.Symbol.{Entry}
+use Rattle.binfarce_symbols.specs.Entries.{Entry}
 
 -- a row of a symbol table: the address that it holds, and its number in the table
 pub record RowAddress : Type 0 where

@@ -2,7 +2,7 @@
 use Rattle.std.specs.Prelude.{◌≡◌, ℕ, map}
 use Rattle.std.specs.Global.{Vec}
 use Rattle.binfarce_symbols.specs.declared.functions.FunctionSymbol.{FunctionSymbol}
-use Rattle.binfarce_symbols.specs.Symbol.{Entry, Listed}
+use Rattle.binfarce_symbols.specs.Entries.{Entry, Listed}
 
 -- a `FunctionSymbol`
 abbrev pub function_view : FunctionSymbol → Entry

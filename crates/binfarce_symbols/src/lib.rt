@@ -1,4 +1,4 @@
-//! What the function symbols of all formats share: entries, the symbols that they become, and sizes by addresses.
+//! What the function symbols of all formats share: entries, and sizes by addresses.
 #![tactic(auto)]
 
 pub mod functions;

@@ -11,7 +11,7 @@ use Rattle.binfarce_pe.specs.PeParts.{SectionTable, whole_in, section_in, table_
 use Rattle.binfarce_pe.specs.PeSymbols as symbols
 use Rattle.binfarce_pe.specs.PeViews.{section_view}
 use Rattle.binfarce_symbols.specs.Sizes.{RowAddress, addresses_of}
-use Rattle.binfarce_symbols.specs.Symbol.{Entry}
+use Rattle.binfarce_symbols.specs.Entries.{Entry}
 
 abbrev pub symbol_view : SymbolRow → symbols.SymbolRow ℕ
 symbol_view r = record { zeroes = r.zeroes; offset = r.offset; value = r.value; section_number = r.section_number; kind = r.kind; storage_class = r.storage_class; number_of_aux_symbols = r.number_of_aux_symbols }

@@ -2,7 +2,7 @@ use Rattle.std.proofs.Common.{◌≡◌, ℕ, List, [], length, map, sym, ap, su
 use Rattle.std.specs.Prelude.{IfOk}
 use Rattle.std.proofs.lemmas.List.{length-map}
 use Rattle.binfarce_symbols.specs.Sizes.{arranged}
-use Rattle.binfarce_symbols.specs.Symbol.{Entry}
+use Rattle.binfarce_symbols.specs.Entries.{Entry}
 use Rattle.binfarce_symbols.specs.SymbolViews.{function_view}
 use Rattle.binfarce_symbols.specs.RowViews.{rows_view}
 use Rattle.binfarce_pe.specs.PeSymbols.{kept_rows, entries_of, size_members}

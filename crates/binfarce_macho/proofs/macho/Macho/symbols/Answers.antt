@@ -1,5 +1,5 @@
 use Rattle.std.proofs.Common.{◌≡◌, ◌∙◌, sym, ap}
-use Rattle.binfarce_symbols.specs.Symbol.{HoldsSymbols}
+use Rattle.binfarce_symbols.specs.Entries.{HoldsSymbols}
 use Rattle.binfarce_symbols.proofs.Made.{symbols_held, copies_are}
 use Rattle.binfarce_macho.specs.MachoSymbols.{HasAddress, macho_answer}
 use Rattle.binfarce_macho.proofs.MachoAnswers.{out_of_memory_answers, functions_need_address, copy_of}

@@ -1,5 +1,5 @@
 use Rattle.std.proofs.Common.{◌∙◌}
-use Rattle.binfarce_symbols.specs.Symbol.{ListsSome}
+use Rattle.binfarce_symbols.specs.Entries.{ListsSome}
 use Rattle.binfarce_symbols.proofs.Made.{symbols_held}
 use Rattle.binfarce_pe.specs.PeSymbols.{pe_answer}
 use Rattle.binfarce_pe.proofs.Strictly.{rows_arranged}

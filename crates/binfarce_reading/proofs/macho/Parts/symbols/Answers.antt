@@ -3,7 +3,7 @@ use Rattle.binfarce_macho.proofs.MachoAnswers.{out_of_memory_answers, copy_of}
 use Rattle.binfarce_macho.specs.MachoParts.{SomeAddress}
 use Rattle.binfarce_macho.specs.MachoSymbols.{answer_of}
 use Rattle.binfarce_symbols.proofs.Made.{symbols_held, copies_are}
-use Rattle.binfarce_symbols.specs.Symbol.{HoldsSymbols}
+use Rattle.binfarce_symbols.specs.Entries.{HoldsSymbols}
 use Rattle.binfarce_reading.specs.MachoReading.{parts_view}
 use Rattle.binfarce_reading.proofs.SomeAddress.{functions_need_address}
 use Rattle.binfarce_reading.proofs.macho.Parts.symbols.Goals as goal

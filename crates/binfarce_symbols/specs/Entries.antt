@@ -1,10 +1,5 @@
--- The answer of `symbols`: one symbol for each entry, in order.
+-- Entries: the function symbols that a file holds; and what a call may answer for them.
 use Rattle.std.specs.Prelude.{◌≡◌, ◌≢◌, ◌⊎◌, ℕ, List, [], Result, Ok, Err}
-use Rattle.std.specs.Global.{Vec}
-use Rattle.std.specs.List.{AllZip}
-use Rattle.binfarce_names.specs.declared.demangle.SymbolData.{SymbolData}
-use Rattle.binfarce_names.specs.Name.{name_view}
-use Rattle.binfarce_names.specs.Named.{IsNamed}
 use Rattle.binfarce_bytes.specs.declared.error.ParseError.{ParseError}
 use Rattle.binfarce_bytes.specs.Refusal.{Refusal, refusal_of, out_of_memory}
 
@@ -18,20 +13,6 @@ pub record Entry : Type 0 where
 pub record Listed : Type 0 where
   pub entries : List Entry
   pub section_size : ℕ
-
--- the symbol has the entry's address and size, and its name is the answer of the entry's name
-pub record IsSymbolOf (entry : Entry) (symbol : SymbolData) : Type 0 where
-  pub name : IsNamed entry.name (name_view symbol.name)
-  pub address : symbol.address ≡ entry.address
-  pub size : symbol.size ≡ entry.size
-
--- one symbol for each entry, in order, and no other
-abbrev pub AreSymbolsOf : List Entry → List SymbolData → Type 0
-AreSymbolsOf entries symbols = AllZip IsSymbolOf entries symbols
-
--- the value is the symbols of these entries, and the size
-abbrev pub HoldsSymbols : Listed → Vec SymbolData × ℕ → Type 0
-HoldsSymbols listed answer = AreSymbolsOf listed.entries answer.0.items × (answer.1 ≡ listed.section_size)
 
 -- the answer is a list that isn't empty
 abbrev pub ListsSome : Result Listed Refusal → Type 0

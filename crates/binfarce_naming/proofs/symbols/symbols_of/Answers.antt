@@ -1,6 +1,7 @@
-use Rattle.binfarce_symbols.proofs.Made.{one_more_symbol, gives_at_first}
+use Rattle.binfarce_symbols.proofs.Drained.{gives_at_first}
+use Rattle.binfarce_naming.proofs.Made.{one_more_symbol}
 use Rattle.binfarce_symbols.proofs.Rows.{on_err}
-use Rattle.binfarce_symbols.proofs.functions.symbols_of.Goals as goal
+use Rattle.binfarce_naming.proofs.symbols.symbols_of.Goals as goal
 
 pub loop-function-preserved : goal.loop-function-preserved
 loop-function-preserved g c =

@@ -1,0 +1,4 @@
+//! Function symbols with readable names: what `symbols` of every reader gives.
+#![tactic(auto)]
+
+pub mod symbols;

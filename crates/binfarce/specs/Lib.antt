@@ -8,7 +8,7 @@ pub use Rattle.binfarce_bytes.specs.Text
 pub use Rattle.binfarce_bytes.specs.Steps
 pub use Rattle.binfarce_bytes.specs.Refusal
 pub use Rattle.binfarce_bytes.specs.Walk
-pub use Rattle.binfarce_symbols.specs.Entries
+pub use Rattle.binfarce_naming.specs.Symbol
 pub use Rattle.binfarce_symbols.specs.SymbolViews
 pub use Rattle.binfarce_symbols.specs.Found
 pub use Rattle.binfarce_symbols.specs.Sizes
@@ -22,4 +22,5 @@ pub use Rattle.binfarce_macho.specs.MachoParts
 pub use Rattle.binfarce_pe.specs.Pe
 pub use Rattle.binfarce_pe.specs.PeSymbols
 pub use Rattle.binfarce_pe.specs.PeViews
-pub mod Format
+pub use Rattle.binfarce_format.specs.Format
+pub mod PeSizes

@@ -14,7 +14,7 @@ ghost use Rattle.binfarce_at.specs.Program.{AnswersLines, outcome_of};
 use binfarce_addresses::at::{Places, at_tables};
 use binfarce_addresses::stream::{LinesError, answer_lines};
 use binfarce_program::Failure;
-use binfarce_reading::ReadError;
+use binfarce_tables::ReadError;
 use binfarce_source::Source;
 use binfarce_tools::list::{ListError, Out};
 use binfarce_tools::tables::{Tables, read_input};

@@ -8,13 +8,12 @@ use Rattle.binfarce_elf.specs.Elf.{ElfClass, SymbolRow}
 use Rattle.binfarce_elf.specs.ElfSymbols.{symbol_at, entry_of, function_name}
 use Rattle.binfarce_elf.specs.ElfViews.{functions_left}
 use Rattle.binfarce_elf.specs.declared.symbols.Functions.{Functions}
-use Rattle.binfarce_names.specs.declared.demangle.SymbolData.{SymbolData}
 use Rattle.binfarce_symbols.specs.declared.functions.FunctionSymbol.{FunctionSymbol}
-use Rattle.binfarce_symbols.specs.Entries.{Entry, AreSymbolsOf}
+use Rattle.binfarce_symbols.specs.Entries.{Entry}
 use Rattle.binfarce_symbols.specs.SymbolViews.{function_view}
 use Rattle.binfarce_symbols.specs.Found.{entry_at}
 use Rattle.binfarce_symbols.proofs.FoundLaws as FoundLaws
-use Rattle.binfarce_symbols.proofs.Made.{drained}
+use Rattle.binfarce_symbols.proofs.Drained.{drained}
 
 -- row k has none
 pub passed : {X : Type 0} (f : ℕ → Option X) (k n : ℕ) → k < n → f k ≡ None → filter_map f (range_with_len k (n - k)) ≡ filter_map f (range_with_len (k + 1) (n - (k + 1)))
@@ -38,11 +37,6 @@ pub entry_is : (strings : List ℕ) (index : ℕ) (row read : SymbolRow ℕ) (na
     → entry_of strings index row ≡ option_map (λ n. record { name = n; address = read.value; size = read.size }) name
 entry_is strings index row read name same is =
     ap (entry_of strings index) same ∙ ap (option_map (λ (n : List ℕ). record { name = n; address = read.value; size = read.size })) is
-
--- what the functions became are the symbols of what is listed
-pub symbols_are : {C : Type 0} (class : ElfClass) (functions : Functions C) (given : List FunctionSymbol) (symbols : List SymbolData) → Drains (YieldsFirstBy function_view (functions_left class)) functions given
-    → AreSymbolsOf (map function_view given) symbols → AreSymbolsOf (functions_left class functions) symbols
-symbols_are class functions given symbols drains are = subst (λ (entries : List Entry). AreSymbolsOf entries symbols) (drained function_view (functions_left class) functions given drains) are
 
 -- before any came, none is found
 pub none_at_first : (address : ℕ) → None ≡ entry_at [] address

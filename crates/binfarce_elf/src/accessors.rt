@@ -1,20 +1,10 @@
-//! What a reader and a section hold: the file's bytes, and the values of a section header.
+//! The values of a section header.
 
 ghost use Rattle.std.specs.Prelude.{◌≡◌};
 ghost use Rattle.binfarce_elf.specs.ElfViews.{section_view};
 
 use crate::class::{Class, Word};
-use crate::elf::Elf;
 use crate::sections::Section;
-
-impl<'a, C: Class> Elf<'a, C> {
-    /// The file's bytes, as they were given to `parse`.
-    pub fn data(&self) -> &'a [u8]
-        ensures { result.now ≡ self.now.bytes }
-    {
-        self.data
-    }
-}
 
 impl<C: Class> Section<C> {
     /// What the section holds (`sh_type`): 1 for code and data (`SHT_PROGBITS`), 2 for the symbol table (`SHT_SYMTAB`),

@@ -60,7 +60,8 @@ impl<C: Class + fmt::Debug> fmt::Debug for Header<C> {
     }
 }
 
-pub(crate) fn parse_header<C: Class>(
+/// The file header in this byte order. Refused where it is truncated; its magic number isn't looked at.
+pub fn parse_header<C: Class>(
     data: &[u8],
     byte_order: ByteOrder,
 ) -> Result<Header<C>, UnexpectedEof>

@@ -3,10 +3,7 @@
 
 mod accessors;
 pub mod class;
-pub mod elf;
-pub mod elf32;
-pub mod elf64;
-mod header;
+pub mod header;
 mod laws;
 pub mod parts;
 pub mod sections;

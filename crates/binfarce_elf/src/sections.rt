@@ -4,13 +4,13 @@ ghost use Rattle.std.specs.Prelude.{◌≡◌, ◌+◌, ◌<◌, ◌≤◌, ◌^
 ghost use Rattle.std.specs.Option.{option_map};
 ghost use Rattle.binfarce_bytes.specs.Refusal.{Gives, refusal_of, malformed_input, unexpected_eof};
 ghost use Rattle.binfarce_bytes.specs.Walk.{MayBeAsked, FirstAccepted, first, ended, ahead_of};
-ghost use Rattle.binfarce_elf.specs.Elf.{section_table, walk, name_of, entry_count, NameIsInFile, section_at, names_section};
+ghost use Rattle.binfarce_elf.specs.Elf.{ElfFile, header_of, section_table, walk, name_of, entry_count, NameIsInFile, section_at, names_section};
 ghost use Rattle.binfarce_elf.specs.ElfSymbols.{is_named, section_data};
-ghost use Rattle.binfarce_elf.specs.ElfViews.{section_view};
+ghost use Rattle.binfarce_elf.specs.ElfViews.{header_view, section_view};
 ghost use Rattle.binfarce_elf.specs.machine.RawElf.{table_view, names_bytes, name_among, section_count, walk_from};
 
 use crate::class::{Class, Half, Word};
-use crate::elf::Elf;
+use crate::header::Header;
 use binfarce_bytes::parser::{Stream, UnexpectedEof, parse_null_string, range};
 use binfarce_bytes::{ByteOrder, ParseError};
 use std::marker::{Model, PhantomData};
@@ -56,22 +56,53 @@ impl<C: Class> Section<C> {
     /// lies outside the file, or where no text begins at the name's offset: one that isn't empty, is UTF-8, and
     /// ends with a NUL (gABI, "String Table").
     #[tactic(auto, using(crate::proofs::Names::name_reported))]
-    pub fn name<'a>(&self, parent: &Elf<'a, C>) -> Option<&'a str>
-        ensures name { option_map (λ t. t.now) result ≡ name_of C.table (section_table C.table parent.now) (section_view C.number_of self.now) }
-        ensures part { IfSome (option_map (λ t. t.now) result) (NameIsInFile C.table (section_table C.table parent.now) (section_view C.number_of self.now)) }
+    pub fn name<'a, P: HasSections<'a, C>>(&self, parent: &P) -> Option<&'a str>
+        ensures name { option_map (λ t. t.now) result ≡ name_of C.table (section_table C.table (P.file parent.now)) (section_view C.number_of self.now) }
+        ensures part { IfSome (option_map (λ t. t.now) result) (NameIsInFile C.table (section_table C.table (P.file parent.now)) (section_view C.number_of self.now)) }
     {
-        section_name::<C>(parent.table(), *self)
+        section_name::<C>(parent.section_table(), *self)
     }
 }
 
 /// Where a file's section headers begin, as its header says.
 #[derive(Clone, Copy)]
-pub(crate) struct Table<'a> {
+pub struct Table<'a> {
     pub(crate) data: &'a [u8],
     pub(crate) byte_order: ByteOrder,
     pub(crate) shoff: usize,
     pub(crate) shnum: Half,
     pub(crate) shstrndx: Half,
+}
+
+/// A file of this class whose section header table is known: what a section asks for its name.
+pub trait HasSections<'a, C: Class> {
+    ghost use Rattle.binfarce_elf.specs.Elf.{ElfFile};
+
+    // The file's bytes, and their order.
+    ghost file: { Self → ElfFile };
+
+    /// Where the file's section headers begin.
+    fn section_table(&self) -> Table<'a>
+        ensures { table_view result ≡ section_table C.table (file self.now) };
+}
+
+/// Where the section headers of a file with this header begin.
+#[tactic(auto, unfolding(crate::specs::Elf::section_table))]
+pub fn section_table<'a, C: Class>(
+    data: &'a [u8],
+    byte_order: ByteOrder,
+    header: &Header<C>,
+) -> Table<'a>
+    requires { header_view C.number_of header.now ≡ header_of C.table byte_order data.now }
+    ensures { table_view result ≡ section_table C.table (record { order = byte_order; bytes = data.entry.now }) }
+{
+    Table {
+        data,
+        byte_order,
+        shoff: header.shoff.widened() as usize,
+        shnum: header.shnum,
+        shstrndx: header.shstrndx,
+    }
 }
 
 /// The section header at `start`, of the section with this index; refused where it is truncated.
@@ -107,7 +138,7 @@ pub fn section_at<C: Class>(
     })
 }
 
-/// The sections of a file that are left, in file order: what [`Elf::sections`] gives. It borrows the file's bytes.
+/// The sections of a file that are left, in file order: what `sections` of a reader gives. It borrows the file's bytes.
 ///
 /// A section header is read when it is asked for. `UnexpectedEof` comes in place of a header that is truncated, and
 /// where the section header table doesn't begin in the file; after it nothing comes.
@@ -134,7 +165,7 @@ impl<'a, C: Class> Model for Sections<'a, C> {
 }
 
 /// All sections of the table.
-pub(crate) fn sections_of<'a, C: Class>(table: Table<'a>) -> Sections<'a, C>
+pub fn sections_of<'a, C: Class>(table: Table<'a>) -> Sections<'a, C>
     ensures { result ≡ walk C.table (table_view table.entry) }
 {
     Sections {
@@ -198,7 +229,7 @@ fn section_left<C: Class>(
 /// The first section that the callback accepts.
 ///
 /// A header is read only when the callback has refused the sections before it.
-pub(crate) fn first_section<C: Class, F: Fn(Section<C>) -> bool>(
+pub fn first_section<C: Class, F: Fn(Section<C>) -> bool>(
     table: Table<'_>,
     callback: F,
 ) -> Result<Option<Section<C>>, UnexpectedEof>
@@ -220,7 +251,7 @@ pub(crate) fn first_section<C: Class, F: Fn(Section<C>) -> bool>(
 }
 
 /// The first section with this name. The section names are looked up once.
-pub(crate) fn section_with_name<C: Class>(
+pub fn section_with_name<C: Class>(
     table: Table<'_>,
     name: &str,
 ) -> Result<Option<Section<C>>, UnexpectedEof>
@@ -275,7 +306,7 @@ fn names_section<C: Class>(table: Table<'_>) -> Option<Section<C>>
 
 /// The section's bytes, a part of the file; `MalformedInput` and `UnexpectedEof` where they end past `usize` and past the file.
 #[tactic(auto, unfolding(crate::specs::ElfSymbols::section_data, binfarce_bytes::specs::Refusal::bytes_in_file))]
-pub(crate) fn section_data<C: Class>(data: &[u8], section: Section<C>) -> Result<&[u8], ParseError>
+pub fn section_data<C: Class>(data: &[u8], section: Section<C>) -> Result<&[u8], ParseError>
     ensures { Gives refusal_of (λ b. b.now) (section_data data.now (section_view C.number_of section)) result }
 {
     data.get(section.range()?).ok_or(ParseError::UnexpectedEof)

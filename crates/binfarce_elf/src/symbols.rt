@@ -34,7 +34,7 @@ struct Located<'a, C> {
 
 /// The function symbols of the section with this name, and the section's size.
 #[tactic(auto, unfolding(crate::specs::ElfSymbols::elf_answer))]
-pub(crate) fn section_functions<'a, C: Class>(
+pub fn section_functions<'a, C: Class>(
     table: Table<'a>,
     section_name: &str,
 ) -> Result<(Functions<'a, C>, u64), ParseError>

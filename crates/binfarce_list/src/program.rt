@@ -2,7 +2,7 @@
 
 ghost use Rattle.std.specs.Prelude.{◌≡◌, ℕ, List, map, Some, None, MatchResult};
 ghost use Rattle.std.specs.String.{string_bytes};
-ghost use Rattle.binfarce.specs.Format.{format_of};
+ghost use Rattle.binfarce_format.specs.Format.{format_of};
 ghost use Rattle.binfarce_tools.specs.Answer.{symbols_answer, NeedsMemory};
 ghost use Rattle.binfarce_tools.specs.Listing.{IsListingOf, ListingFits};
 ghost use Rattle.binfarce_tools.specs.Sink.{writer_of, has_failed};
@@ -13,7 +13,7 @@ ghost use Rattle.binfarce_list.specs.Program.{outcome_of};
 ghost use Rattle.binfarce_list.specs.declared.program.Fault.TheVariants.{Usage};
 
 use binfarce_program::{Failure, file_and_section};
-use binfarce_reading::ReadError;
+use binfarce_tables::ReadError;
 use binfarce_source::Source;
 use binfarce_tools::list::{ListError, Out, list_tables};
 use binfarce_tools::tables::read_input;

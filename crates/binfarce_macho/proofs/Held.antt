@@ -1,5 +1,5 @@
 -- The load commands that bytes hold whole, one after the other.
-use Rattle.std.proofs.Common.{◌≡◌, ℕ, zero, suc, ◌+◌, ◌-◌, ◌<◌, ◌≤◌, true, false, List, length, refl, sym, ap, ◌∙◌, arith}
+use Rattle.std.proofs.Common.{◌≡◌, ℕ, zero, suc, ◌+◌, ◌-◌, ◌<◌, ◌≤◌, true, false, List, length, refl, ap, arith}
 use Rattle.std.proofs.lemmas.Bool.{lt-ltb, le-ltb}
 use Rattle.binfarce_macho.specs.declared.header.MachoHeader.{MachoHeader}
 use Rattle.binfarce_macho.specs.Macho.{Header, header_of, command_at}
@@ -42,5 +42,5 @@ module _ (bytes : List ℕ) where
       less n = omega arith
 
 -- how many commands the header says
-pub count_is : (file inside : List ℕ) (header : MachoHeader) → file ≡ inside → header_view header ≡ header_of inside → header.ncmds ≡ (header_of file).ncmds
-count_is file inside header same is = ap (λ (h : Header ℕ). h.ncmds) is ∙ ap (λ (f : List ℕ). (header_of f).ncmds) (sym same)
+pub count_is : (file : List ℕ) (header : MachoHeader) → header_view header ≡ header_of file → header.ncmds ≡ (header_of file).ncmds
+count_is file header is = ap (λ (h : Header ℕ). h.ncmds) is

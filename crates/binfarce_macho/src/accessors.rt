@@ -1,19 +1,9 @@
-//! What a reader and a section hold: the file's bytes, and the values of a section's structure.
+//! What a section holds: the values of its structure.
 
 ghost use Rattle.std.specs.Prelude.{◌≡◌};
 ghost use Rattle.binfarce_macho.specs.MachoViews.{section_view};
 
-use crate::macho::Macho;
 use crate::sections::Section;
-
-impl<'a> Macho<'a> {
-    /// The file's bytes, as they were given to `parse`.
-    pub fn data(&self) -> &'a [u8]
-        ensures { result.now ≡ self.now }
-    {
-        self.data
-    }
-}
 
 impl<'a> Section<'a> {
     /// The section's name (`sectname`), a part of the file, as `__text`.

@@ -4,10 +4,10 @@ ghost use Rattle.std.specs.Prelude.{◌≡◌, ◌+◌, ◌<◌, ◌≤◌, leng
 ghost use Rattle.std.specs.Iterator.{UpTo};
 ghost use Rattle.binfarce_bytes.specs.Refusal.{refusal_of};
 ghost use Rattle.binfarce_macho.specs.Macho.{header_of, command_at, commands};
+ghost use Rattle.binfarce_macho.specs.MachoViews.{header_view};
 ghost use Rattle.binfarce_macho.specs.machine.RawMacho.{command_view, damage_refusal, commands_left};
 
-use crate::header::HEADER_LENGTH;
-use crate::macho::Macho;
+use crate::header::{HEADER_LENGTH, MachoHeader};
 use binfarce_bytes::parser::{Stream, UnexpectedEof};
 use binfarce_bytes::{ByteOrder, ParseError};
 
@@ -97,17 +97,18 @@ impl Iterator for LoadCommands<'_> {
     }
 }
 
-// The load commands of a file.
-pub(crate) fn commands<'a>(file: &Macho<'a>) -> LoadCommands<'a>
+// The load commands of a file, which has this header.
+pub(crate) fn commands(file: &[u8], header: MachoHeader) -> LoadCommands<'_>
+    requires { header_view header ≡ header_of file.now }
     ensures bytes { result.bytes.now ≡ file.now }
     ensures left { commands_left result ≡ commands file.now }
     // No more items come than the header has commands, and then they end.
     ensures at_most { UpTo (⟦<LoadCommands<'static> as Iterator>⟧.remaining result) (header_of file.now).ncmds }
 {
     LoadCommands {
-        bytes: file.data,
+        bytes: file,
         offset: HEADER_LENGTH,
-        left: file.header.ncmds,
+        left: header.ncmds,
     }
 }
 

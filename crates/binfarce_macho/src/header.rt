@@ -24,8 +24,9 @@ pub struct MachoHeader {
     flags: u32,
 }
 
+/// The header of a file, without a look at the magic number; refused for fewer than 28 bytes.
 #[tactic(auto, unfolding(crate::specs::Macho::header_of, crate::specs::Macho::header_fields))]
-pub(crate) fn parse_header(data: &[u8]) -> Result<MachoHeader, UnexpectedEof>
+pub fn parse_header(data: &[u8]) -> Result<MachoHeader, UnexpectedEof>
     ensures { MatchResult result
         (λ h. (28 ≤ length data.now) × (header_view h ≡ header_of data.now))
         (λ _. length data.now < 28) }

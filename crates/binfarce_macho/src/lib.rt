@@ -3,9 +3,8 @@
 
 mod accessors;
 mod commands;
-mod header;
+pub mod header;
 mod laws;
-pub mod macho;
 pub mod parts;
-mod sections;
-mod symbols;
+pub mod sections;
+pub mod symbols;

@@ -3,14 +3,13 @@
 ghost use Rattle.std.specs.Prelude.{◌≡◌, ◌+◌, ◌≤◌, ◌&&◌, length, nat_le};
 ghost use Rattle.std.specs.Option.{option_map};
 ghost use Rattle.binfarce_bytes.specs.Refusal.{Gives, refusal_of};
-ghost use Rattle.binfarce_macho.specs.Macho.{header_length, segment_read, section_count, whole_headers};
+ghost use Rattle.binfarce_macho.specs.Macho.{header_of, header_length, segment_read, section_count, whole_headers};
 ghost use Rattle.binfarce_macho.specs.MachoParts.{needed, named_table, needed_view, table_view, holds_body, holds_commands};
 ghost use Rattle.binfarce_macho.specs.MachoViews.{header_view};
 ghost use Rattle.binfarce_macho.specs.machine.RawMacho.{command_view};
 
 use crate::commands::{COMMAND_HEAD, Command, LC_SEGMENT_64, LC_SYMTAB, command_at};
 use crate::header::{HEADER_LENGTH, MachoHeader};
-use crate::macho::Macho;
 use crate::sections::{SECTION_LENGTH, Section};
 pub use crate::symbols::{Located, SYMBOL_LENGTH, SymbolTable, functions_of, text_end};
 use crate::symbols::{some_size, symbol_command, symbol_table_at, text_section};
@@ -24,15 +23,17 @@ pub struct Needed<'a> {
     pub table: Option<SymbolTable>,
 }
 
-/// What the function symbols need. Refused as `functions` of a reader is, up to the symbol table's command.
+/// What the function symbols of a file need, which has this header. Refused as `functions` of a reader is, up to the symbol
+/// table's command.
 #[tactic(auto, unfolding(crate::specs::MachoParts::needed))]
-pub fn needed_tables<'a>(file: &Macho<'a>) -> Result<Needed<'a>, ParseError>
+pub fn needed_tables(file: &[u8], header: MachoHeader) -> Result<Needed<'_>, ParseError>
+    requires { header_view header ≡ header_of file.now }
     ensures { Gives refusal_of needed_view (needed file.now) result }
 {
-    let found = text_section(file)?;
+    let found = text_section(file, header)?;
     let text = some_size(found)?;
-    let command = symbol_command(file)?;
-    let table = named_table(file.data, command)?;
+    let command = symbol_command(file, header)?;
+    let table = named_table(file, command)?;
     Ok(Needed { text, table })
 }
 
@@ -52,20 +53,21 @@ pub fn commands_end(header: MachoHeader) -> usize
     HEADER_LENGTH + header.sizeofcmds as usize
 }
 
-/// Whether the load commands, and what is read of them, lie in these bytes: then a file that begins with them has the
+/// Whether the load commands that this header states, and what is read of them, lie in these bytes: then a file that begins with them has the
 /// same sections and the same symbol table, whatever follows.
-pub fn holds_commands(file: &Macho<'_>) -> bool
+pub fn holds_commands(file: &[u8], header: MachoHeader) -> bool
+    requires { header_view header ≡ header_of file.now }
     ensures { result ≡ holds_commands file.now }
 {
     let mut offset = HEADER_LENGTH;
-    for _k in 0..file.header.ncmds {
-        match command_at(file.data, offset) {
+    for _k in 0..header.ncmds {
+        match command_at(file, offset) {
             Err(_) => return false,
             Ok(command) => {
                 if command.size < COMMAND_HEAD {
                     return true;
                 }
-                if !holds_body(file.data, command) {
+                if !holds_body(file, command) {
                     return false;
                 }
                 offset += command.size as usize;

@@ -5,12 +5,12 @@ ghost use Rattle.std.specs.Option.{option_map};
 ghost use Rattle.binfarce_bytes.specs.Refusal.{Gives, refusal_of, malformed_input, unexpected_eof};
 ghost use Rattle.binfarce_bytes.specs.Text.{padded_name};
 ghost use Rattle.binfarce_bytes.specs.Walk.{MayBeAsked, FirstAccepted, YieldsNext, first, ended, ahead_of};
-ghost use Rattle.binfarce_macho.specs.Macho.{walk, segment, section_at, section_data, is_named};
-ghost use Rattle.binfarce_macho.specs.MachoViews.{section_view};
+ghost use Rattle.binfarce_macho.specs.Macho.{header_of, walk, segment, section_at, section_data, is_named};
+ghost use Rattle.binfarce_macho.specs.MachoViews.{header_view, section_view};
 ghost use Rattle.binfarce_macho.specs.machine.RawMacho.{damage_refusal, commands_left, section_count, segment_from, sections_left, IsWithin, StepsSegment};
 
 use crate::commands::{Command, Damage, LC_SEGMENT_64, LoadCommands, commands};
-use crate::macho::Macho;
+use crate::header::MachoHeader;
 use binfarce_bytes::parser::{Stream, UnexpectedEof, number_at, range, up_to_nul, utf8_text};
 use binfarce_bytes::{ByteOrder, ParseError};
 use std::marker::Model;
@@ -46,18 +46,13 @@ impl Section<'_> {
 /// The bytes that the section's header states, a part of the file; `MalformedInput` where they end past `usize`,
 /// `UnexpectedEof` where past the file.
 #[tactic(auto, unfolding(binfarce_bytes::specs::Refusal::bytes_in_file))]
-pub(crate) fn section_data<'a>(
-    file: &Macho<'a>,
-    section: &Section<'_>,
-) -> Result<&'a [u8], ParseError>
+pub fn section_data<'a>(file: &'a [u8], section: &Section<'_>) -> Result<&'a [u8], ParseError>
     ensures { Gives refusal_of (λ b. b.now) (section_data file.now (section_view section.now)) result }
 {
-    file.data
-        .get(section.range()?)
-        .ok_or(ParseError::UnexpectedEof)
+    file.get(section.range()?).ok_or(ParseError::UnexpectedEof)
 }
 
-/// The sections of a file that are left, in file order: what [`Macho::sections`] gives. It borrows the file's bytes.
+/// The sections of a file that are left, in file order: what `sections` of a reader gives. It borrows the file's bytes.
 ///
 /// A section is read when it is asked for. A refusal comes in place of a segment command or a section that is truncated
 /// (`UnexpectedEof`), and of a load command whose size is below 8 (`MalformedInput`); after it nothing comes.
@@ -100,13 +95,14 @@ impl<'a> Model for Sections<'a> {
     ghost invariant = { λ s. IsWithin s.left };
 }
 
-/// All sections of the file.
-pub(crate) fn sections_of<'a>(file: &Macho<'a>) -> Sections<'a>
+/// All sections of a file, which has this header.
+pub fn sections_of(file: &[u8], header: MachoHeader) -> Sections<'_>
+    requires { header_view header ≡ header_of file.now }
     ensures { result ≡ walk file.now }
 {
     Sections {
         left: Left {
-            commands: commands(file),
+            commands: commands(file, header),
             segment: NO_SEGMENT,
         },
     }
@@ -220,18 +216,33 @@ fn first_of_segment(bytes: &[u8], command: Command) -> Result<Segment, Damage>
     }
 }
 
-// The first section that the callback accepts.
-pub(crate) fn first_section<'a, F: Fn(Section<'_>) -> bool>(
-    file: &Macho<'a>,
+/// The first section that the callback accepts, of a file that has this header: what `find_section` of a reader gives.
+pub fn find_section<'a, F: Fn(Section<'_>) -> bool>(
+    file: &'a [u8],
+    header: MachoHeader,
+    callback: F,
+) -> Result<Option<Section<'a>>, ParseError>
+    requires header { header_view header ≡ header_of file.now }
+    requires asked { All (MayBeAsked section_view (F.pre callback)) (walk file.now).items }
+    ensures { FirstAccepted refusal_of section_view (F.post callback) (walk file.now) result }
+{
+    Ok(first_section(file, header, callback)?)
+}
+
+// The first section that the callback accepts. The error holds no text, so that a closure may borrow.
+fn first_section<'a, F: Fn(Section<'_>) -> bool>(
+    file: &'a [u8],
+    header: MachoHeader,
     callback: F,
 ) -> Result<Option<Section<'a>>, Damage>
-    requires { All (MayBeAsked section_view (F.pre callback)) (walk file.now).items }
+    requires header { header_view header ≡ header_of file.now }
+    requires asked { All (MayBeAsked section_view (F.pre callback)) (walk file.now).items }
     ensures { FirstAccepted damage_refusal section_view (F.post callback) (walk file.now) result }
 {
-    for item in commands(file) {
+    for item in commands(file, header) {
         let command = item?;
         if command.kind == LC_SEGMENT_64 {
-            match first_in_segment(file.data, command.offset + 8, &callback)? {
+            match first_in_segment(file, command.offset + 8, &callback)? {
                 None => {}
                 Some(section) => return Ok(Some(section)),
             }
@@ -240,18 +251,20 @@ pub(crate) fn first_section<'a, F: Fn(Section<'_>) -> bool>(
     Ok(None)
 }
 
-// The first section with these two names. The error holds no text, so that the closure may borrow the names.
-pub(crate) fn section_with_name<'a>(
-    file: &Macho<'a>,
+/// The first section with these two names, of a file that has this header.
+pub fn section_with_name<'a>(
+    file: &'a [u8],
+    header: MachoHeader,
     segment_name: &str,
     section_name: &str,
-) -> Result<Option<Section<'a>>, Damage>
-    ensures { Gives damage_refusal (option_map section_view)
+) -> Result<Option<Section<'a>>, ParseError>
+    requires { header_view header ≡ header_of file.now }
+    ensures { Gives refusal_of (option_map section_view)
         (first (λ s. is_named segment_name.now section_name.now s) (walk file.now)) result }
 {
-    first_section(file, |section| {
+    Ok(first_section(file, header, |section| {
         section.segment_name == segment_name && section.section_name == section_name
-    })
+    })?)
 }
 
 // The first section of a segment command that the callback accepts.

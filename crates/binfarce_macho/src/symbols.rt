@@ -3,18 +3,18 @@
 ghost use Rattle.std.specs.Prelude.{◌≡◌, ◌≢◌, ℕ, ◌+◌, ◌*◌, ◌<◌, ◌≤◌, [], length, map, nat_eq, not, All, Some, IfOk, OnErr, MatchResult};
 ghost use Rattle.std.specs.Option.{option_map};
 ghost use Rattle.binfarce_bytes.specs.Refusal.{Gives, refusal_of};
-ghost use Rattle.binfarce_macho.specs.Macho.{body_of};
+ghost use Rattle.binfarce_macho.specs.Macho.{header_of, body_of};
 ghost use Rattle.binfarce_macho.specs.MachoParts.{located_in, located_view, table_view};
-ghost use Rattle.binfarce_macho.specs.MachoSymbols.{answer_of, listed_of, located, text_section, some_size, symbol_command, symbol_table_at, text_end_of, row_addresses, symbol_at, is_candidate, size_up_to, sized_entry, entry_of};
+ghost use Rattle.binfarce_macho.specs.MachoSymbols.{HasAddress, macho_answer, answer_of, listed_of, located, text_section, some_size, symbol_command, symbol_table_at, text_end_of, row_addresses, symbol_at, is_candidate, size_up_to, sized_entry, entry_of};
 ghost use Rattle.binfarce_symbols.specs.Sizes.{addresses_of, least_above};
 ghost use Rattle.binfarce_symbols.specs.RowViews.{row_view, rows_view};
 ghost use Rattle.binfarce_symbols.specs.Entries.{Answers};
 ghost use Rattle.binfarce_symbols.specs.SymbolViews.{function_view, HoldsFunctions};
-ghost use Rattle.binfarce_macho.specs.MachoViews.{section_view};
+ghost use Rattle.binfarce_macho.specs.MachoViews.{header_view, section_view};
 ghost use Rattle.binfarce_macho.specs.machine.RawMacho.{command_view, symbol_view};
 
 use crate::commands::{Command, LC_SYMTAB, commands};
-use crate::macho::Macho;
+use crate::header::MachoHeader;
 use crate::parts::needed_tables;
 use crate::sections::{Section, section_with_name};
 use binfarce_bytes::parser::{Stream, UnexpectedEof, parse_null_string, slice_at};
@@ -35,28 +35,50 @@ pub struct Located<'a> {
     pub rows: &'a [u8],
 }
 
-// Where the symbols are, `None` without a symbol table, or the first refusal.
-pub(crate) fn locate<'a>(file: &Macho<'a>) -> Result<Option<Located<'a>>, ParseError>
-    ensures { Gives refusal_of (option_map located_view) (located file.now) result }
+/// The function symbols of the first section of a file, which has this header, in the order of their addresses, and the
+/// text's size in bytes: what `functions` of a reader gives.
+pub fn functions_of_file<'a>(
+    alloc: Global,
+    data: &'a [u8],
+    header: MachoHeader,
+) -> Result<(Vec<FunctionSymbol<'a>>, u64), ParseError>
+    requires { header_view header ≡ header_of data.now }
+    ensures { Answers HoldsFunctions (λ _. HasAddress data.now) (macho_answer data.now) result }
 {
-    let needed = needed_tables(file)?;
-    match needed.table {
-        None => Ok(None),
-        Some(table) => Ok(Some(located_in(file.data, needed.text, table)?)),
+    match locate(data, header)? {
+        None => Ok((Vec::new(alloc), 0)),
+        Some(found) => functions_of(alloc, found),
     }
 }
 
-pub(crate) fn text_section<'a>(file: &Macho<'a>) -> Result<Section<'a>, ParseError>
+// Where the symbols are, `None` without a symbol table, or the first refusal.
+fn locate(file: &[u8], header: MachoHeader) -> Result<Option<Located<'_>>, ParseError>
+    requires { header_view header ≡ header_of file.now }
+    ensures { Gives refusal_of (option_map located_view) (located file.now) result }
+{
+    let needed = needed_tables(file, header)?;
+    match needed.table {
+        None => Ok(None),
+        Some(table) => Ok(Some(located_in(file, needed.text, table)?)),
+    }
+}
+
+pub(crate) fn text_section(file: &[u8], header: MachoHeader) -> Result<Section<'_>, ParseError>
+    requires { header_view header ≡ header_of file.now }
     ensures { Gives refusal_of section_view (text_section file.now) result }
 {
-    section_with_name(file, "__TEXT", "__text")?.ok_or(ParseError::SymbolsSectionIsMissing)
+    section_with_name(file, header, "__TEXT", "__text")?.ok_or(ParseError::SymbolsSectionIsMissing)
 }
 
 // The first command that names a symbol table.
-pub(crate) fn symbol_command(file: &Macho<'_>) -> Result<Option<Command>, ParseError>
+pub(crate) fn symbol_command(
+    file: &[u8],
+    header: MachoHeader,
+) -> Result<Option<Command>, ParseError>
+    requires { header_view header ≡ header_of file.now }
     ensures { Gives refusal_of (option_map command_view) (symbol_command file.now) result }
 {
-    for item in commands(file) {
+    for item in commands(file, header) {
         let command = item?;
         if command.kind == LC_SYMTAB {
             return Ok(Some(command));

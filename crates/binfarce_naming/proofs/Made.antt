@@ -1,11 +1,13 @@
 -- Symbols made of function symbols, one after the other.
 use Rattle.std.proofs.Common.{◌≡◌, ℕ, List, [], ◌∷◌, ◌++◌, map, Result, Ok, Err, ap, subst, ◌∙◌}
 use Rattle.std.specs.Global.{Vec}
+use Rattle.std.specs.Iterator.{YieldsFirstBy, Drains}
 use Rattle.binfarce_names.specs.declared.demangle.SymbolData.{SymbolData}
 use Rattle.binfarce_bytes.specs.Refusal.{Refusal}
 use Rattle.binfarce_symbols.specs.declared.functions.FunctionSymbol.{FunctionSymbol}
 use Rattle.binfarce_symbols.specs.Entries.{Entry, Listed, Answers}
 use Rattle.binfarce_symbols.specs.SymbolViews.{function_view, HoldsFunctions}
+use Rattle.binfarce_symbols.proofs.Drained.{drained}
 use Rattle.binfarce_naming.specs.Symbol.{IsSymbolOf, AreSymbolsOf, HoldsSymbols}
 
 -- the symbol of one more function symbol
@@ -24,3 +26,8 @@ pub symbols_held : (Needs : Result Listed Refusal → Type 0) (answer : Result L
 symbols_held Needs (Ok listed) functions size given symbols holds same are =
     (subst (λ (es : List Entry). AreSymbolsOf es symbols.items) (ap (map function_view) same ∙ holds.0) are, holds.1)
 symbols_held Needs (Err refusal) functions size given symbols holds same are = absurd holds
+
+-- what an iterator's function symbols became are the symbols of what it had left
+pub symbols_are : {S : Type 0} (left : S → List Entry) (functions : S) (given : List FunctionSymbol) (symbols : List SymbolData) → Drains (YieldsFirstBy function_view left) functions given
+    → AreSymbolsOf (map function_view given) symbols → AreSymbolsOf (left functions) symbols
+symbols_are left functions given symbols drains are = subst (λ (entries : List Entry). AreSymbolsOf entries symbols) (drained function_view left functions given drains) are

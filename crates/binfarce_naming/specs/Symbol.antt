@@ -5,7 +5,7 @@ use Rattle.std.specs.List.{AllZip}
 use Rattle.binfarce_names.specs.declared.demangle.SymbolData.{SymbolData}
 use Rattle.binfarce_names.specs.Name.{name_view}
 use Rattle.binfarce_names.specs.Named.{IsNamed}
-use Rattle.binfarce_symbols.specs.Entries.{Entry, Listed}
+pub use Rattle.binfarce_symbols.specs.Entries.{Entry, Listed, ListsSome, Answers}
 
 -- the symbol has the entry's address and size, and its name is the answer of the entry's name
 pub record IsSymbolOf (entry : Entry) (symbol : SymbolData) : Type 0 where

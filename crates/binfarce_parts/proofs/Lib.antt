@@ -7,3 +7,4 @@ mod MachoWalk
 mod MachoSame
 mod PeSame
 mod Decided
+mod SymbolLaws

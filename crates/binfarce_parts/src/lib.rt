@@ -1,4 +1,5 @@
-//! The parts of a file: which of its bytes what is listed and reported of it is read from.
+//! Laws of what is listed and reported of a file: which of its bytes that is read from, and which symbols it is made of.
 #![tactic(auto)]
 
 pub mod laws;
+mod symbols;

@@ -5,14 +5,13 @@ use Rattle.std.specs.Option.{option_map}
 use Rattle.std.specs.List.{filter_map, cons_option, AllZip}
 use Rattle.std.proofs.lemmas.Bool.{lt-ltb, le-ltb, cases_lt}
 use Rattle.std.proofs.lemmas.List.{take_more, get_or-map, length-map, map-append}
-use Rattle.std.proofs.lemmas.List.Elements.{All-nil, All-cons, All-contains}
+use Rattle.std.proofs.lemmas.List.Elements.{All-nil, All-cons}
 use Rattle.std.proofs.lemmas.Slice.Zip.{AllZip-long}
-use Rattle.binfarce_names.specs.declared.demangle.SymbolData.{SymbolData}
 use Rattle.binfarce_symbols.specs.declared.sizes.RowAddress as code
 use Rattle.binfarce_symbols.specs.Sizes.{RowAddress, comes_before, put_in, arranged, addresses_of, least, least_of, least_above}
-use Rattle.binfarce_symbols.specs.Entries.{Entry, AreSymbolsOf}
+use Rattle.binfarce_symbols.specs.Entries.{Entry}
 use Rattle.binfarce_symbols.specs.RowViews.{row_view, rows_view}
-use Rattle.binfarce_pe.specs.PeSymbols.{SymbolTable, symbol_of, name_of, kept_rows, size_among, size_members, entry_of, entries_of, EqualAddressesEqualSizes}
+use Rattle.binfarce_pe.specs.PeSymbols.{SymbolTable, symbol_of, name_of, kept_rows, size_among, size_members, entry_of, entries_of}
 use Rattle.binfarce_pe.specs.machine.RawPe.{numbered, IsNameOf, HoldsKept, function_at}
 use Rattle.binfarce_symbols.proofs.Above.{LeastAbove, arranged_above, least_above_is}
 use Rattle.binfarce_symbols.proofs.Arrangement.{Rising}
@@ -207,27 +206,3 @@ one_more_listed seen entry rows i d functions f within so_far is =
     ∙ ap (λ (e : Entry). map entry (take i (rows_view rows)) ++ e ∷ []) (is ∙ ap entry (sym here))
     ∙ sym (map-append entry (take i (rows_view rows)) (get_or (rows_view rows) i (row_view d) ∷ []))
     ∙ ap (map entry) (sym (take_more (rows_view rows) i (row_view d) (omega (arith, length-map rows row_view))))
-
--- each symbol's size is what its own address gives
-sizes_are : (table : SymbolTable) (members : List ℕ) (rows : List RowAddress) (symbols : List SymbolData) → AreSymbolsOf (filter_map (entry_of table members) rows) symbols
-    → All (λ s. s.size ≡ size_among members s.address) symbols
-sizes_are table members [] [] all = All-nil (λ s. s.size ≡ size_among members s.address)
-sizes_are table members [] (y ∷ ys) all = absurd all
-sizes_are table members (r ∷ rows) symbols all = by_name (name_of table r.row (symbol_of table r.row)) symbols (λ ys rest. sizes_are table members rows ys rest) all
-  where
-    by_name : (o : Option (List ℕ)) (ys : List SymbolData)
-        → ((zs : List SymbolData) → AreSymbolsOf (filter_map (entry_of table members) rows) zs → All (λ s. s.size ≡ size_among members s.address) zs)
-        → AreSymbolsOf (cons_option (option_map (λ (name : List ℕ). record { name = name; address = r.address; size = size_among members r.address }) o) (filter_map (entry_of table members) rows)) ys
-        → All (λ s. s.size ≡ size_among members s.address) ys
-    by_name None ys rest all = rest ys all
-    by_name (Some name) [] rest all = absurd all
-    by_name (Some name) (y ∷ ys) rest all =
-        All-cons (λ s. s.size ≡ size_among members s.address) y ys (all.0.size ∙ ap (size_among members) (sym all.0.address)) (rest ys all.1)
-
--- symbols of equal address have equal sizes
-pub equal_sizes : (table : SymbolTable) (index t : ℕ) (symbols : List SymbolData) → AreSymbolsOf (entries_of table index t) symbols → EqualAddressesEqualSizes symbols
-unfolding entries_of
-equal_sizes table index t symbols all a b has_a has_b same =
-    let members = size_members t (kept_rows table index) in
-    let sizes = sizes_are table members (arranged (kept_rows table index)) symbols all in
-    All-contains (λ s. s.size ≡ size_among members s.address) symbols a sizes has_a ∙ ap (size_among members) same ∙ sym (All-contains (λ s. s.size ≡ size_among members s.address) symbols b sizes has_b)

@@ -1,8 +1,7 @@
 -- The function symbols of a PE file (Microsoft PE Format, "COFF Symbol Table"), with sizes that their addresses give.
-use Rattle.std.specs.Prelude.{◌≡◌, ℕ, zero, suc, ◌+◌, ◌-◌, ◌*◌, ◌/◌, Bool, ◌&&◌, List, [], ◌∷◌, length, drop, Contains, codes, Option, None, Result, Ok, Err, nat_eq, nat_lt, nat_le, unwrap_or, if◌then◌else◌}
+use Rattle.std.specs.Prelude.{◌≡◌, ℕ, zero, suc, ◌+◌, ◌-◌, ◌*◌, ◌/◌, Bool, ◌&&◌, List, [], ◌∷◌, length, drop, codes, Option, None, Result, Ok, Err, nat_eq, nat_lt, nat_le, unwrap_or, if◌then◌else◌}
 use Rattle.std.specs.Option.{option_map}
 use Rattle.std.specs.List.{filter_map}
-use Rattle.binfarce_names.specs.declared.demangle.SymbolData.{SymbolData}
 use Rattle.binfarce_bytes.specs.Number.{bytes_at}
 use Rattle.binfarce_bytes.specs.Text.{text_at, padded_text}
 use Rattle.binfarce_bytes.specs.Refusal.{◌>>=◌, Refusal, required, symbols_section_is_missing, unexpected_eof}
@@ -154,7 +153,3 @@ abbrev pub ArrangesRows : List ℕ → Type 0
 ArrangesRows file = (found : Located) (listed : Listed) → located file ≡ Ok found → pe_answer file ≡ Ok listed
     → ListsArranged (kept_rows found.table found.text.index)
     (λ in_order entries. entries ≡ entries_in found.table found.text.index found.text.size_of_raw_data in_order) listed.entries
-
--- symbols of equal address have equal sizes
-abbrev pub EqualAddressesEqualSizes : List SymbolData → Type 0
-EqualAddressesEqualSizes symbols = (s t : SymbolData) → Contains symbols s → Contains symbols t → s.address ≡ t.address → s.size ≡ t.size

@@ -1,19 +1,9 @@
-//! What a reader and a section hold: the file's bytes, and the values of a section header.
+//! The values of a section header.
 
 ghost use Rattle.std.specs.Prelude.{◌≡◌};
 ghost use Rattle.binfarce_pe.specs.PeViews.{section_view};
 
-use crate::pe::Pe;
 use crate::sections::Section;
-
-impl<'a> Pe<'a> {
-    /// The file's bytes, as they were given to `parse`.
-    pub fn data(&self) -> &'a [u8]
-        ensures { result.now ≡ self.now }
-    {
-        self.data
-    }
-}
 
 impl<'a> Section<'a> {
     /// The name (`Name`), a part of the file: the 8 bytes up to the first NUL, or all. It may be empty.

@@ -20,8 +20,8 @@ pub struct PeHeader {
     characteristics: u16,
 }
 
-// The signature's offset, and the file header.
-pub(crate) fn parse_header(data: &[u8]) -> Result<(u32, PeHeader), UnexpectedEof>
+/// The signature's offset, and the file header.
+pub fn parse_header(data: &[u8]) -> Result<(u32, PeHeader), UnexpectedEof>
     ensures { MatchResult result
         (λ p. (least_length data.now ≤ length data.now) × (p.0 ≡ signature_offset data.now) × (header_view p.1 ≡ header_of data.now))
         (λ _. length data.now < least_length data.now) }

@@ -2,9 +2,8 @@
 #![tactic(auto)]
 
 mod accessors;
-mod header;
+pub mod header;
 mod laws;
 pub mod parts;
-pub mod pe;
-mod sections;
-mod symbols;
+pub mod sections;
+pub mod symbols;

@@ -6,12 +6,11 @@ ghost use Rattle.binfarce_bytes.specs.Number.{number, bytes_at};
 ghost use Rattle.binfarce_bytes.specs.Refusal.{Gives, refusal_of, unexpected_eof};
 ghost use Rattle.binfarce_symbols.specs.SymbolViews.{function_view};
 ghost use Rattle.binfarce_pe.specs.Pe.{header_after};
-ghost use Rattle.binfarce_pe.specs.PeParts.{places_after, places_of, places_view, headers_alone, text_place, text_view};
+ghost use Rattle.binfarce_pe.specs.PeParts.{places_after, places_view, headers_alone, text_place, text_view};
 ghost use Rattle.binfarce_pe.specs.PeSymbols.{entries_of};
 ghost use Rattle.binfarce_pe.specs.PeViews.{header_view};
 
 use crate::header::{PeHeader, header_after};
-use crate::pe::Pe;
 use crate::sections::Table;
 use crate::symbols::{SYMBOL_LENGTH, SymbolTable, functions_of, text_among};
 use binfarce_bytes::parser::number_at;
@@ -68,13 +67,8 @@ pub fn places_in(headers: &[u8], signature: u32) -> Result<Places, ParseError>
     Ok(places_after(signature, header))
 }
 
-pub(crate) fn places_of(file: &Pe<'_>) -> Places
-    ensures { places_view result ≡ places_of file.now }
-{
-    places_after(file.pe_pointer, file.header)
-}
-
-fn places_after(signature: u32, header: PeHeader) -> Places
+/// The places that this file header states, where the signature stands at this offset of the file.
+pub fn places_after(signature: u32, header: PeHeader) -> Places
     ensures { places_view result ≡ places_after signature (header_view header) }
 {
     let optional_header = signature as usize + HEADERS_LENGTH;

@@ -6,12 +6,11 @@ ghost use Rattle.binfarce_bytes.specs.Refusal.{Gives, refusal_of, unexpected_eof
 ghost use Rattle.binfarce_bytes.specs.Text.{padded_text};
 ghost use Rattle.binfarce_bytes.specs.Walk.{MayBeAsked, FirstAccepted, first, ended, ahead_of};
 ghost use Rattle.binfarce_pe.specs.Pe.{section_at, section_data, walk, is_named};
-ghost use Rattle.binfarce_pe.specs.PeParts.{section_table, table_walk};
+ghost use Rattle.binfarce_pe.specs.PeParts.{section_table, table_walk, places_of, places_view};
 ghost use Rattle.binfarce_pe.specs.PeViews.{section_view};
 ghost use Rattle.binfarce_pe.specs.machine.RawPe.{headers_view, header_count, walk_from};
 
-use crate::parts::{SECTION_LENGTH, places_of};
-use crate::pe::Pe;
+use crate::parts::{Places, SECTION_LENGTH};
 use binfarce_bytes::parser::{Stream, UnexpectedEof, range, up_to_nul, utf8_text};
 use binfarce_bytes::{ByteOrder, ParseError};
 use std::marker::Model;
@@ -52,15 +51,13 @@ impl Section<'_> {
 
 /// The bytes that the section has in the file, a part of them; `UnexpectedEof` where they end past the file.
 #[tactic(auto, unfolding(binfarce_bytes::specs::Refusal::bytes_in_file))]
-pub(crate) fn section_data<'a>(file: &Pe<'a>, section: &Section<'_>) -> Result<&'a [u8], ParseError>
+pub fn section_data<'a>(file: &'a [u8], section: &Section<'_>) -> Result<&'a [u8], ParseError>
     ensures { Gives refusal_of (λ b. b.now) (section_data file.now (section_view section.now)) result }
 {
-    file.data
-        .get(section.range()?)
-        .ok_or(ParseError::UnexpectedEof)
+    file.get(section.range()?).ok_or(ParseError::UnexpectedEof)
 }
 
-/// The sections of a file that are left, in file order: what [`Pe::sections`] gives. It borrows the file's bytes.
+/// The sections of a file that are left, in file order: what `Pe::sections` gives. It borrows the file's bytes.
 ///
 /// A section header is read when it is asked for. `UnexpectedEof` comes in place of a header that is truncated, and
 /// where the section table doesn't begin in the file; after it nothing comes.
@@ -93,23 +90,24 @@ impl<'a> Model for Sections<'a> {
     ghost invariant = { λ s. IfSome s.next (λ index. index ≤ header_count (headers_view s.table)) };
 }
 
-/// All sections of the file.
-pub(crate) fn sections_of<'a>(file: &Pe<'a>) -> Sections<'a>
+/// All sections of the file, whose places these are.
+pub fn sections_of<'a>(file: &'a [u8], places: Places) -> Sections<'a>
+    requires { places_view places ≡ places_of file.now }
     ensures { result ≡ walk file.now }
 {
     Sections {
-        table: section_table(file),
+        table: section_table(file, places),
         next: Some(0),
     }
 }
 
 /// The section headers of a file.
-pub(crate) fn section_table<'a>(file: &Pe<'a>) -> Table<'a>
+pub(crate) fn section_table<'a>(file: &'a [u8], places: Places) -> Table<'a>
+    requires { places_view places ≡ places_of file.now }
     ensures { headers_view result ≡ section_table file.now }
 {
-    let places = places_of(file);
     Table {
-        bytes: file.data,
+        bytes: file,
         offset: places.sections,
         count: places.section_count,
     }
@@ -165,15 +163,17 @@ fn section_left(table: Table<'_>, from: u16) -> Result<Option<(Section<'_>, u16)
     Ok(None)
 }
 
-// The first section of the file that the callback accepts.
-pub(crate) fn first_of_file<'a, F: Fn(Section<'a>) -> bool>(
-    file: &Pe<'a>,
+/// The first section of the file that the callback accepts.
+pub fn first_of_file<'a, F: Fn(Section<'a>) -> bool>(
+    file: &'a [u8],
+    places: Places,
     callback: F,
 ) -> Result<Option<Section<'a>>, UnexpectedEof>
-    requires { All (MayBeAsked section_view (F.pre callback)) (walk file.now).items }
+    requires places { places_view places ≡ places_of file.now }
+    requires asked { All (MayBeAsked section_view (F.pre callback)) (walk file.now).items }
     ensures { FirstAccepted (λ _. unexpected_eof) section_view (F.post callback) (walk file.now) result }
 {
-    first_section(section_table(file), callback)
+    first_section(section_table(file, places), callback)
 }
 
 // The first section of the table that the callback accepts.
@@ -202,14 +202,16 @@ fn first_section<'a, F: Fn(Section<'a>) -> bool>(
     Ok(None)
 }
 
-// The first section with this name.
-pub(crate) fn section_with_name<'a>(
-    file: &Pe<'a>,
+/// The first section with this name.
+pub fn section_with_name<'a>(
+    file: &'a [u8],
+    places: Places,
     name: &str,
 ) -> Result<Option<Section<'a>>, UnexpectedEof>
+    requires { places_view places ≡ places_of file.now }
     ensures { Gives (λ _. unexpected_eof) (option_map section_view) (first (λ s. is_named name.now s) (walk file.now)) result }
 {
-    section_named(section_table(file), name)
+    section_named(section_table(file, places), name)
 }
 
 // The first section of a table with this name. The error holds no text, so that the closure may borrow the name.

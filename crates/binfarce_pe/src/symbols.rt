@@ -3,16 +3,16 @@
 ghost use Rattle.std.specs.Prelude.{◌≡◌, ◌+◌, ◌<◌, ◌≤◌, length, All, MatchResult, IfOk, ◌≢◌, [], ◌-◌, map, OnErr, IfSome, unwrap_or, nat_lt, if◌then◌else◌};
 ghost use Rattle.std.specs.Option.{option_map};
 ghost use Rattle.binfarce_bytes.specs.Refusal.{Gives, refusal_of};
-ghost use Rattle.binfarce_symbols.specs.SymbolViews.{function_view};
-ghost use Rattle.binfarce_pe.specs.PeSymbols.{text_section, symbol_table, located, symbol_at, record_count, symbol_of, name_of, function_name, kept_rows, size_members, entries_of};
-ghost use Rattle.binfarce_pe.specs.PeParts.{text_among};
+ghost use Rattle.binfarce_symbols.specs.Entries.{Answers, ListsSome};
+ghost use Rattle.binfarce_symbols.specs.SymbolViews.{function_view, HoldsFunctions};
+ghost use Rattle.binfarce_pe.specs.PeSymbols.{pe_answer, text_section, symbol_table, located, symbol_at, record_count, symbol_of, name_of, function_name, kept_rows, size_members, entries_of};
+ghost use Rattle.binfarce_pe.specs.PeParts.{text_among, places_of, places_view};
 ghost use Rattle.binfarce_pe.specs.PeViews.{section_view};
 ghost use Rattle.binfarce_pe.specs.machine.RawPe.{headers_view, table_view, located_view, symbol_view, HoldsKept, function_at};
 ghost use Rattle.binfarce_symbols.specs.Sizes.{addresses_of, least_above, least_of};
 ghost use Rattle.binfarce_symbols.specs.RowViews.{rows_view};
 
-use crate::parts::places_of;
-use crate::pe::Pe;
+use crate::parts::Places;
 use crate::sections::{Section, Table, section_named, section_table, short_name};
 use binfarce_bytes::parser::{Stream, UnexpectedEof, parse_null_string, slice_at};
 use binfarce_bytes::{ByteOrder, ParseError};
@@ -30,9 +30,9 @@ const IMAGE_SYM_DTYPE_FUNCTION: u16 = 2;
 
 /// Where the symbols of a file are.
 #[derive(Clone, Copy)]
-pub(crate) struct Located<'a> {
-    pub(crate) text: Section<'a>,
-    pub(crate) table: SymbolTable<'a>,
+struct Located<'a> {
+    text: Section<'a>,
+    table: SymbolTable<'a>,
 }
 
 /// The records of a symbol table, and the file from the string table on, which follows them.
@@ -61,20 +61,39 @@ struct Kept<'a> {
     names: Vec<&'a str>,
 }
 
+/// The function symbols of the file, whose places these are, and the size of its section `.text`: the answer of `functions`
+/// of a reader, with its refusals. `OutOfMemory` comes only in place of a list that isn't empty.
+#[tactic(auto, unfolding(crate::specs::PeSymbols::pe_answer))]
+pub fn functions_of_file<'a>(
+    alloc: Global,
+    file: &'a [u8],
+    places: Places,
+) -> Result<(Vec<FunctionSymbol<'a>>, u64), ParseError>
+    requires { places_view places ≡ places_of file.now }
+    ensures { Answers HoldsFunctions ListsSome (pe_answer file.now) result }
+{
+    let found = locate(file, places)?;
+    let size = found.text.size_of_raw_data;
+    let functions = functions_of(alloc, found.table, found.text.index, size)?;
+    Ok((functions, u64::from(size)))
+}
+
 // Where the symbols are, or the first refusal.
 #[tactic(auto, unfolding(crate::specs::PeSymbols::located))]
-pub(crate) fn locate<'a>(file: &Pe<'a>) -> Result<Located<'a>, ParseError>
+fn locate<'a>(file: &'a [u8], places: Places) -> Result<Located<'a>, ParseError>
+    requires { places_view places ≡ places_of file.now }
     ensures { Gives refusal_of located_view (located file.now) result }
 {
-    let text = text_section(file)?;
-    let table = symbol_table(file)?;
+    let text = text_section(file, places)?;
+    let table = symbol_table(file, places)?;
     Ok(Located { text, table })
 }
 
-fn text_section<'a>(file: &Pe<'a>) -> Result<Section<'a>, ParseError>
+fn text_section<'a>(file: &'a [u8], places: Places) -> Result<Section<'a>, ParseError>
+    requires { places_view places ≡ places_of file.now }
     ensures { Gives refusal_of section_view (text_section file.now) result }
 {
-    text_among(section_table(file))
+    text_among(section_table(file, places))
 }
 
 /// The first section `.text` of a table.
@@ -85,16 +104,16 @@ pub(crate) fn text_among(table: Table<'_>) -> Result<Section<'_>, ParseError>
 }
 
 #[tactic(auto, unfolding(crate::specs::PeSymbols::symbol_table))]
-fn symbol_table<'a>(file: &Pe<'a>) -> Result<SymbolTable<'a>, ParseError>
+fn symbol_table<'a>(file: &'a [u8], places: Places) -> Result<SymbolTable<'a>, ParseError>
+    requires { places_view places ≡ places_of file.now }
     ensures { Gives refusal_of table_view (symbol_table file.now) result }
 {
-    let places = places_of(file);
     let offset = places.symbols;
-    if offset >= file.data.len() {
+    if offset >= file.len() {
         return Err(ParseError::UnexpectedEof);
     }
-    let rows = slice_at(file.data, offset, places.symbols_size)?;
-    let strings = &file.data[offset + places.symbols_size..];
+    let rows = slice_at(file, offset, places.symbols_size)?;
+    let strings = &file[offset + places.symbols_size..];
     Ok(SymbolTable { rows, strings })
 }
 

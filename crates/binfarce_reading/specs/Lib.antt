@@ -1,7 +1,6 @@
-pub mod BeginningReading
-pub mod Errors
-pub mod PeReading
+pub use Rattle.binfarce_tables.specs.BeginningReading
+pub use Rattle.binfarce_tables.specs.Errors
+pub use Rattle.binfarce_tables.specs.SectionReading
 pub mod Reading
-pub mod SectionReading
 pub mod MachoReading
-pub mod machine
+pub mod PeReading

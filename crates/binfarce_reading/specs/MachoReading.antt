@@ -1,20 +1,10 @@
 -- What a reading of a Mach-O file's parts gives.
-use Rattle.std.specs.Prelude.{List, ℕ, length, Option, Result, Err, nat_lt, if◌then◌else◌}
-use Rattle.std.specs.Option.{option_map}
-use Rattle.binfarce_bytes.specs.Refusal.{Refusal, unexpected_eof}
-use Rattle.binfarce_macho.specs.Macho.{least_length}
-use Rattle.binfarce_macho.specs.MachoSymbols.{Located, located}
+pub use Rattle.binfarce_tables.specs.MachoReading.{located_answer}
+use Rattle.std.specs.Prelude.{Option}
+use Rattle.binfarce_macho.specs.MachoSymbols.{Located}
+use Rattle.binfarce_tables.specs.MachoReading as tables
 use Rattle.binfarce_reading.specs.declared.macho.Parts.{Parts}
-use Rattle.binfarce_reading.specs.declared.macho.Tables.{Tables}
-
--- where a file's symbols are, of which its answer is made: one too short for its header ends before what it should hold
-abbrev pub located_answer : List ℕ → Result (Option Located) Refusal
-located_answer file = if nat_lt (length file) least_length then Err unexpected_eof else located file
-
--- the tables that were read
-abbrev pub tables_view : Tables → Located
-tables_view t = record { text_end = t.text_end; text_size = t.text_size; strings = t.strings.items; rows = t.rows.items }
 
 -- what a file's parts hold: its tables, or that it has no symbol table
 abbrev pub parts_view : Parts → Option Located
-parts_view p = option_map tables_view p.tables
+parts_view p = tables.parts_view p.tables

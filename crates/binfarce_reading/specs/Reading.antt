@@ -1,34 +1,11 @@
 -- What a reading of a file's parts gives.
-use Rattle.std.specs.Prelude.{◌≡◌, ℕ, Bool, true, List, length, Option, Some, Result, Ok, Err, nat_lt, if◌then◌else◌}
-use Rattle.binfarce_bytes.specs.declared.ByteOrder.{ByteOrder}
-use Rattle.binfarce_bytes.specs.Refusal.{Refusal, refusal_of, unexpected_eof}
+pub use Rattle.binfarce_tables.specs.Reading.{Reads, Known, file_answer}
+use Rattle.std.specs.Prelude.{ℕ}
 use Rattle.binfarce_symbols.specs.Entries.{Listed}
-use Rattle.binfarce_elf.specs.Elf.{ElfClass, section_table}
-use Rattle.binfarce_elf.specs.ElfSymbols.{elf_answer, entries_from}
-use Rattle.binfarce_elf.specs.ElfViews.{section_view}
-use Rattle.binfarce_reading.specs.declared.error.ReadError.{ReadError}
-use Rattle.binfarce_reading.specs.declared.error.ReadError.TheVariants.{Refused, Unreadable, OutOfMemory}
+use Rattle.binfarce_elf.specs.Elf.{ElfClass}
+use Rattle.binfarce_tables.specs.Reading as tables
 use Rattle.binfarce_reading.specs.declared.elf.Parts.{Parts}
-
--- where the file gives this, a reading of it gives the same, seen by a view; or a source that may fail can't be read, or an allocation failed
-abbrev pub Reads : {X Y : Type 0} → Bool → (X → Y) → Result Y Refusal → Result X ReadError → Type 0
-Reads may_fail view answer (Ok x) = answer ≡ Ok (view x)
-Reads may_fail view answer (Err (Refused e)) = answer ≡ Err (refusal_of e)
-Reads may_fail view answer (Err Unreadable) = may_fail ≡ true
-Reads may_fail view answer (Err OutOfMemory) = Unit {0}
-
--- the bytes are known, and as many as that
-abbrev pub Known : Option (List ℕ) → ℕ → List ℕ → Type 0
-Known bytes len file = (bytes ≡ Some file) × (len ≡ length file)
-
--- the answer of a file: one too short for its header ends before what it should hold
-abbrev pub file_answer : ElfClass → ByteOrder → List ℕ → List ℕ → Result Listed Refusal
-file_answer class order file name =
-    if nat_lt (length file) class.header_length then Err unexpected_eof
-    else elf_answer class (section_table class (record { order = order; bytes = file })) name
 
 -- the entries that a file's parts hold, and the size of the section that was asked for
 abbrev pub parts_view : {C : Type 0} → ElfClass → (C → ℕ) → Parts C → Listed
-parts_view class number p =
-    let section = section_view number p.section in
-    record { entries = entries_from class p.byte_order p.strings.items section.index p.rows.items 0; section_size = section.size }
+parts_view class number p = tables.parts_view class number p.tables

@@ -1,37 +1,31 @@
 //! The parts of an ELF file of either class that the function symbols of a section are read from.
 
-ghost use Rattle.std.specs.Prelude.{◌≡◌, ◌+◌, ◌≤◌, List, ℕ, Ok, Some, length};
-ghost use Rattle.std.specs.Option.{option_map};
-ghost use Rattle.binfarce_bytes.specs.Number.{bytes_at};
-ghost use Rattle.binfarce_bytes.specs.Refusal.{Gives, refusal_of};
-ghost use Rattle.binfarce_elf.specs.Elf.{contents};
-ghost use Rattle.binfarce_elf.specs.ElfParts.{headers_alone, needed, needed_view};
-ghost use Rattle.binfarce_elf.specs.ElfSymbols.{section_data};
-ghost use Rattle.binfarce_elf.specs.ElfViews.{section_view, functions_view};
-ghost use Rattle.binfarce_elf.specs.machine.RawElf.{names_bytes};
-ghost use Rattle.binfarce_symbols.specs.Entries.{Answers, HoldsSymbols, ListsSome};
-ghost use Rattle.binfarce_reading.specs.Reading.{Reads, Known, file_answer, parts_view};
-ghost use Rattle.binfarce_reading.specs.machine.Places.{table_at, table_step, headers_of};
+ghost use Rattle.std.specs.Prelude.{◌≡◌, Ok};
+ghost use Rattle.binfarce_elf.specs.ElfViews.{functions_view};
+ghost use Rattle.binfarce_symbols.specs.Entries.{Answers, ListsSome};
+ghost use Rattle.binfarce_naming.specs.Symbol.{HoldsSymbols};
+ghost use Rattle.binfarce_tables.specs.Reading as reading;
+ghost use Rattle.binfarce_reading.specs.Reading.{parts_view};
 
-use crate::error::ReadError;
-use binfarce_bytes::{ByteOrder, ParseError};
-use binfarce_elf::class::{Class, Half};
-use binfarce_elf::elf;
-use binfarce_elf::parts::{Needed, functions_in, needed_sections};
-use binfarce_elf::sections::{Section, section_at};
-use binfarce_elf::symbols::{Functions, whole_rows};
+use binfarce_bytes::ParseError;
+use binfarce_elf::class::Class;
+use binfarce_elf::symbols::Functions;
 use binfarce_names::demangle::SymbolData;
-use binfarce_source::{Source, read_part};
-use binfarce_symbols::functions::symbols_of;
+use binfarce_naming::symbols::symbols_of;
+use binfarce_tables::elf;
 use std::alloc::Global;
 
 /// The parts of a file that the function symbols of a section are read from.
 #[derive(Drop)]
 pub struct Parts<C> {
-    rows: Vec<u8>,
-    strings: Vec<u8>,
-    byte_order: ByteOrder,
-    section: Section<C>,
+    tables: elf::Parts<C>,
+}
+
+// What was read, as a reader of files gives it.
+pub(crate) fn of_tables<C: Class>(tables: elf::Parts<C>) -> Parts<C>
+    ensures { parts_view C.table C.number_of result ≡ reading.parts_view C.table C.number_of tables }
+{
+    Parts { tables }
 }
 
 impl<C: Class> Parts<C> {
@@ -40,7 +34,7 @@ impl<C: Class> Parts<C> {
     pub fn functions(&self) -> (Functions<'_, C>, u64)
         ensures { functions_view C.table result ≡ parts_view C.table C.number_of self.now }
     {
-        functions_in::<C>(&self.rows, &self.strings, self.byte_order, self.section)
+        self.tables.functions()
     }
 
     /// The same functions as symbols, whose names are in readable form, and the section's size in bytes. Nothing is read.
@@ -48,192 +42,10 @@ impl<C: Class> Parts<C> {
     /// # Errors
     ///
     /// `OutOfMemory` where an allocation failed, which an empty list never needs.
-    #[tactic(auto, using(binfarce_elf::proofs::RowsLeft::symbols_are))]
     pub fn symbols(&self, alloc: Global) -> Result<(Vec<SymbolData>, u64), ParseError>
         ensures { Answers HoldsSymbols ListsSome (Ok (parts_view C.table C.number_of self.now)) result }
     {
         let (functions, size) = self.functions();
         Ok((symbols_of(alloc, functions)?, size))
     }
-}
-
-// Where the section headers of a file are, as its header says, and the order of its numbers' bytes.
-#[derive(Clone, Copy)]
-pub(crate) struct Place {
-    pub(crate) byte_order: ByteOrder,
-    pub(crate) shoff: usize,
-    pub(crate) shnum: Half,
-    pub(crate) shstrndx: Half,
-}
-
-/// The parts of the section with this name. Refused as `functions` of a reader is.
-pub(crate) fn read_parts<C: Class, S: Source>(
-    alloc: Global,
-    source: &S,
-    byte_order: ByteOrder,
-    section_name: &str,
-) -> Result<Parts<C>, ReadError>
-    ensures { (file : List ℕ) → S.bytes source.now ≡ Some file → Reads (S.may_fail source.now) (parts_view C.table C.number_of) (file_answer C.table byte_order file section_name.now) result }
-{
-    let len = source.length()? as usize;
-    let place = read_place::<C, S>(alloc, source, len, byte_order)?;
-    let needed = read_needed::<C, S>(alloc, source, len, place, section_name)?;
-    let strings = read_section::<C, S>(alloc, source, len, needed.strings)?;
-    let rows = read_section::<C, S>(alloc, source, len, needed.symbols)?;
-    let _ = whole_rows::<C>(&rows)?;
-    Ok(Parts {
-        rows,
-        strings,
-        byte_order: place.byte_order,
-        section: needed.section,
-    })
-}
-
-pub(crate) fn read_place<C: Class, S: Source>(
-    alloc: Global,
-    source: &S,
-    len: usize,
-    byte_order: ByteOrder,
-) -> Result<Place, ReadError>
-    ensures { (file : List ℕ) → Known (S.bytes source.now) len file → Reads (S.may_fail source.now) (table_at file) (table_step C.table byte_order file) result }
-{
-    let size = 40 + 3 * C::SIZE;
-    if len < size {
-        return Err(ReadError::Refused(ParseError::UnexpectedEof));
-    }
-    let bytes = part(alloc, source, 0, size)?;
-    let header = elf::parse::<C>(&bytes, byte_order)?.header();
-    Ok(Place {
-        byte_order,
-        shoff: header.shoff.widened() as usize,
-        shnum: header.shnum,
-        shstrndx: header.shstrndx,
-    })
-}
-
-fn read_needed<C: Class, S: Source>(
-    alloc: Global,
-    source: &S,
-    len: usize,
-    place: Place,
-    section_name: &str,
-) -> Result<Needed<C>, ReadError>
-    ensures { (file : List ℕ) → Known (S.bytes source.now) len file → let table = table_at file place in
-        Reads (S.may_fail source.now) (needed_view C.number_of) (needed C.table table (names_bytes C.table table) section_name.now) result }
-{
-    if place.shoff >= len {
-        return Err(ReadError::Refused(ParseError::UnexpectedEof));
-    }
-    if place.shnum == 0 {
-        return Err(ReadError::Refused(ParseError::SymbolsSectionIsMissing));
-    }
-    let names = read_names::<C, S>(alloc, source, len, place)?;
-    let headers = read_headers::<C, S>(alloc, source, len, place)?;
-    Ok(needed_in::<C>(&headers, &names, place, section_name)?)
-}
-
-// The sections that are needed, among these section headers and section names.
-fn needed_in<C: Class>(
-    headers: &[u8],
-    names: &Option<Vec<u8>>,
-    place: Place,
-    section_name: &str,
-) -> Result<Needed<C>, ParseError>
-    ensures { Gives refusal_of (needed_view C.number_of)
-        (needed C.table (headers_alone place.byte_order headers.now place.shnum) (option_map (λ v. v.items) names.now) section_name.now) result }
-{
-    let names = slice_of(names);
-    needed_sections::<C>(headers, place.byte_order, place.shnum, names, section_name)
-}
-
-pub(crate) fn slice_of(bytes: &Option<Vec<u8>>) -> Option<&[u8]>
-    ensures { option_map (λ b. b.now) result ≡ option_map (λ v. v.items) bytes.entry.now }
-{
-    match bytes {
-        None => None,
-        Some(bytes) => Some(bytes.as_slice()),
-    }
-}
-
-// The section headers that are whole, up to the count.
-pub(crate) fn read_headers<C: Class, S: Source>(
-    alloc: Global,
-    source: &S,
-    len: usize,
-    place: Place,
-) -> Result<Vec<u8>, ReadError>
-    ensures { (file : List ℕ) → Known (S.bytes source.now) len file → place.shoff ≤ len → Reads (S.may_fail source.now) (λ v. v.items) (Ok (headers_of C.table (table_at file place))) result }
-{
-    let whole = len.saturating_sub(place.shoff) / C::SECTION_LENGTH;
-    let count = whole.min(place.shnum as usize);
-    part(alloc, source, place.shoff, count * C::SECTION_LENGTH)
-}
-
-// The section names, where the file has them.
-pub(crate) fn read_names<C: Class, S: Source>(
-    alloc: Global,
-    source: &S,
-    len: usize,
-    place: Place,
-) -> Result<Option<Vec<u8>>, ReadError>
-    ensures { (file : List ℕ) → Known (S.bytes source.now) len file → Reads (S.may_fail source.now) (option_map (λ v. v.items)) (Ok (names_bytes C.table (table_at file place))) result }
-{
-    let whole = len.saturating_sub(place.shoff) / C::SECTION_LENGTH;
-    if place.shstrndx as usize >= whole {
-        return Ok(None);
-    }
-    let start = place.shoff + place.shstrndx as usize * C::SECTION_LENGTH;
-    let header = part(alloc, source, start, C::SECTION_LENGTH)?;
-    match section_at::<C>(&header, 0, place.byte_order, place.shstrndx) {
-        Ok(section) => read_contents::<C, S>(alloc, source, len, section),
-        Err(_) => Ok(None),
-    }
-}
-
-// The section's bytes, where they lie in the file.
-fn read_contents<C: Class, S: Source>(
-    alloc: Global,
-    source: &S,
-    len: usize,
-    section: Section<C>,
-) -> Result<Option<Vec<u8>>, ReadError>
-    ensures { (file : List ℕ) → Known (S.bytes source.now) len file → Reads (S.may_fail source.now) (option_map (λ v. v.items)) (Ok (contents file (section_view C.number_of section))) result }
-{
-    match read_section::<C, S>(alloc, source, len, section) {
-        Ok(bytes) => Ok(Some(bytes)),
-        Err(ReadError::Refused(_)) => Ok(None),
-        Err(e) => Err(e),
-    }
-}
-
-// The section's bytes; refused as those of a file in memory.
-fn read_section<C: Class, S: Source>(
-    alloc: Global,
-    source: &S,
-    len: usize,
-    section: Section<C>,
-) -> Result<Vec<u8>, ReadError>
-    ensures { (file : List ℕ) → Known (S.bytes source.now) len file → Reads (S.may_fail source.now) (λ v. v.items) (section_data file (section_view C.number_of section)) result }
-{
-    let range = section.range()?;
-    if range.end > len {
-        return Err(ReadError::Refused(ParseError::UnexpectedEof));
-    }
-    part(alloc, source, range.start, range.end - range.start)
-}
-
-/// The `size` bytes of a file from the offset on, in memory of that size.
-///
-/// # Errors
-///
-/// `Unreadable` where a read of the source fails, as where it ends before, and `OutOfMemory` where the allocation fails.
-pub fn part<S: Source>(
-    alloc: Global,
-    source: &S,
-    offset: usize,
-    size: usize,
-) -> Result<Vec<u8>, ReadError>
-    ensures { (file : List ℕ) → S.bytes source.now ≡ Some file → offset + size ≤ length file → Reads (S.may_fail source.now) (λ v. v.items) (Ok (bytes_at file offset size)) result }
-{
-    Ok(read_part(alloc, source, offset as u64, size)?)
 }

@@ -3,19 +3,17 @@
 ghost use Rattle.std.specs.Prelude.{◌≡◌, List, ℕ, Some};
 ghost use Rattle.binfarce_elf.specs.Elf.{elf64};
 ghost use Rattle.binfarce_reading.specs.Reading.{Reads, file_answer, parts_view};
-ghost use Rattle.binfarce_reading.specs.SectionReading.{file_sections, sections_view};
 
-use crate::error::ReadError;
-use crate::{elf, sections};
+use crate::elf;
 use binfarce_bytes::ByteOrder;
 use binfarce_source::Source;
+use binfarce_tables::{ReadError, elf64};
 use std::alloc::Global;
+
+pub use binfarce_tables::elf64::{SectionParts, read_sections};
 
 /// The parts of a 64-bit file that the function symbols of a section are read from, in memory.
 pub type Parts = elf::Parts<u64>;
-
-/// The section headers of a 64-bit file and the section names, in memory.
-pub type SectionParts = sections::SectionParts<u64>;
 
 /// Reads the parts of a file that the function symbols of the section with this name are read from, numbers in the
 /// given order, without a look at the magic number: the file header of 64 bytes, the header of the section names' own
@@ -36,25 +34,6 @@ pub fn read<S: Source>(
     ensures { (file : List ℕ) → S.bytes source.now ≡ Some file
         → Reads (S.may_fail source.now) (parts_view elf64 (λ n. n)) (file_answer elf64 byte_order file section_name.now) result }
 {
-    elf::read_parts::<u64, S>(alloc, source, byte_order, section_name)
-}
-
-/// Reads the section headers and the section names of a file, numbers in the given order, without a look at the magic
-/// number: the file header of 64 bytes, the header of the section names' own section, the section names and all section
-/// headers. Each is read once, into memory of its size, which is never more than what the file holds of it. No other byte
-/// is read, but the first byte of a section header table without headers.
-///
-/// # Errors
-///
-/// `Refused` with `UnexpectedEof` for fewer than 64 bytes; `Unreadable` where the source can't be read at offsets, or a
-/// read of it fails, and never of a source that can't fail, as bytes in memory are; `OutOfMemory` where an allocation fails.
-pub fn read_sections<S: Source>(
-    alloc: Global,
-    source: &S,
-    byte_order: ByteOrder,
-) -> Result<SectionParts, ReadError>
-    ensures { (file : List ℕ) → S.bytes source.now ≡ Some file
-        → Reads (S.may_fail source.now) (sections_view elf64) (file_sections elf64 byte_order file) result }
-{
-    sections::read_sections::<u64, S>(alloc, source, byte_order)
+    let tables = elf64::read(alloc, source, byte_order, section_name)?;
+    Ok(elf::of_tables(tables))
 }

@@ -1,15 +1,10 @@
 //! Files that are read where their tables are: each part once, into memory of its size.
 #![tactic(auto)]
 
-mod beginning;
 mod elf;
 pub mod elf32;
 pub mod elf64;
-mod error;
 pub mod macho;
 pub mod pe;
-mod sections;
 
-pub use crate::beginning::Beginning;
-pub use crate::elf::part;
-pub use crate::error::ReadError;
+pub use binfarce_tables::{Beginning, ReadError, part};

@@ -1,45 +1,28 @@
 //! 64-bit Mach-O files, read where their tables are (Apple's `<mach-o/loader.h>` and `<mach-o/nlist.h>`).
 
-ghost use Rattle.std.specs.Prelude.{◌≡◌, ◌≤◌, List, ℕ, Ok, Some, length};
-ghost use Rattle.binfarce_bytes.specs.Refusal.{Gives, refusal_of};
-ghost use Rattle.binfarce_macho.specs.Macho.{least_length};
-ghost use Rattle.binfarce_macho.specs.MachoParts.{SomeAddress, needed, needed_view, table_view, located_in, tables_in, holds_commands};
-ghost use Rattle.binfarce_macho.specs.MachoSymbols.{answer_of, slice_at};
-ghost use Rattle.binfarce_macho.specs.MachoViews.{section_view};
-ghost use Rattle.binfarce_symbols.specs.Entries.{Answers, HoldsSymbols};
+ghost use Rattle.std.specs.Prelude.{◌≡◌, List, ℕ, Some};
+ghost use Rattle.binfarce_macho.specs.MachoParts.{SomeAddress};
+ghost use Rattle.binfarce_macho.specs.MachoSymbols.{answer_of};
+ghost use Rattle.binfarce_symbols.specs.Entries.{Answers};
 ghost use Rattle.binfarce_symbols.specs.SymbolViews.{HoldsFunctions};
-ghost use Rattle.binfarce_reading.specs.BeginningReading.{ReadsBeginning, macho_sections};
-ghost use Rattle.binfarce_reading.specs.MachoReading.{located_answer, parts_view, tables_view};
-ghost use Rattle.binfarce_reading.specs.Reading.{Reads, Known};
-ghost use Rattle.binfarce_reading.specs.machine.MachoPlaces.{said_end, command_bytes};
+ghost use Rattle.binfarce_naming.specs.Symbol.{HoldsSymbols};
+ghost use Rattle.binfarce_reading.specs.MachoReading.{located_answer, parts_view};
+ghost use Rattle.binfarce_reading.specs.Reading.{Reads};
 
-use crate::beginning::Beginning;
-use crate::elf::part;
-use crate::error::ReadError;
 use binfarce_bytes::ParseError;
-use binfarce_macho::macho::{self, Section};
-use binfarce_macho::parts::{self, Located, Needed, SYMBOL_LENGTH, SymbolTable};
 use binfarce_names::demangle::SymbolData;
+use binfarce_naming::symbols::symbols_of;
 use binfarce_source::Source;
-use binfarce_symbols::functions::{FunctionSymbol, symbols_of};
+use binfarce_symbols::functions::FunctionSymbol;
+use binfarce_tables::{ReadError, macho};
 use std::alloc::Global;
 
-// The header's bytes that are read.
-const HEADER: usize = 28;
+pub use binfarce_tables::macho::read_sections;
 
 /// The parts of a file that its function symbols are read from, in memory.
 #[derive(Drop)]
 pub struct Parts {
-    tables: Option<Tables>,
-}
-
-// Where the text ends, how long it is, the string table and the symbol table.
-#[derive(Drop)]
-struct Tables {
-    text_end: u64,
-    text_size: u64,
-    strings: Vec<u8>,
-    rows: Vec<u8>,
+    tables: macho::Parts,
 }
 
 impl Parts {
@@ -53,10 +36,7 @@ impl Parts {
     pub fn functions(&self, alloc: Global) -> Result<(Vec<FunctionSymbol<'_>>, u64), ParseError>
         ensures { Answers HoldsFunctions (λ _. SomeAddress (parts_view self.now)) (answer_of (parts_view self.now)) result }
     {
-        match &self.tables {
-            None => Ok((Vec::new(alloc), 0)),
-            Some(tables) => listed(alloc, tables),
-        }
+        self.tables.functions(alloc)
     }
 
     /// The same functions as symbols, whose names are in readable form, and the text's size in bytes. Nothing is read.
@@ -73,18 +53,6 @@ impl Parts {
     }
 }
 
-fn listed(alloc: Global, tables: &Tables) -> Result<(Vec<FunctionSymbol<'_>>, u64), ParseError>
-    ensures { let found = Some (tables_view tables.entry.now) in Answers HoldsFunctions (λ _. SomeAddress found) (answer_of found) result }
-{
-    let found = Located {
-        text_end: tables.text_end,
-        text_size: tables.text_size,
-        strings: &tables.strings,
-        rows: &tables.rows,
-    };
-    parts::functions_of(alloc, found)
-}
-
 /// Reads the parts of a file that its function symbols are read from, without a look at the magic number: the header of
 /// 28 bytes, the file's first bytes up to where the load commands end as the header says (`sizeofcmds`), the string table
 /// and the symbol table. Each is read into memory of its size, which is never more than what the file holds of it. No other
@@ -99,127 +67,6 @@ fn listed(alloc: Global, tables: &Tables) -> Result<(Vec<FunctionSymbol<'_>>, u6
 pub fn read<S: Source>(alloc: Global, source: &S) -> Result<Parts, ReadError>
     ensures { (file : List ℕ) → S.bytes source.now ≡ Some file → Reads (S.may_fail source.now) parts_view (located_answer file) result }
 {
-    let len = source.length()? as usize;
-    if len < HEADER {
-        return Err(ReadError::Refused(ParseError::UnexpectedEof));
-    }
-    let commands = read_commands(alloc, source, len)?;
-    let needed = needed_in(&commands)?;
-    read_tables(alloc, source, len, needed)
-}
-
-/// Reads the file's first bytes that its sections are read from, without a look at the magic number: the header of 28 bytes,
-/// and the bytes up to where the load commands end as the header says (`sizeofcmds`), or where the commands, or the sections
-/// of a segment command, go on past that end, all bytes. They take no more memory than what the file holds of them.
-///
-/// # Errors
-///
-/// `Refused` with `UnexpectedEof` for fewer than 28 bytes; `Unreadable` where the source can't be read at offsets, or a
-/// read of it fails, and never of a source that can't fail, as bytes in memory are; `OutOfMemory` where an allocation fails.
-pub fn read_sections<S: Source>(alloc: Global, source: &S) -> Result<Beginning, ReadError>
-    ensures { (file : List ℕ) → S.bytes source.now ≡ Some file → ReadsBeginning (S.may_fail source.now) macho_sections file result }
-{
-    let file_length = source.length()?;
-    let len = file_length as usize;
-    if HEADER > len {
-        return Err(ReadError::Refused(ParseError::UnexpectedEof));
-    }
-    let bytes = read_commands(alloc, source, len)?;
-    Ok(Beginning { bytes, file_length })
-}
-
-// The bytes that the load commands are in, from the file's first on.
-fn read_commands<S: Source>(alloc: Global, source: &S, len: usize) -> Result<Vec<u8>, ReadError>
-    requires { least_length ≤ len }
-    ensures { (file : List ℕ) → Known (S.bytes source.now) len file → Reads (S.may_fail source.now) (λ v. v.items) (Ok (command_bytes file)) result }
-{
-    let end = read_end(alloc, source, len)?;
-    let commands = part(alloc, source, 0, end)?;
-    if end == len || are_held(&commands) {
-        Ok(commands)
-    } else {
-        part(alloc, source, 0, len)
-    }
-}
-
-// Where the load commands end, as the header says, in the file.
-fn read_end<S: Source>(alloc: Global, source: &S, len: usize) -> Result<usize, ReadError>
-    requires { least_length ≤ len }
-    ensures { (file : List ℕ) → Known (S.bytes source.now) len file → Reads (S.may_fail source.now) (λ n. n) (Ok (said_end file)) result }
-{
-    let bytes = part(alloc, source, 0, HEADER)?;
-    let header = macho::parse(&bytes)?.header();
-    Ok(parts::commands_end(header).min(len))
-}
-
-fn are_held(commands: &[u8]) -> bool
-    ensures { least_length ≤ length commands.now → result ≡ holds_commands commands.now }
-{
-    match macho::parse(commands) {
-        Ok(file) => parts::holds_commands(&file),
-        Err(_) => false,
-    }
-}
-
-fn needed_in(commands: &[u8]) -> Result<Needed<'_>, ParseError>
-    ensures { least_length ≤ length commands.now → Gives refusal_of needed_view (needed commands.now) result }
-{
-    parts::needed_tables(&macho::parse(commands)?)
-}
-
-fn read_tables<S: Source>(
-    alloc: Global,
-    source: &S,
-    len: usize,
-    needed: Needed<'_>,
-) -> Result<Parts, ReadError>
-    ensures { (file : List ℕ) → Known (S.bytes source.now) len file → Reads (S.may_fail source.now) parts_view (tables_in file (needed_view needed.entry)) result }
-{
-    match needed.table {
-        None => Ok(Parts { tables: None }),
-        Some(table) => {
-            let tables = read_located(alloc, source, len, needed.text, table)?;
-            Ok(Parts {
-                tables: Some(tables),
-            })
-        }
-    }
-}
-
-fn read_located<S: Source>(
-    alloc: Global,
-    source: &S,
-    len: usize,
-    text: Section<'_>,
-    table: SymbolTable,
-) -> Result<Tables, ReadError>
-    ensures { (file : List ℕ) → Known (S.bytes source.now) len file → Reads (S.may_fail source.now) tables_view (located_in file (section_view text.entry) (table_view table)) result }
-{
-    let strings_at = table.strings_offset as usize;
-    let strings = read_table(alloc, source, len, strings_at, table.strings_size as usize)?;
-    let rows_size = SYMBOL_LENGTH * table.row_count as usize;
-    let rows = read_table(alloc, source, len, table.symbol_offset as usize, rows_size)?;
-    let text_end = parts::text_end(text)?;
-    Ok(Tables {
-        text_end,
-        text_size: text.size(),
-        strings,
-        rows,
-    })
-}
-
-// The bytes of a table; refused where they don't lie in the file.
-fn read_table<S: Source>(
-    alloc: Global,
-    source: &S,
-    len: usize,
-    offset: usize,
-    size: usize,
-) -> Result<Vec<u8>, ReadError>
-    ensures { (file : List ℕ) → Known (S.bytes source.now) len file → Reads (S.may_fail source.now) (λ v. v.items) (slice_at file offset size) result }
-{
-    if offset > len || size > len - offset {
-        return Err(ReadError::Refused(ParseError::UnexpectedEof));
-    }
-    part(alloc, source, offset, size)
+    let tables = macho::read(alloc, source)?;
+    Ok(Parts { tables })
 }

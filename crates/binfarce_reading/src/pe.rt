@@ -1,36 +1,26 @@
 //! PE files, read where their tables are (Microsoft PE Format).
 
 ghost use Rattle.std.specs.Prelude.{◌≡◌, List, ℕ, Ok, Some};
-ghost use Rattle.binfarce_symbols.specs.Entries.{Answers, HoldsSymbols, ListsSome};
+ghost use Rattle.binfarce_symbols.specs.Entries.{Answers, ListsSome};
 ghost use Rattle.binfarce_symbols.specs.SymbolViews.{HoldsFunctions};
-ghost use Rattle.binfarce_pe.specs.PeParts.{places_view, text_view};
-ghost use Rattle.binfarce_reading.specs.BeginningReading.{ReadsBeginning, pe_sections};
+ghost use Rattle.binfarce_naming.specs.Symbol.{HoldsSymbols};
 ghost use Rattle.binfarce_reading.specs.PeReading.{file_answer, parts_view};
-ghost use Rattle.binfarce_reading.specs.Reading.{Reads, Known};
-ghost use Rattle.binfarce_reading.specs.machine.PePlaces.{signature_step, places_step, text_at, answer_at};
+ghost use Rattle.binfarce_reading.specs.Reading.{Reads};
 
-use crate::beginning::Beginning;
-use crate::elf::part;
-use crate::error::ReadError;
 use binfarce_bytes::ParseError;
 use binfarce_names::demangle::SymbolData;
-use binfarce_pe::parts::{
-    HEADERS_LENGTH, Places, SECTION_LENGTH, SIGNATURE_POINTER, Text, functions_in, places_in,
-    signature_in, text_in,
-};
+use binfarce_naming::symbols::symbols_of;
 use binfarce_source::Source;
-use binfarce_symbols::functions::{FunctionSymbol, symbols_of};
+use binfarce_symbols::functions::FunctionSymbol;
+use binfarce_tables::{ReadError, pe};
 use std::alloc::Global;
 
-// How many bytes the MS-DOS stub has.
-const STUB_LENGTH: usize = 64;
+pub use binfarce_tables::pe::read_sections;
 
 /// The parts of a file that the function symbols of `.text` are read from, in memory.
 #[derive(Drop)]
 pub struct Parts {
-    rows: Vec<u8>,
-    strings: Vec<u8>,
-    text: Text,
+    tables: pe::Parts,
 }
 
 impl Parts {
@@ -44,8 +34,7 @@ impl Parts {
     pub fn functions(&self, alloc: Global) -> Result<(Vec<FunctionSymbol<'_>>, u64), ParseError>
         ensures { Answers HoldsFunctions ListsSome (Ok (parts_view self.now)) result }
     {
-        let functions = functions_in(alloc, &self.rows, &self.strings, self.text)?;
-        Ok((functions, u64::from(self.text.size)))
+        self.tables.functions(alloc)
     }
 
     /// The same functions as symbols, whose names are in readable form, and the size in bytes that `.text` has in the
@@ -76,99 +65,6 @@ impl Parts {
 pub fn read<S: Source>(alloc: Global, source: &S) -> Result<Parts, ReadError>
     ensures { (file : List ℕ) → S.bytes source.now ≡ Some file → Reads (S.may_fail source.now) parts_view (file_answer file) result }
 {
-    let len = source.length()? as usize;
-    let places = read_places(alloc, source, len)?;
-    let text = read_text(alloc, source, len, places)?;
-    read_symbols(alloc, source, len, places, text)
-}
-
-/// Reads the file's first bytes that its sections are read from, without a look at the signature: those up to the end of the
-/// section headers, or of the first byte after the file header where there are none. They take no more memory than what the
-/// file holds of them.
-///
-/// # Errors
-///
-/// `Refused` with `UnexpectedEof` where the file is too short for its file header; `Unreadable` where the source can't be
-/// read at offsets, or a read of it fails, and never of a source that can't fail, as bytes in memory are; `OutOfMemory`
-/// where an allocation fails.
-pub fn read_sections<S: Source>(alloc: Global, source: &S) -> Result<Beginning, ReadError>
-    ensures { (file : List ℕ) → S.bytes source.now ≡ Some file → ReadsBeginning (S.may_fail source.now) pe_sections file result }
-{
-    let file_length = source.length()?;
-    let len = file_length as usize;
-    let places = read_places(alloc, source, len)?;
-    let headers = places.section_count as usize * SECTION_LENGTH;
-    let end = places
-        .sections
-        .saturating_add(headers.max(1))
-        .max(STUB_LENGTH);
-    let bytes = part(alloc, source, 0, end.min(len))?;
-    Ok(Beginning { bytes, file_length })
-}
-
-fn read_places<S: Source>(alloc: Global, source: &S, len: usize) -> Result<Places, ReadError>
-    ensures { (file : List ℕ) → Known (S.bytes source.now) len file → Reads (S.may_fail source.now) places_view (places_step file) result }
-{
-    let signature = read_signature(alloc, source, len)?;
-    let offset = signature as usize;
-    if len < offset + HEADERS_LENGTH {
-        return Err(ReadError::Refused(ParseError::UnexpectedEof));
-    }
-    let headers = part(alloc, source, offset, HEADERS_LENGTH)?;
-    Ok(places_in(&headers, signature)?)
-}
-
-fn read_signature<S: Source>(alloc: Global, source: &S, len: usize) -> Result<u32, ReadError>
-    ensures { (file : List ℕ) → Known (S.bytes source.now) len file → Reads (S.may_fail source.now) (λ n. n) (signature_step file) result }
-{
-    if len < SIGNATURE_POINTER + 4 {
-        return Err(ReadError::Refused(ParseError::UnexpectedEof));
-    }
-    let pointer = part(alloc, source, SIGNATURE_POINTER, 4)?;
-    Ok(signature_in(&pointer)?)
-}
-
-// The text, found in the bytes that the section headers have in the file.
-fn read_text<S: Source>(
-    alloc: Global,
-    source: &S,
-    len: usize,
-    places: Places,
-) -> Result<Text, ReadError>
-    ensures { (file : List ℕ) → Known (S.bytes source.now) len file → Reads (S.may_fail source.now) text_view (text_at file (places_view places)) result }
-{
-    let offset = places.sections;
-    if offset >= len {
-        return Err(ReadError::Refused(ParseError::UnexpectedEof));
-    }
-    if places.section_count == 0 {
-        return Err(ReadError::Refused(ParseError::SymbolsSectionIsMissing));
-    }
-    let size = places.section_count as usize * SECTION_LENGTH;
-    let headers = part(alloc, source, offset, size.min(len - offset))?;
-    Ok(text_in(&headers, places.section_count)?)
-}
-
-// The symbol table and its strings, beside the text.
-fn read_symbols<S: Source>(
-    alloc: Global,
-    source: &S,
-    len: usize,
-    places: Places,
-    text: Text,
-) -> Result<Parts, ReadError>
-    ensures { (file : List ℕ) → Known (S.bytes source.now) len file → Reads (S.may_fail source.now) parts_view (answer_at file (places_view places) (text_view text)) result }
-{
-    let offset = places.symbols;
-    if offset >= len || places.symbols_size > len - offset {
-        return Err(ReadError::Refused(ParseError::UnexpectedEof));
-    }
-    let end = offset + places.symbols_size;
-    let rows = part(alloc, source, offset, places.symbols_size)?;
-    let strings = part(alloc, source, end, len - end)?;
-    Ok(Parts {
-        rows,
-        strings,
-        text,
-    })
+    let tables = pe::read(alloc, source)?;
+    Ok(Parts { tables })
 }

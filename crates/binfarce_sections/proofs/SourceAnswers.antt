@@ -10,9 +10,9 @@ use Rattle.binfarce.specs.Format.{format_of}
 use Rattle.binfarce.specs.Number.{bytes_at}
 use Rattle.binfarce.specs.Refusal.{Refusal, refusal_of}
 use Rattle.binfarce.specs.Walk.{Walk, ended, first}
-use Rattle.binfarce_reading.specs.Reading.{Reads}
-use Rattle.binfarce_reading.specs.declared.error.ReadError.{ReadError}
-use Rattle.binfarce_reading.specs.declared.error.ReadError.TheVariants as reading
+use Rattle.binfarce_tables.specs.Reading.{Reads}
+use Rattle.binfarce_tables.specs.declared.error.ReadError.{ReadError}
+use Rattle.binfarce_tables.specs.declared.error.ReadError.TheVariants as reading
 use Rattle.binfarce_sections.specs.declared.error.SectionError.{SectionError}
 use Rattle.binfarce_sections.specs.declared.error.SectionError.TheVariants.{Unknown, Parse, NoSection, NoBytes, PastEnd, OutOfMemory, Write, Unreadable}
 use Rattle.binfarce_sections.specs.declared.sections.Section as code

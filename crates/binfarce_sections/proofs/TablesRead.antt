@@ -12,12 +12,12 @@ use Rattle.binfarce.specs.Macho as macho
 use Rattle.binfarce.specs.Pe as pe
 use Rattle.binfarce.specs.Refusal.{Refusal, refusal_of, unexpected_eof}
 use Rattle.binfarce.specs.Walk.{Walk, ended}
-use Rattle.binfarce_reading.specs.BeginningReading as beginning
-use Rattle.binfarce_reading.specs.BeginningReading.{ReadsBeginning}
-use Rattle.binfarce_reading.specs.Reading.{Reads}
-use Rattle.binfarce_reading.specs.SectionReading.{FileSections, file_sections}
-use Rattle.binfarce_reading.specs.declared.error.ReadError.{ReadError}
-use Rattle.binfarce_reading.specs.declared.error.ReadError.TheVariants.{Refused, Unreadable, OutOfMemory}
+use Rattle.binfarce_tables.specs.BeginningReading as beginning
+use Rattle.binfarce_tables.specs.BeginningReading.{ReadsBeginning}
+use Rattle.binfarce_tables.specs.Reading.{Reads}
+use Rattle.binfarce_tables.specs.SectionReading.{FileSections, file_sections}
+use Rattle.binfarce_tables.specs.declared.error.ReadError.{ReadError}
+use Rattle.binfarce_tables.specs.declared.error.ReadError.TheVariants.{Refused, Unreadable, OutOfMemory}
 use Rattle.binfarce_sections.specs.Section.{Section, elf_named, macho_section, pe_section, mapped, sections_of, elf_sections, macho_sections, pe_sections}
 use Rattle.binfarce_sections.specs.Views.{Opens}
 use Rattle.binfarce_sections.specs.declared.error.SectionError.TheVariants as errors

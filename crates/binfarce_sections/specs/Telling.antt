@@ -3,8 +3,8 @@ use Rattle.std.specs.Prelude.{◌≡◌, ℕ, List, [], Bool, true, codes, Optio
 use Rattle.std.specs.Io.KnownBytes.{Appends}
 use Rattle.binfarce.specs.Refusal.{refusal_of, words}
 use Rattle.binfarce.specs.Walk.{Walk}
-use Rattle.binfarce_reading.specs.declared.error.ReadError as reading
-use Rattle.binfarce_reading.specs.declared.error.ReadError.TheVariants as read_errors
+use Rattle.binfarce_tables.specs.declared.error.ReadError as reading
+use Rattle.binfarce_tables.specs.declared.error.ReadError.TheVariants as read_errors
 use Rattle.binfarce_tools.specs.Writing.{AppendsBeginning}
 use Rattle.binfarce_sections.specs.declared.error.SectionError.{SectionError}
 use Rattle.binfarce_sections.specs.declared.error.SectionError.TheVariants.{Unknown, Parse, NoSection, NoBytes, PastEnd, OutOfMemory, Write, Unreadable}

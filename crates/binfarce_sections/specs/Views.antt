@@ -6,7 +6,7 @@ use Rattle.binfarce.specs.Refusal.{refusal_of}
 use Rattle.binfarce.specs.Walk.{Walk, ended}
 use Rattle.binfarce.specs.Elf as elf
 use Rattle.binfarce.specs.Elf.{elf32, elf64, section_table, name_of}
-use Rattle.binfarce_reading.specs.SectionReading.{sections_view}
+use Rattle.binfarce_tables.specs.SectionReading.{sections_view}
 use Rattle.binfarce_sections.specs.declared.sections.Section as code
 use Rattle.binfarce_sections.specs.declared.sections.Elf32Names.{Elf32Names}
 use Rattle.binfarce_sections.specs.declared.sections.Elf32Names.TheVariants as names32

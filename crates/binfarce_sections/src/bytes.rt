@@ -65,7 +65,7 @@ fn write_all<S: Sink>(bytes: &[u8], out: &mut S) -> Result<(), SectionError>
 }
 
 /// The same of the bytes of a source, of which only these are read: the first 8 bytes, what `read_sections` of
-/// `binfarce_reading` reads of a file of their format, and the section's bytes, in memory of its size.
+/// `binfarce_tables` reads of a file of their format, and the section's bytes, in memory of its size.
 ///
 /// # Errors
 ///

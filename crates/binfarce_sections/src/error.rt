@@ -3,7 +3,7 @@
 ghost use Rattle.std.specs.Prelude.{◌≡◌, Some};
 
 use binfarce::ParseError;
-use binfarce_reading::ReadError;
+use binfarce_tables::ReadError;
 use std::alloc::AllocError;
 use std::error::Error;
 use std::fmt;

@@ -43,7 +43,7 @@ pub fn list_sections<S: Sink>(alloc: Global, data: &[u8], out: &mut S) -> Result
 }
 
 /// The same of the bytes of a source, of which only these are read: the first 8 bytes, and what `read_sections` of
-/// `binfarce_reading` reads of a file of their format.
+/// `binfarce_tables` reads of a file of their format.
 ///
 /// # Errors
 ///

@@ -9,7 +9,7 @@ ghost use Rattle.binfarce.specs.MachoViews as macho_views;
 ghost use Rattle.binfarce.specs.PeViews as pe_views;
 ghost use Rattle.binfarce.specs.Refusal.{refusal_of};
 ghost use Rattle.binfarce.specs.Walk.{YieldsNext};
-ghost use Rattle.binfarce_reading.specs.SectionReading.{sections_view};
+ghost use Rattle.binfarce_tables.specs.SectionReading.{sections_view};
 ghost use Rattle.binfarce_sections.specs.Section.{elf_named, macho_section, pe_section, pe_size, mapped, sections_of, elf_sections, macho_sections, pe_sections};
 ghost use Rattle.binfarce_sections.specs.Views.{section_view, sections_left, elf32_left, elf64_left, elf32_name, elf64_name, Opens};
 ghost use Rattle.binfarce_sections.specs.machine.Opened.{OpensWalk};
@@ -60,7 +60,7 @@ pub struct Elf32Sections<'a> {
 #[derive(Drop)]
 enum Elf32Names<'a> {
     File(elf32::Elf32<'a>),
-    Parts(&'a binfarce_reading::elf32::SectionParts),
+    Parts(&'a binfarce_tables::elf32::SectionParts),
 }
 
 /// The sections of a 64-bit ELF file that are left, and what has their names.
@@ -74,7 +74,7 @@ pub struct Elf64Sections<'a> {
 #[derive(Drop)]
 enum Elf64Names<'a> {
     File(elf64::Elf64<'a>),
-    Parts(&'a binfarce_reading::elf64::SectionParts),
+    Parts(&'a binfarce_tables::elf64::SectionParts),
 }
 
 impl<'a> Iterator for Sections<'a> {
@@ -127,7 +127,7 @@ fn open_elf32(data: &[u8], byte_order: ByteOrder) -> Result<Sections<'_>, ParseE
 }
 
 // The sections of a file, by what was read of it.
-pub(crate) fn elf32_sections(parts: &binfarce_reading::elf32::SectionParts) -> Sections<'_>
+pub(crate) fn elf32_sections(parts: &binfarce_tables::elf32::SectionParts) -> Sections<'_>
     ensures { let seen = sections_view elf.elf32 parts.entry.now in sections_left result ≡ mapped (elf_named seen.name) seen.sections }
 {
     let left = parts.sections();
@@ -146,7 +146,7 @@ fn open_elf64(data: &[u8], byte_order: ByteOrder) -> Result<Sections<'_>, ParseE
 }
 
 // The sections of a file, by what was read of it.
-pub(crate) fn elf64_sections(parts: &binfarce_reading::elf64::SectionParts) -> Sections<'_>
+pub(crate) fn elf64_sections(parts: &binfarce_tables::elf64::SectionParts) -> Sections<'_>
     ensures { let seen = sections_view elf.elf64 parts.entry.now in sections_left result ≡ mapped (elf_named seen.name) seen.sections }
 {
     let left = parts.sections();

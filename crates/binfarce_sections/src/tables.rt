@@ -13,7 +13,7 @@ use crate::bytes::first_in;
 use crate::error::SectionError;
 use crate::sections::{Section, Sections, elf32_sections, elf64_sections, open_macho, open_pe};
 use binfarce::Format;
-use binfarce_reading::{Beginning, ReadError, elf32, elf64, macho, part, pe};
+use binfarce_tables::{Beginning, ReadError, elf32, elf64, macho, part, pe};
 use binfarce_source::Source;
 use binfarce_tools::tables::read_format;
 use std::alloc::Global;
@@ -57,7 +57,7 @@ impl Tables {
     }
 }
 
-// Reads of a file its first bytes, which name its format, and what `binfarce_reading` reads for the sections of a file of
+// Reads of a file its first bytes, which name its format, and what `binfarce_tables` reads for the sections of a file of
 // that format. Refused where the file is too short for its header.
 pub(crate) fn read<S: Source>(alloc: Global, source: &S) -> Result<Tables, ReadError>
     ensures { (file : List ℕ) → S.bytes source.now ≡ Some file → ReadsTables (S.may_fail source.now) file result }

@@ -4,8 +4,8 @@ use Rattle.binfarce_tools.specs.ReportWords as call
 use Rattle.binfarce_tools.specs.Writing as writing
 use Rattle.binfarce_program.specs.declared.Failure.{Failure}
 use Rattle.binfarce_program.specs.declared.Failure.TheVariants as failures
-use Rattle.binfarce_reading.specs.declared.error.ReadError.{ReadError}
-use Rattle.binfarce_reading.specs.declared.error.ReadError.TheVariants as reading
+use Rattle.binfarce_tables.specs.declared.error.ReadError.{ReadError}
+use Rattle.binfarce_tables.specs.declared.error.ReadError.TheVariants as reading
 use Rattle.binfarce_tools.specs.declared.report.ReportError.TheVariants as errors
 use Rattle.binfarce_size.specs.declared.program.Fault.{Fault}
 use Rattle.binfarce_size.specs.declared.program.Fault.TheVariants.{Usage, File, Report}

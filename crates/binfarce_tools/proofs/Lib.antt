@@ -7,6 +7,5 @@ pub mod Lines
 pub mod CrateSums
 pub mod CrateLines
 pub mod Reports
-pub mod SymbolLaws
 pub mod TablesRead
 pub mod TablesGive

@@ -2,18 +2,18 @@
 use Rattle.std.proofs.Common.{◌≡◌, ℕ, Bool, true, false, ltb, List, [], length, Vec, Global, Option, Some, None, Result, Ok, Err, refl, sym, ap, subst, ◌∙◌, inl, inr}
 use Rattle.std.specs.Prelude.{◌≢◌, if◌then◌else◌}
 use Rattle.std.specs.Result.{IsErrAnd}
-use Rattle.binfarce.specs.declared.Format.{Format}
-use Rattle.binfarce.specs.declared.Format.TheVariants as formats
-use Rattle.binfarce.specs.declared.FunctionSymbol.{FunctionSymbol}
-use Rattle.binfarce.specs.declared.ParseError.{ParseError}
-use Rattle.binfarce.specs.Format.{format_of}
-use Rattle.binfarce.specs.MachoParts.{SomeAddress}
-use Rattle.binfarce.specs.MachoSymbols.{Located, HasAddress, located, kept, listed_of, answer_of}
-use Rattle.binfarce.specs.Refusal.{◌>>=◌, Refusal, unexpected_eof}
-use Rattle.binfarce.specs.Sizes.{RowAddress, arranged}
-use Rattle.binfarce.specs.Symbol.{Entry, Listed, ListsSome, Answers}
-use Rattle.binfarce.specs.SymbolViews.{HoldsFunctions}
-use Rattle.binfarce_reading.specs.MachoReading.{located_answer}
+use Rattle.binfarce_format.specs.declared.Format.{Format}
+use Rattle.binfarce_format.specs.declared.Format.TheVariants as formats
+use Rattle.binfarce_symbols.specs.declared.functions.FunctionSymbol.{FunctionSymbol}
+use Rattle.binfarce_bytes.specs.declared.error.ParseError.{ParseError}
+use Rattle.binfarce_format.specs.Format.{format_of}
+use Rattle.binfarce_macho.specs.MachoParts.{SomeAddress}
+use Rattle.binfarce_macho.specs.MachoSymbols.{Located, HasAddress, located, kept, listed_of, answer_of}
+use Rattle.binfarce_bytes.specs.Refusal.{◌>>=◌, Refusal, unexpected_eof}
+use Rattle.binfarce_symbols.specs.Sizes.{RowAddress, arranged}
+use Rattle.binfarce_symbols.specs.Entries.{Entry, Listed, ListsSome, Answers}
+use Rattle.binfarce_symbols.specs.SymbolViews.{HoldsFunctions}
+use Rattle.binfarce_tables.specs.MachoReading.{located_answer}
 use Rattle.binfarce_tools.specs.declared.functions.Functions.{Functions}
 use Rattle.binfarce_tools.specs.declared.list.ListError.{ListError}
 use Rattle.binfarce_tools.specs.Answer.{macho_file_answer, symbols_answer, NeedsMemory}

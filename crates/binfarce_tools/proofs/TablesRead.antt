@@ -3,19 +3,19 @@ use Rattle.std.proofs.Common.{◌≡◌, ℕ, Bool, true, false, ltb, List, [], 
 use Rattle.std.specs.Prelude.{IfSome, if◌then◌else◌}
 use Rattle.std.specs.Result.{IsErr, IsErrAnd}
 use Rattle.std.proofs.lemmas.Bool.{le-ltb}
-use Rattle.binfarce.specs.declared.ByteOrder.{ByteOrder}
-use Rattle.binfarce.specs.declared.Format.{Format}
-use Rattle.binfarce.specs.declared.Format.TheVariants as formats
-use Rattle.binfarce.specs.Elf.{elf32, elf64}
-use Rattle.binfarce.specs.Format.{format_of}
-use Rattle.binfarce.specs.MachoSymbols.{Located, located, answer_of, macho_answer}
-use Rattle.binfarce.specs.Refusal.{◌>>=◌, Refusal, unexpected_eof}
-use Rattle.binfarce.specs.Symbol.{Listed}
-use Rattle.binfarce_reading.specs.MachoReading as macho
-use Rattle.binfarce_reading.specs.MachoReading.{located_answer}
-use Rattle.binfarce_reading.specs.Reading.{Reads}
-use Rattle.binfarce_reading.specs.declared.error.ReadError.{ReadError}
-use Rattle.binfarce_reading.specs.declared.error.ReadError.TheVariants.{Refused, Unreadable, OutOfMemory}
+use Rattle.binfarce_bytes.specs.declared.ByteOrder.{ByteOrder}
+use Rattle.binfarce_format.specs.declared.Format.{Format}
+use Rattle.binfarce_format.specs.declared.Format.TheVariants as formats
+use Rattle.binfarce_elf.specs.Elf.{elf32, elf64}
+use Rattle.binfarce_format.specs.Format.{format_of}
+use Rattle.binfarce_macho.specs.MachoSymbols.{Located, located, answer_of, macho_answer}
+use Rattle.binfarce_bytes.specs.Refusal.{◌>>=◌, Refusal, unexpected_eof}
+use Rattle.binfarce_symbols.specs.Entries.{Listed}
+use Rattle.binfarce_tables.specs.MachoReading as macho
+use Rattle.binfarce_tables.specs.MachoReading.{located_answer}
+use Rattle.binfarce_tables.specs.Reading.{Reads}
+use Rattle.binfarce_tables.specs.declared.error.ReadError.{ReadError}
+use Rattle.binfarce_tables.specs.declared.error.ReadError.TheVariants.{Refused, Unreadable, OutOfMemory}
 use Rattle.binfarce_tools.specs.declared.list.ListError.TheVariants as errors
 use Rattle.binfarce_tools.specs.declared.tables.Tables.{Tables}
 use Rattle.binfarce_tools.specs.Answer.{elf_file_answer, macho_file_answer, pe_file_answer, symbols_answer, NeedsMemory}

@@ -2,9 +2,9 @@
 use Rattle.std.specs.Prelude.{◌≡◌, ℕ, ◌-◌, List, [], ◌∷◌, ◌++◌, length, replicate, codes, false}
 use Rattle.std.specs.Fmt.{decimal, digits}
 use Rattle.std.specs.List.{AllZip, concat}
-use Rattle.binfarce.specs.Name.{Name}
-use Rattle.binfarce.specs.Named.{IsNamed}
-use Rattle.binfarce.specs.Symbol.{Entry, Listed}
+use Rattle.binfarce_names.specs.Name.{Name}
+use Rattle.binfarce_names.specs.Named.{IsNamed}
+use Rattle.binfarce_symbols.specs.Entries.{Entry, Listed}
 
 -- a text, with as many of a character before it as it is short of the width
 abbrev pub pad_left : ℕ → ℕ → List ℕ → List ℕ

@@ -6,10 +6,10 @@ use Rattle.std.specs.List.{AllZip, flat_map, sum_by}
 use Rattle.std.specs.List.Sorted.{IsStrictlySortedBy}
 use Rattle.std.specs.Ordering.{nat_cmp}
 use Rattle.std.specs.Str.{bytes_eq}
-use Rattle.binfarce.specs.Crates.{crate_of}
-use Rattle.binfarce.specs.Name.{Name}
-use Rattle.binfarce.specs.Named.{IsNamed}
-use Rattle.binfarce.specs.Symbol.{Entry, Listed}
+use Rattle.binfarce_names.specs.Crates.{crate_of}
+use Rattle.binfarce_names.specs.Name.{Name}
+use Rattle.binfarce_names.specs.Named.{IsNamed}
+use Rattle.binfarce_symbols.specs.Entries.{Entry, Listed}
 use Rattle.binfarce_tools.specs.Listing.{size_text, size_line}
 
 -- what stands in place of a crate that no name tells

@@ -3,7 +3,6 @@
 
 pub mod functions;
 mod head;
-mod laws;
 pub mod list;
 pub mod report;
 pub mod tables;

@@ -1,8 +1,8 @@
 //! What is read of a file to list its function symbols.
 
-ghost use Rattle.std.specs.Prelude.{◌≡◌, ◌≢◌, ℕ, List, take, true, Ok, Some, IfErr};
-ghost use Rattle.binfarce.specs.Format.{format_of};
-ghost use Rattle.binfarce_reading.specs.Reading.{Reads, Known};
+ghost use Rattle.std.specs.Prelude.{◌≡◌, ◌≢◌, ◌⊎◌, ℕ, List, [], take, true, Ok, Some, IfErr};
+ghost use Rattle.binfarce_format.specs.Format.{format_of};
+ghost use Rattle.binfarce_tables.specs.Reading.{Reads, Known};
 ghost use Rattle.binfarce_tools.specs.Answer.{symbols_answer, NeedsMemory};
 ghost use Rattle.binfarce_tools.specs.Entries.{Gets};
 ghost use Rattle.binfarce_tools.specs.declared.list.ListError.TheVariants.{Write};
@@ -10,8 +10,8 @@ ghost use Rattle.binfarce_tools.specs.Tables.{AreTablesOf, ReadsTables, BothGive
 
 use crate::functions::{Functions, all_of, functions_of_file};
 use crate::list::ListError;
-use binfarce::{Format, detect_format};
-use binfarce_reading::{ReadError, elf32, elf64, macho, pe};
+use binfarce_format::{Format, detect_format};
+use binfarce_tables::{ReadError, elf32, elf64, macho, pe};
 use binfarce_source::{Source, read_part};
 use std::alloc::Global;
 use std::io::Read;
@@ -70,7 +70,7 @@ impl Tables {
 }
 
 /// Reads of a file what its function symbols in a section are made of: its first 8 bytes, which name its format, and the
-/// parts that `binfarce_reading` reads of a file of that format. Of a file of an unknown format no other byte is read.
+/// parts that `binfarce_tables` reads of a file of that format. Of a file of an unknown format no other byte is read.
 /// Each part that is kept takes no more memory than what the file holds of it.
 ///
 /// # Errors
@@ -108,13 +108,14 @@ pub fn read<S: Source>(alloc: Global, source: &S, section: &str) -> Result<Table
 ///
 /// # Errors
 ///
-/// As `read`; `Unreadable` where any read fails, and `OutOfMemory` also where a read says that an allocation failed.
+/// As `read`; `Unreadable` where any read fails, and never of a source that can't fail and has a byte; `OutOfMemory` also
+/// where a read says that an allocation failed.
 pub fn read_input<F: Read + Source>(
     alloc: Global,
     file: &mut F,
     section: &str,
 ) -> Result<Tables, ReadError>
-    ensures { (bytes : List ℕ) → BothGive (F.bytes file.old) (F.remaining file.old) bytes → ReadsTables (Unit {0}) bytes section.now result }
+    ensures { (bytes : List ℕ) → BothGive (F.bytes file.old) (F.remaining file.old) bytes → ReadsTables ((F.may_fail file.old ≡ true) ⊎ (bytes ≡ [])) bytes section.now result }
 {
     if file.length().unwrap_or(0) > 0 {
         read(alloc, &*file, section)

@@ -72,7 +72,7 @@ fn compared_32<S: Source>(
     source: &S,
     section: &str,
 ) -> Given {
-    let whole = match binfarce_elf::elf32::parse(file, order) {
+    let whole = match binfarce::elf32::parse(file, order) {
         Ok(elf) => elf.functions(section),
         Err(e) => Err(e),
     };
@@ -89,7 +89,7 @@ fn compared_64<S: Source>(
     source: &S,
     section: &str,
 ) -> Given {
-    let whole = match binfarce_elf::elf64::parse(file, order) {
+    let whole = match binfarce::elf64::parse(file, order) {
         Ok(elf) => elf.functions(section),
         Err(e) => Err(e),
     };

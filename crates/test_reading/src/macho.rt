@@ -15,7 +15,7 @@ type Answer<'a, E> = Result<(Vec<FunctionSymbol<'a>>, u64), E>;
 
 /// What the source gives, beside what the whole file does.
 pub(crate) fn compared<S: Source>(alloc: Global, file: &[u8], source: &S) -> Given {
-    let whole = match binfarce_macho::macho::parse(file) {
+    let whole = match binfarce::macho::parse(file) {
         Ok(macho) => macho.functions(alloc),
         Err(e) => Err(e),
     };

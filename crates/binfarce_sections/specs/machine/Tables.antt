@@ -5,10 +5,10 @@ use Rattle.binfarce.specs.Elf.{elf32, elf64}
 use Rattle.binfarce.specs.Format.{format_of}
 use Rattle.binfarce.specs.Refusal.{refusal_of}
 use Rattle.binfarce.specs.Walk.{Walk, ended}
-use Rattle.binfarce_reading.specs.BeginningReading.{bytes_of, file_length_of}
-use Rattle.binfarce_reading.specs.SectionReading.{sections_view}
-use Rattle.binfarce_reading.specs.declared.error.ReadError.{ReadError}
-use Rattle.binfarce_reading.specs.declared.error.ReadError.TheVariants.{Refused, Unreadable, OutOfMemory}
+use Rattle.binfarce_tables.specs.BeginningReading.{bytes_of, file_length_of}
+use Rattle.binfarce_tables.specs.SectionReading.{sections_view}
+use Rattle.binfarce_tables.specs.declared.error.ReadError.{ReadError}
+use Rattle.binfarce_tables.specs.declared.error.ReadError.TheVariants.{Refused, Unreadable, OutOfMemory}
 use Rattle.binfarce_sections.specs.Section.{Section, elf_named, mapped, sections_of, macho_sections, pe_sections}
 use Rattle.binfarce_sections.specs.declared.tables.Tables.{Tables}
 use Rattle.binfarce_sections.specs.declared.tables.Tables.TheVariants.{Elf32, Elf64, Macho, Pe, Unknown}

@@ -42,44 +42,44 @@ returns-in_err-command g c =
 
 pub overflow_add-command : goal.overflow_add-command
 overflow_add-command g c =
-    let within : c.in_ok-command.command.offset + 8 ≤ length c.file.inside.data.now = rw c.file.view_is (head_inside g (goal.at.overflow_add-command g c).In_ok-command) in
-    omega (arith, c.file.told.0)
+    let within : c.in_ok-command.command.offset + 8 ≤ length c.args.file.now = head_inside g (goal.at.overflow_add-command g c).In_ok-command in
+    omega arith
 
 pub first_in_segment-requires-clause-inside : goal.first_in_segment-requires-clause-inside
-first_in_segment-requires-clause-inside g c = rw c.file.view_is (head_inside g (goal.at.first_in_segment-requires-clause-inside g c).In_ok-command)
+first_in_segment-requires-clause-inside g c = head_inside g (goal.at.first_in_segment-requires-clause-inside g c).In_ok-command
 
 -- the segment's sections stand first in what is left
 segment_first : (g : _) (c : Then-command-eq-LC_SEGMENT_64 g)
     → Reaches section_view (goal.F-post g c.args.callback) (walk c.args.file.now)
-    (and_then (segment c.file.inside.data.now (c.in_ok-command.command.offset + 8)).items (segment c.file.inside.data.now (c.in_ok-command.command.offset + 8)).refusal (sections_left c.args.file.now (commands_left c.next.new.self)))
-segment_first g c = rw c.file.view_is
-    (let file = c.args.file.now in
+    (and_then (segment c.args.file.now (c.in_ok-command.command.offset + 8)).items (segment c.args.file.now (c.in_ok-command.command.offset + 8)).refusal (sections_left c.args.file.now (commands_left c.next.new.self)))
+segment_first g c =
+    let file = c.args.file.now in
     let it = c.loop-item.item-iterator in
     let left : commands_left it ≡ ahead_of (command_view c.in_ok-command.command) (commands_left c.next.new.self) = takes_ok (commands_left it) (commands_left c.next.new.self) c.in-Some.item c.in_ok-command.command c.in_ok-command.was c.in-Some.ensures.steps.1 in
     reaches_same section_view _ (walk file) (sections_left file (commands_left it))
     (and_then (segment file (c.in_ok-command.command.offset + 8)).items (segment file (c.in_ok-command.command.offset + 8)).refusal (sections_left file (commands_left c.next.new.self)))
-    (ap (sections_left file) left ∙ segment_left file (command_view c.in_ok-command.command) (commands_left c.next.new.self) c.if-command-eq-LC_SEGMENT_64.true) c.loop-item.invariant.1)
+    (ap (sections_left file) left ∙ segment_left file (command_view c.in_ok-command.command) (commands_left c.next.new.self) c.if-command-eq-LC_SEGMENT_64.true) c.loop-item.invariant.1
 
 pub first_in_segment-requires-clause-asked : goal.first_in_segment-requires-clause-asked
 first_in_segment-requires-clause-asked g c =
-    part_asked section_view _ (walk c.args.file.now) (MayBeAsked section_view _) (segment c.file.inside.data.now (c.in_ok-command.command.offset + 8)) (sections_left c.args.file.now (commands_left c.next.new.self))
-    c.requires (segment_first g (goal.at.first_in_segment-requires-clause-asked g c).Then-command-eq-LC_SEGMENT_64)
+    part_asked section_view _ (walk c.args.file.now) (MayBeAsked section_view _) (segment c.args.file.now (c.in_ok-command.command.offset + 8)) (sections_left c.args.file.now (commands_left c.next.new.self))
+    c.requires.asked (segment_first g (goal.at.first_in_segment-requires-clause-asked g c).Then-command-eq-LC_SEGMENT_64)
 
 pub returns-in_err-first_in_segment : goal.returns-in_err-first_in_segment
 returns-in_err-first_in_segment g c =
     refused_with damage_refusal section_view _ (walk c.args.file.now) Truncated c.from_residual-in_err-first_in_segment.result c.from_residual-in_err-first_in_segment.ensures.1
-    (refused_after section_view _ (walk c.args.file.now) (segment c.file.inside.data.now (c.in_ok-command.command.offset + 8)) (sections_left c.args.file.now (commands_left c.next.new.self)) unexpected_eof
+    (refused_after section_view _ (walk c.args.file.now) (segment c.args.file.now (c.in_ok-command.command.offset + 8)) (sections_left c.args.file.now (commands_left c.next.new.self)) unexpected_eof
     c.in_err-first_in_segment.ensures (segment_first g (goal.at.returns-in_err-first_in_segment g c).Then-command-eq-LC_SEGMENT_64))
 
 pub returns-in-Some-2 : goal.returns-in-Some-2
 returns-in-Some-2 g c =
-    accepted_after section_view _ (walk c.args.file.now) (segment c.file.inside.data.now (c.in_ok-command.command.offset + 8)) (sections_left c.args.file.now (commands_left c.next.new.self)) c.in-Some-2.section
+    accepted_after section_view _ (walk c.args.file.now) (segment c.args.file.now (c.in_ok-command.command.offset + 8)) (sections_left c.args.file.now (commands_left c.next.new.self)) c.in-Some-2.section
     (rw c.in-Some-2.is at c.in_ok-first_in_segment.ensures) (segment_first g (goal.at.returns-in-Some-2 g c).Then-command-eq-LC_SEGMENT_64)
 
 pub loop-item-preserved-in-None-2 : goal.loop-item-preserved-in-None-2
 loop-item-preserved-in-None-2 g c = (
   c.in-Some.ensures.steps.0 ∙ c.loop-item.invariant.0,
-  reaches_after section_view _ (walk c.args.file.now) (segment c.file.inside.data.now (c.in_ok-command.command.offset + 8)) (sections_left c.args.file.now (commands_left c.next.new.self))
+  reaches_after section_view _ (walk c.args.file.now) (segment c.args.file.now (c.in_ok-command.command.offset + 8)) (sections_left c.args.file.now (commands_left c.next.new.self))
       (rw c.in-None-2.is at c.in_ok-first_in_segment.ensures) (segment_first g (goal.at.loop-item-preserved-in-None-2 g c).Then-command-eq-LC_SEGMENT_64),
 )
 

@@ -16,7 +16,7 @@ pub returns-in_err-located_in-in-Some : goal.returns-in_err-located_in-in-Some
 returns-in_err-located_in-in-Some c =
     let e = c.in_err-located_in-in-Some.field-0.0 in
     passed_on (option_map located_view) (located c.args.file.now) e c.from_residual-in_err-located_in-in-Some.result
-    (table_refused c.args.file.now (section_view c.in_ok-needed.needed.text) (table_view c.in-Some.table) (refusal_of e) (rw c.in-Some.is at c.in_ok-needed.ensures) (rw (← c.file.view_is) c.in_err-located_in-in-Some.ensures))
+    (table_refused c.args.file.now (section_view c.in_ok-needed.needed.text) (table_view c.in-Some.table) (refusal_of e) (rw c.in-Some.is at c.in_ok-needed.ensures) c.in_err-located_in-in-Some.ensures)
     c.from_residual-in_err-located_in-in-Some.ensures.1
 
 pub returns-in-None : goal.returns-in-None
@@ -24,4 +24,4 @@ returns-in-None c = located_at c.args.file.now (section_view c.in_ok-needed.need
 
 pub returns-in_ok-located_in-in-Some : goal.returns-in_ok-located_in-in-Some
 returns-in_ok-located_in-in-Some c =
-    table_located c.args.file.now (section_view c.in_ok-needed.needed.text) (table_view c.in-Some.table) (located_view c.in_ok-located_in-in-Some.field-0) (rw c.in-Some.is at c.in_ok-needed.ensures) (rw (← c.file.view_is) c.in_ok-located_in-in-Some.ensures)
+    table_located c.args.file.now (section_view c.in_ok-needed.needed.text) (table_view c.in-Some.table) (located_view c.in_ok-located_in-in-Some.field-0) (rw c.in-Some.is at c.in_ok-needed.ensures) c.in_ok-located_in-in-Some.ensures

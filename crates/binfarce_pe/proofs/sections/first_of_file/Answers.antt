@@ -8,7 +8,7 @@ use Rattle.binfarce_pe.proofs.sections.first_of_file.Goals as goal
 
 pub first_section-requires : goal.first_section-requires
 first_section-requires g c κs =
-    ((refl, tt), asked_of c.args.file.now _ section_view _ c.section_table.ensures c.requires)
+    ((refl, tt), asked_of c.args.file.now _ section_view _ c.section_table.ensures c.requires.asked)
 
 pub returns : goal.returns
 returns g c =

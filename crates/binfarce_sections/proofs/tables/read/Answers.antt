@@ -2,9 +2,9 @@ use Rattle.std.proofs.Common.{◌≡◌, ℕ, Some, sym, ap, ◌∙◌}
 use Rattle.binfarce.specs.declared.Format.TheVariants.{Elf32, Elf64, Macho, PE}
 use Rattle.binfarce.specs.Format.{format_of}
 use Rattle.binfarce.specs.Elf.{elf32, elf64}
-use Rattle.binfarce_reading.specs.BeginningReading as beginning
-use Rattle.binfarce_reading.specs.Reading.{Known}
-use Rattle.binfarce_reading.specs.SectionReading.{file_sections, sections_view}
+use Rattle.binfarce_tables.specs.BeginningReading as beginning
+use Rattle.binfarce_tables.specs.Reading.{Known}
+use Rattle.binfarce_tables.specs.SectionReading.{file_sections, sections_view}
 use Rattle.binfarce_sections.specs.Section.{macho_section, pe_section, mapped}
 use Rattle.binfarce_sections.proofs.TablesRead.{taken, length_told, of_elf32, of_elf64, of_macho, of_pe, elf_walk, elf_is, elf_has, macho_is, macho_has, pe_is, pe_has, unread, unbegun}
 use Rattle.binfarce_sections.proofs.tables.read.Goals as goal

@@ -1,9 +1,9 @@
 use Rattle.std.proofs.Common.{◌≡◌, ℕ, sym, ◌∙◌, refl}
-use Rattle.binfarce.specs.declared.Format.TheVariants.{Elf32, Elf64, Macho, PE}
-use Rattle.binfarce.specs.Format.{format_of}
-use Rattle.binfarce.specs.Elf.{elf32, elf64}
-use Rattle.binfarce_reading.specs.PeReading as pe
-use Rattle.binfarce_reading.specs.Reading.{Known, parts_view}
+use Rattle.binfarce_format.specs.declared.Format.TheVariants.{Elf32, Elf64, Macho, PE}
+use Rattle.binfarce_format.specs.Format.{format_of}
+use Rattle.binfarce_elf.specs.Elf.{elf32, elf64}
+use Rattle.binfarce_tables.specs.PeReading as pe
+use Rattle.binfarce_tables.specs.Reading.{Known, parts_view}
 use Rattle.binfarce_tools.specs.Answer.{elf_file_answer, pe_file_answer}
 use Rattle.binfarce_tools.proofs.TablesRead.{taken, length_told, answer_32, answer_64, answer_pe, unread, unread_macho}
 use Rattle.binfarce_tools.proofs.tables.read.Goals as goal

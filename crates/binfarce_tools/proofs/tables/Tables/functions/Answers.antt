@@ -1,8 +1,8 @@
 use Rattle.std.proofs.Common.{subst}
-use Rattle.binfarce.specs.Format.{format_of}
-use Rattle.binfarce.specs.Symbol.{ListsSome}
-use Rattle.binfarce_reading.specs.MachoReading as macho
-use Rattle.binfarce_reading.specs.PeReading as pe
+use Rattle.binfarce_format.specs.Format.{format_of}
+use Rattle.binfarce_symbols.specs.Entries.{ListsSome}
+use Rattle.binfarce_tables.specs.MachoReading as macho
+use Rattle.binfarce_tables.specs.PeReading as pe
 use Rattle.binfarce_tools.specs.Answer.{symbols_answer, NeedsMemory}
 use Rattle.binfarce_tools.specs.declared.tables.Tables.{Tables}
 use Rattle.binfarce_tools.specs.Tables.{AreTablesOf}

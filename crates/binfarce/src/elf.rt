@@ -1,0 +1,165 @@
+//! ELF files of either class (System V gABI).
+
+ghost use Rattle.std.specs.Prelude.{◌≡◌, ◌<◌, ◌≤◌, length, All, MatchResult};
+ghost use Rattle.std.specs.Option.{option_map};
+ghost use Rattle.binfarce_bytes.specs.Refusal.{Gives, refusal_of, unexpected_eof};
+ghost use Rattle.binfarce_bytes.specs.Walk.{MayBeAsked, FirstAccepted, first};
+ghost use Rattle.binfarce_symbols.specs.Entries.{Answers, ListsSome};
+ghost use Rattle.binfarce_naming.specs.Symbol.{HoldsSymbols};
+ghost use Rattle.binfarce_elf.specs.Elf.{header_of, section_table, walk, name_of};
+ghost use Rattle.binfarce_elf.specs.ElfSymbols.{is_named, section_data, elf_answer};
+ghost use Rattle.binfarce_elf.specs.ElfViews.{header_view, section_view, functions_view};
+
+use binfarce_bytes::{ByteOrder, ParseError};
+use binfarce_elf::class::Class;
+use binfarce_elf::header::{Header, parse_header};
+use binfarce_elf::sections::{self, HasSections, Section, Sections, Table};
+use binfarce_elf::symbols::{self, Functions};
+use binfarce_names::demangle::SymbolData;
+use binfarce_naming::symbols::symbols_of;
+use std::alloc::Global;
+use std::marker::Model;
+
+/// An ELF file of either class. It borrows the file's bytes.
+#[derive(Drop)]
+pub struct Elf<'a, C: Class> {
+    data: &'a [u8],
+    byte_order: ByteOrder,
+    header: Header<C>,
+}
+
+impl<'a, C: Class> Model for Elf<'a, C> {
+    ghost use Rattle.std.specs.Prelude.{◌≡◌};
+    ghost use Rattle.binfarce_elf.specs.Elf.{ElfFile, header_of};
+    ghost use Rattle.binfarce_elf.specs.ElfViews.{header_view};
+
+    ghost Value = { ElfFile };
+
+    ghost view = { λ e. record { order = e.byte_order; bytes = e.data.now } };
+
+    ghost invariant = { λ e. header_view C.number_of e.header ≡ header_of C.table e.byte_order e.data.now };
+}
+
+/// Reads the file header in the given order, without a look at the magic number.
+pub fn parse<C: Class>(data: &[u8], byte_order: ByteOrder) -> Result<Elf<'_, C>, ParseError>
+    ensures { MatchResult result
+        (λ e. (C.table.header_length ≤ length data.now) × (e ≡ record { order = byte_order; bytes = data.now }))
+        (λ e. (length data.now < C.table.header_length) × (refusal_of e ≡ unexpected_eof)) }
+{
+    let header = parse_header(data, byte_order)?;
+    Ok(Elf {
+        data,
+        byte_order,
+        header,
+    })
+}
+
+impl<'a, C: Class> Elf<'a, C> {
+    /// The file header, as it was read by `parse`.
+    pub fn header(&self) -> Header<C>
+        ensures { header_view C.number_of result ≡ header_of C.table self.now.order self.now.bytes }
+    {
+        self.header
+    }
+
+    /// The sections in file order, which `find_section` searches. Each is read when it is asked for.
+    ///
+    /// `UnexpectedEof` comes, and after it nothing, where `find_section` with a callback that always answers false
+    /// has it: where the section header table doesn't begin in the file, or a header is truncated.
+    pub fn sections(&self) -> Sections<'a, C>
+        ensures { result ≡ walk C.table (section_table C.table self.now) }
+    {
+        sections::sections_of::<C>(self.section_table())
+    }
+
+    /// The bytes that the section has in the file, a part of it.
+    ///
+    /// The range is the one that the header states (`sh_offset`, `sh_size`). A section of type `SHT_NOBITS` has no bytes
+    /// in the file (gABI, "Sections"): for it these are whatever stands there.
+    ///
+    /// # Errors
+    ///
+    /// `MalformedInput` where their end passes `usize`, `UnexpectedEof` where it passes the file's.
+    pub fn section_bytes(&self, section: &Section<C>) -> Result<&'a [u8], ParseError>
+        ensures { Gives refusal_of (λ b. b.now) (section_data self.now.bytes (section_view C.number_of section.now)) result }
+    {
+        sections::section_data::<C>(self.data, *section)
+    }
+
+    /// The first section that the callback accepts, in file order; `None` where it accepts none.
+    ///
+    /// A section header is read only when the callback has refused the sections before it.
+    ///
+    /// # Errors
+    ///
+    /// `UnexpectedEof` where the section header table doesn't begin in the file, or a header that is read is truncated.
+    pub fn find_section<F: Fn(Section<C>) -> bool>(
+        &self,
+        callback: F,
+    ) -> Result<Option<Section<C>>, ParseError>
+        requires { All (MayBeAsked (section_view C.number_of) (F.pre callback)) (walk C.table (section_table C.table self.now)).items }
+        ensures { FirstAccepted refusal_of (section_view C.number_of) (F.post callback) (walk C.table (section_table C.table self.now)) result }
+    {
+        Ok(sections::first_section::<C, F>(self.section_table(), callback)?)
+    }
+
+    /// The first section with this name.
+    ///
+    /// # Errors
+    ///
+    /// Those of `find_section`.
+    pub fn section_with_name(&self, name: &str) -> Result<Option<Section<C>>, ParseError>
+        ensures { let table = section_table C.table self.now in Gives refusal_of (option_map (section_view C.number_of))
+            (first (λ s. is_named name.now (name_of C.table table s)) (walk C.table table)) result }
+    {
+        Ok(sections::section_with_name::<C>(self.section_table(), name)?)
+    }
+
+    /// The function symbols of the section with this name as the file stores them, in the order of the symbol table,
+    /// and the section's size in bytes. Nothing is allocated, and names stay mangled.
+    ///
+    /// Kept are rows of type function (`STT_FUNC`) that name the section by its index, and have a size and a name.
+    ///
+    /// # Errors
+    ///
+    /// In this order: as `find_section`; `SymbolsSectionIsMissing`; `SectionIsMissing` of `.symtab` (the
+    /// first section of kind 2, `SHT_SYMTAB`) and of `.strtab` (the section that it links to); `UnexpectedSectionType`
+    /// where that isn't of kind 3 (`SHT_STRTAB`); `MalformedInput` and `UnexpectedEof` where the string table's and
+    /// then the symbol table's bytes end past `usize` and past the file; `UnexpectedEof` for a truncated last row.
+    pub fn functions(&self, section_name: &str) -> Result<(Functions<'a, C>, u64), ParseError>
+        ensures { Gives refusal_of (functions_view C.table) (elf_answer C.table (section_table C.table self.now) section_name.now) result }
+    {
+        symbols::section_functions::<C>(self.section_table(), section_name)
+    }
+
+    /// The same functions as symbols, whose names are in readable form, and the section's size in bytes.
+    ///
+    /// # Errors
+    ///
+    /// Those of `functions`, and `OutOfMemory` where an allocation failed, which an empty list never needs.
+    pub fn symbols(
+        &self,
+        alloc: Global,
+        section_name: &str,
+    ) -> Result<(Vec<SymbolData>, u64), ParseError>
+        ensures { Answers HoldsSymbols ListsSome (elf_answer C.table (section_table C.table self.now) section_name.now) result }
+    {
+        let (functions, size) = self.functions(section_name)?;
+        Ok((symbols_of(alloc, functions)?, size))
+    }
+
+    /// The file's bytes, as they were given to `parse`.
+    pub fn data(&self) -> &'a [u8]
+        ensures { result.now ≡ self.now.bytes }
+    {
+        self.data
+    }
+}
+
+impl<'a, C: Class> HasSections<'a, C> for Elf<'a, C> {
+    ghost file = { λ e. e };
+
+    fn section_table(&self) -> Table<'a> {
+        sections::section_table(self.data, self.byte_order, &self.header)
+    }
+}

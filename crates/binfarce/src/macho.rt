@@ -1,0 +1,167 @@
+//! 64-bit Mach-O files, which are little endian (Apple's `<mach-o/loader.h>` and `<mach-o/nlist.h>`).
+
+ghost use Rattle.std.specs.Prelude.{◌≡◌, ℕ, List, ◌<◌, ◌≤◌, length, All, MatchResult};
+ghost use Rattle.std.specs.Option.{option_map};
+ghost use Rattle.binfarce_bytes.specs.Refusal.{Gives, refusal_of, unexpected_eof};
+ghost use Rattle.binfarce_bytes.specs.Walk.{MayBeAsked, FirstAccepted, first};
+ghost use Rattle.binfarce_macho.specs.Macho.{header_of, section_data, walk, is_named, least_length};
+ghost use Rattle.binfarce_macho.specs.MachoSymbols.{ArrangesRows, SizesEntries, HasAddress, macho_answer};
+ghost use Rattle.binfarce_symbols.specs.Entries.{Answers};
+ghost use Rattle.binfarce_symbols.specs.SymbolViews.{HoldsFunctions};
+ghost use Rattle.binfarce_macho.specs.MachoViews.{header_view, section_view};
+ghost use Rattle.binfarce_naming.specs.Symbol.{HoldsSymbols};
+
+use binfarce_bytes::ParseError;
+pub use binfarce_macho::header::MachoHeader;
+use binfarce_macho::header::parse_header;
+use binfarce_macho::sections;
+pub use binfarce_macho::sections::{Section, Sections};
+use binfarce_macho::symbols::functions_of_file;
+use binfarce_names::demangle::SymbolData;
+use binfarce_naming::symbols::symbols_of;
+use binfarce_symbols::functions::FunctionSymbol;
+use std::alloc::Global;
+use std::marker::Model;
+
+/// A Mach-O file. It borrows the file's bytes.
+#[derive(Debug, Clone, Drop)]
+pub struct Macho<'a> {
+    data: &'a [u8],
+    header: MachoHeader,
+}
+
+impl<'a> Model for Macho<'a> {
+    ghost use Rattle.std.specs.Prelude.{◌≡◌, ℕ, List};
+    ghost use Rattle.binfarce_macho.specs.Macho.{header_of};
+    ghost use Rattle.binfarce_macho.specs.MachoViews.{header_view};
+
+    ghost Value = { List ℕ };
+
+    ghost view = { λ m. m.data.now };
+
+    ghost invariant = { λ m. header_view m.header ≡ header_of m.data.now };
+}
+
+/// Reads the header of a Mach-O file, without a look at the magic number.
+///
+/// # Errors
+///
+/// `UnexpectedEof` for fewer than 28 bytes.
+pub fn parse(data: &[u8]) -> Result<Macho<'_>, ParseError>
+    ensures { MatchResult result
+        (λ m. (least_length ≤ length data.now) × (m ≡ data.now))
+        (λ e. (length data.now < least_length) × (refusal_of e ≡ unexpected_eof)) }
+{
+    let header = parse_header(data)?;
+    Ok(Macho { data, header })
+}
+
+impl<'a> Macho<'a> {
+    /// The file's bytes, as they were given to `parse`.
+    pub fn data(&self) -> &'a [u8]
+        ensures { result.now ≡ self.now }
+    {
+        self.data
+    }
+
+    /// The file header, as it was read by `parse`.
+    pub fn header(&self) -> MachoHeader
+        ensures { header_view result ≡ header_of self.now }
+    {
+        self.header
+    }
+
+    /// The sections in file order, segment by segment, which `find_section` searches. Each is read when it is asked for.
+    ///
+    /// A refusal comes, and after it nothing, where `find_section` with a callback that always answers false has it.
+    pub fn sections(&self) -> Sections<'a>
+        ensures { result ≡ walk self.now }
+    {
+        sections::sections_of(self.data, self.header)
+    }
+
+    /// The bytes that the section has in the file, a part of it.
+    ///
+    /// # Errors
+    ///
+    /// `MalformedInput` where their end passes `usize`, `UnexpectedEof` where it passes the file's.
+    pub fn section_bytes(&self, section: &Section<'_>) -> Result<&'a [u8], ParseError>
+        ensures { Gives refusal_of (λ b. b.now) (section_data self.now (section_view section.now)) result }
+    {
+        sections::section_data(self.data, section)
+    }
+
+    /// The first section that the callback accepts, in file order; `None` where it accepts none.
+    ///
+    /// The sections are those of the segment commands (`LC_SEGMENT_64`) whose segment and section name are both valid.
+    /// A name is the bytes of its own 16 up to the first NUL, or all 16 where there is none; it is valid where it isn't
+    /// empty and is UTF-8. The section borrows from the file and may outlive the reader.
+    ///
+    /// # Errors
+    ///
+    /// `UnexpectedEof` where a segment command or a section is truncated, `MalformedInput` where a load command's size is
+    /// below 8; the sections before it are asked first.
+    pub fn find_section<F: Fn(Section<'_>) -> bool>(
+        &self,
+        callback: F,
+    ) -> Result<Option<Section<'a>>, ParseError>
+        requires { All (MayBeAsked section_view (F.pre callback)) (walk self.now).items }
+        ensures { FirstAccepted refusal_of section_view (F.post callback) (walk self.now) result }
+    {
+        sections::find_section(self.data, self.header, callback)
+    }
+
+    /// The first section with these two names.
+    ///
+    /// # Errors
+    ///
+    /// Those of `find_section`.
+    pub fn section_with_name(
+        &self,
+        segment_name: &str,
+        section_name: &str,
+    ) -> Result<Option<Section<'a>>, ParseError>
+        ensures { Gives refusal_of (option_map section_view)
+            (first (λ s. is_named segment_name.now section_name.now s) (walk self.now)) result }
+    {
+        sections::section_with_name(self.data, self.header, segment_name, section_name)
+    }
+
+    /// The function symbols of the first section, in the order of their addresses, and the text's size in bytes.
+    ///
+    /// A symbol's size is the distance to the least greater address in the whole table, or to the text's end where
+    /// there is none. Kept are rows with a value, a name offset, one of the type bits 0x0A and section 1, that have
+    /// a size and a valid name; rows of one address stand in table order. Without a symbol table the answer is
+    /// an empty list and 0.
+    ///
+    /// # Errors
+    ///
+    /// In this order: as `find_section`; `SymbolsSectionIsMissing` without a section
+    /// `__text` of `__TEXT`; `MalformedInput` where that is empty, or for a bad load command before the symbol
+    /// table's; `UnexpectedEof` where that command, the string table or the rows are truncated; `MalformedInput` where
+    /// the text's end passes an address, or a row that would be kept lies past that end with no address above it.
+    /// `OutOfMemory` comes only where the table has a value that isn't 0, and may stand in place of the last refusal.
+    #[tactic(auto, using(binfarce_macho::proofs::MachoLaws::answer_sized, binfarce_macho::proofs::MachoLaws::answer_in_order))]
+    pub fn symbols(&self, alloc: Global) -> Result<(Vec<SymbolData>, u64), ParseError>
+        ensures answer { Answers HoldsSymbols (λ _. HasAddress self.now) (macho_answer self.now) result }
+        ensures order { ArrangesRows self.now }
+        ensures sizes { SizesEntries self.now }
+    {
+        let (functions, text_size) = self.functions(alloc)?;
+        let symbols = symbols_of(alloc, functions.iter().copied())?;
+        Ok((symbols, text_size))
+    }
+
+    /// The function symbols that `symbols` carries, in its order, with their names as the file stores them.
+    ///
+    /// The names are parts of the file and may outlive the reader.
+    ///
+    /// # Errors
+    ///
+    /// Those of `symbols`.
+    pub fn functions(&self, alloc: Global) -> Result<(Vec<FunctionSymbol<'a>>, u64), ParseError>
+        ensures { Answers HoldsFunctions (λ _. HasAddress self.now) (macho_answer self.now) result }
+    {
+        functions_of_file(alloc, self.data, self.header)
+    }
+}

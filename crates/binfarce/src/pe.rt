@@ -1,0 +1,174 @@
+//! PE files with COFF symbols (Microsoft PE Format), which are little endian.
+
+ghost use Rattle.std.specs.Prelude.{◌≡◌, ◌<◌, ◌≤◌, length, All, MatchResult, IfOk};
+ghost use Rattle.std.specs.Option.{option_map};
+ghost use Rattle.binfarce_bytes.specs.Refusal.{Gives, refusal_of, unexpected_eof};
+ghost use Rattle.binfarce_bytes.specs.Walk.{MayBeAsked, FirstAccepted, first};
+ghost use Rattle.binfarce_symbols.specs.Entries.{Answers, ListsSome};
+ghost use Rattle.binfarce_symbols.specs.SymbolViews.{HoldsFunctions};
+ghost use Rattle.binfarce_naming.specs.Symbol.{HoldsSymbols};
+ghost use Rattle.binfarce_pe.specs.Pe.{least_length, signature_offset, header_of, section_data, walk, is_named};
+ghost use Rattle.binfarce_pe.specs.PeParts.{places_of, places_view};
+ghost use Rattle.binfarce_pe.specs.PeSymbols.{pe_answer, ArrangesRows};
+ghost use Rattle.binfarce_pe.specs.PeViews.{header_view, section_view};
+ghost use Rattle.binfarce.specs.PeSizes.{EqualAddressesEqualSizes};
+
+use binfarce_bytes::ParseError;
+use binfarce_names::demangle::SymbolData;
+use binfarce_naming::symbols::symbols_of;
+pub use binfarce_pe::header::PeHeader;
+use binfarce_pe::header::parse_header;
+use binfarce_pe::parts::{Places, places_after};
+pub use binfarce_pe::sections::{Section, Sections};
+use binfarce_pe::sections::{self, first_of_file};
+use binfarce_pe::symbols::functions_of_file;
+use binfarce_symbols::functions::FunctionSymbol;
+use std::alloc::Global;
+use std::marker::Model;
+
+/// A PE file. It borrows the file's bytes.
+#[derive(Debug, Clone, Drop)]
+pub struct Pe<'a> {
+    data: &'a [u8],
+    pe_pointer: u32,
+    header: PeHeader,
+}
+
+impl<'a> Model for Pe<'a> {
+    ghost use Rattle.std.specs.Prelude.{◌≡◌, ◌≤◌, ℕ, List, length};
+    ghost use Rattle.binfarce_pe.specs.Pe.{header_of, signature_offset, least_length};
+    ghost use Rattle.binfarce_pe.specs.PeViews.{header_view};
+
+    ghost Value = { List ℕ };
+
+    ghost view = { λ p. p.data.now };
+
+    ghost invariant = { λ p. (header_view p.header ≡ header_of p.data.now) × (p.pe_pointer ≡ signature_offset p.data.now) × (least_length p.data.now ≤ length p.data.now) };
+}
+
+/// Reads the file header, without a look at the signature.
+///
+/// # Errors
+///
+/// `UnexpectedEof` for fewer than 64 bytes, and where the file header that they point to is truncated.
+pub fn parse(data: &[u8]) -> Result<Pe<'_>, ParseError>
+    ensures { MatchResult result
+        (λ pe. (least_length data.now ≤ length data.now) × (pe ≡ data.now))
+        (λ e. (length data.now < least_length data.now) × (refusal_of e ≡ unexpected_eof)) }
+{
+    let (pe_pointer, header) = parse_header(data)?;
+    Ok(Pe {
+        data,
+        pe_pointer,
+        header,
+    })
+}
+
+impl<'a> Pe<'a> {
+    /// The file's bytes, as they were given to `parse`.
+    pub fn data(&self) -> &'a [u8]
+        ensures { result.now ≡ self.now }
+    {
+        self.data
+    }
+
+    /// The file header, as it was read by `parse`.
+    pub fn header(&self) -> PeHeader
+        ensures { header_view result ≡ header_of self.now }
+    {
+        self.header
+    }
+
+    /// The sections in file order, which `find_section` searches. Each is read when it is asked for.
+    ///
+    /// `UnexpectedEof` comes, and after it nothing, where `find_section` with a callback that always answers false
+    /// has it: where the section table doesn't begin in the file, or a header is truncated.
+    pub fn sections(&self) -> Sections<'a>
+        ensures { result ≡ walk self.now }
+    {
+        sections::sections_of(self.data, self.places())
+    }
+
+    /// The bytes that the section has in the file, a part of it.
+    ///
+    /// # Errors
+    ///
+    /// `UnexpectedEof` where they end past the file.
+    pub fn section_bytes(&self, section: &Section<'_>) -> Result<&'a [u8], ParseError>
+        ensures { Gives refusal_of (λ b. b.now) (section_data self.now (section_view section.now)) result }
+    {
+        sections::section_data(self.data, section)
+    }
+
+    /// The first section that the callback accepts, in file order; `None` where it accepts none.
+    ///
+    /// A section header is read only when the callback has refused the sections before it. A section whose name isn't
+    /// UTF-8 is skipped.
+    ///
+    /// # Errors
+    ///
+    /// `UnexpectedEof` where the section table doesn't begin in the file, or a header that is
+    /// read is truncated; only the last 16 bytes of a header aren't read.
+    pub fn find_section<F: Fn(Section<'_>) -> bool>(
+        &self,
+        callback: F,
+    ) -> Result<Option<Section<'a>>, ParseError>
+        requires { All (MayBeAsked section_view (F.pre callback)) (walk self.now).items }
+        ensures { FirstAccepted refusal_of section_view (F.post callback) (walk self.now) result }
+    {
+        Ok(first_of_file(self.data, self.places(), callback)?)
+    }
+
+    /// The first section with this name.
+    ///
+    /// # Errors
+    ///
+    /// Those of `find_section`.
+    pub fn section_with_name(&self, name: &str) -> Result<Option<Section<'a>>, ParseError>
+        ensures { Gives refusal_of (option_map section_view) (first (λ s. is_named name.now s) (walk self.now)) result }
+    {
+        Ok(sections::section_with_name(self.data, self.places(), name)?)
+    }
+
+    /// The function symbols of the section `.text`, by address and at equal addresses in table order, and the size in
+    /// bytes that the section has in the file.
+    ///
+    /// Their names, which are still mangled, are parts of the file. An address is what the row holds: the offset in the
+    /// section, in bytes. Kept are rows of external functions that name the section by its number and have a name: the
+    /// row's own 8 bytes up to the first NUL, which may be empty but have to be UTF-8, or the text at an offset in the
+    /// string table ("COFF Symbol Table"). A symbol's size is the distance to the least greater one among the addresses
+    /// of the kept rows and the section's size, and 0 where none is greater.
+    ///
+    /// # Errors
+    ///
+    /// In this order: as `find_section`;
+    /// `SymbolsSectionIsMissing`; `UnexpectedEof` where the symbol table doesn't begin in the file, even an empty one,
+    /// or passes its end. `OutOfMemory` comes only in place of a list that isn't empty.
+    pub fn functions(&self, alloc: Global) -> Result<(Vec<FunctionSymbol<'a>>, u64), ParseError>
+        ensures { Answers HoldsFunctions ListsSome (pe_answer self.now) result }
+    {
+        functions_of_file(alloc, self.data, self.places())
+    }
+
+    /// The function symbols of `functions` with readable names, and the size in bytes that `.text` has in the file.
+    ///
+    /// # Errors
+    ///
+    /// Those of `functions`.
+    pub fn symbols(&self, alloc: Global) -> Result<(Vec<SymbolData>, u64), ParseError>
+        ensures answer { Answers HoldsSymbols ListsSome (pe_answer self.now) result }
+        ensures order { ArrangesRows self.now }
+        ensures sizes { IfOk result (λ answer. EqualAddressesEqualSizes answer.0.items) }
+    {
+        let (functions, size) = self.functions(alloc)?;
+        let symbols = symbols_of(alloc, functions.into_iter())?;
+        Ok((symbols, size))
+    }
+
+    // Where the tables are.
+    fn places(&self) -> Places
+        ensures { places_view result ≡ places_of self.now }
+    {
+        places_after(self.pe_pointer, self.header)
+    }
+}

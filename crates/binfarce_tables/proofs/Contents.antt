@@ -1,0 +1,89 @@
+-- The bytes of a section, and the section names.
+use Rattle.std.proofs.Common.{◌≡◌, ℕ, ◌+◌, ◌*◌, ◌-◌, ◌/◌, ◌<◌, ◌≤◌, ◌^◌, ◌⊎◌, List, length, drop, Some, None, Result, Ok, Err, refl, sym, ap, ◌∙◌, arith, inl, inr, length-drop}
+use Rattle.std.proofs.Math.Nat.{div-mul-le_self}
+use Rattle.std.proofs.lemmas.Bool.{cases_lt, lt-leb, le-leb, lt-ltb, le-ltb}
+use Rattle.std.proofs.lemmas.List.{length-take-le}
+use Rattle.binfarce_bytes.specs.Number.{bytes_at}
+use Rattle.binfarce_bytes.specs.Refusal.{Refusal, malformed_input, unexpected_eof, bytes_in_file}
+use Rattle.binfarce_elf.specs.Elf.{ElfClass, SectionTable, Section, section_at, section_of, whole_headers, contents}
+use Rattle.binfarce_elf.specs.ElfSymbols.{section_data}
+use Rattle.binfarce_elf.specs.machine.RawElf.{names_bytes}
+use Rattle.binfarce_tables.proofs.HeadersAlone.{HasWithin, section_in}
+
+pub data_malformed : (file : List ℕ) (s : Section) → 2 ^ 64 ≤ s.offset + s.size → section_data file s ≡ Err malformed_input
+unfolding section_data bytes_in_file
+data_malformed file s past = rw (le-leb (2 ^ 64) (s.offset + s.size) past) refl
+
+pub data_past : (file : List ℕ) (s : Section) → s.offset + s.size < 2 ^ 64 → length file < s.offset + s.size → section_data file s ≡ Err unexpected_eof
+unfolding section_data bytes_in_file
+data_past file s end past = rw (lt-leb (2 ^ 64) (s.offset + s.size) end, lt-ltb (length file) (s.offset + s.size) past) refl
+
+pub data_inside : (file : List ℕ) (s : Section) → s.offset + s.size < 2 ^ 64 → s.offset + s.size ≤ length file → section_data file s ≡ Ok (bytes_at file s.offset s.size)
+unfolding section_data bytes_in_file
+data_inside file s end inside = rw (lt-leb (2 ^ 64) (s.offset + s.size) end, le-ltb (length file) (s.offset + s.size) inside) refl
+
+-- the bytes that were read are the contents
+pub contents_read : (file bytes : List ℕ) (s : Section) → length file < 2 ^ 64 → section_data file s ≡ Ok bytes → contents file s ≡ Some bytes
+contents_read file bytes s short read = elim (cases_lt (length file) (s.offset + s.size)) [
+  | inl past ↦ absurd (not_past (cases_lt (s.offset + s.size) (2 ^ 64)) past)
+  | inr inside ↦
+      let is : section_data file s ≡ Ok (bytes_at file s.offset s.size) = data_inside file s (omega arith) inside in
+      let same : Path (Result (List ℕ) Refusal) (Ok (bytes_at file s.offset s.size)) (Ok bytes) = sym is ∙ read in
+      rw (le-leb (s.offset + s.size) (length file) inside) (ap Some (of_same same))
+]
+  where
+    of_same : {a b : List ℕ} → Path (Result (List ℕ) Refusal) (Ok a) (Ok b) → a ≡ b
+    of_same e = cc
+
+    refused_read : (r : Refusal) → section_data file s ≡ Err r → ⊥
+    refused_read r is = let e : Path (Result (List ℕ) Refusal) (Err r) (Ok bytes) = sym is ∙ read in cc
+
+    not_past : (s.offset + s.size < 2 ^ 64) ⊎ (2 ^ 64 ≤ s.offset + s.size) → length file < s.offset + s.size → ⊥
+    not_past (inl end) past = refused_read unexpected_eof (data_past file s end past)
+    not_past (inr end) past = refused_read malformed_input (data_malformed file s end)
+
+-- what was refused has no contents
+pub contents_refused : (file : List ℕ) (refusal : Refusal) (s : Section) → length file < 2 ^ 64 → section_data file s ≡ Err refusal → contents file s ≡ None
+contents_refused file refusal s short read = elim (cases_lt (length file) (s.offset + s.size)) [
+  | inl past ↦ rw (lt-leb (s.offset + s.size) (length file) past) refl
+  | inr inside ↦
+      let e : Path (Result (List ℕ) Refusal) (Ok (bytes_at file s.offset s.size)) (Err refusal) = sym (data_inside file s (omega arith) inside) ∙ read in
+      absurd cc
+]
+
+-- where no header of the names is whole, there are none
+pub no_names : (class : ElfClass) (table : SectionTable) → whole_headers class table ≤ table.shstrndx → names_bytes class table ≡ None
+no_names class table past = rw (le-ltb table.shstrndx (whole_headers class table) past) refl
+
+-- the end of a whole header lies in the file
+pub header_inside : (len shoff size i : ℕ) → i < (len - shoff) / size → (shoff + i * size) + size ≤ len
+header_inside len shoff size i lt =
+    let all : (len - shoff) / size * size ≤ len - shoff = div-mul-le_self (len - shoff) size in
+    let below : i * size + size ≤ (len - shoff) / size * size = count i ((len - shoff) / size) size lt in
+    let some : 0 < len - shoff = positive (len - shoff) i size lt in
+    omega arith
+  where
+    count : (i n size : ℕ) → i < n → i * size + size ≤ n * size
+    count i n size lt = grind arith
+
+    positive : (room i size : ℕ) → i < room / size → 0 < room
+    positive room i size lt = grind arith
+
+-- the section of the names, read from its header alone
+pub names_are : (class : ElfClass) (table : SectionTable) (header : List ℕ) (section : Section) → HasWithin class → table.shstrndx < whole_headers class table
+    → header ≡ bytes_at table.file (table.shoff + table.shstrndx * class.section_length) class.section_length
+    → section ≡ section_at class table.order header 0 table.shstrndx
+    → names_bytes class table ≡ contents table.file section
+names_are class table header section within lt is at =
+    let start = table.shoff + table.shstrndx * class.section_length in
+    let read : section_at class table.order header 0 table.shstrndx ≡ section_at class table.order table.file (start + 0) table.shstrndx =
+    ap (λ bytes. section_at class table.order bytes 0 table.shstrndx) is ∙ section_in class table.order table.file start class.section_length 0 table.shstrndx within (omega arith) in
+    let same : section_of class table table.shstrndx ≡ section = ap (λ n. section_at class table.order table.file n table.shstrndx) (from_end start) ∙ sym read ∙ sym at in
+    rw (lt-ltb table.shstrndx (whole_headers class table) lt) (ap (contents table.file) same)
+  where
+    from_end : (n : ℕ) → n ≡ n + 0
+    from_end n = omega arith
+
+-- as many bytes as lie in the file
+pub part_long : (file : List ℕ) (start size : ℕ) → start + size ≤ length file → length (bytes_at file start size) ≡ size
+part_long file start size inside = length-take-le size (drop start file) (rw (length-drop start file) (omega arith))

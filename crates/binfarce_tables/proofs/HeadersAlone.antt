@@ -1,0 +1,163 @@
+-- The walk over the section headers alone, and where the symbols are by what is found there.
+use Rattle.std.proofs.Common.{◌≡◌, ℕ, zero, suc, ◌+◌, ◌*◌, ◌-◌, ◌/◌, ◌<◌, ◌≤◌, Bool, true, false, cond, ltb, leb, ◌&&◌, List, ◌∷◌, length, take, drop, map, min, Some, None, refl, ap, ap₂, ◌∙◌, arith, inl, inr, length-drop}
+use Rattle.std.proofs.Math.Nat.{div-mul-le_self}
+use Rattle.std.proofs.lemmas.Bool.{cases_lt, lt-ltb, lt-leb, le-leb}
+use Rattle.std.proofs.lemmas.List.{drop-take, drop-drop, take-take, length-take-le}
+use Rattle.std.proofs.lemmas.Nat.{div-mul-add}
+use Rattle.std.specs.List.{range_with_len}
+use Rattle.binfarce_bytes.specs.declared.ByteOrder.{ByteOrder}
+use Rattle.binfarce_bytes.specs.Field.{Field, value_at}
+use Rattle.binfarce_bytes.specs.Number.{bytes_at, number}
+use Rattle.binfarce_bytes.specs.Refusal.{unexpected_eof}
+use Rattle.binfarce_elf.specs.Elf.{ElfClass, SectionTable, Header, header_of, section_table, section_at, section_of, walk, whole_headers}
+use Rattle.binfarce_elf.specs.ElfParts.{headers_alone}
+use Rattle.binfarce_elf.specs.machine.RawElf.{fields_of_header, fields_of_section}
+use Rattle.binfarce_tables.specs.machine.Places.{headers_of}
+
+pub bytes_in : (file : List ℕ) (start len k width : ℕ) → k + width ≤ len → bytes_at (bytes_at file start len) k width ≡ bytes_at file (start + k) width
+bytes_in file start len k width h =
+    let from : List ℕ = drop start file in
+    let rest : ℕ = len - k in
+    let all : len ≡ k + rest = omega arith in
+    ap (λ n. take width (drop k (take n from))) all
+    ∙ ap (take width) (drop-take k rest from)
+    ∙ take-take width rest (drop k from) (omega arith)
+    ∙ ap (take width) (drop-drop k start file)
+
+-- the number of a field of a structure within a part
+pub value_in : (order : ByteOrder) (file : List ℕ) (start len k : ℕ) (f : Field) → k + (f.offset + f.width) ≤ len → value_at order (bytes_at file start len) k f ≡ value_at order file (start + k) f
+value_in order file start len k f h =
+    ap (number order) (bytes_in file start len (k + f.offset) f.width (omega (arith, h)) ∙ ap (λ n. bytes_at file n f.width) (turned start k f.offset))
+  where
+    turned : (a b c : ℕ) → a + (b + c) ≡ (a + b) + c
+    turned a b c = omega arith
+
+abbrev pub Within : ℕ → Field → Type 0
+Within len f = f.offset + f.width ≤ len
+
+-- the fields that are read lie within their structures
+pub record HasWithin (class : ElfClass) : Type 0 where
+  pub shoff : Within class.header_length class.header.shoff
+  pub shnum : Within class.header_length class.header.shnum
+  pub shstrndx : Within class.header_length class.header.shstrndx
+  pub name : Within class.section_length class.section.name
+  pub kind : Within class.section_length class.section.kind
+  pub addr : Within class.section_length class.section.addr
+  pub link : Within class.section_length class.section.link
+  pub offset : Within class.section_length class.section.offset
+  pub size : Within class.section_length class.section.size
+  pub entry_size : Within class.section_length class.section.entry_size
+
+pub within_class : (class : ElfClass) (w : ℕ) → class.header ≡ fields_of_header w → class.header_length ≡ 40 + 3 * w → class.section ≡ fields_of_section w → class.section_length ≡ 16 + 6 * w → HasWithin class
+within_class class w header_fields header_len fields len = record {
+  shoff = rw (header_fields, header_len) (omega arith);
+  shnum = rw (header_fields, header_len) (omega arith);
+  shstrndx = rw (header_fields, header_len) (omega arith);
+  name = rw (fields, len) (omega arith);
+  kind = rw (fields, len) (omega arith);
+  addr = rw (fields, len) (omega arith);
+  link = rw (fields, len) (omega arith);
+  offset = rw (fields, len) (omega arith);
+  size = rw (fields, len) (omega arith);
+  entry_size = rw (fields, len) (omega arith);
+}
+
+-- a section header within a part
+pub section_in : (class : ElfClass) (order : ByteOrder) (file : List ℕ) (start len k index : ℕ) → HasWithin class → k + class.section_length ≤ len
+    → section_at class order (bytes_at file start len) k index ≡ section_at class order file (start + k) index
+unfolding section_at
+section_in class order file start len k index within h = cc (
+  value_in order file start len k class.section.name (omega (arith, h, within.name)),
+  value_in order file start len k class.section.kind (omega (arith, h, within.kind)),
+  value_in order file start len k class.section.addr (omega (arith, h, within.addr)),
+  value_in order file start len k class.section.link (omega (arith, h, within.link)),
+  value_in order file start len k class.section.offset (omega (arith, h, within.offset)),
+  value_in order file start len k class.section.size (omega (arith, h, within.size)),
+  value_in order file start len k class.section.entry_size (omega (arith, h, within.entry_size)),
+)
+
+-- the table at the place that the file header alone states
+pub place_is : (class : ElfClass) (order : ByteOrder) (file : List ℕ) (size : ℕ) (header : Header ℕ) → HasWithin class → size ≡ class.header_length
+    → header ≡ header_of class order (bytes_at file 0 size)
+    → section_table class (record { order = order; bytes = file }) ≡ record { order = order; file = file; shoff = header.shoff; shnum = header.shnum; shstrndx = header.shstrndx }
+unfolding header_of section_table
+place_is class order file size header within is same = cc (
+  same,
+  value_in order file 0 size 0 class.header.shoff (omega (arith, is, within.shoff)),
+  value_in order file 0 size 0 class.header.shnum (omega (arith, is, within.shnum)),
+  value_in order file 0 size 0 class.header.shstrndx (omega (arith, is, within.shstrndx)),
+)
+
+-- functions that agree on so many numbers
+map_same : {X : Type 0} (f g : ℕ → X) (a n : ℕ) → ((i : ℕ) → i < a + n → f i ≡ g i) → map f (range_with_len a n) ≡ map g (range_with_len a n)
+map_same f g a zero agree = refl
+map_same f g a (suc n) agree = ap₂ (λ x xs. x ∷ xs) (agree a (omega arith)) (map_same f g (a + 1) n (λ i lt. agree i (omega arith)))
+
+-- so many headers as there are whole ones
+whole_is : (n size : ℕ) → 0 < size → (n * size - 0) / size ≡ n
+whole_is n size some =
+    let same : n * size - 0 ≡ n * size + 0 = omega arith in
+    ap (λ (m : ℕ). m / size) same ∙ div-mul-add n size 0 some
+
+fits : (a b size rest : ℕ) → a ≤ b → b * size ≤ rest → a * size ≤ rest
+fits a b size rest le h = grind arith
+
+pub headers_long : (class : ElfClass) (table : SectionTable) → length (headers_of class table) ≡ min table.shnum (whole_headers class table) * class.section_length
+headers_long class table =
+    let whole = whole_headers class table in
+    let room : length (drop table.shoff table.file) ≡ length table.file - table.shoff = length-drop table.shoff table.file in
+    let inside : min table.shnum whole * class.section_length ≤ length table.file - table.shoff =
+    fits (min table.shnum whole) whole class.section_length (length table.file - table.shoff) (omega arith) (div-mul-le_self (length table.file - table.shoff) class.section_length) in
+    length-take-le (min table.shnum whole * class.section_length) (drop table.shoff table.file) (rw room inside)
+
+and_false : (b : Bool) → (b && false) ≡ false
+and_false true = refl
+and_false false = refl
+
+-- the refusal of a walk over as many headers as are whole
+refusal_same : (count whole alone len start size : ℕ) → start < size → alone ≡ min count whole → (0 < alone → 0 < len) → 0 < count
+    → cond (ltb 0 len && leb count alone) None (Some unexpected_eof) ≡ cond (ltb start size && leb count whole) None (Some unexpected_eof)
+refusal_same count whole alone len start size inside least some any = elim (cases_lt whole count) [
+  | inl cut ↦ rw (lt-leb count alone (omega (arith, least)), lt-leb count whole cut, and_false (ltb 0 len), and_false (ltb start size)) refl
+  | inr room ↦ rw (lt-ltb 0 len (some (omega (arith, least))), le-leb count alone (omega (arith, least)), lt-ltb start size inside, le-leb count whole room) refl
+]
+
+positive : (n size : ℕ) → 0 < size → 0 < n → 0 < n * size
+positive n size a b = grind arith
+
+module _ (class : ElfClass) (table : SectionTable) (within : HasWithin class) (some : 0 < class.section_length) where
+  abbrev below : ℕ
+  below = min table.shnum (whole_headers class table)
+
+  abbrev alone : SectionTable
+  alone = headers_alone table.order (headers_of class table) table.shnum
+
+  whole_alone : whole_headers class alone ≡ below
+  whole_alone = ap (λ len. (len - 0) / class.section_length) (headers_long class table) ∙ whole_is below class.section_length some
+
+  same_header : (i : ℕ) → i < below → section_of class alone i ≡ section_of class table i
+  same_header i lt =
+      let inside : i * class.section_length + class.section_length ≤ below * class.section_length = within_count i below class.section_length lt in
+      ap (λ k. section_at class table.order (headers_of class table) k i) (from_start (i * class.section_length))
+      ∙ section_in class table.order table.file table.shoff (below * class.section_length) (i * class.section_length) i within inside
+    where
+      from_start : (n : ℕ) → 0 + n ≡ n
+      from_start n = omega arith
+
+      within_count : (i n size : ℕ) → i < n → i * size + size ≤ n * size
+      within_count i n size lt = grind arith
+
+  -- the walk over the section headers alone is the file's
+  pub headers_walk : table.shoff < length table.file → 0 < table.shnum → walk class alone ≡ walk class table
+  unfolding walk
+  headers_walk inside any =
+      let items : map (section_of class alone) (range_with_len 0 (min table.shnum (whole_headers class alone))) ≡ map (section_of class table) (range_with_len 0 below) =
+      ap (λ (m : ℕ). map (section_of class alone) (range_with_len 0 m)) (least table.shnum (whole_headers class table) (whole_headers class alone) whole_alone)
+      ∙ map_same (section_of class alone) (section_of class table) 0 below (λ i lt. same_header i (omega arith)) in
+      let long : 0 < whole_headers class alone → 0 < length (headers_of class table) =
+      λ h. rw (headers_long class table) (positive below class.section_length some (rw (← whole_alone) h)) in
+      ap₂ (λ xs end. record { items = xs; refusal = end }) items
+      (refusal_same table.shnum (whole_headers class table) (whole_headers class alone) (length (headers_of class table)) table.shoff (length table.file) inside whole_alone long any)
+    where
+      least : (a b c : ℕ) → c ≡ min a b → min a c ≡ min a b
+      least a b c e = omega arith

@@ -1,0 +1,281 @@
+-- What bytes that a Mach-O file begins with tell of it, where they hold its load commands.
+use Rattle.std.proofs.Common.{◌≡◌, ℕ, zero, suc, ◌+◌, ◌-◌, ◌<◌, ◌≤◌, Bool, true, false, cond, ltb, leb, eqb, ◌&&◌, List, [], ◌∷◌, length, drop, min, find, codes, Option, Some, None, Result, Ok, Err, refl, sym, ap, ap₂, ◌∙◌, arith}
+use Rattle.std.proofs.Math.Nat.{div-mul-le_self}
+use Rattle.std.proofs.lemmas.Bool.{and_parts, ltb-false, ltb-true, leb-true, eqb-true, le-ltb, le-leb}
+use Rattle.std.proofs.lemmas.List.{length-take-le}
+use Rattle.std.proofs.lemmas.Nat.{le-div}
+use Rattle.std.specs.List.{range_with_len, filter_map, cons_option}
+use Rattle.binfarce_bytes.specs.declared.ByteOrder.TheVariants.{LittleEndian}
+use Rattle.binfarce_bytes.specs.Field.{Field, field, number_in}
+use Rattle.binfarce_bytes.specs.Number.{bytes_at, number}
+use Rattle.binfarce_bytes.specs.Refusal.{◌>>=◌, Refusal, required, symbols_section_is_missing}
+use Rattle.binfarce_bytes.specs.Walk.{Walk, first, found_or_end, ahead_of, and_then}
+use Rattle.binfarce_macho.specs.Macho.{Command, Section, header_of, header_fields, header_length, command_at, body_of, commands_from, commands, section_at, section_fields, section_offset, section_count, whole_headers, sections_below, segment, is_segment, sections_of, walk, is_named}
+use Rattle.binfarce_macho.specs.MachoSymbols.{SymbolTable, symbol_table_at, symbol_table_fields, text_section, some_size, symbol_command, whole_table}
+use Rattle.binfarce_macho.specs.MachoParts.{NeededTables, needed, named_table, holds_body, holds_from, holds_commands}
+use Rattle.binfarce_macho.proofs.CommandWalks.{bad, given}
+use Rattle.binfarce_tables.specs.BeginningReading.{macho_sections}
+use Rattle.binfarce_tables.specs.machine.MachoPlaces.{said_end, command_bytes}
+use Rattle.binfarce_tables.proofs.HeadersAlone.{bytes_in}
+
+assoc : {A B C : Type 0} (r : Result A Refusal) (f : A → Result B Refusal) (g : B → Result C Refusal) → ((r >>= f) >>= g) ≡ (r >>= λ x. f x >>= g)
+assoc (Ok x) f g = refl
+assoc (Err e) f g = refl
+
+abbrev both : Section → Option (SymbolTable ℕ) → Result NeededTables Refusal
+both text table = Ok (record { text = text; table = table })
+
+-- what is needed, by the text and the table that is named
+needed_by : Result Section Refusal → Result (Option (SymbolTable ℕ)) Refusal → Result NeededTables Refusal
+needed_by found named = do
+  section ← found
+  text ← some_size section
+  table ← named
+  both text table
+
+needed_as : (file : List ℕ) → needed file ≡ needed_by (text_section file) (symbol_command file >>= named_table file)
+unfolding needed needed_by
+needed_as file = by_text (text_section file)
+  where
+    by_size : (r : Result Section Refusal)
+        → (r >>= λ text. symbol_command file >>= λ command. named_table file command >>= both text)
+        ≡ (r >>= λ text. (symbol_command file >>= named_table file) >>= both text)
+    by_size (Err e) = refl
+    by_size (Ok text) = sym (assoc (symbol_command file) (named_table file) (both text))
+
+    by_text : (r : Result Section Refusal)
+        → (r >>= λ found. some_size found >>= λ text. symbol_command file >>= λ command. named_table file command >>= both text)
+        ≡ (r >>= λ found. some_size found >>= λ text. (symbol_command file >>= named_table file) >>= both text)
+    by_text (Err e) = refl
+    by_text (Ok found) = by_size (some_size found)
+
+abbrev text_in : Walk Section → Result Section Refusal
+text_in sections = first (λ section. is_named (codes "__TEXT") (codes "__text") section) sections >>= required symbols_section_is_missing
+
+-- functions that agree on so many numbers
+filter_map_same : {X : Type 0} (f g : ℕ → Option X) (a n : ℕ) → ((i : ℕ) → i < a + n → f i ≡ g i) → filter_map f (range_with_len a n) ≡ filter_map g (range_with_len a n)
+filter_map_same f g a zero agree = refl
+filter_map_same f g a (suc n) agree = ap₂ cons_option (agree a (omega arith)) (filter_map_same f g (a + 1) n (λ i lt. agree i (omega arith)))
+
+-- bytes that a file begins with
+module _ (file bytes : List ℕ) (short : length bytes ≤ length file) (same : (k width : ℕ) → k + width ≤ length bytes → bytes_at bytes k width ≡ bytes_at file k width) where
+  number_same : (start : ℕ) (f : Field) → start + f.offset + f.width ≤ length bytes → number_in bytes start f ≡ number_in file start f
+  number_same start f h = ap (number LittleEndian) (same (start + f.offset) f.width h)
+
+  command_same : (offset : ℕ) → offset + 8 ≤ length bytes → command_at bytes offset ≡ command_at file offset
+  command_same offset h = cc (number_same offset (field 0 4) (omega (arith, h)), number_same offset (field 4 4) (omega (arith, h)))
+
+  -- what is read of the bodies of these commands lies in the bytes
+  AreHeld : List Command → Type 0
+  AreHeld [] = Unit {0}
+  AreHeld (command ∷ others) = (holds_body bytes command ≡ true) × AreHeld others
+
+  -- the same commands, which are held
+  abbrev Agrees : ℕ → ℕ → Type 0
+  Agrees n offset = (commands_from bytes n offset ≡ commands_from file n offset) × AreHeld (commands_from bytes n offset).items
+
+  stepped : (f : List ℕ) (n offset : ℕ) → offset + 8 ≤ length f → 8 ≤ (command_at f offset).size
+      → commands_from f (suc n) offset ≡ ahead_of (command_at f offset) (commands_from f n (offset + (command_at f offset).size))
+  stepped f n offset whole enough =
+      given f (suc n) offset (omega arith) whole enough
+      ∙ ap (λ (m : ℕ). ahead_of (command_at f offset) (commands_from f m (offset + (command_at f offset).size))) (less n)
+    where
+      less : (n : ℕ) → suc n - 1 ≡ n
+      less n = omega arith
+
+  -- after a command that is held
+  after : (n offset : ℕ) → offset + 8 ≤ length bytes → 8 ≤ (command_at bytes offset).size → holds_body bytes (command_at bytes offset) ≡ true
+      → Agrees n (offset + (command_at bytes offset).size) → Agrees (suc n) offset
+  unfolding AreHeld
+  after n offset whole enough held rest =
+      let here = command_same offset whole in
+      let size : (command_at bytes offset).size ≡ (command_at file offset).size = ap (λ (c : Command). c.size) here in
+      let ours = stepped bytes n offset whole enough in
+      let theirs = stepped file n offset (omega (arith, whole, short)) (omega (arith, enough, size)) in (
+        ours
+            ∙ ap₂ (λ (c : Command) (w : Walk Command). ahead_of c w) here (rest.0 ∙ ap (λ (s : ℕ). commands_from file n (offset + s)) size)
+            ∙ sym theirs,
+        rw ours (held, rest.1),
+      )
+
+  -- up to a command that is refused for its size
+  up_to : (n offset : ℕ) → offset + 8 ≤ length bytes → (command_at bytes offset).size < 8 → Agrees (suc n) offset
+  unfolding AreHeld
+  up_to n offset whole little =
+      let size : (command_at bytes offset).size ≡ (command_at file offset).size = ap (λ (c : Command). c.size) (command_same offset whole) in
+      let ours = bad bytes (suc n) offset (omega arith) whole little in
+      let theirs = bad file (suc n) offset (omega arith) (omega (arith, whole, short)) (omega (arith, little, size)) in
+      (ours ∙ sym theirs, rw ours tt)
+
+  commands_held : (n offset : ℕ) → holds_from bytes n offset ≡ true → Agrees n offset
+  unfolding holds_from commands_from AreHeld
+  commands_held zero offset held = (refl, tt)
+  commands_held (suc n) offset held = by_head (ltb (length bytes) (offset + 8)) refl (λ rest. commands_held n (offset + (command_at bytes offset).size) rest) held
+    where
+      by_size : (b : Bool) → ltb (command_at bytes offset).size 8 ≡ b → offset + 8 ≤ length bytes → (holds_from bytes n (offset + (command_at bytes offset).size) ≡ true → Agrees n (offset + (command_at bytes offset).size))
+          → cond b true (holds_body bytes (command_at bytes offset) && holds_from bytes n (offset + (command_at bytes offset).size)) ≡ true → Agrees (suc n) offset
+      by_size true is whole again held = up_to n offset whole (ltb-true (command_at bytes offset).size 8 is)
+      by_size false is whole again held =
+          let held_here = and_parts (holds_body bytes (command_at bytes offset)) (holds_from bytes n (offset + (command_at bytes offset).size)) held in
+          after n offset whole (ltb-false (command_at bytes offset).size 8 is) held_here.0 (again held_here.1)
+
+      by_head : (b : Bool) → ltb (length bytes) (offset + 8) ≡ b → (holds_from bytes n (offset + (command_at bytes offset).size) ≡ true → Agrees n (offset + (command_at bytes offset).size))
+          → cond b false (cond (ltb (command_at bytes offset).size 8) true (holds_body bytes (command_at bytes offset) && holds_from bytes n (offset + (command_at bytes offset).size))) ≡ true → Agrees (suc n) offset
+      by_head true is again held = absurd cc
+      by_head false is again held = by_size (ltb (command_at bytes offset).size 8) refl (ltb-false (length bytes) (offset + 8) is) again held
+
+  section_same : (start : ℕ) → start + 52 ≤ length bytes → section_at bytes start ≡ section_at file start
+  unfolding section_at section_fields
+  section_same start h = rw (
+    same (start + 0) 16 (omega (arith, h)),
+    same (start + 16) 16 (omega (arith, h)),
+    same (start + 32) 8 (omega (arith, h)),
+    same (start + 40) 8 (omega (arith, h)),
+    same (start + 48) 4 (omega (arith, h)),
+  ) refl
+
+  -- a segment whose sections the bytes hold
+  segment_same : (body : ℕ) → body + 60 ≤ length bytes → section_count bytes body ≤ whole_headers bytes body → segment bytes body ≡ segment file body
+  unfolding segment
+  segment_same body whole all =
+      let count : section_count bytes body ≡ section_count file body = number_same body (field 56 4) (omega (arith, whole)) in
+      let room = div-mul-le_self (length bytes + 28 - (body + 64)) 80 in
+      let more : section_count bytes body ≤ whole_headers file body = le-div (section_count bytes body) (length file + 28 - (body + 64)) 80 (omega arith) (omega (arith, all, room, short)) in
+      let ours : min (section_count bytes body) (whole_headers bytes body) ≡ section_count bytes body = omega (arith, all) in
+      let theirs : min (section_count file body) (whole_headers file body) ≡ section_count bytes body = omega (arith, more, count) in
+      let items : sections_below bytes body (section_count bytes body) ≡ sections_below file body (section_count bytes body) =
+      filter_map_same (λ i. section_at bytes (section_offset body i)) (λ i. section_at file (section_offset body i)) 0 (section_count bytes body)
+      (λ i lt. section_same (section_offset body i) (omega (arith, lt, all, room))) in
+      rw (
+        le-ltb (length bytes) (body + 60) whole,
+        le-ltb (length file) (body + 60) (omega (arith, whole, short)),
+        le-leb (section_count bytes body) (whole_headers bytes body) all,
+        le-leb (section_count file body) (whole_headers file body) (omega (arith, more, count)),
+        ours,
+        theirs,
+        items,
+      ) refl
+
+  -- what a command of a segment says
+  segment_held : (command : Command) → is_segment command ≡ true → holds_body bytes command ≡ true → segment bytes (body_of command) ≡ segment file (body_of command)
+  segment_held command is held =
+      let fits = and_parts (leb (body_of command + 60) (length bytes)) (leb (section_count bytes (body_of command)) (whole_headers bytes (body_of command))) (rw is at held) in
+      segment_same (body_of command) (leb-true (body_of command + 60) (length bytes) fits.0) (leb-true (section_count bytes (body_of command)) (whole_headers bytes (body_of command)) fits.1)
+
+  sections_same : (commands : List Command) (refusal : Option Refusal) → AreHeld commands → sections_of bytes commands refusal ≡ sections_of file commands refusal
+  unfolding sections_of AreHeld
+  sections_same [] refusal held = refl
+  sections_same (command ∷ others) refusal held = by_kind (is_segment command) refl (sections_same others refusal held.1)
+    where
+      by_kind : (b : Bool) → is_segment command ≡ b → sections_of bytes others refusal ≡ sections_of file others refusal
+          → cond b (and_then (segment bytes (body_of command)).items (segment bytes (body_of command)).refusal (sections_of bytes others refusal)) (sections_of bytes others refusal)
+          ≡ cond b (and_then (segment file (body_of command)).items (segment file (body_of command)).refusal (sections_of file others refusal)) (sections_of file others refusal)
+      by_kind true is rest = ap₂ (λ (s r : Walk Section). and_then s.items s.refusal r) (segment_held command is held.0) rest
+      by_kind false is rest = rest
+
+  -- the command of the symbol table is held
+  found_held : (commands : List Command) (command : Command) → AreHeld commands → find (λ c. eqb c.kind 2) commands ≡ Some command → (eqb command.kind 2 ≡ true) × (holds_body bytes command ≡ true)
+  unfolding AreHeld
+  found_held [] command held is = absurd cc
+  found_held (head ∷ others) command held is = by_kind (eqb head.kind 2) refl (λ found. found_held others command held.1 found) is
+    where
+      by_kind : (b : Bool) → eqb head.kind 2 ≡ b → (find (λ c. eqb c.kind 2) others ≡ Some command → (eqb command.kind 2 ≡ true) × (holds_body bytes command ≡ true)) → cond b (Some head) (find (λ c. eqb c.kind 2) others) ≡ Some command → (eqb command.kind 2 ≡ true) × (holds_body bytes command ≡ true)
+      by_kind true kind again is = let it : head ≡ command = cc in (ap (λ (c : Command). eqb c.kind 2) (sym it) ∙ kind, ap (holds_body bytes) (sym it) ∙ held.0)
+      by_kind false kind again is = again is
+
+  table_same : (body : ℕ) → body + 16 ≤ length bytes → symbol_table_at bytes body ≡ symbol_table_at file body
+  unfolding symbol_table_at symbol_table_fields
+  table_same body h = cc (
+    number_same body symbol_table_fields.symbol_offset (omega (arith, h)),
+    number_same body symbol_table_fields.row_count (omega (arith, h)),
+    number_same body symbol_table_fields.strings_offset (omega (arith, h)),
+    number_same body symbol_table_fields.strings_size (omega (arith, h)),
+  )
+
+  whole_same : (command : Command) → eqb command.kind 2 ≡ true → holds_body bytes command ≡ true → whole_table bytes command ≡ whole_table file command
+  whole_same command kind held =
+      let body = body_of command in
+      let two : command.kind ≡ 2 = eqb-true command.kind 2 kind in
+      let other : is_segment command ≡ false = ap (λ (k : ℕ). eqb k 0x19) two in
+      let whole : body + 16 ≤ length bytes = leb-true (body + 16) (length bytes) (rw (other, kind) at held) in
+      rw (le-leb (body + 16) (length bytes) whole, le-leb (body + 16) (length file) (omega (arith, whole, short))) (ap Ok (table_same body whole))
+
+  named_same : (found : Option Command) (end : Option Refusal) → ((command : Command) → found ≡ Some command → whole_table bytes command ≡ whole_table file command)
+      → (found_or_end found end >>= named_table bytes) ≡ (found_or_end found end >>= named_table file)
+  named_same None None each = refl
+  named_same None (Some refusal) each = refl
+  named_same (Some command) end each = ap (λ (r : Result (SymbolTable ℕ) Refusal). r >>= λ table. Ok (Some table)) (each command refl)
+
+  -- where they hold all commands of the header, the same is needed
+  module _ (whole : 28 ≤ length bytes) (held : holds_commands bytes ≡ true) where
+    agrees : Agrees (header_of bytes).ncmds header_length
+    agrees = commands_held (header_of bytes).ncmds header_length held
+
+    commands_same : commands bytes ≡ commands file
+    unfolding header_of header_fields
+    commands_same = agrees.0 ∙ ap (λ (n : ℕ). commands_from file n header_length) (number_same 0 header_fields.ncmds (omega (arith, whole)))
+
+    pub walk_same : walk bytes ≡ walk file
+    unfolding walk
+    walk_same = sections_same (commands bytes).items (commands bytes).refusal agrees.1 ∙ ap (λ (w : Walk Command). sections_of file w.items w.refusal) commands_same
+
+    named_held : (symbol_command bytes >>= named_table bytes) ≡ (symbol_command file >>= named_table file)
+    named_held =
+        named_same (find (λ c. eqb c.kind 2) (commands bytes).items) (commands bytes).refusal
+        (λ command is. let found = found_held (commands bytes).items command agrees.1 is in whole_same command found.0 found.1)
+        ∙ ap (λ (w : Walk Command). first (λ c. eqb c.kind 2) w >>= named_table file) commands_same
+
+    pub needed_held : needed bytes ≡ needed file
+    needed_held = needed_as bytes ∙ ap₂ needed_by (ap text_in walk_same) named_held ∙ sym (needed_as file)
+
+  -- where the header says that its commands end
+  pub said_same : 28 ≤ length bytes → (header_of bytes).sizeofcmds ≡ (header_of file).sizeofcmds
+  unfolding header_of header_fields
+  said_same whole = number_same 0 header_fields.sizeofcmds (omega (arith, whole))
+
+-- the bytes that a file begins with
+pub prefix_long : (file : List ℕ) (size : ℕ) → size ≤ length file → length (bytes_at file 0 size) ≡ size
+prefix_long file size inside = length-take-le size (drop 0 file) inside
+
+pub prefix_same : (file : List ℕ) (size k width : ℕ) → size ≤ length file → k + width ≤ length (bytes_at file 0 size) → bytes_at (bytes_at file 0 size) k width ≡ bytes_at file k width
+prefix_same file size k width inside h =
+    bytes_in file 0 size k width (omega (arith, h, prefix_long file size inside)) ∙ ap (λ n. bytes_at file n width) (from_start k)
+  where
+    from_start : (n : ℕ) → 0 + n ≡ n
+    from_start n = omega arith
+
+pub header_said : (file : List ℕ) → 28 ≤ length file → (header_of (bytes_at file 0 28)).sizeofcmds ≡ (header_of file).sizeofcmds
+header_said file inside =
+    let long = prefix_long file 28 inside in
+    said_same file (bytes_at file 0 28) (omega (arith, long, inside)) (λ k width h. prefix_same file 28 k width inside h) (omega (arith, long))
+
+-- what is needed of a file, by the bytes that its commands are in
+pub command_bytes_long : (file : List ℕ) → 28 ≤ length file → 28 ≤ length (command_bytes file)
+command_bytes_long file inside = by_held (holds_commands (bytes_at file 0 (said_end file)))
+  where
+    by_held : (b : Bool) → 28 ≤ length (cond b (bytes_at file 0 (said_end file)) file)
+    by_held true = let long = prefix_long file (said_end file) (omega arith) in omega (arith, long, inside)
+    by_held false = inside
+
+pub needed_of_bytes : (file : List ℕ) → 28 ≤ length file → needed (command_bytes file) ≡ needed file
+needed_of_bytes file inside = by_held (holds_commands (bytes_at file 0 (said_end file))) refl
+  where
+    by_held : (b : Bool) → holds_commands (bytes_at file 0 (said_end file)) ≡ b → needed (cond b (bytes_at file 0 (said_end file)) file) ≡ needed file
+    by_held true held =
+        let long = prefix_long file (said_end file) (omega arith) in
+        needed_held file (bytes_at file 0 (said_end file)) (omega (arith, long)) (λ k width h. prefix_same file (said_end file) k width (omega arith) h) (omega (arith, long, inside)) held
+    by_held false held = refl
+
+-- the file's sections
+walk_of_bytes : (file : List ℕ) → 28 ≤ length file → walk (command_bytes file) ≡ walk file
+walk_of_bytes file inside = by_held (holds_commands (bytes_at file 0 (said_end file))) refl
+  where
+    by_held : (b : Bool) → holds_commands (bytes_at file 0 (said_end file)) ≡ b → walk (cond b (bytes_at file 0 (said_end file)) file) ≡ walk file
+    by_held true held =
+        let long = prefix_long file (said_end file) (omega arith) in
+        walk_same file (bytes_at file 0 (said_end file)) (omega (arith, long)) (λ k width h. prefix_same file (said_end file) k width (omega arith) h) (omega (arith, long, inside)) held
+    by_held false held = refl
+
+pub sections_of_bytes : (file bytes : List ℕ) → 28 ≤ length file → bytes ≡ command_bytes file → macho_sections bytes ≡ macho_sections file
+sections_of_bytes file bytes inside is =
+    ap macho_sections is ∙ rw (le-ltb (length (command_bytes file)) 28 (command_bytes_long file inside), le-ltb (length file) 28 inside) (ap Ok (walk_of_bytes file inside))

@@ -1,0 +1,30 @@
+-- What a reading of a file's beginning gives, of which its sections are read.
+use Rattle.std.specs.Prelude.{◌≡◌, ℕ, Bool, true, List, length, Result, Ok, Err, nat_lt, if◌then◌else◌}
+use Rattle.binfarce_bytes.specs.Refusal.{Refusal, refusal_of, unexpected_eof}
+use Rattle.binfarce_bytes.specs.Walk.{Walk}
+use Rattle.binfarce_macho.specs.Macho as macho
+use Rattle.binfarce_pe.specs.Pe as pe
+use Rattle.binfarce_tables.specs.declared.beginning.Beginning.{Beginning}
+use Rattle.binfarce_tables.specs.declared.error.ReadError.{ReadError}
+use Rattle.binfarce_tables.specs.declared.error.ReadError.TheVariants.{Refused, Unreadable, OutOfMemory}
+
+-- the sections of a file: one too short for its header ends before what it should hold
+abbrev pub macho_sections : List ℕ → Result (Walk macho.Section) Refusal
+macho_sections file = if nat_lt (length file) macho.least_length then Err unexpected_eof else Ok (macho.walk file)
+
+abbrev pub pe_sections : List ℕ → Result (Walk pe.Section) Refusal
+pe_sections file = if nat_lt (length file) (pe.least_length file) then Err unexpected_eof else Ok (pe.walk file)
+
+-- the bytes of a file's beginning, and how many bytes the file has
+abbrev pub bytes_of : Beginning → List ℕ
+bytes_of b = b.bytes.items
+
+abbrev pub file_length_of : Beginning → ℕ
+file_length_of b = b.file_length
+
+-- a file's beginning, which has the file's sections, and the file's length; or its refusal, or a source that may fail can't be read, or an allocation failed
+abbrev pub ReadsBeginning : {Y : Type 0} → Bool → (List ℕ → Result Y Refusal) → List ℕ → Result Beginning ReadError → Type 0
+ReadsBeginning may_fail sections file (Ok b) = (sections (bytes_of b) ≡ sections file) × (file_length_of b ≡ length file)
+ReadsBeginning may_fail sections file (Err (Refused e)) = sections file ≡ Err (refusal_of e)
+ReadsBeginning may_fail sections file (Err Unreadable) = may_fail ≡ true
+ReadsBeginning may_fail sections file (Err OutOfMemory) = Unit {0}

@@ -1,0 +1,31 @@
+-- What a reading of an ELF file's section headers and section names gives.
+use Rattle.std.specs.Prelude.{ℕ, List, length, Option, Result, Ok, Err, nat_lt, if◌then◌else◌}
+use Rattle.std.specs.Option.{option_map}
+use Rattle.binfarce_bytes.specs.declared.ByteOrder.{ByteOrder}
+use Rattle.binfarce_bytes.specs.Refusal.{Refusal, unexpected_eof}
+use Rattle.binfarce_bytes.specs.Walk.{Walk}
+use Rattle.binfarce_elf.specs.Elf.{ElfClass, Section, section_table, walk, name_of}
+use Rattle.binfarce_elf.specs.ElfParts.{headers_alone}
+use Rattle.binfarce_elf.specs.machine.RawElf.{name_among}
+use Rattle.binfarce_tables.specs.declared.sections.SectionParts.{SectionParts}
+
+-- a file's sections, the name that each has, and how many bytes the file has
+pub record FileSections : Type 0 where
+  pub sections : Walk Section
+  pub name : Section → Option (List ℕ)
+  pub file_length : ℕ
+
+-- those of a file: one too short for its header ends before what it should hold
+abbrev pub file_sections : ElfClass → ByteOrder → List ℕ → Result FileSections Refusal
+file_sections class order file =
+    let table = section_table class (record { order = order; bytes = file }) in
+    if nat_lt (length file) class.header_length then Err unexpected_eof
+    else Ok (record { sections = walk class table; name = name_of class table; file_length = length file })
+
+-- those that a file's parts hold
+abbrev pub sections_view : {C : Type 0} → ElfClass → SectionParts C → FileSections
+sections_view class p = record {
+  sections = walk class (headers_alone p.byte_order p.headers.items p.count);
+  name = λ s. name_among (option_map (λ v. v.items) p.names) s.name_offset;
+  file_length = p.file_length;
+}

@@ -1,0 +1,19 @@
+-- What private clauses see of a reading of a file's parts.
+use Rattle.std.specs.Prelude.{ℕ, ◌*◌, List, length, min, Result, Ok, Err, nat_lt, if◌then◌else◌}
+use Rattle.binfarce_bytes.specs.declared.ByteOrder.{ByteOrder}
+use Rattle.binfarce_bytes.specs.Number.{bytes_at}
+use Rattle.binfarce_bytes.specs.Refusal.{Refusal, unexpected_eof}
+use Rattle.binfarce_elf.specs.Elf.{ElfClass, SectionTable, section_table, whole_headers}
+use Rattle.binfarce_tables.specs.declared.elf.Place.{Place}
+
+-- the table at this place of a file
+abbrev pub table_at : List ℕ → Place → SectionTable
+table_at file place = record { order = place.byte_order; file = file; shoff = place.shoff; shnum = place.shnum; shstrndx = place.shstrndx }
+
+-- the file's table, where the file holds a header
+abbrev pub table_step : ElfClass → ByteOrder → List ℕ → Result SectionTable Refusal
+table_step class order file = if nat_lt (length file) class.header_length then Err unexpected_eof else Ok (section_table class (record { order = order; bytes = file }))
+
+-- the section headers that are whole and below the count
+abbrev pub headers_of : ElfClass → SectionTable → List ℕ
+headers_of class table = bytes_at table.file table.shoff (min table.shnum (whole_headers class table) * class.section_length)

@@ -1,0 +1,15 @@
+//! Files that are read where their tables are: each part once, into memory of its size. Names stay as they are stored.
+#![tactic(auto)]
+
+mod beginning;
+pub mod elf;
+pub mod elf32;
+pub mod elf64;
+mod error;
+pub mod macho;
+pub mod pe;
+mod sections;
+
+pub use crate::beginning::Beginning;
+pub use crate::elf::part;
+pub use crate::error::ReadError;

@@ -1,6 +1,6 @@
 //! The symbols that function symbols become.
 
-ghost use Rattle.std.specs.Prelude.{◌≡◌, List, Some, map, IfOk, OnErr};
+ghost use Rattle.std.specs.Prelude.{List, Some, map, IfOk, OnErr};
 ghost use Rattle.std.specs.Iterator.{IsFinite, Drains};
 ghost use Rattle.binfarce_symbols.specs.SymbolViews.{function_view};
 ghost use Rattle.binfarce_symbols.specs.declared.functions.FunctionSymbol.{FunctionSymbol};

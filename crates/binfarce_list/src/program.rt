@@ -13,8 +13,8 @@ ghost use Rattle.binfarce_list.specs.Program.{outcome_of};
 ghost use Rattle.binfarce_list.specs.declared.program.Fault.TheVariants.{Usage};
 
 use binfarce_program::{Failure, file_and_section};
-use binfarce_tables::ReadError;
 use binfarce_source::Source;
+use binfarce_tables::ReadError;
 use binfarce_tools::list::{ListError, Out, list_tables};
 use binfarce_tools::tables::read_input;
 use std::alloc::Global;

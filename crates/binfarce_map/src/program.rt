@@ -15,8 +15,8 @@ ghost use Rattle.binfarce_map.specs.declared.program.Fault.TheVariants.{Usage};
 
 use binfarce_mapping::map_tables;
 use binfarce_program::{Failure, file_and_section};
-use binfarce_tables::ReadError;
 use binfarce_source::Source;
+use binfarce_tables::ReadError;
 use binfarce_tools::list::Out;
 use binfarce_tools::report::ReportError;
 use binfarce_tools::tables::read_input;

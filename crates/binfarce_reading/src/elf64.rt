@@ -7,10 +7,9 @@ ghost use Rattle.binfarce_reading.specs.Reading.{Reads, file_answer, parts_view}
 use crate::elf;
 use binfarce_bytes::ByteOrder;
 use binfarce_source::Source;
+pub use binfarce_tables::elf64::{SectionParts, read_sections};
 use binfarce_tables::{ReadError, elf64};
 use std::alloc::Global;
-
-pub use binfarce_tables::elf64::{SectionParts, read_sections};
 
 /// The parts of a 64-bit file that the function symbols of a section are read from, in memory.
 pub type Parts = elf::Parts<u64>;

@@ -14,10 +14,9 @@ use binfarce_names::demangle::SymbolData;
 use binfarce_naming::symbols::symbols_of;
 use binfarce_source::Source;
 use binfarce_symbols::functions::FunctionSymbol;
+pub use binfarce_tables::macho::read_sections;
 use binfarce_tables::{ReadError, macho};
 use std::alloc::Global;
-
-pub use binfarce_tables::macho::read_sections;
 
 /// The parts of a file that its function symbols are read from, in memory.
 #[derive(Drop)]

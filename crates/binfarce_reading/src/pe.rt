@@ -12,10 +12,9 @@ use binfarce_names::demangle::SymbolData;
 use binfarce_naming::symbols::symbols_of;
 use binfarce_source::Source;
 use binfarce_symbols::functions::FunctionSymbol;
+pub use binfarce_tables::pe::read_sections;
 use binfarce_tables::{ReadError, pe};
 use std::alloc::Global;
-
-pub use binfarce_tables::pe::read_sections;
 
 /// The parts of a file that the function symbols of `.text` are read from, in memory.
 #[derive(Drop)]

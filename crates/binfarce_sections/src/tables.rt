@@ -13,8 +13,8 @@ use crate::bytes::first_in;
 use crate::error::SectionError;
 use crate::sections::{Section, Sections, elf32_sections, elf64_sections, open_macho, open_pe};
 use binfarce::Format;
-use binfarce_tables::{Beginning, ReadError, elf32, elf64, macho, part, pe};
 use binfarce_source::Source;
+use binfarce_tables::{Beginning, ReadError, elf32, elf64, macho, part, pe};
 use binfarce_tools::tables::read_format;
 use std::alloc::Global;
 

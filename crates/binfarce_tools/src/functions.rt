@@ -15,8 +15,9 @@ use binfarce_elf::header::parse_header;
 use binfarce_elf::sections::section_table;
 use binfarce_elf::symbols::{self, section_functions};
 use binfarce_format::{Format, detect_format};
+use binfarce_macho as macho;
+use binfarce_pe as pe;
 use binfarce_symbols::functions::FunctionSymbol;
-use {binfarce_macho as macho, binfarce_pe as pe};
 use std::alloc::Global;
 
 /// The function symbols of a file that are left, in the order of its listing.

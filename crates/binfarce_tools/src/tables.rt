@@ -11,8 +11,8 @@ ghost use Rattle.binfarce_tools.specs.Tables.{AreTablesOf, ReadsTables, BothGive
 use crate::functions::{Functions, all_of, functions_of_file};
 use crate::list::ListError;
 use binfarce_format::{Format, detect_format};
-use binfarce_tables::{ReadError, elf32, elf64, macho, pe};
 use binfarce_source::{Source, read_part};
+use binfarce_tables::{ReadError, elf32, elf64, macho, pe};
 use std::alloc::Global;
 use std::io::Read;
 

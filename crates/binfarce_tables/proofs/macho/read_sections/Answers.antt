@@ -1,4 +1,4 @@
-use Rattle.std.proofs.Common.{◌≡◌, ◌≤◌, arith, length}
+use Rattle.std.proofs.Common.{arith}
 use Rattle.binfarce_tables.specs.Reading.{Known}
 use Rattle.binfarce_tables.proofs.MachoPrefix.{sections_of_bytes}
 use Rattle.binfarce_tables.proofs.Readings.{length_told, taken}

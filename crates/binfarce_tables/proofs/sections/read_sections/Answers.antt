@@ -1,4 +1,3 @@
-use Rattle.std.proofs.Common.{◌≡◌}
 use Rattle.std.specs.Option.{option_map}
 use Rattle.binfarce_elf.specs.Elf.{walk}
 use Rattle.binfarce_elf.specs.ElfParts.{headers_alone}

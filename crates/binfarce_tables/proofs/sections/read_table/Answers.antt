@@ -1,4 +1,4 @@
-use Rattle.std.proofs.Common.{◌≡◌, ◌+◌, ◌<◌, ◌≤◌, List, Vec, Global, ℕ, Ok, ap, sym, ◌∙◌, arith, length}
+use Rattle.std.proofs.Common.{◌+◌, ◌<◌, ◌≤◌, List, Vec, Global, ℕ, Ok, ap, sym, ◌∙◌, arith, length}
 use Rattle.binfarce_bytes.specs.Number.{bytes_at}
 use Rattle.binfarce_elf.specs.Elf.{walk}
 use Rattle.binfarce_elf.specs.ElfParts.{headers_alone}

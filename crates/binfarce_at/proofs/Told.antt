@@ -16,18 +16,18 @@ use Rattle.binfarce_at.specs.Program.{AnswersLines, IsUntouched, lines_end, read
 use Rattle.binfarce_at.specs.declared.program.Fault.{Fault}
 use Rattle.binfarce_at.specs.declared.program.Fault.TheVariants.{Lines}
 
-pub told : (memory : Result Listed Refusal → Type 0) (answer : Option (Result Listed Refusal)) (entries : List Entry) (base : ℕ) (given left old new : Option (List ℕ)) (ended : Result (Unit {0}) LinesError) → IsMadeOf memory answer (Ok entries)
-    → Streams entries base given left old new ended → AnswersLines memory answer base given left old new (lines_end ended)
-told memory None entries base given left old new ended made streams = absurd made
-told memory (Some (Err refusal)) entries base given left old new ended made streams = absurd made
-told memory (Some (Ok listed)) entries base given left old new ended made streams =
+pub told : (may : Type 0) (memory : Result Listed Refusal → Type 0) (answer : Option (Result Listed Refusal)) (entries : List Entry) (base : ℕ) (given left old new : Option (List ℕ)) (ended : Result (Unit {0}) LinesError) → IsMadeOf memory answer (Ok entries)
+    → Streams entries base given left old new ended → AnswersLines may memory answer base given left old new (lines_end ended)
+told may memory None entries base given left old new ended made streams = absurd made
+told may memory (Some (Err refusal)) entries base given left old new ended made streams = absurd made
+told may memory (Some (Ok listed)) entries base given left old new ended made streams =
     let P : List Entry → Type 0 = λ es. Streams es base given left old new ended in inr (inr (listed, ended, refl, subst P made streams, refl))
 
-pub told_less : (memory : Result Listed Refusal → Type 0) (answer : Option (Result Listed Refusal)) (entries : List Entry) (base : ℕ) (given left old new : Option (List ℕ)) (e : LinesError) (result : Result (Unit {0}) Fault) → IsMadeOf memory answer (Ok entries)
-    → Streams entries base given left old new (Err e) → IsErrAnd result (λ x. x ≡ Lines e) → AnswersLines memory answer base given left old new result
-told_less memory answer entries base given left old new e (Ok x) made streams is = absurd is
-told_less memory answer entries base given left old new e (Err x) made streams is =
-    let P : Fault → Type 0 = λ f. AnswersLines memory answer base given left old new (Err f) in subst P (sym is) (told memory answer entries base given left old new (Err e) made streams)
+pub told_less : (may : Type 0) (memory : Result Listed Refusal → Type 0) (answer : Option (Result Listed Refusal)) (entries : List Entry) (base : ℕ) (given left old new : Option (List ℕ)) (e : LinesError) (result : Result (Unit {0}) Fault) → IsMadeOf memory answer (Ok entries)
+    → Streams entries base given left old new (Err e) → IsErrAnd result (λ x. x ≡ Lines e) → AnswersLines may memory answer base given left old new result
+told_less may memory answer entries base given left old new e (Ok x) made streams is = absurd is
+told_less may memory answer entries base given left old new e (Err x) made streams is =
+    let P : Fault → Type 0 = λ f. AnswersLines may memory answer base given left old new (Err f) in subst P (sym is) (told may memory answer entries base given left old new (Err e) made streams)
 
 untouched : (given old : Option (List ℕ)) → IsUntouched given given old old
 untouched given old = (none_read given, none_written old)
@@ -40,19 +40,26 @@ untouched given old = (none_read given, none_written old)
     none_written None = tt
     none_written (Some taken) = sym (append-nil taken)
 
-not_read : (bytes section : List ℕ) (base : ℕ) (given old : Option (List ℕ)) (e : ReadError) → ReadsTables (Unit {0}) bytes section (Err e)
-    → AnswersLines (NeedsMemory (format_of bytes) bytes) (symbols_answer (format_of bytes) bytes section) base given given old old (Err (read_fault e))
-not_read bytes section base given old (Refused p) reads =
+not_read : (may : Type 0) (bytes section : List ℕ) (base : ℕ) (given old : Option (List ℕ)) (e : ReadError) → ReadsTables may bytes section (Err e)
+    → AnswersLines may (NeedsMemory (format_of bytes) bytes) (symbols_answer (format_of bytes) bytes section) base given given old old (Err (read_fault e))
+not_read may bytes section base given old (Refused p) reads =
     let P : Option (Result Listed Refusal) → Type 0 = λ answer. IsMadeOf (NeedsMemory (format_of bytes) bytes) answer (Err (errors.Parse p)) in
     let refused : P (Some (Err (refusal_of p))) = inl (p, refl, refl) in
     inr (inl (errors.Parse p, subst P (sym reads) refused, refl, untouched given old))
-not_read bytes section base given old Unreadable reads = inl (inl refl, untouched given old)
-not_read bytes section base given old OutOfMemory reads = inl (inr refl, untouched given old)
+not_read may bytes section base given old Unreadable reads = inl (inl (reads, refl), untouched given old)
+not_read may bytes section base given old OutOfMemory reads = inl (inr refl, untouched given old)
 
 -- nothing was answered where the file isn't read
-pub unread : (bytes section : List ℕ) (base : ℕ) (given old : Option (List ℕ)) (e : ReadError) (result : Result (Unit {0}) Fault) → ReadsTables (Unit {0}) bytes section (Err e) → IsErrAnd result (λ x. x ≡ read_fault e)
-    → AnswersLines (NeedsMemory (format_of bytes) bytes) (symbols_answer (format_of bytes) bytes section) base given given old old result
-unread bytes section base given old e (Ok x) reads is = absurd is
-unread bytes section base given old e (Err x) reads is =
-    let P : Fault → Type 0 = λ f. AnswersLines (NeedsMemory (format_of bytes) bytes) (symbols_answer (format_of bytes) bytes section) base given given old old (Err f) in
-    subst P (sym is) (not_read bytes section base given old e reads)
+pub unread : (may : Type 0) (bytes section : List ℕ) (base : ℕ) (given old : Option (List ℕ)) (e : ReadError) (result : Result (Unit {0}) Fault) → ReadsTables may bytes section (Err e) → IsErrAnd result (λ x. x ≡ read_fault e)
+    → AnswersLines may (NeedsMemory (format_of bytes) bytes) (symbols_answer (format_of bytes) bytes section) base given given old old result
+unread may bytes section base given old e (Ok x) reads is = absurd is
+unread may bytes section base given old e (Err x) reads is =
+    let P : Fault → Type 0 = λ f. AnswersLines may (NeedsMemory (format_of bytes) bytes) (symbols_answer (format_of bytes) bytes section) base given given old old (Err f) in
+    subst P (sym is) (not_read may bytes section base given old e reads)
+
+-- lines that are answered of a file that was read are answered of one that may be unreadable
+pub answers_as_well : (may : Type 0) (memory : Result Listed Refusal → Type 0) (answer : Option (Result Listed Refusal)) (base : ℕ) (given left old new : Option (List ℕ)) (result : Result (Unit {0}) Fault)
+    → AnswersLines ⊥ memory answer base given left old new result → AnswersLines may memory answer base given left old new result
+answers_as_well may memory answer base given left old new result (inl (inl (never, is), rest)) = absurd never
+answers_as_well may memory answer base given left old new result (inl (inr is, rest)) = inl (inr is, rest)
+answers_as_well may memory answer base given left old new result (inr answers) = inr answers

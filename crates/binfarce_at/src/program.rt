@@ -5,7 +5,7 @@ ghost use Rattle.binfarce.specs.Format.{format_of};
 ghost use Rattle.binfarce_tools.specs.Answer.{symbols_answer, NeedsMemory};
 ghost use Rattle.binfarce_tools.specs.Listing.{ListingFits};
 ghost use Rattle.binfarce_tools.specs.Sink.{writer_of, has_failed};
-ghost use Rattle.binfarce_tools.specs.Tables.{AreTablesOf, BothGive, ReadsTables};
+ghost use Rattle.binfarce_tools.specs.Tables.{AreTablesOf, BothGive, MayBeUnreadable, ReadsTables};
 ghost use Rattle.binfarce_tools.specs.Writing.{ProgramTells, Takes, Fails, Leaves};
 ghost use Rattle.binfarce_addresses.specs.Lines.{AreLinesAt};
 ghost use Rattle.binfarce_addresses.specs.PlacesViews.{IsMadeOf};
@@ -114,7 +114,7 @@ pub fn run<F: Read + Source, W: Write>(
     addresses: &[u64],
     out: &mut Out<W>,
 ) -> Result<(), Fault>
-    ensures tells { (bytes : List ℕ) → BothGive (F.bytes file.old) (F.remaining file.old) bytes → ProgramTells ListingFits (NeedsMemory (format_of bytes) bytes) (symbols_answer (format_of bytes) bytes (codes ".text")) (outcome_of result) }
+    ensures tells { (bytes : List ℕ) → BothGive (F.bytes file.old) (F.remaining file.old) bytes → ProgramTells (MayBeUnreadable (F.may_fail file.old) bytes) ListingFits (NeedsMemory (format_of bytes) bytes) (symbols_answer (format_of bytes) bytes (codes ".text")) (outcome_of result) }
     ensures takes { (bytes : List ℕ) → BothGive (F.bytes file.old) (F.remaining file.old) bytes → Takes (AreLinesAt base addresses.now) (symbols_answer (format_of bytes) bytes (codes ".text"))
         (W.contents (writer_of out.old)) (W.contents (writer_of out.new)) (outcome_of result) }
     ensures fails { Fails (has_failed out.old) (has_failed out.new) (outcome_of result) }
@@ -138,7 +138,7 @@ pub fn run_lines<F: Read + Source, I: Read, W: Write>(
     input: &mut I,
     out: &mut Out<W>,
 ) -> Result<(), Fault>
-    ensures { (bytes : List ℕ) → BothGive (F.bytes file.old) (F.remaining file.old) bytes → AnswersLines (NeedsMemory (format_of bytes) bytes) (symbols_answer (format_of bytes) bytes (codes ".text")) base
+    ensures { (bytes : List ℕ) → BothGive (F.bytes file.old) (F.remaining file.old) bytes → AnswersLines (MayBeUnreadable (F.may_fail file.old) bytes) (NeedsMemory (format_of bytes) bytes) (symbols_answer (format_of bytes) bytes (codes ".text")) base
         (I.remaining input.old) (I.remaining input.new) (W.contents (writer_of out.old)) (W.contents (writer_of out.new)) result }
 {
     let tables = read_tables(alloc, file)?;
@@ -147,7 +147,7 @@ pub fn run_lines<F: Read + Source, I: Read, W: Write>(
 
 // What is read of the file.
 fn read_tables<F: Read + Source>(alloc: Global, file: &mut F) -> Result<Tables, ReadError>
-    ensures { (bytes : List ℕ) → BothGive (F.bytes file.old) (F.remaining file.old) bytes → ReadsTables (Unit {0}) bytes (codes ".text") result }
+    ensures { (bytes : List ℕ) → BothGive (F.bytes file.old) (F.remaining file.old) bytes → ReadsTables (MayBeUnreadable (F.may_fail file.old) bytes) bytes (codes ".text") result }
 {
     read_input(alloc, file, SECTION)
 }
@@ -160,7 +160,7 @@ fn answer<I: Read, W: Write>(
     input: &mut I,
     out: &mut Out<W>,
 ) -> Result<(), Fault>
-    ensures { (file : List ℕ) → AreTablesOf file (codes ".text") tables.now → AnswersLines (NeedsMemory (format_of file) file) (symbols_answer (format_of file) file (codes ".text")) base
+    ensures { (file : List ℕ) → AreTablesOf file (codes ".text") tables.now → AnswersLines ⊥ (NeedsMemory (format_of file) file) (symbols_answer (format_of file) file (codes ".text")) base
         (I.remaining input.old) (I.remaining input.new) (W.contents (writer_of out.old)) (W.contents (writer_of out.new)) result }
 {
     let places = named_places(alloc, tables)?;

@@ -6,7 +6,7 @@ ghost use Rattle.binfarce_format.specs.Format.{format_of};
 ghost use Rattle.binfarce_tools.specs.Answer.{symbols_answer, NeedsMemory};
 ghost use Rattle.binfarce_tools.specs.Report.{ReportFits};
 ghost use Rattle.binfarce_tools.specs.Sink.{writer_of, has_failed};
-ghost use Rattle.binfarce_tools.specs.Tables.{BothGive};
+ghost use Rattle.binfarce_tools.specs.Tables.{BothGive, MayBeUnreadable};
 ghost use Rattle.binfarce_tools.specs.Writing.{ProgramTells, Takes, Fails, Leaves};
 ghost use Rattle.binfarce_program.specs.Given.{words_of};
 ghost use Rattle.binfarce_mapping.specs.Map.{IsMapOf};
@@ -98,7 +98,7 @@ pub fn run<F: Read + Source, W: Write>(
     section: &str,
     out: &mut Out<W>,
 ) -> Result<(), Fault>
-    ensures tells { (bytes : List ℕ) → BothGive (F.bytes file.old) (F.remaining file.old) bytes → ProgramTells ReportFits (NeedsMemory (format_of bytes) bytes) (symbols_answer (format_of bytes) bytes section.now) (outcome_of result) }
+    ensures tells { (bytes : List ℕ) → BothGive (F.bytes file.old) (F.remaining file.old) bytes → ProgramTells (MayBeUnreadable (F.may_fail file.old) bytes) ReportFits (NeedsMemory (format_of bytes) bytes) (symbols_answer (format_of bytes) bytes section.now) (outcome_of result) }
     ensures takes { (bytes : List ℕ) → BothGive (F.bytes file.old) (F.remaining file.old) bytes → Takes IsMapOf (symbols_answer (format_of bytes) bytes section.now)
         (W.contents (writer_of out.old)) (W.contents (writer_of out.new)) (outcome_of result) }
     ensures fails { Fails (has_failed out.old) (has_failed out.new) (outcome_of result) }

@@ -1,12 +1,12 @@
 //! What the program does, over any reader and any writer.
 
-ghost use Rattle.std.specs.Prelude.{◌≡◌, ℕ, List, map, Some, None, MatchResult, IfSome};
+ghost use Rattle.std.specs.Prelude.{◌≡◌, ℕ, List, map, true, Some, None, MatchResult, IfSome};
 ghost use Rattle.std.specs.Option.{option_map};
 ghost use Rattle.std.specs.String.{string_bytes};
 ghost use Rattle.binfarce.specs.Format.{format_of};
 ghost use Rattle.binfarce_sections.specs.Section.{sections_of};
 ghost use Rattle.binfarce_tools.specs.Sink.{writer_of, has_failed};
-ghost use Rattle.binfarce_tools.specs.Tables.{BothGive};
+ghost use Rattle.binfarce_tools.specs.Tables.{BothGive, MayBeUnreadable};
 ghost use Rattle.binfarce_section.specs.Program.{words_of, Runs, Fails};
 ghost use Rattle.binfarce_section.specs.declared.program.Fault.TheVariants.{Usage};
 
@@ -97,7 +97,7 @@ pub fn run<F: Read + Source, W: Write>(
     section: Option<&str>,
     out: &mut Out<W>,
 ) -> Result<(), Fault>
-    ensures takes { (bytes : List ℕ) → BothGive (F.bytes file.old) (F.remaining file.old) bytes → Runs (sections_of (format_of bytes) bytes) bytes (option_map (λ t. t.now) section.entry)
+    ensures takes { (bytes : List ℕ) → BothGive (F.bytes file.old) (F.remaining file.old) bytes → Runs (MayBeUnreadable (F.may_fail file.old) bytes) (sections_of (format_of bytes) bytes) bytes (option_map (λ t. t.now) section.entry)
         (W.contents (writer_of out.old)) (W.contents (writer_of out.new)) result }
     ensures fails { Fails (has_failed out.old) (has_failed out.new) result }
 {
@@ -114,7 +114,7 @@ fn run_at_offsets<F: Source, W: Write>(
     section: Option<&str>,
     out: &mut Out<W>,
 ) -> Result<(), Fault>
-    ensures takes { (bytes : List ℕ) → F.bytes file.now ≡ Some bytes → Runs (sections_of (format_of bytes) bytes) bytes (option_map (λ t. t.now) section.entry)
+    ensures takes { (bytes : List ℕ) → F.bytes file.now ≡ Some bytes → Runs (F.may_fail file.now ≡ true) (sections_of (format_of bytes) bytes) bytes (option_map (λ t. t.now) section.entry)
         (W.contents (writer_of out.old)) (W.contents (writer_of out.new)) result }
     ensures fails { Fails (has_failed out.old) (has_failed out.new) result }
 {
@@ -131,7 +131,7 @@ fn run_to_the_end<R: Read, W: Write>(
     section: Option<&str>,
     out: &mut Out<W>,
 ) -> Result<(), Fault>
-    ensures takes { IfSome (R.remaining file.old) (λ bytes. Runs (sections_of (format_of bytes) bytes) bytes (option_map (λ t. t.now) section.entry)
+    ensures takes { IfSome (R.remaining file.old) (λ bytes. Runs (Unit {0}) (sections_of (format_of bytes) bytes) bytes (option_map (λ t. t.now) section.entry)
         (W.contents (writer_of out.old)) (W.contents (writer_of out.new)) result) }
     ensures fails { Fails (has_failed out.old) (has_failed out.new) result }
 {

@@ -9,3 +9,4 @@ pub mod CrateLines
 pub mod Reports
 pub mod TablesRead
 pub mod TablesGive
+pub mod InputLength

@@ -1,5 +1,5 @@
 -- What was read of a file to list its function symbols, and what such a reading gives.
-use Rattle.std.specs.Prelude.{◌≡◌, ℕ, List, Option, Some, Result, Ok, Err}
+use Rattle.std.specs.Prelude.{◌≡◌, ◌⊎◌, ℕ, List, [], Bool, true, Option, Some, Result, Ok, Err}
 use Rattle.binfarce_format.specs.declared.Format.TheVariants as formats
 use Rattle.binfarce_elf.specs.Elf.{elf32, elf64}
 use Rattle.binfarce_format.specs.Format.{format_of}
@@ -32,3 +32,7 @@ ReadsTables MayFail file section (Err OutOfMemory) = Unit {0}
 -- these are the bytes that are read at offsets, and those that are read to the end
 abbrev pub BothGive : Option (List ℕ) → Option (List ℕ) → List ℕ → Type 0
 BothGive at_offsets to_the_end file = (at_offsets ≡ Some file) × (to_the_end ≡ Some file)
+
+-- such a file, of these bytes, may turn out to be unreadable: where it may fail, and where it has no bytes, since it is read to its end then
+abbrev pub MayBeUnreadable : Bool → List ℕ → Type 0
+MayBeUnreadable may_fail bytes = (may_fail ≡ true) ⊎ (bytes ≡ [])

@@ -1,12 +1,12 @@
 //! What is read of a file to list its function symbols.
 
-ghost use Rattle.std.specs.Prelude.{◌≡◌, ◌≢◌, ◌⊎◌, ℕ, List, [], take, true, Ok, Some, IfErr};
+ghost use Rattle.std.specs.Prelude.{◌≡◌, ◌≢◌, ℕ, List, take, true, Ok, Some, IfErr};
 ghost use Rattle.binfarce_format.specs.Format.{format_of};
 ghost use Rattle.binfarce_tables.specs.Reading.{Reads, Known};
 ghost use Rattle.binfarce_tools.specs.Answer.{symbols_answer, NeedsMemory};
 ghost use Rattle.binfarce_tools.specs.Entries.{Gets};
 ghost use Rattle.binfarce_tools.specs.declared.list.ListError.TheVariants.{Write};
-ghost use Rattle.binfarce_tools.specs.Tables.{AreTablesOf, ReadsTables, BothGive};
+ghost use Rattle.binfarce_tools.specs.Tables.{AreTablesOf, ReadsTables, BothGive, MayBeUnreadable};
 
 use crate::functions::{Functions, all_of, functions_of_file};
 use crate::list::ListError;
@@ -115,7 +115,7 @@ pub fn read_input<F: Read + Source>(
     file: &mut F,
     section: &str,
 ) -> Result<Tables, ReadError>
-    ensures { (bytes : List ℕ) → BothGive (F.bytes file.old) (F.remaining file.old) bytes → ReadsTables ((F.may_fail file.old ≡ true) ⊎ (bytes ≡ [])) bytes section.now result }
+    ensures { (bytes : List ℕ) → BothGive (F.bytes file.old) (F.remaining file.old) bytes → ReadsTables (MayBeUnreadable (F.may_fail file.old) bytes) bytes section.now result }
 {
     if file.length().unwrap_or(0) > 0 {
         read(alloc, &*file, section)

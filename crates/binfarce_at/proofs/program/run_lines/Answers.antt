@@ -1,9 +1,11 @@
 use Rattle.std.proofs.Common.{codes}
-use Rattle.binfarce_at.proofs.Told.{unread}
+use Rattle.binfarce.specs.Format.{format_of}
+use Rattle.binfarce_tools.specs.Answer.{symbols_answer, NeedsMemory}
+use Rattle.binfarce_at.proofs.Told.{unread, answers_as_well}
 use Rattle.binfarce_at.proofs.program.run_lines.Goals as goal
 
 pub returns-in_err-tables : goal.returns-in_err-tables
-returns-in_err-tables g c = λ bytes both. unread bytes (codes ".text") c.args.base _ _ c.in_err-tables.field-0.0 c.from_residual.result (c.in_err-tables.ensures bytes both) c.from_residual.ensures.1
+returns-in_err-tables g c = λ bytes both. unread _ bytes (codes ".text") c.args.base _ _ c.in_err-tables.field-0.0 c.from_residual.result (c.in_err-tables.ensures bytes both) c.from_residual.ensures.1
 
 pub returns : goal.returns
-returns g c = λ bytes both. c.answer.ensures bytes (c.in_ok-tables.ensures bytes both)
+returns g c = λ bytes both. answers_as_well _ (NeedsMemory (format_of bytes) bytes) (symbols_answer (format_of bytes) bytes (codes ".text")) c.args.base _ _ _ _ c.answer.result (c.answer.ensures bytes (c.in_ok-tables.ensures bytes both))

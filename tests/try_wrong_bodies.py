@@ -31,7 +31,7 @@ from wrong_bodies import TOP, edits, listed, read, told_by
 
 # What tells of a goal that isn't proved: by its place in the source, or in the answers of its function.
 GOAL = re.compile(r"note: \S+:\d+:\d+: |\S+:\d+:\d+: error")
-# What says nothing of a contract: a text that can't be read, or a proof that names what isn't there.
+# What says nothing of a contract: a text that can't be read, a proof that names what isn't there, or one that rests on a refused one.
 UNREAD = re.compile(r"is not in scope|has no field|has no `|was not admitted|was not checked|is no name|operand is missing|expected the end|cannot continue")
 printing = threading.Lock()
 

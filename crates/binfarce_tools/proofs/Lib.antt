@@ -9,4 +9,3 @@ pub mod CrateLines
 pub mod Reports
 pub mod TablesRead
 pub mod TablesGive
-pub mod InputLength

@@ -1,6 +1,6 @@
 //! What the program does, over any reader and any writer.
 
-ghost use Rattle.std.specs.Prelude.{◌≡◌, ℕ, List, true, codes, Some, Ok, IfSome};
+ghost use Rattle.std.specs.Prelude.{◌≡◌, ◌⊎◌, ℕ, List, [], true, codes, Some, Ok, IfSome};
 ghost use Rattle.binfarce.specs.Format.{format_of};
 ghost use Rattle.binfarce_tools.specs.Answer.{symbols_answer, NeedsMemory};
 ghost use Rattle.binfarce_tools.specs.Listing.{ListingFits};
@@ -135,9 +135,9 @@ pub fn run_at<S: Source, W: Write>(
     addresses: &[u64],
     out: &mut Out<W>,
 ) -> Result<(), Fault>
-    ensures tells { IfSome (S.bytes source.now) (λ bytes. ProgramTells (S.may_fail source.now ≡ true) ListingFits (NeedsMemory (format_of bytes) bytes) (symbols_answer (format_of bytes) bytes (codes ".text")) (outcome_of result)) }
-    ensures takes { IfSome (S.bytes source.now) (λ bytes. Takes (AreLinesAt base addresses.now) (symbols_answer (format_of bytes) bytes (codes ".text"))
-        (W.contents (writer_of out.old)) (W.contents (writer_of out.new)) (outcome_of result)) }
+    ensures tells { (bytes : List ℕ) → S.bytes source.now ≡ Some bytes → ProgramTells (S.may_fail source.now ≡ true) ListingFits (NeedsMemory (format_of bytes) bytes) (symbols_answer (format_of bytes) bytes (codes ".text")) (outcome_of result) }
+    ensures takes { (bytes : List ℕ) → S.bytes source.now ≡ Some bytes → Takes (AreLinesAt base addresses.now) (symbols_answer (format_of bytes) bytes (codes ".text"))
+        (W.contents (writer_of out.old)) (W.contents (writer_of out.new)) (outcome_of result) }
     ensures fails { Fails (has_failed out.old) (has_failed out.new) (outcome_of result) }
     ensures leaves { Leaves out.old out.new (outcome_of result) }
 {
@@ -153,7 +153,7 @@ pub fn run_file<F: Read + Source, W: Write>(
     addresses: &[u64],
     out: &mut Out<W>,
 ) -> Result<(), Fault>
-    ensures tells { (bytes : List ℕ) → F.bytes file.old ≡ Some bytes → F.remaining file.old ≡ Some bytes → ProgramTells (Unit {0}) ListingFits (NeedsMemory (format_of bytes) bytes) (symbols_answer (format_of bytes) bytes (codes ".text")) (outcome_of result) }
+    ensures tells { (bytes : List ℕ) → F.bytes file.old ≡ Some bytes → F.remaining file.old ≡ Some bytes → ProgramTells ((F.may_fail file.old ≡ true) ⊎ (bytes ≡ [])) ListingFits (NeedsMemory (format_of bytes) bytes) (symbols_answer (format_of bytes) bytes (codes ".text")) (outcome_of result) }
     ensures takes { (bytes : List ℕ) → F.bytes file.old ≡ Some bytes → F.remaining file.old ≡ Some bytes → Takes (AreLinesAt base addresses.now) (symbols_answer (format_of bytes) bytes (codes ".text"))
         (W.contents (writer_of out.old)) (W.contents (writer_of out.new)) (outcome_of result) }
     ensures fails { Fails (has_failed out.old) (has_failed out.new) (outcome_of result) }
@@ -195,8 +195,8 @@ pub fn run_lines_at<S: Source, I: Read, W: Write>(
     input: &mut I,
     out: &mut Out<W>,
 ) -> Result<(), Fault>
-    ensures { IfSome (S.bytes source.now) (λ bytes. AnswersLines (S.may_fail source.now ≡ true) (NeedsMemory (format_of bytes) bytes) (symbols_answer (format_of bytes) bytes (codes ".text")) base
-        (I.remaining input.old) (I.remaining input.new) (W.contents (writer_of out.old)) (W.contents (writer_of out.new)) result) }
+    ensures { (bytes : List ℕ) → S.bytes source.now ≡ Some bytes → AnswersLines (S.may_fail source.now ≡ true) (NeedsMemory (format_of bytes) bytes) (symbols_answer (format_of bytes) bytes (codes ".text")) base
+        (I.remaining input.old) (I.remaining input.new) (W.contents (writer_of out.old)) (W.contents (writer_of out.new)) result }
 {
     let tables = read(alloc, source, SECTION)?;
     let places = Places::of_tables(alloc, &tables)?;
@@ -211,7 +211,7 @@ pub fn run_file_lines<F: Read + Source, I: Read, W: Write>(
     input: &mut I,
     out: &mut Out<W>,
 ) -> Result<(), Fault>
-    ensures { (bytes : List ℕ) → F.bytes file.old ≡ Some bytes → F.remaining file.old ≡ Some bytes → AnswersLines (Unit {0}) (NeedsMemory (format_of bytes) bytes) (symbols_answer (format_of bytes) bytes (codes ".text")) base
+    ensures { (bytes : List ℕ) → F.bytes file.old ≡ Some bytes → F.remaining file.old ≡ Some bytes → AnswersLines ((F.may_fail file.old ≡ true) ⊎ (bytes ≡ [])) (NeedsMemory (format_of bytes) bytes) (symbols_answer (format_of bytes) bytes (codes ".text")) base
         (I.remaining input.old) (I.remaining input.new) (W.contents (writer_of out.old)) (W.contents (writer_of out.new)) result }
 {
     if is_read_at_offsets(file) {

@@ -1,6 +1,6 @@
 //! What the program does, over any reader and any writer.
 
-ghost use Rattle.std.specs.Prelude.{◌≡◌, ℕ, List, true, map, Some, None, MatchResult, IfSome};
+ghost use Rattle.std.specs.Prelude.{◌≡◌, ◌⊎◌, ℕ, List, [], true, map, Some, None, MatchResult, IfSome};
 ghost use Rattle.std.specs.String.{string_bytes};
 ghost use Rattle.binfarce_format.specs.Format.{format_of};
 ghost use Rattle.binfarce_tools.specs.Answer.{symbols_answer, NeedsMemory};
@@ -113,9 +113,9 @@ pub fn run_at<S: Source, W: Write>(
     section: &str,
     out: &mut Out<W>,
 ) -> Result<(), Fault>
-    ensures tells { IfSome (S.bytes source.now) (λ bytes. ProgramTells (S.may_fail source.now ≡ true) ListingFits (NeedsMemory (format_of bytes) bytes) (symbols_answer (format_of bytes) bytes section.now) (outcome_of result)) }
-    ensures takes { IfSome (S.bytes source.now) (λ bytes. Takes IsListingOf (symbols_answer (format_of bytes) bytes section.now)
-        (W.contents (writer_of out.old)) (W.contents (writer_of out.new)) (outcome_of result)) }
+    ensures tells { (bytes : List ℕ) → S.bytes source.now ≡ Some bytes → ProgramTells (S.may_fail source.now ≡ true) ListingFits (NeedsMemory (format_of bytes) bytes) (symbols_answer (format_of bytes) bytes section.now) (outcome_of result) }
+    ensures takes { (bytes : List ℕ) → S.bytes source.now ≡ Some bytes → Takes IsListingOf (symbols_answer (format_of bytes) bytes section.now)
+        (W.contents (writer_of out.old)) (W.contents (writer_of out.new)) (outcome_of result) }
     ensures fails { Fails (has_failed out.old) (has_failed out.new) (outcome_of result) }
     ensures leaves { Leaves out.old out.new (outcome_of result) }
 {
@@ -130,7 +130,7 @@ pub fn run_file<F: Read + Source, W: Write>(
     section: &str,
     out: &mut Out<W>,
 ) -> Result<(), Fault>
-    ensures tells { (bytes : List ℕ) → F.bytes file.old ≡ Some bytes → F.remaining file.old ≡ Some bytes → ProgramTells (Unit {0}) ListingFits (NeedsMemory (format_of bytes) bytes) (symbols_answer (format_of bytes) bytes section.now) (outcome_of result) }
+    ensures tells { (bytes : List ℕ) → F.bytes file.old ≡ Some bytes → F.remaining file.old ≡ Some bytes → ProgramTells ((F.may_fail file.old ≡ true) ⊎ (bytes ≡ [])) ListingFits (NeedsMemory (format_of bytes) bytes) (symbols_answer (format_of bytes) bytes section.now) (outcome_of result) }
     ensures takes { (bytes : List ℕ) → F.bytes file.old ≡ Some bytes → F.remaining file.old ≡ Some bytes → Takes IsListingOf (symbols_answer (format_of bytes) bytes section.now)
         (W.contents (writer_of out.old)) (W.contents (writer_of out.new)) (outcome_of result) }
     ensures fails { Fails (has_failed out.old) (has_failed out.new) (outcome_of result) }

@@ -1,6 +1,6 @@
 //! What the program does, over any reader and any writer.
 
-ghost use Rattle.std.specs.Prelude.{◌≡◌, ℕ, List, map, true, Some, None, MatchResult, IfSome};
+ghost use Rattle.std.specs.Prelude.{◌≡◌, ◌⊎◌, ℕ, List, [], map, true, Some, None, MatchResult, IfSome};
 ghost use Rattle.std.specs.Option.{option_map};
 ghost use Rattle.std.specs.String.{string_bytes};
 ghost use Rattle.binfarce.specs.Format.{format_of};
@@ -121,8 +121,8 @@ pub fn run_at<S: Source, W: Write>(
     section: Option<&str>,
     out: &mut Out<W>,
 ) -> Result<(), Fault>
-    ensures takes { IfSome (S.bytes source.now) (λ bytes. Runs (S.may_fail source.now ≡ true) (sections_of (format_of bytes) bytes) bytes (option_map (λ t. t.now) section.entry)
-        (W.contents (writer_of out.old)) (W.contents (writer_of out.new)) result) }
+    ensures takes { (bytes : List ℕ) → S.bytes source.now ≡ Some bytes → Runs (S.may_fail source.now ≡ true) (sections_of (format_of bytes) bytes) bytes (option_map (λ t. t.now) section.entry)
+        (W.contents (writer_of out.old)) (W.contents (writer_of out.new)) result }
     ensures fails { Fails (has_failed out.old) (has_failed out.new) result }
 {
     let written = match section {
@@ -139,7 +139,7 @@ pub fn run_file<F: Read + Source, W: Write>(
     section: Option<&str>,
     out: &mut Out<W>,
 ) -> Result<(), Fault>
-    ensures takes { (bytes : List ℕ) → F.bytes file.old ≡ Some bytes → F.remaining file.old ≡ Some bytes → Runs (Unit {0}) (sections_of (format_of bytes) bytes) bytes (option_map (λ t. t.now) section.entry)
+    ensures takes { (bytes : List ℕ) → F.bytes file.old ≡ Some bytes → F.remaining file.old ≡ Some bytes → Runs ((F.may_fail file.old ≡ true) ⊎ (bytes ≡ [])) (sections_of (format_of bytes) bytes) bytes (option_map (λ t. t.now) section.entry)
         (W.contents (writer_of out.old)) (W.contents (writer_of out.new)) result }
     ensures fails { Fails (has_failed out.old) (has_failed out.new) result }
 {

@@ -1,5 +1,5 @@
 -- What was read of a file to list its function symbols, and what such a reading gives.
-use Rattle.std.specs.Prelude.{◌≡◌, ℕ, List, Option, Some, Result, Ok, Err}
+use Rattle.std.specs.Prelude.{◌≡◌, ℕ, List, Some, Result, Ok, Err}
 use Rattle.binfarce_format.specs.declared.Format.TheVariants as formats
 use Rattle.binfarce_elf.specs.Elf.{elf32, elf64}
 use Rattle.binfarce_format.specs.Format.{format_of}

@@ -191,7 +191,7 @@ pub const READERS: [(&str, &[u8], Option<ErrorKind>, &str); 5] = [
     ),
 ];
 
-/// What a file gives at offsets that tells this length, how it ends, and what a program says of it as above.
+/// What a source gives at offsets, its length, how it ends, and what a program says of it as above.
 pub const HELD: [(&str, &[u8], u64, Option<ErrorKind>, &str); 7] = [
     ("one byte", b"\x7F", 1, None, "unknown file format"),
     ("truncated", ELF, 8, None, "unexpected end of file"),

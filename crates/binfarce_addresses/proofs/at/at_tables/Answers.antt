@@ -11,4 +11,4 @@ returns-in_err-text-clause-takes g c = λ file section are. takes_nothing c.args
 pub returns-clause-takes : goal.returns-clause-takes
 returns-clause-takes g c = λ file section are.
     takes (NeedsMemory (format_of file) file) (symbols_answer (format_of file) file section) c.in_ok-places.places c.args.base c.args.addresses.now c.as_slice.result.now _ _ c.write_whole.result
-    (c.in_ok-places.ensures.made file are) (subst (AreLinesOf c.in_ok-places.places c.args.base c.args.addresses.now) (sym c.as_slice.ensures.value) c.in_ok-text.ensures) c.write_whole.ensures.takes
+    (c.in_ok-places.ensures.made file section are) (subst (AreLinesOf c.in_ok-places.places c.args.base c.args.addresses.now) (sym c.as_slice.ensures.value) c.in_ok-text.ensures) c.write_whole.ensures.takes

@@ -279,3 +279,10 @@ walk_of_bytes file inside = by_held (holds_commands (bytes_at file 0 (said_end f
 pub sections_of_bytes : (file bytes : List ℕ) → 28 ≤ length file → bytes ≡ command_bytes file → macho_sections bytes ≡ macho_sections file
 sections_of_bytes file bytes inside is =
     ap macho_sections is ∙ rw (le-ltb (length (command_bytes file)) 28 (command_bytes_long file inside), le-ltb (length file) 28 inside) (ap Ok (walk_of_bytes file inside))
+
+pub begins_with_commands : (file bytes : List ℕ) → bytes ≡ command_bytes file → Begins file bytes
+begins_with_commands file bytes is = by_held (holds_commands (bytes_at file 0 (said_end file))) is
+  where
+    by_held : (b : Bool) → bytes ≡ cond b (bytes_at file 0 (said_end file)) file → Begins file bytes
+    by_held true is = (said_end file, is)
+    by_held false is = (length file, is ∙ sym (take_all (length file) file (omega arith)))

@@ -2,7 +2,7 @@
 use Rattle.std.proofs.Common.{◌≡◌, ℕ, zero, suc, ◌+◌, ◌-◌, ◌<◌, ◌≤◌, Bool, true, false, cond, ltb, leb, eqb, ◌&&◌, List, [], ◌∷◌, length, drop, min, find, codes, Option, Some, None, Result, Ok, Err, refl, sym, ap, ap₂, ◌∙◌, arith}
 use Rattle.std.proofs.Math.Nat.{div-mul-le_self}
 use Rattle.std.proofs.lemmas.Bool.{and_parts, ltb-false, ltb-true, leb-true, eqb-true, le-ltb, le-leb}
-use Rattle.std.proofs.lemmas.List.{length-take-le}
+use Rattle.std.proofs.lemmas.List.{length-take-le, take_all}
 use Rattle.std.proofs.lemmas.Nat.{le-div}
 use Rattle.std.specs.List.{range_with_len, filter_map, cons_option}
 use Rattle.binfarce_bytes.specs.declared.ByteOrder.TheVariants.{LittleEndian}
@@ -14,7 +14,7 @@ use Rattle.binfarce_macho.specs.Macho.{Command, Section, header_of, header_field
 use Rattle.binfarce_macho.specs.MachoSymbols.{SymbolTable, symbol_table_at, symbol_table_fields, text_section, some_size, symbol_command, whole_table}
 use Rattle.binfarce_macho.specs.MachoParts.{NeededTables, needed, named_table, holds_body, holds_from, holds_commands}
 use Rattle.binfarce_macho.proofs.CommandWalks.{bad, given}
-use Rattle.binfarce_tables.specs.BeginningReading.{macho_sections}
+use Rattle.binfarce_tables.specs.BeginningReading.{Begins, macho_sections}
 use Rattle.binfarce_tables.specs.machine.MachoPlaces.{said_end, command_bytes}
 use Rattle.binfarce_tables.proofs.HeadersAlone.{bytes_in}
 

@@ -1,5 +1,5 @@
 -- What private clauses see of the values that files of both classes are read into, and the layouts by the width of a word.
-use Rattle.std.specs.Prelude.{ℕ, ◌+◌, ◌-◌, ◌*◌, List, map, min, Option, Some, None}
+use Rattle.std.specs.Prelude.{ℕ, ◌+◌, ◌-◌, ◌*◌, map, min, Option, Some, None}
 use Rattle.std.specs.List.{range_with_len}
 use Rattle.binfarce_bytes.specs.Walk.{Walk, ended}
 use Rattle.binfarce_bytes.specs.Field.{Field, field}

@@ -69,13 +69,13 @@ sections_from class order file = by_test (ltb (length file) class.header_length)
 pub sections_read : (class : ElfClass) (order : ByteOrder) (file : List ℕ) (table : SectionTable) (sections : Walk Section) (names : Option (List ℕ)) (len : ℕ)
     → table_step class order file ≡ Ok table → sections ≡ walk class table → names ≡ names_bytes class table → len ≡ length file
     → file_sections class order file ≡ Ok (record { sections = sections; name = λ s. name_among names s.name_offset; file_length = len })
+unfolding name_of
 sections_read class order file table sections names len placed walked named long =
     sections_from class order file
     ∙ ap (λ (a : Result SectionTable Refusal). a >>= of_table class file) placed
     ∙ ap Ok same_parts
   where
     same_parts : of_parts (walk class table) (name_of class table) (length file) ≡ of_parts sections (λ s. name_among names s.name_offset) len
-    unfolding name_of
     same_parts =
         ap (λ (w : Walk Section). of_parts w (name_of class table) (length file)) (sym walked)
         ∙ ap (λ (n : Option (List ℕ)). of_parts sections (λ s. name_among n s.name_offset) (length file)) (sym named)

@@ -2,7 +2,7 @@ use Rattle.std.proofs.Common.{◌≡◌, ◌+◌, ◌-◌, ap, sym, ◌∙◌, r
 use Rattle.binfarce_bytes.specs.Walk.{ahead_of}
 use Rattle.binfarce_macho.specs.Macho.{Command, command_at, commands_from}
 use Rattle.binfarce_macho.proofs.CommandWalks.{none_left, truncated, bad, given}
-use Rattle.binfarce_macho.proofs.commands.LoadCommandsIterator.next.Goals as goal
+use Rattle.binfarce_macho.proofs.commands.MachoCommandsIteratorIterator.next.Goals as goal
 
 pub returns-then-self-eq0-clause-steps : goal.returns-then-self-eq0-clause-steps
 returns-then-self-eq0-clause-steps c =

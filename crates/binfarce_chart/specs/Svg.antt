@@ -2,7 +2,7 @@
 use Rattle.std.specs.Prelude.{◌≡◌, ◌≢◌, ℕ, ◌+◌, ◌*◌, ◌/◌, ◌%◌, ◌≤◌, false, ◌&&◌, List, [], ◌∷◌, ◌++◌, length, codes, nat_eq, nat_le, if◌then◌else◌, IsPermutation}
 use Rattle.std.specs.Fmt.{decimal, digit_glyph}
 use Rattle.std.specs.List.{flat_map}
-use Rattle.binfarce_chart.specs.Chart.{Row, Falls, bar_length, percents, shown, total}
+use Rattle.binfarce_chart.specs.Chart.{Row, Falls, KeepsOrder, bar_length, percents, shown, total}
 
 -- `\x` and two hexadecimal digits
 abbrev pub hex_byte : ℕ → List ℕ
@@ -62,6 +62,6 @@ head count sum size = opening (24 * count + 48) ++ caption sum size
 abbrev pub picture : List Row → ℕ → ℕ → List ℕ
 picture bars sum size = head (length bars) sum size ++ (rows sum 0 40 bars ++ codes "</svg>\n")
 
--- text is the picture of rows in falling order, and of their section's size
+-- text is the picture of the section's size and of the rows: the largest first, rows of one size in the order in which they were given
 abbrev pub IsChartOf : List Row → ℕ → List ℕ → Type 0
-IsChartOf all size text = (falling : List Row) × IsPermutation all falling × Falls falling × (text ≡ picture (shown falling) (total falling) size)
+IsChartOf all size text = (falling : List Row) × IsPermutation all falling × Falls falling × KeepsOrder all falling × (text ≡ picture (shown falling) (total falling) size)

@@ -1,6 +1,8 @@
 //! What programs are tested with: readers and writers that are short or fail, and how a program's work has to end.
 #![tactic(auto)]
 
+pub mod interrupted;
+
 use binfarce_program::Fault;
 use std::alloc::{AllocError, Global};
 use std::io::{self, Error, ErrorKind, Read, Write};

@@ -1,8 +1,12 @@
 #!/bin/sh
-# Runs the programs that the repository has built where no stored run can: with a full device or a closed pipe for standard
-# output, on a file of 4 MiB, on one of 8 GiB in little memory, on a pipe, on a folder, on a file that isn't there, and with
-# a wrong call. Status 1 where one ends otherwise than it must.
+# Runs programs where no stored run can: with a full device or a closed pipe for standard output, on a file of 4 MiB, on one of
+# 8 GiB in little memory, on a pipe, on a folder, on a file that isn't there, and with a wrong call. Status 1 where one ends
+# otherwise than it must.
+#
+# Usage: tests/programs.sh FOLDER, which has the programs as `binfarce_list` or as `binfarce-list`
 set -eu
+[ "$#" -eq 1 ] || { sed -n 's/^# \(Usage.*\)/\1/p' "$0" >&2; exit 2; }
+folder=$(cd "$1" && pwd)
 cd "$(dirname "$0")/.."
 scratch=$(mktemp -d)
 trap 'rm -rf "$scratch"' EXIT
@@ -12,6 +16,14 @@ sample=crates/binfarce_list/data/e-elf64-little.bin
 { cat "$sample"; head -c 4194304 /dev/zero; } >"$scratch/large"
 cp "$sample" "$scratch/sparse"
 truncate -s 8G "$scratch/sparse"
+
+# call PROGRAM ARGUMENT..: runs a program of the folder.
+call() {
+    program_file="$folder/$1"
+    [ -e "$program_file" ] || program_file="$folder/$(echo "$1" | tr _ -)"
+    shift
+    "$program_file" "$@"
+}
 
 # told STATUS ENDED LINE PROGRAM ARGUMENT..: the program must have ended with this status, and have written the line, if
 # any, and nothing else to standard error.
@@ -30,7 +42,7 @@ ends() {
     status=$1 output=$2 line=$3
     shift 3
     ended=0
-    ./run "$@" >"$scratch/output" 2>"$scratch/error" || ended=$?
+    call "$@" >"$scratch/output" 2>"$scratch/error" || ended=$?
     told "$status" "$ended" "$line" "$@"
     cmp "$output" "$scratch/output"
 }
@@ -38,7 +50,7 @@ ends() {
 # The program, with its standard output where it is; its status goes to a file.
 run() {
     ended=0
-    ./run "$@" 2>"$scratch/error" || ended=$?
+    call "$@" 2>"$scratch/error" || ended=$?
     echo "$ended" >"$scratch/ended"
 }
 
@@ -61,7 +73,7 @@ done
 
 # An ELF file of 8 GiB whose tables are small, in 64 MiB of memory.
 for program in binfarce_list binfarce_size binfarce_map binfarce_section; do
-    (ulimit -v 65536 && "crates/$program/out/run/$program" "$scratch/sparse") | cmp "crates/$program/stdout" -
+    (ulimit -v 65536 && call "$program" "$scratch/sparse") | cmp "crates/$program/stdout" -
     echo "$program $scratch/sparse: the same in 64 MiB"
 done
 
@@ -96,7 +108,7 @@ ends 1 /dev/null "$shown: read failed" "$program" <"$scratch"
 ends 2 /dev/null "usage: $shown [--full]" "$program" --half <"$names"
 ends 2 /dev/null "usage: $shown [--full]" "$program" --full --full <"$names"
 echo 'in a::b' >"$scratch/line"
-{ echo 'in _RNvC1a1b'; sleep 2; cmp "$scratch/output" "$scratch/line" >"$scratch/told" 2>&1 || true; } | ./run "$program" >"$scratch/output"
+{ echo 'in _RNvC1a1b'; sleep 2; cmp "$scratch/output" "$scratch/line" >"$scratch/told" 2>&1 || true; } | call "$program" >"$scratch/output"
 if [ -s "$scratch/told" ]; then
     echo "$program: a line isn't written before the next is waited for"
     exit 1
@@ -106,11 +118,11 @@ fi
 sample=crates/binfarce_at/data/e-elf64-little.bin
 usage="usage: binfarce-at [--base ADDRESS] FILE [ADDRESS..]"
 ended=0
-./run binfarce_at "$sample" 1000 >/dev/full 2>"$scratch/error" || ended=$?
+call binfarce_at "$sample" 1000 >/dev/full 2>"$scratch/error" || ended=$?
 told 1 "$ended" "binfarce-at: write failed" binfarce_at "$sample" 1000
 ends 0 crates/binfarce_at/stdout "" binfarce_at "$sample" 1000 0x1005 100f 1010 0fff
 cat "$sample" | ends 0 crates/binfarce_at/stdout "" binfarce_at /dev/stdin 1000 0x1005 100f 1010 0fff
-(ulimit -v 65536 && crates/binfarce_at/out/run/binfarce_at "$scratch/sparse" 1000 0x1005 100f 1010 0fff) | cmp crates/binfarce_at/stdout -
+(ulimit -v 65536 && call binfarce_at "$scratch/sparse" 1000 0x1005 100f 1010 0fff) | cmp crates/binfarce_at/stdout -
 echo "binfarce_at $scratch/sparse: the same in 64 MiB"
 ends 1 /dev/null "binfarce-at: cannot read file" binfarce_at "$scratch/missing" 1000
 ends 1 /dev/null "binfarce-at: unknown file format" binfarce_at /dev/null 1000
@@ -118,13 +130,13 @@ ends 2 /dev/null "$usage" binfarce_at
 ends 2 /dev/null "$usage" binfarce_at "$sample" 1000 10g
 ends 2 /dev/null "$usage" binfarce_at --base "$sample" 1000
 printf '1000\n0x1005\n100f\n1010\n0fff' | ends 0 crates/binfarce_at/stdout "" binfarce_at "$sample"
-printf '401000\n401005\n40100f\n401010\n400fff\n' | ./run binfarce_at --base 400000 "$sample" | sed 's/^000000000040/000000000000/' | cmp crates/binfarce_at/stdout -
+printf '401000\n401005\n40100f\n401010\n400fff\n' | call binfarce_at --base 400000 "$sample" | sed 's/^000000000040/000000000000/' | cmp crates/binfarce_at/stdout -
 head -n 1 crates/binfarce_at/stdout >"$scratch/first"
 printf '1000\nno\n1005\n' | ends 2 "$scratch/first" "binfarce-at: not an address" binfarce_at "$sample"
 head -c 1000 /dev/zero | ends 2 /dev/null "binfarce-at: not an address" binfarce_at "$sample"
 ends 1 /dev/null "binfarce-at: read failed" binfarce_at "$sample" <"$scratch"
 mkfifo "$scratch/in" "$scratch/out"
-./run binfarce_at "$sample" <"$scratch/in" >"$scratch/out" &
+call binfarce_at "$sample" <"$scratch/in" >"$scratch/out" &
 exec 3>"$scratch/in" 4<"$scratch/out"
 echo 1000 >&3
 IFS= read -r line <&4

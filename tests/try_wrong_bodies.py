@@ -32,14 +32,6 @@ UNREAD = re.compile(r"is not in scope|has no field|has no `|was not admitted|was
 printing = threading.Lock()
 
 
-def kit():
-    """The folder of the toolchain."""
-    found = os.path.dirname(os.path.dirname(os.path.realpath(shutil.which("rt"))))
-    if os.path.exists(f"{found}/KIT-ID"):
-        return found
-    return os.path.dirname(subprocess.run(["rt", "doc"], stdout=subprocess.PIPE, text=True, check=True).stdout.strip())
-
-
 def uses():
     """The crates that each crate uses, by crates.txt."""
     return {head.split()[0]: names.split() for head, names in re.findall(r"^([a-z]\w*(?: \w+)*):(.*)$", read("crates.txt"), re.M)}
@@ -63,7 +55,8 @@ class Prover:
     """Checks crates over the libraries that `rt ci` has proved. This alone knows how the toolchain is laid out and called."""
 
     def __init__(self, crates):
-        self.crates, self.kit, self.uses = os.path.abspath(crates), kit(), uses()
+        self.crates, self.uses = os.path.abspath(crates), uses()
+        self.kit = os.path.dirname(subprocess.run(["rt", "doc"], stdout=subprocess.PIPE, text=True, check=True).stdout.strip())
         self.static = re.findall(r"^(\w+) staticlib", read("crates.txt"), re.M)
 
     def words(self, crate):
@@ -127,12 +120,13 @@ class Prover:
             if not refused:
                 found, why = self.goals(crate, texts)
             return ({these[0].name: next(iter({**found, **refused}.values()))}, {}) if found else ({}, {these[0].name: why})
-        if not refused or found.keys() - {it.refused_in for it in these}:
-            # A function is refused that none of them changes, or nothing is known: by halves.
+        if found.keys() - {it.refused_in for it in these}:
+            # A function is refused that none of them changes.
             refused = {}
         missing = [it for it in these if it.name not in refused]
-        parts = [missing[: len(these) // 2], missing[len(these) // 2 :]] if not refused else [[it] for it in missing]
-        more = [self.try_together(crate, it) for it in parts]
+        # Those without an open goal once more: the goals of a function wait for the proofs of what it calls. Where there is none, by halves.
+        parts = [missing] if refused else [missing[: len(these) // 2], missing[len(these) // 2 :]]
+        more = [self.try_together(crate, it) for it in parts if it]
         return {**refused, **{name: line for it, _ in more for name, line in it.items()}}, {name: line for _, it in more for name, line in it.items()}
 
     def try_and_print(self, crate, these):

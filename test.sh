@@ -1,23 +1,16 @@
 #!/bin/sh
-# Runs all tests: the sizes of crates; definitions that no clause reaches; the documents; the gate (`rt ci`); beside it the
-# wrong bodies, the tests of crates, `run` and `install`, the programs that must not compile, and each allocation failing in
-# turn; after it whether the wrong bodies are refused where their list says, and the programs where no stored run can have
-# them.
+# Runs all tests; the last line is `N passed, 0 failed`.
 #
 # Usage: ./test.sh [--whole]
 #
-# The gate runs in a copy of the repository that has no must-fail folders. It would try one wrong body after the other, which
-# takes as long as all proofs; tests/try_wrong_bodies.py tries those of different functions at once, over the libraries that the
-# gate has proved: of each function the first, and with --whole all. The copy has no tests either: a test is proved not to do
-# what the checks would stop it at when it runs, so tests/crates.sh runs them all, with these checks, in a tenth of the time.
-# With --whole the gate proves and runs them too. With another version of the toolchain than tools/build-program knows, the copy
-# has all, and the gate tries the wrong bodies. The last line counts what the gate passed, each wrong body that was refused, and
-# each test.
+# First what takes seconds: the tools, the sizes of crates, definitions that no clause reaches, the documents, the lines of the
+# wrong bodies, the erased sources. Then the gate (`rt ci`), and beside it the tests of crates, of scripts and of the erased
+# crate, the programs that must not compile, and each allocation failing in turn; as soon as the libraries are proved, the
+# wrong bodies that are always tried. Last the programs, proved and erased.
 #
-# crates/NAME/must-not-compile/*.txt: code that calls the crate NAME. WHAT_outlives_WHAT.txt begins with `// wants: ERROR`,
-# and must be refused with that error and no other. WHAT_within_WHAT.txt begins with `// compiles`, and must not be refused:
-# the same code without what is wrong in it, which shows that the error comes from that. Each has the other. All of a kind
-# are modules of one crate in a copy of the repository.
+# The gate runs in a copy without must-fail folders, since it would try each edit in a check of its own, and without tests, since
+# tests/crates.sh runs them with the checks that their proofs would make needless. With --whole the copy has the tests, and all
+# edits are tried.
 set -eu
 cd "$(dirname "$0")"
 case $* in
@@ -25,10 +18,17 @@ case $* in
     *) echo "usage: ./test.sh [--whole]" >&2 && exit 2 ;;
 esac
 
+missing=
+for tool in rt python3 cargo gcc g++ readelf valgrind tar pgrep; do
+    command -v "$tool" >/dev/null || missing="$missing $tool"
+done
+[ -z "$missing" ] || { echo "test.sh: these tools are missing:$missing"; exit 1; }
+
 scratch=$(mktemp -d)
-copy="$scratch/copy"
+mkdir "$scratch/logs"
 gate="$scratch/gate"
-beside= trying=
+built="${CARGO_TARGET_DIR:-target}/release"
+running=
 # Ends a process and all that it has started.
 end() {
     set -- "$1" $(pgrep -P "$1")
@@ -38,155 +38,85 @@ end() {
         end "$it"
     done
 }
-
-# Without a trap of its own a signal ends the shell, and some shells then skip what is to be done on EXIT.
-trap 'for it in $beside $trying; do end "$it"; done; rm -rf "$scratch"' EXIT
+trap 'for it in $running; do end "$it"; done; rm -rf "$scratch"' EXIT
 trap 'exit 130' HUP INT TERM
 
-# The programs whose first line begins so, each with the crate that it calls and its module: crate, module, program.
-programs() {
-    for program in crates/*/must-not-compile/*.txt; do
-        crate=$(echo "$program" | cut -d/ -f2)
-        case $(sed -n 1p "$program") in
-            "$1"*) echo "$crate ${crate}_$(basename "$program" .txt) $program" ;;
-        esac
-    done
+# part COMMAND..: runs a part of the tests, and says if it fails.
+part() {
+    "$@" || { echo "test.sh: failed: $*"; exit 1; }
 }
-
-# Whether each program says what its name tells, and has its twin.
-are_twins() {
-    for program in crates/*/must-not-compile/*.txt; do
-        case $program in
-            *_outlives_*) first="// wants: error" twin=${program%_outlives_*}_within_${program##*_outlives_} ;;
-            *_within_*) first="// compiles" twin=${program%_within_*}_outlives_${program##*_within_} ;;
-            *) first=neither twin= ;;
-        esac
-        case $(sed -n 1p "$program") in
-            "$first"*) ;;
-            *) echo "$program: must be named after what it shows, _outlives_ or _within_, and say so in its first line" && return 1 ;;
-        esac
-        [ -e "$twin" ] || { echo "$program: there is no $twin" && return 1; }
-    done
+# start NAME COMMAND..: runs it beside the rest, and keeps what it prints.
+start() {
+    name=$1
+    shift
+    part "$@" >"$scratch/logs/$name" 2>&1 &
+    running="$running $!"
 }
-
-# Makes a crate of this name of the programs whose first line begins so, and tries it.
-try() {
-    mkdir -p "$copy/crates/$1/src"
-    programs "$2" | while read -r _ module program; do
-        sed 1d "$program" >"$copy/crates/$1/src/$module.rt"
-        echo "mod $module;"
-    done >"$scratch/modules"
-    { echo '#![tactic(auto)]'; cat "$scratch/modules"; printf '\n#[test]\nfn compiles() {}\n'; } >"$copy/crates/$1/src/lib.rt"
-    echo "$1: $(programs "" | cut -d' ' -f1 | sort -u | tr '\n' ' ')" >>"$copy/crates.txt"
-    (cd "$copy/crates/$1" && rt try --test) >"$scratch/$1" 2>&1
-}
-
-# The programs' errors, each after its module; any other line that tells of an error stands as it is.
-errors() {
-    grep error "$scratch/refused" | sed 's/^src.\([a-z0-9_]*\)[.]rt:[0-9]*:[0-9]*: \(error\[[^]]*\]\).*/\1 \2/' | sort -u
-}
-
-must_not_compile() {
-    are_twins
-    mkdir "$copy"
-    tar -c --exclude=.git --exclude=out . | tar -x -C "$copy"
-    if ! try accepted "// compiles"; then
-        tail -n 20 "$scratch/accepted"
-        echo "a program must compile, and does not"
-        return 1
-    fi
-    status=0
-    try refused "// wants: " || status=$?
-    programs "// wants: " | while read -r _ module program; do
-        echo "$module $(sed -n '1s|^// wants: ||p' "$program")"
-    done | sort >"$scratch/wanted"
-    if ! errors | diff "$scratch/wanted" - || [ "$status" -ne 1 ]; then
-        echo "the programs must be refused with the errors marked by <, and by no others"
-        return 1
-    fi
-    sed 's/ /: refused, as it must be, with /' "$scratch/wanted"
+# ends NAME PROCESS: prints what it printed. All parts are waited for before a failure ends the tests.
+ends() {
+    wait "$2" || failed=$1
+    cat "$scratch/logs/$1"
 }
 
 beside_the_gate() {
-    tests/run.sh
-    tests/install.sh
-    tests/crates.sh
-    must_not_compile
-    crates/test_memory/refused.sh
-    crates/test_memory/refused.sh test_sections
-    crates/test_memory/refused.sh test_reading
+    part tests/crates.sh
+    part tests/must_not_compile.sh
+    part crates/test_memory/refused.sh
+    part crates/test_memory/refused.sh test_sections
+    part crates/test_memory/refused.sh test_reading
+    part tests/install.sh
 }
-
-# The programs that the gate builds are those that `run` would build: it is given them, with what they were made of.
-run_by_name="binfarce_list binfarce_size binfarce_map binfarce_filter binfarce_at binfarce_section"
-made_of() {
-    for name in $run_by_name; do
-        tools/build-program --sources "$name" >"$scratch/$name"
-    done
+# The erased crate, with overflow checks as a build for tests has them, and the programs and libraries as users get them.
+erased() {
+    part cargo test --offline --workspace
+    part cargo build --offline --release --workspace
+    part examples/run.sh
 }
-hand_over() {
-    for name in $run_by_name; do
-        made="crates/$name/out/run"
-        mkdir -p "$made"
-        cp "$gate/crates/$name/out/$name" "$made/$name"
-        mv "$scratch/$name" "$made/sources"
-    done
-}
-
-# The copy in which the gate runs, with these files left out.
-copy_for_the_gate() {
+# The copy in which the gate runs.
+copy() {
     mkdir "$gate" "$gate/.git"
-    tar -c --exclude=.git --exclude=out "$@" . | tar -x -C "$gate"
-}
-
-# The same without tests: those of programs, and the crates that have nothing else, which stand last in crates.txt.
-copy_without_tests() {
-    of_tests=$(sed '1,/^# Tests/d; s|^\([a-z_]*\):.*|--exclude=crates/\1|' crates.txt)
-    copy_for_the_gate --exclude='crates/binfarce_*/src/tests.rt' $of_tests "$@"
+    [ -n "$whole" ] || of_tests=$(sed '1,/^# Tests/d; s|^\([a-z_]*\):.*|--exclude=crates/\1|' crates.txt)
+    tar -c --exclude=.git --exclude=out --exclude=target --exclude=must-fail ${of_tests:-} . | tar -x -C "$gate"
+    [ -z "$whole" ] || return 0
     sed -i '/^# Tests/,$d' "$gate/crates.txt"
+    rm -f "$gate"/crates/binfarce_*/src/tests.rt
     sed -i '/^#\[cfg(test)\]$/,/^mod tests;$/d' "$gate"/crates/binfarce_*/src/main.rt
 }
 
-bench/count.py >"$scratch/sizes" || { cat "$scratch/sizes" && exit 1; }
-tests/unreached
-tests/documents
-made_of
-beside_the_gate >"$scratch/beside" 2>&1 &
+part bench/count.py
+part tests/unreached
+part tests/documents
+part tests/wrong_bodies
+[ ! -e tools/erase ] || part tools/erase --check
+[ ! -e tests/compare_erased.py ] || part tests/compare_erased.py
+copy
+: >"$scratch/gate.log"
+start beside beside_the_gate
 beside=$!
-: >"$scratch/proved"
-: >"$scratch/tried"
-case $(sed q "$scratch/binfarce_list") in
-    "$(sed -n 's/^known="\(.*\)"$/\1/p' tools/build-program)"*)
-        if [ -n "$whole" ]; then copy_for_the_gate --exclude=must-fail; else copy_without_tests --exclude=must-fail; fi
-        tests/try_wrong_bodies.py $whole "$gate/crates" "$scratch/proved" >"$scratch/tried" 2>&1 &
-        trying=$!
-        ;;
-    *) copy_for_the_gate ;;
-esac
-# The last line of the gate is kept for the end.
-{ cd "$gate" && rt ci || true; } 2>&1 | tee "$scratch/proved" | sed '$d'
-last=$(tail -n 1 "$scratch/proved")
-echo ended >>"$scratch/proved"
-status=0
-wait "$beside" || status=1
-beside=
-cat "$scratch/beside"
-[ "$status" -eq 0 ] || exit 1
-if [ -n "$trying" ]; then
-    wait "$trying" || status=1
-    trying=
-    cat "$scratch/tried"
-    [ "$status" -eq 0 ] || { echo "$last" && exit 1; }
+[ ! -e Cargo.toml ] || { start erased erased; erased=$!; }
+start edits tests/try_wrong_bodies.py $whole "$gate/crates" "$scratch/gate.log"
+edits=$!
+{ cd "$gate" && rt ci || true; } 2>&1 | tee "$scratch/gate.log" | sed '$d'
+last=$(tail -n 1 "$scratch/gate.log")
+echo ended >>"$scratch/gate.log"
+failed=
+case $last in *" passed, 0 failed") ;; *) failed="rt ci" ;; esac
+ends beside "$beside"
+[ ! -e Cargo.toml ] || ends erased "$erased"
+ends edits "$edits"
+running=
+[ -z "$failed" ] || { echo "test.sh: failed: $failed; rt ci: $last"; exit 1; }
+
+mkdir "$scratch/proved"
+for name in list size map filter at section; do
+    cp "$gate/crates/binfarce_$name/out/binfarce_$name" "$scratch/proved"
+done
+part tests/programs.sh "$scratch/proved"
+if [ -e tests/erased.sh ]; then
+    part tests/programs.sh "$built"
+    start side_by_side tests/erased.sh "$scratch/proved" "$built"
+    ends side_by_side "$!"
+    [ -z "$failed" ] || exit 1
 fi
-cat "$scratch/proved" "$scratch/tried" >"$scratch/said"
-if [ -n "$whole" ]; then tests/wrong_bodies.py "$scratch/said"; else tests/wrong_bodies.py --first "$scratch/said"; fi
-case $last in
-    *" passed, 0 failed")
-        hand_over
-        tests/programs.sh
-        refused=$(sed -n 's/^wrong bodies: \([0-9]*\) refused, 0 not$/\1/p' "$scratch/said")
-        tested=$(sed -n 's/^tests: \([0-9]*\) passed, 0 failed$/\1/p' "$scratch/beside")
-        echo "$((${last%% *} + ${refused:-0} + tested)) passed, 0 failed"
-        ;;
-    *) echo "$last" && exit 1 ;;
-esac
+sed -n 's/^tests: \([0-9]*\) passed, 0 failed$/\1/p; s/^wrong bodies: \([0-9]*\) refused, 0 not$/\1/p; s/^test result: ok[.] \([0-9]*\) passed.*/\1/p' "$scratch"/logs/* |
+    awk -v gate="${last%% *}" '{ gate += $1 } END { print gate " passed, 0 failed" }'

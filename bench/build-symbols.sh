@@ -2,7 +2,7 @@
 # Builds a program that makes the symbols of a file's `.text` without listing them: FOLDER/symbols. It measures what
 # `symbols` alone costs; no test runs it.
 #
-# The program, symbols.txt, is a crate of a copy of the repository, over the libraries that `./list` made there.
+# The program, symbols.txt, is a crate of a copy of the repository, over the libraries that are proved there.
 #
 # Usage: ./build-symbols.sh FOLDER
 set -eu
@@ -18,4 +18,4 @@ mkdir -p "$crate/src"
 cp "$top/bench/symbols.txt" "$crate/src/main.rt"
 echo "bench_symbols: binfarce_tools binfarce_reading binfarce_source binfarce" >>"$scratch/crates.txt"
 "$scratch/run" bench_symbols "$top/crates/binfarce_list/data/e-elf64-little.bin"
-cp "$crate/out/run/bench_symbols" "$folder/symbols"
+cp "$crate/out/bench_symbols" "$folder/symbols"

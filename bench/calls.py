@@ -35,7 +35,7 @@ def has(*tools):
 
 
 def in_rattle(work):
-    """bench/calls.txt as a crate of a copy of the repository, over the libraries that `./list` made there."""
+    """bench/calls.txt as a crate of a copy of the repository, over the libraries that are proved there."""
     copy = f"{work}/copy"
     os.mkdir(copy)
     run("sh", "-c", f"tar -c -C '{TOP}' --exclude=.git --exclude=target . | tar -x -C '{copy}'")
@@ -44,7 +44,7 @@ def in_rattle(work):
     with open(f"{copy}/crates.txt", "a", encoding="utf-8") as file:
         file.write("bench_calls: binfarce_names\n")
     run(f"{copy}/run", "bench_calls", stdin=subprocess.DEVNULL, stdout=subprocess.DEVNULL)
-    shutil.copy(f"{copy}/crates/bench_calls/out/run/bench_calls", f"{work}/in-rattle")
+    shutil.copy(f"{copy}/crates/bench_calls/out/bench_calls", f"{work}/in-rattle")
 
 
 def through_c(work, archive):

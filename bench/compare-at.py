@@ -17,7 +17,7 @@ import sys
 import listing
 
 elf = importlib.import_module("compare-elf")
-PROGRAM = os.path.join(os.path.dirname(os.path.abspath(__file__)), "../crates/binfarce_at/out/run/binfarce_at")
+PROGRAM = os.path.join(os.path.dirname(os.path.abspath(__file__)), "../target/release/binfarce-at")
 COUNT = 10_000
 
 

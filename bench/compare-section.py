@@ -16,7 +16,7 @@ import tempfile
 import listing
 from listing import blocks, number
 
-PROGRAM = os.path.join(os.path.dirname(os.path.abspath(__file__)), "../crates/binfarce_section/out/run/binfarce_section")
+PROGRAM = os.path.join(os.path.dirname(os.path.abspath(__file__)), "../target/release/binfarce-section")
 
 
 def run(*words):

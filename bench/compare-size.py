@@ -15,7 +15,7 @@ import sys
 import listing
 
 elf = importlib.import_module("compare-elf")
-PROGRAM = os.path.join(os.path.dirname(os.path.abspath(__file__)), "../crates/binfarce_size/out/run/binfarce_size")
+PROGRAM = os.path.join(os.path.dirname(os.path.abspath(__file__)), "../target/release/binfarce-size")
 
 
 def crate_of(answer):

@@ -9,7 +9,7 @@ import re
 import subprocess
 import sys
 
-PROGRAM = os.path.join(os.path.dirname(os.path.abspath(__file__)), "../crates/binfarce_list/out/run/binfarce_list")
+PROGRAM = os.path.join(os.path.dirname(os.path.abspath(__file__)), "../target/release/binfarce-list")
 LINE = re.compile(rb"([0-9a-f]{16}) ( *[0-9]{1,20}) (.*)", re.S)
 MANGLED = re.compile(rb"_?_?ZN|_?_?R[A-Z]|.*\.llvm\.", re.S)
 

@@ -1,8 +1,8 @@
 #!/bin/sh
 # Measures the listing program beside its peers on the files given, into /dev/null, and prints ratios to the program.
 #
-#   LIST      (optional) the listing program, if not the one that the repository has built
-#   SIZE      (optional) the reporting program, if not the one that the repository has built
+#   LIST      (optional) the listing program, if not the one that cargo has built
+#   SIZE      (optional) the reporting program, if not the one that cargo has built
 #   PEER      (optional) the program of bench/peer, which makes the same listing by the Rust crate
 #   ROWS      (optional) a file to which each figure is added as a row (results.tsv is one): date, commit, machine, file,
 #             command, ms, MB and instructions, with tabs between them
@@ -16,8 +16,8 @@
 # The runs of a round follow one another, so that a busy machine is as busy for all of them; the least wall time of
 # each command counts. The peak is the greatest resident set of one run.
 set -euf
-LIST=${LIST:-$(dirname "$0")/../crates/binfarce_list/out/run/binfarce_list}
-SIZE=${SIZE:-$(dirname "$0")/../crates/binfarce_size/out/run/binfarce_size}
+LIST=${LIST:-$(dirname "$0")/../target/release/binfarce-list}
+SIZE=${SIZE:-$(dirname "$0")/../target/release/binfarce-size}
 runs=${RUNS:-15}
 scratch=$(mktemp -d)
 trap 'rm -rf "$scratch"' EXIT

@@ -16,4 +16,4 @@ targets="$scratch/crates/binfarce_v0_state/src/targets.rt"
 sed -i 's|^        let words = part.len() / 8;$|        if part.len() < usize::MAX {\n            return Ok(());\n        }\n&|' "$targets"
 ! cmp -s "$targets" "$top/crates/binfarce_v0_state/src/targets.rt" || { echo "targets.rt has another form" && exit 1; }
 "$scratch/run" binfarce_list "$top/crates/binfarce_list/data/e-elf64-little.bin"
-cp "$scratch/crates/binfarce_list/out/run/binfarce_list" "$folder/without-fragments"
+cp "$scratch/crates/binfarce_list/out/binfarce_list" "$folder/without-fragments"

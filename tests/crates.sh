@@ -16,7 +16,7 @@ tested() {
 
 copy="$scratch/copy" made="$scratch/copy/crates/all_tests"
 mkdir "$copy"
-tar -c --exclude=.git --exclude=out --exclude=must-fail . | tar -x -C "$copy"
+tar -c --exclude=.git --exclude=out --exclude=target --exclude=must-fail . | tar -x -C "$copy"
 mkdir -p "$made/src"
 echo '#![tactic(auto)]' >"$made/src/lib.rt"
 for root in $(tested); do

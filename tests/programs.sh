@@ -2,7 +2,11 @@
 # Runs the programs that the repository has built where no stored run can: with a full device or a closed pipe for standard
 # output, on a file of 4 MiB, on one of 8 GiB in little memory, on a path with blanks, on a pipe, on files of /proc and /sys,
 # on a folder, on a file that isn't there, and with a wrong call. Status 1 where one ends otherwise than it must.
+#
+# Usage: tests/programs.sh FOLDER, which has the programs as `binfarce_list` or as `binfarce-list`
 set -eu
+[ "$#" -eq 1 ] || { sed -n 's/^# \(Usage.*\)/\1/p' "$0" >&2; exit 2; }
+folder=$(cd "$1" && pwd)
 cd "$(dirname "$0")/.."
 scratch=$(mktemp -d)
 holder=
@@ -25,6 +29,14 @@ holder=$!
 of_proc=/proc/$holder/cmdline of_sys=/sys/kernel/uevent_seqnum
 until head -c 4 "$of_proc" | grep -q ELF; do sleep 0.1; done
 
+# call PROGRAM ARGUMENT..: runs a program of the folder.
+call() {
+    program_file="$folder/$1"
+    [ -e "$program_file" ] || program_file="$folder/$(echo "$1" | tr _ -)"
+    shift
+    "$program_file" "$@"
+}
+
 # told STATUS ENDED LINE PROGRAM ARGUMENT..: the program must have ended with this status, and have written the line, if
 # any, and nothing else to standard error.
 told() {
@@ -42,7 +54,7 @@ ends() {
     status=$1 output=$2 line=$3
     shift 3
     ended=0
-    ./run "$@" >"$scratch/output" 2>"$scratch/error" || ended=$?
+    call "$@" >"$scratch/output" 2>"$scratch/error" || ended=$?
     told "$status" "$ended" "$line" "$@"
     cmp "$output" "$scratch/output"
 }
@@ -50,7 +62,7 @@ ends() {
 # The program, with its standard output where it is; its status goes to a file.
 run() {
     ended=0
-    ./run "$@" 2>"$scratch/error" || ended=$?
+    call "$@" 2>"$scratch/error" || ended=$?
     echo "$ended" >"$scratch/ended"
 }
 
@@ -76,7 +88,7 @@ done
 
 # An ELF file of 8 GiB whose tables are small, in 64 MiB of memory.
 for program in binfarce_list binfarce_size binfarce_map binfarce_section; do
-    (ulimit -v 65536 && "crates/$program/out/run/$program" "$scratch/sparse") | cmp "crates/$program/stdout" -
+    (ulimit -v 65536 && call "$program" "$scratch/sparse") | cmp "crates/$program/stdout" -
     echo "$program $scratch/sparse: the same in 64 MiB"
 done
 
@@ -117,7 +129,7 @@ ends 1 /dev/null "$shown: read failed" "$program" <"$scratch"
 ends 2 /dev/null "usage: $shown [--full]" "$program" --half <"$names"
 ends 2 /dev/null "usage: $shown [--full]" "$program" --full --full <"$names"
 echo 'in a::b' >"$scratch/line"
-{ echo 'in _RNvC1a1b'; sleep 2; cmp "$scratch/output" "$scratch/line" >"$scratch/told" 2>&1 || true; } | ./run "$program" >"$scratch/output"
+{ echo 'in _RNvC1a1b'; sleep 2; cmp "$scratch/output" "$scratch/line" >"$scratch/told" 2>&1 || true; } | call "$program" >"$scratch/output"
 if [ -s "$scratch/told" ]; then
     echo "$program: a line isn't written before the next is waited for"
     exit 1
@@ -127,14 +139,14 @@ fi
 sample=crates/binfarce_at/data/e-elf64-little.bin
 usage="usage: binfarce-at [--base ADDRESS] FILE [ADDRESS..]"
 ended=0
-./run binfarce_at "$sample" 1000 >/dev/full 2>"$scratch/error" || ended=$?
+call binfarce_at "$sample" 1000 >/dev/full 2>"$scratch/error" || ended=$?
 told 1 "$ended" "binfarce-at: write failed" binfarce_at "$sample" 1000
 ends 0 crates/binfarce_at/stdout "" binfarce_at "$sample" 1000 0x1005 100f 1010 0fff
 for file in /dev/stdin "$blanks" "$of_proc"; do
     cat "$sample" | ends 0 crates/binfarce_at/stdout "" binfarce_at "$file" 1000 0x1005 100f 1010 0fff
 done
 ends 1 /dev/null "binfarce-at: unknown file format" binfarce_at "$of_sys" 1000
-(ulimit -v 65536 && crates/binfarce_at/out/run/binfarce_at "$scratch/sparse" 1000 0x1005 100f 1010 0fff) | cmp crates/binfarce_at/stdout -
+(ulimit -v 65536 && call binfarce_at "$scratch/sparse" 1000 0x1005 100f 1010 0fff) | cmp crates/binfarce_at/stdout -
 echo "binfarce_at $scratch/sparse: the same in 64 MiB"
 ends 1 /dev/null "binfarce-at: cannot read file" binfarce_at "$scratch/missing" 1000
 ends 1 /dev/null "binfarce-at: unknown file format" binfarce_at /dev/null 1000
@@ -144,13 +156,13 @@ ends 2 /dev/null "$usage" binfarce_at --base "$sample" 1000
 for file in "$sample" "$of_proc"; do
     printf '1000\n0x1005\n100f\n1010\n0fff' | ends 0 crates/binfarce_at/stdout "" binfarce_at "$file"
 done
-printf '401000\n401005\n40100f\n401010\n400fff\n' | ./run binfarce_at --base 400000 "$sample" | sed 's/^000000000040/000000000000/' | cmp crates/binfarce_at/stdout -
+printf '401000\n401005\n40100f\n401010\n400fff\n' | call binfarce_at --base 400000 "$sample" | sed 's/^000000000040/000000000000/' | cmp crates/binfarce_at/stdout -
 head -n 1 crates/binfarce_at/stdout >"$scratch/first"
 printf '1000\nno\n1005\n' | ends 2 "$scratch/first" "binfarce-at: not an address" binfarce_at "$sample"
 head -c 1000 /dev/zero | ends 2 /dev/null "binfarce-at: not an address" binfarce_at "$sample"
 ends 1 /dev/null "binfarce-at: read failed" binfarce_at "$sample" <"$scratch"
 mkfifo "$scratch/in" "$scratch/out"
-./run binfarce_at "$sample" <"$scratch/in" >"$scratch/out" &
+call binfarce_at "$sample" <"$scratch/in" >"$scratch/out" &
 exec 3>"$scratch/in" 4<"$scratch/out"
 echo 1000 >&3
 IFS= read -r line <&4

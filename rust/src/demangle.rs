@@ -18,7 +18,7 @@
 
 use crate::erased::binfarce_names::demangle as erased;
 use crate::error::{OutOfMemory, out_of_memory};
-use crate::shim::alloc::Global;
+use crate::shim::{self, alloc::Global};
 use std::fmt;
 
 pub use erased::{Kind, MAX_LEVELS, MAX_STEPS};
@@ -76,9 +76,9 @@ impl SymbolName {
 impl From<erased::SymbolName> for SymbolName {
     fn from(name: erased::SymbolName) -> Self {
         SymbolName {
-            complete: name.complete.into(),
-            trimmed: name.trimmed.into(),
-            crate_name: name.crate_name.map(String::from),
+            complete: name.complete.into_std(),
+            trimmed: name.trimmed.into_std(),
+            crate_name: name.crate_name.map(shim::String::into_std),
             kind: name.kind,
         }
     }
@@ -127,7 +127,7 @@ impl Demangler {
     pub fn push_trimmed(&mut self, text: &mut String, name: &str) -> Result<(), OutOfMemory> {
         let mut grown = std::mem::take(text).into();
         let pushed = self.0.push_trimmed(&mut grown, name);
-        *text = grown.into();
+        *text = grown.into_std();
         Ok(pushed?)
     }
 
@@ -138,7 +138,7 @@ impl Demangler {
     ///
     /// [`OutOfMemory`] where an allocation failed.
     pub fn crate_of(&mut self, name: &str) -> Result<Option<String>, OutOfMemory> {
-        Ok(self.0.crate_of(name)?.map(String::from))
+        Ok(self.0.crate_of(name)?.map(shim::String::into_std))
     }
 }
 

@@ -1,6 +1,7 @@
 //! Errors.
 
 use crate::erased::binfarce_bytes;
+use crate::shim::alloc::AllocError;
 use std::alloc::{Layout, handle_alloc_error};
 use std::{error, fmt, io, num};
 
@@ -161,6 +162,12 @@ impl fmt::Display for OutOfMemory {
 }
 
 impl error::Error for OutOfMemory {}
+
+impl From<AllocError> for OutOfMemory {
+    fn from(_: AllocError) -> Self {
+        OutOfMemory
+    }
+}
 
 impl From<OutOfMemory> for io::Error {
     fn from(_: OutOfMemory) -> Self {

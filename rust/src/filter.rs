@@ -35,7 +35,7 @@ pub enum Form {
 /// # Ok::<(), binfarce::OutOfMemory>(())
 /// ```
 pub fn filter(text: &str, form: Form) -> Result<String, OutOfMemory> {
-    let filtered = Vec::from(erased::filter(Global, form == Form::Complete, text.as_bytes())?);
+    let filtered = erased::filter(Global, form == Form::Complete, text.as_bytes())?.into_std();
     // Only ASCII runs are replaced, and by UTF-8.
     Ok(String::from_utf8(filtered).unwrap_or_else(|e| String::from_utf8_lossy(e.as_bytes()).into_owned()))
 }

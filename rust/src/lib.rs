@@ -31,13 +31,14 @@ pub mod demangle;
 mod elf;
 pub mod elf32;
 pub mod elf64;
-#[allow(clippy::all, dead_code)]
-mod erased;
+#[doc(hidden)]
+pub mod erased;
 mod error;
 mod filter;
 pub mod macho;
 pub mod pe;
-mod shim;
+#[doc(hidden)]
+pub mod shim;
 
 pub use any::{Functions, Sections, functions, list, report, section_bytes, sections};
 pub use erased::binfarce_bytes::ByteOrder;
@@ -50,6 +51,6 @@ pub use filter::{Form, filter, filter_stream};
 use demangle::SymbolData;
 
 /// The answer of an erased reader, with std's types.
-fn symbols_of((symbols, size): (shim::vec::Vec<erased::binfarce_names::demangle::SymbolData>, u64)) -> (Vec<SymbolData>, u64) {
-    (Vec::from(symbols).into_iter().map(SymbolData::from).collect(), size)
+fn symbols_of((symbols, size): (shim::Vec<erased::binfarce_names::demangle::SymbolData>, u64)) -> (Vec<SymbolData>, u64) {
+    (symbols.into_iter().map(SymbolData::from).collect(), size)
 }

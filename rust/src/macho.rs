@@ -153,7 +153,7 @@ impl<'a> Macho<'a> {
     /// Those of [`Macho::try_symbols`].
     pub fn functions(&self) -> Result<(Vec<FunctionSymbol<'a>>, u64), Error> {
         let (functions, size) = self.0.functions(Global)?;
-        Ok((functions.into(), size))
+        Ok((functions.into_std(), size))
     }
 }
 

@@ -155,7 +155,7 @@ impl<'a> Pe<'a> {
     /// Those of [`Pe::try_symbols`].
     pub fn functions(&self) -> Result<(Vec<FunctionSymbol<'a>>, u64), Error> {
         let (functions, size) = self.0.functions(Global)?;
-        Ok((functions.into(), size))
+        Ok((functions.into_std(), size))
     }
 }
 

@@ -4,8 +4,13 @@
 //! All of this repository's unsafe code is here: what C passes as a pointer and a length is borrowed as a slice. A panic
 //! can't pass into C: it ends the program.
 
-use exported::exports::*;
+use exports::*;
 use std::{mem, slice};
+
+mod exports {
+    pub use exported::erased::binfarce_c::{all_sections::*, buffer::*, functions::*, headers::*, names::*, sections::*, status::*, texts::*};
+    pub use exported::shim::alloc::Global;
+}
 
 /// The bytes or structs that C passes. Where there are none, the pointer isn't looked at and may be null.
 ///
@@ -221,7 +226,7 @@ const _: () = {
 #[unsafe(no_mangle)]
 pub unsafe extern "C" fn binfarce_status_text(status: u32, out: *mut u8, out_length: usize) -> usize {
     // SAFETY: the header asks of the caller what is needed here, and nothing is kept after the call.
-    unsafe { exported::exports::binfarce_status_text(status, values_mut(out, out_length)) }
+    unsafe { exports::binfarce_status_text(status, values_mut(out, out_length)) }
 }
 
 /// # Safety
@@ -230,7 +235,7 @@ pub unsafe extern "C" fn binfarce_status_text(status: u32, out: *mut u8, out_len
 #[unsafe(no_mangle)]
 pub unsafe extern "C" fn binfarce_demangle(name: *const u8, name_length: usize, complete: *mut u8, complete_length: usize, trimmed: *mut u8, trimmed_length: usize, crate_name: *mut u8, crate_length: usize) -> SymbolName {
     // SAFETY: the header asks of the caller what is needed here, and nothing is kept after the call.
-    unsafe { exported::exports::binfarce_demangle(Global, values(name, name_length), values_mut(complete, complete_length), values_mut(trimmed, trimmed_length), values_mut(crate_name, crate_length)) }
+    unsafe { exports::binfarce_demangle(Global, values(name, name_length), values_mut(complete, complete_length), values_mut(trimmed, trimmed_length), values_mut(crate_name, crate_length)) }
 }
 
 /// # Safety
@@ -239,7 +244,7 @@ pub unsafe extern "C" fn binfarce_demangle(name: *const u8, name_length: usize, 
 #[unsafe(no_mangle)]
 pub unsafe extern "C" fn binfarce_trimmed(name: *const u8, name_length: usize, out: *mut u8, out_length: usize) -> Text {
     // SAFETY: the header asks of the caller what is needed here, and nothing is kept after the call.
-    unsafe { exported::exports::binfarce_trimmed(Global, values(name, name_length), values_mut(out, out_length)) }
+    unsafe { exports::binfarce_trimmed(Global, values(name, name_length), values_mut(out, out_length)) }
 }
 
 /// # Safety
@@ -248,7 +253,7 @@ pub unsafe extern "C" fn binfarce_trimmed(name: *const u8, name_length: usize, o
 #[unsafe(no_mangle)]
 pub unsafe extern "C" fn binfarce_crate_of(name: *const u8, name_length: usize, out: *mut u8, out_length: usize) -> Text {
     // SAFETY: the header asks of the caller what is needed here, and nothing is kept after the call.
-    unsafe { exported::exports::binfarce_crate_of(Global, values(name, name_length), values_mut(out, out_length)) }
+    unsafe { exports::binfarce_crate_of(Global, values(name, name_length), values_mut(out, out_length)) }
 }
 
 /// # Safety
@@ -257,7 +262,7 @@ pub unsafe extern "C" fn binfarce_crate_of(name: *const u8, name_length: usize, 
 #[unsafe(no_mangle)]
 pub unsafe extern "C" fn binfarce_mangling(name: *const u8, name_length: usize, out: *mut Mangling) -> u32 {
     // SAFETY: the header asks of the caller what is needed here, and nothing is kept after the call.
-    unsafe { exported::exports::binfarce_mangling(values(name, name_length), &mut *out) }
+    unsafe { exports::binfarce_mangling(values(name, name_length), &mut *out) }
 }
 
 /// # Safety
@@ -266,7 +271,7 @@ pub unsafe extern "C" fn binfarce_mangling(name: *const u8, name_length: usize, 
 #[unsafe(no_mangle)]
 pub unsafe extern "C" fn binfarce_list(file: *const u8, file_length: usize, section: *const u8, section_length: usize, out: *mut u8, out_length: usize) -> Text {
     // SAFETY: the header asks of the caller what is needed here, and nothing is kept after the call.
-    unsafe { exported::exports::binfarce_list(Global, values(file, file_length), values(section, section_length), values_mut(out, out_length)) }
+    unsafe { exports::binfarce_list(Global, values(file, file_length), values(section, section_length), values_mut(out, out_length)) }
 }
 
 /// # Safety
@@ -275,7 +280,7 @@ pub unsafe extern "C" fn binfarce_list(file: *const u8, file_length: usize, sect
 #[unsafe(no_mangle)]
 pub unsafe extern "C" fn binfarce_report(file: *const u8, file_length: usize, section: *const u8, section_length: usize, out: *mut u8, out_length: usize) -> Text {
     // SAFETY: the header asks of the caller what is needed here, and nothing is kept after the call.
-    unsafe { exported::exports::binfarce_report(Global, values(file, file_length), values(section, section_length), values_mut(out, out_length)) }
+    unsafe { exports::binfarce_report(Global, values(file, file_length), values(section, section_length), values_mut(out, out_length)) }
 }
 
 /// # Safety
@@ -284,7 +289,7 @@ pub unsafe extern "C" fn binfarce_report(file: *const u8, file_length: usize, se
 #[unsafe(no_mangle)]
 pub unsafe extern "C" fn binfarce_detect_format(file: *const u8, file_length: usize) -> u32 {
     // SAFETY: the header asks of the caller what is needed here, and nothing is kept after the call.
-    unsafe { exported::exports::binfarce_detect_format(values(file, file_length)) }
+    unsafe { exports::binfarce_detect_format(values(file, file_length)) }
 }
 
 /// # Safety
@@ -293,7 +298,7 @@ pub unsafe extern "C" fn binfarce_detect_format(file: *const u8, file_length: us
 #[unsafe(no_mangle)]
 pub unsafe extern "C" fn binfarce_elf32_header(file: *const u8, file_length: usize, big_endian: bool, out: *mut ElfHeader) -> u32 {
     // SAFETY: the header asks of the caller what is needed here, and nothing is kept after the call.
-    unsafe { exported::exports::binfarce_elf32_header(values(file, file_length), big_endian, &mut *out) }
+    unsafe { exports::binfarce_elf32_header(values(file, file_length), big_endian, &mut *out) }
 }
 
 /// # Safety
@@ -302,7 +307,7 @@ pub unsafe extern "C" fn binfarce_elf32_header(file: *const u8, file_length: usi
 #[unsafe(no_mangle)]
 pub unsafe extern "C" fn binfarce_elf64_header(file: *const u8, file_length: usize, big_endian: bool, out: *mut ElfHeader) -> u32 {
     // SAFETY: the header asks of the caller what is needed here, and nothing is kept after the call.
-    unsafe { exported::exports::binfarce_elf64_header(values(file, file_length), big_endian, &mut *out) }
+    unsafe { exports::binfarce_elf64_header(values(file, file_length), big_endian, &mut *out) }
 }
 
 /// # Safety
@@ -311,7 +316,7 @@ pub unsafe extern "C" fn binfarce_elf64_header(file: *const u8, file_length: usi
 #[unsafe(no_mangle)]
 pub unsafe extern "C" fn binfarce_macho_header(file: *const u8, file_length: usize) -> u32 {
     // SAFETY: the header asks of the caller what is needed here, and nothing is kept after the call.
-    unsafe { exported::exports::binfarce_macho_header(values(file, file_length)) }
+    unsafe { exports::binfarce_macho_header(values(file, file_length)) }
 }
 
 /// # Safety
@@ -320,7 +325,7 @@ pub unsafe extern "C" fn binfarce_macho_header(file: *const u8, file_length: usi
 #[unsafe(no_mangle)]
 pub unsafe extern "C" fn binfarce_pe_header(file: *const u8, file_length: usize) -> u32 {
     // SAFETY: the header asks of the caller what is needed here, and nothing is kept after the call.
-    unsafe { exported::exports::binfarce_pe_header(values(file, file_length)) }
+    unsafe { exports::binfarce_pe_header(values(file, file_length)) }
 }
 
 /// # Safety
@@ -329,7 +334,7 @@ pub unsafe extern "C" fn binfarce_pe_header(file: *const u8, file_length: usize)
 #[unsafe(no_mangle)]
 pub unsafe extern "C" fn binfarce_elf32_functions(file: *const u8, file_length: usize, big_endian: bool, section: *const u8, section_length: usize, out: *mut Function, out_length: usize) -> Functions {
     // SAFETY: the header asks of the caller what is needed here, and nothing is kept after the call.
-    unsafe { exported::exports::binfarce_elf32_functions(Global, values(file, file_length), big_endian, values(section, section_length), values_mut(out, out_length)) }
+    unsafe { exports::binfarce_elf32_functions(Global, values(file, file_length), big_endian, values(section, section_length), values_mut(out, out_length)) }
 }
 
 /// # Safety
@@ -338,7 +343,7 @@ pub unsafe extern "C" fn binfarce_elf32_functions(file: *const u8, file_length: 
 #[unsafe(no_mangle)]
 pub unsafe extern "C" fn binfarce_elf64_functions(file: *const u8, file_length: usize, big_endian: bool, section: *const u8, section_length: usize, out: *mut Function, out_length: usize) -> Functions {
     // SAFETY: the header asks of the caller what is needed here, and nothing is kept after the call.
-    unsafe { exported::exports::binfarce_elf64_functions(Global, values(file, file_length), big_endian, values(section, section_length), values_mut(out, out_length)) }
+    unsafe { exports::binfarce_elf64_functions(Global, values(file, file_length), big_endian, values(section, section_length), values_mut(out, out_length)) }
 }
 
 /// # Safety
@@ -347,7 +352,7 @@ pub unsafe extern "C" fn binfarce_elf64_functions(file: *const u8, file_length: 
 #[unsafe(no_mangle)]
 pub unsafe extern "C" fn binfarce_macho_functions(file: *const u8, file_length: usize, out: *mut Function, out_length: usize) -> Functions {
     // SAFETY: the header asks of the caller what is needed here, and nothing is kept after the call.
-    unsafe { exported::exports::binfarce_macho_functions(Global, values(file, file_length), values_mut(out, out_length)) }
+    unsafe { exports::binfarce_macho_functions(Global, values(file, file_length), values_mut(out, out_length)) }
 }
 
 /// # Safety
@@ -356,7 +361,7 @@ pub unsafe extern "C" fn binfarce_macho_functions(file: *const u8, file_length: 
 #[unsafe(no_mangle)]
 pub unsafe extern "C" fn binfarce_pe_functions(file: *const u8, file_length: usize, out: *mut Function, out_length: usize) -> Functions {
     // SAFETY: the header asks of the caller what is needed here, and nothing is kept after the call.
-    unsafe { exported::exports::binfarce_pe_functions(Global, values(file, file_length), values_mut(out, out_length)) }
+    unsafe { exports::binfarce_pe_functions(Global, values(file, file_length), values_mut(out, out_length)) }
 }
 
 /// # Safety
@@ -365,7 +370,7 @@ pub unsafe extern "C" fn binfarce_pe_functions(file: *const u8, file_length: usi
 #[unsafe(no_mangle)]
 pub unsafe extern "C" fn binfarce_elf32_section(file: *const u8, file_length: usize, big_endian: bool, name: *const u8, name_length: usize, out: *mut Section) -> u32 {
     // SAFETY: the header asks of the caller what is needed here, and nothing is kept after the call.
-    unsafe { exported::exports::binfarce_elf32_section(values(file, file_length), big_endian, values(name, name_length), &mut *out) }
+    unsafe { exports::binfarce_elf32_section(values(file, file_length), big_endian, values(name, name_length), &mut *out) }
 }
 
 /// # Safety
@@ -374,7 +379,7 @@ pub unsafe extern "C" fn binfarce_elf32_section(file: *const u8, file_length: us
 #[unsafe(no_mangle)]
 pub unsafe extern "C" fn binfarce_elf64_section(file: *const u8, file_length: usize, big_endian: bool, name: *const u8, name_length: usize, out: *mut Section) -> u32 {
     // SAFETY: the header asks of the caller what is needed here, and nothing is kept after the call.
-    unsafe { exported::exports::binfarce_elf64_section(values(file, file_length), big_endian, values(name, name_length), &mut *out) }
+    unsafe { exports::binfarce_elf64_section(values(file, file_length), big_endian, values(name, name_length), &mut *out) }
 }
 
 /// # Safety
@@ -383,7 +388,7 @@ pub unsafe extern "C" fn binfarce_elf64_section(file: *const u8, file_length: us
 #[unsafe(no_mangle)]
 pub unsafe extern "C" fn binfarce_macho_section(file: *const u8, file_length: usize, segment: *const u8, segment_length: usize, name: *const u8, name_length: usize, out: *mut Section) -> u32 {
     // SAFETY: the header asks of the caller what is needed here, and nothing is kept after the call.
-    unsafe { exported::exports::binfarce_macho_section(values(file, file_length), values(segment, segment_length), values(name, name_length), &mut *out) }
+    unsafe { exports::binfarce_macho_section(values(file, file_length), values(segment, segment_length), values(name, name_length), &mut *out) }
 }
 
 /// # Safety
@@ -392,7 +397,7 @@ pub unsafe extern "C" fn binfarce_macho_section(file: *const u8, file_length: us
 #[unsafe(no_mangle)]
 pub unsafe extern "C" fn binfarce_pe_section(file: *const u8, file_length: usize, name: *const u8, name_length: usize, out: *mut Section) -> u32 {
     // SAFETY: the header asks of the caller what is needed here, and nothing is kept after the call.
-    unsafe { exported::exports::binfarce_pe_section(values(file, file_length), values(name, name_length), &mut *out) }
+    unsafe { exports::binfarce_pe_section(values(file, file_length), values(name, name_length), &mut *out) }
 }
 
 /// # Safety
@@ -401,7 +406,7 @@ pub unsafe extern "C" fn binfarce_pe_section(file: *const u8, file_length: usize
 #[unsafe(no_mangle)]
 pub unsafe extern "C" fn binfarce_elf32_section_at(file: *const u8, file_length: usize, big_endian: bool, index: usize, out: *mut Section) -> u32 {
     // SAFETY: the header asks of the caller what is needed here, and nothing is kept after the call.
-    unsafe { exported::exports::binfarce_elf32_section_at(values(file, file_length), big_endian, index, &mut *out) }
+    unsafe { exports::binfarce_elf32_section_at(values(file, file_length), big_endian, index, &mut *out) }
 }
 
 /// # Safety
@@ -410,7 +415,7 @@ pub unsafe extern "C" fn binfarce_elf32_section_at(file: *const u8, file_length:
 #[unsafe(no_mangle)]
 pub unsafe extern "C" fn binfarce_elf64_section_at(file: *const u8, file_length: usize, big_endian: bool, index: usize, out: *mut Section) -> u32 {
     // SAFETY: the header asks of the caller what is needed here, and nothing is kept after the call.
-    unsafe { exported::exports::binfarce_elf64_section_at(values(file, file_length), big_endian, index, &mut *out) }
+    unsafe { exports::binfarce_elf64_section_at(values(file, file_length), big_endian, index, &mut *out) }
 }
 
 /// # Safety
@@ -419,7 +424,7 @@ pub unsafe extern "C" fn binfarce_elf64_section_at(file: *const u8, file_length:
 #[unsafe(no_mangle)]
 pub unsafe extern "C" fn binfarce_macho_section_at(file: *const u8, file_length: usize, index: usize, out: *mut Section) -> u32 {
     // SAFETY: the header asks of the caller what is needed here, and nothing is kept after the call.
-    unsafe { exported::exports::binfarce_macho_section_at(values(file, file_length), index, &mut *out) }
+    unsafe { exports::binfarce_macho_section_at(values(file, file_length), index, &mut *out) }
 }
 
 /// # Safety
@@ -428,7 +433,7 @@ pub unsafe extern "C" fn binfarce_macho_section_at(file: *const u8, file_length:
 #[unsafe(no_mangle)]
 pub unsafe extern "C" fn binfarce_pe_section_at(file: *const u8, file_length: usize, index: usize, out: *mut Section) -> u32 {
     // SAFETY: the header asks of the caller what is needed here, and nothing is kept after the call.
-    unsafe { exported::exports::binfarce_pe_section_at(values(file, file_length), index, &mut *out) }
+    unsafe { exports::binfarce_pe_section_at(values(file, file_length), index, &mut *out) }
 }
 
 /// # Safety
@@ -437,7 +442,7 @@ pub unsafe extern "C" fn binfarce_pe_section_at(file: *const u8, file_length: us
 #[unsafe(no_mangle)]
 pub unsafe extern "C" fn binfarce_elf32_sections(file: *const u8, file_length: usize, big_endian: bool, out: *mut Section, out_length: usize) -> Sections {
     // SAFETY: the header asks of the caller what is needed here, and nothing is kept after the call.
-    unsafe { exported::exports::binfarce_elf32_sections(values(file, file_length), big_endian, values_mut(out, out_length)) }
+    unsafe { exports::binfarce_elf32_sections(values(file, file_length), big_endian, values_mut(out, out_length)) }
 }
 
 /// # Safety
@@ -446,7 +451,7 @@ pub unsafe extern "C" fn binfarce_elf32_sections(file: *const u8, file_length: u
 #[unsafe(no_mangle)]
 pub unsafe extern "C" fn binfarce_elf64_sections(file: *const u8, file_length: usize, big_endian: bool, out: *mut Section, out_length: usize) -> Sections {
     // SAFETY: the header asks of the caller what is needed here, and nothing is kept after the call.
-    unsafe { exported::exports::binfarce_elf64_sections(values(file, file_length), big_endian, values_mut(out, out_length)) }
+    unsafe { exports::binfarce_elf64_sections(values(file, file_length), big_endian, values_mut(out, out_length)) }
 }
 
 /// # Safety
@@ -455,7 +460,7 @@ pub unsafe extern "C" fn binfarce_elf64_sections(file: *const u8, file_length: u
 #[unsafe(no_mangle)]
 pub unsafe extern "C" fn binfarce_macho_sections(file: *const u8, file_length: usize, out: *mut Section, out_length: usize) -> Sections {
     // SAFETY: the header asks of the caller what is needed here, and nothing is kept after the call.
-    unsafe { exported::exports::binfarce_macho_sections(values(file, file_length), values_mut(out, out_length)) }
+    unsafe { exports::binfarce_macho_sections(values(file, file_length), values_mut(out, out_length)) }
 }
 
 /// # Safety
@@ -464,5 +469,5 @@ pub unsafe extern "C" fn binfarce_macho_sections(file: *const u8, file_length: u
 #[unsafe(no_mangle)]
 pub unsafe extern "C" fn binfarce_pe_sections(file: *const u8, file_length: usize, out: *mut Section, out_length: usize) -> Sections {
     // SAFETY: the header asks of the caller what is needed here, and nothing is kept after the call.
-    unsafe { exported::exports::binfarce_pe_sections(values(file, file_length), values_mut(out, out_length)) }
+    unsafe { exports::binfarce_pe_sections(values(file, file_length), values_mut(out, out_length)) }
 }

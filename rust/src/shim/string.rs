@@ -1,0 +1,141 @@
+//! `String`, whose every growth can fail.
+
+use super::alloc::{AllocError, Global, reserve_text};
+use std::fmt::{self, Write};
+use std::ops::Deref;
+use std::string;
+
+/// A text in memory of its own, as that of std's `String`.
+#[derive(PartialEq, Eq, PartialOrd, Ord, Hash)]
+pub struct String(string::String);
+
+impl String {
+    /// An empty text, and no memory.
+    #[inline]
+    pub fn new(_: Global) -> String {
+        String(string::String::new())
+    }
+
+    /// An empty text, and room for this many bytes.
+    #[inline]
+    pub fn with_capacity(alloc: Global, capacity: usize) -> Result<String, AllocError> {
+        let mut text = String::new(alloc);
+        reserve_text(&mut text.0, capacity)?;
+        Ok(text)
+    }
+
+    /// A copy of the text.
+    #[inline]
+    #[allow(clippy::should_implement_trait)]
+    pub fn from_str(alloc: Global, text: &str) -> Result<String, AllocError> {
+        let mut copy = String::new(alloc);
+        copy.push_str(text)?;
+        Ok(copy)
+    }
+
+    /// What `format!` makes.
+    pub fn formatted(alloc: Global, arguments: fmt::Arguments<'_>) -> Result<String, AllocError> {
+        let mut text = String::new(alloc);
+        text.write_fmt(arguments)?;
+        Ok(text)
+    }
+
+    /// Adds what `write!` writes. A value whose own `fmt` fails is refused as if memory was.
+    pub fn write_fmt(&mut self, arguments: fmt::Arguments<'_>) -> Result<(), AllocError> {
+        Ends(self).write_fmt(arguments).map_err(|_| AllocError)
+    }
+
+    /// How many bytes there is room for.
+    #[inline]
+    pub fn capacity(&self) -> usize {
+        self.0.capacity()
+    }
+
+    /// Makes room for `more` bytes behind those that there are.
+    #[inline]
+    pub fn reserve(&mut self, more: usize) -> Result<(), AllocError> {
+        reserve_text(&mut self.0, more)
+    }
+
+    /// Adds a character at the end.
+    #[inline]
+    pub fn push(&mut self, c: char) -> Result<(), AllocError> {
+        reserve_text(&mut self.0, c.len_utf8())?;
+        self.0.push(c);
+        Ok(())
+    }
+
+    /// Adds a text at the end.
+    #[inline]
+    pub fn push_str(&mut self, text: &str) -> Result<(), AllocError> {
+        reserve_text(&mut self.0, text.len())?;
+        self.0.push_str(text);
+        Ok(())
+    }
+
+    /// Removes the text, and keeps its memory.
+    #[inline]
+    pub fn clear(&mut self) {
+        self.0.clear();
+    }
+
+    /// Removes the bytes from `len` on, where a character has to begin.
+    #[inline]
+    pub fn truncate(&mut self, len: usize) {
+        self.0.truncate(len);
+    }
+
+    #[inline]
+    pub fn as_str(&self) -> &str {
+        &self.0
+    }
+
+    /// The text as std has it.
+    #[inline]
+    pub fn into_std(self) -> string::String {
+        self.0
+    }
+}
+
+impl From<string::String> for String {
+    fn from(text: string::String) -> String {
+        String(text)
+    }
+}
+
+// The end of a text, as `write!` writes to it.
+struct Ends<'a>(&'a mut String);
+
+impl Write for Ends<'_> {
+    fn write_str(&mut self, text: &str) -> fmt::Result {
+        self.0.push_str(text).map_err(|_| fmt::Error)
+    }
+}
+
+impl Deref for String {
+    type Target = str;
+
+    #[inline]
+    fn deref(&self) -> &str {
+        &self.0
+    }
+}
+
+impl std::borrow::Borrow<str> for String {
+    #[inline]
+    fn borrow(&self) -> &str {
+        &self.0
+    }
+}
+
+impl fmt::Debug for String {
+    fn fmt(&self, f: &mut fmt::Formatter<'_>) -> fmt::Result {
+        self.0.fmt(f)
+    }
+}
+
+impl fmt::Display for String {
+    fn fmt(&self, f: &mut fmt::Formatter<'_>) -> fmt::Result {
+        f.pad(&self.0)
+    }
+}

@@ -1,0 +1,1 @@
+//! What tests need: their error, and a memory of which one request fails.

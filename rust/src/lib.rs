@@ -23,6 +23,8 @@
 //! # }
 //! ```
 
+#![warn(missing_docs)]
+
 #[cfg(not(target_pointer_width = "64"))]
 compile_error!("binfarce reads files on 64-bit machines only");
 
@@ -32,6 +34,7 @@ mod elf;
 pub mod elf32;
 pub mod elf64;
 #[doc(hidden)]
+#[allow(clippy::all, rustdoc::private_intra_doc_links)]
 pub mod erased;
 mod error;
 mod filter;

@@ -1,7 +1,7 @@
 //! What a program gets from its system.
 
 use super::alloc::Global;
-use super::io::{Read, Unbuffered};
+use super::io::Read;
 use std::fmt;
 use std::io::{self, Write};
 
@@ -39,7 +39,7 @@ impl HostRuntime {
         #[cfg(test)]
         return Ok(());
         #[cfg(not(test))]
-        Unbuffered(io::stdout()).write_all(format!("{line}\n").as_bytes())
+        super::io::Unbuffered(io::stdout()).write_all(format!("{line}\n").as_bytes())
     }
 
     /// Prints a line to standard error.

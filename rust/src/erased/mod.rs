@@ -4,6 +4,7 @@
 
 // Some parameters, fields and functions are there for clauses alone.
 #![allow(dead_code, unused_variables)]
+#![cfg_attr(test, allow(unused_imports))]
 
 pub mod binfarce_text;
 pub mod binfarce_legacy;

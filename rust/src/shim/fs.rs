@@ -2,6 +2,8 @@
 
 use super::HostRuntime;
 use std::fs::Metadata;
+#[cfg(any(not(unix), binfarce_seeks))]
+use std::io::{Seek, SeekFrom};
 use std::io::{self, Read};
 
 /// An opened file.
@@ -18,19 +20,20 @@ impl File {
         self.0.metadata()
     }
 
-    /// Fills the buffer with the bytes from the offset on, and leaves the place where `read` goes on.
-    #[cfg(unix)]
+    /// Fills the buffer with the bytes from the offset on. Where `read` goes on doesn't change.
+    #[cfg(all(unix, not(binfarce_seeks)))]
     pub fn read_exact_at(&self, buf: &mut [u8], offset: u64) -> io::Result<()> {
         std::os::unix::fs::FileExt::read_exact_at(&self.0, buf, offset)
     }
 
-    /// Fills the buffer with the bytes from the offset on. `read` goes on from there.
-    #[cfg(not(unix))]
+    /// The same, where the system has no reads at offsets: it goes there and back.
+    #[cfg(any(not(unix), binfarce_seeks))]
     pub fn read_exact_at(&self, buf: &mut [u8], offset: u64) -> io::Result<()> {
-        use std::io::{Seek, SeekFrom};
         let mut file = &self.0;
-        file.seek(SeekFrom::Start(offset))?;
-        file.read_exact(buf)
+        let place = file.stream_position()?;
+        let read = file.seek(SeekFrom::Start(offset)).and_then(|_| file.read_exact(buf));
+        file.seek(SeekFrom::Start(place))?;
+        read
     }
 }
 

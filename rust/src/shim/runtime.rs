@@ -1,7 +1,7 @@
 //! What a program gets from its system.
 
 use super::alloc::Global;
-use super::io::{Read, Unbuffered};
+use super::io::Read;
 use std::fmt;
 use std::io::{self, Write};
 
@@ -21,17 +21,25 @@ impl HostRuntime {
 
     /// Standard input. std's buffer is passed by where at least as much as it holds is asked for.
     pub fn stdin(&self) -> impl Read + use<> {
+        #[cfg(test)]
+        return super::test::Input;
+        #[cfg(not(test))]
         io::stdin()
     }
 
     /// The same.
     pub fn reader(&self) -> impl Read + use<> {
-        io::stdin()
+        self.stdin()
     }
 
     /// Prints a line to standard output.
     pub fn println(&self, line: fmt::Arguments<'_>) -> io::Result<()> {
-        Unbuffered(io::stdout()).write_all(format!("{line}\n").as_bytes())
+        #[cfg(test)]
+        super::test::print(&format!("{line}\n"));
+        #[cfg(test)]
+        return Ok(());
+        #[cfg(not(test))]
+        super::io::Unbuffered(io::stdout()).write_all(format!("{line}\n").as_bytes())
     }
 
     /// Prints a line to standard error.

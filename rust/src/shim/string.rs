@@ -1,6 +1,7 @@
 //! `String`, whose every growth can fail.
 
 use super::alloc::{AllocError, Global, reserve_text};
+use super::vec::Vec;
 use std::fmt::{self, Write};
 use std::ops::Deref;
 use std::string;
@@ -31,6 +32,12 @@ impl String {
         let mut copy = String::new(alloc);
         copy.push_str(text)?;
         Ok(copy)
+    }
+
+    /// The text that these bytes are, in their memory.
+    #[inline]
+    pub fn from_utf8(bytes: Vec<u8>) -> Result<String, string::FromUtf8Error> {
+        string::String::from_utf8(bytes.into_std()).map(String)
     }
 
     /// What `format!` makes.

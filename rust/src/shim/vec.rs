@@ -52,6 +52,14 @@ impl<T> Vec<T> {
         Ok(())
     }
 
+    /// Adds an item before the one at `place`, or at the end.
+    #[inline]
+    pub fn insert(&mut self, place: usize, item: T) -> Result<(), AllocError> {
+        reserve(&mut self.0, 1)?;
+        self.0.insert(place, item);
+        Ok(())
+    }
+
     /// Adds an item at the end, where room for it was made.
     #[inline]
     pub fn push_reserved(&mut self, item: T) {

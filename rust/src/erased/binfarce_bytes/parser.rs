@@ -3,6 +3,7 @@
 //! Numbers and bytes at an offset; and the texts of `text`.
 
 pub use crate::erased::binfarce_bytes::text::{parse_null_string, up_to_nul, utf8_text};
+use crate::shim::ToSigned;
 use crate::erased::binfarce_bytes::{ByteOrder, ParseError};
 use std::error::Error;
 use std::fmt;
@@ -45,7 +46,7 @@ impl RawNumber for i8 {
     fn parse(s: &mut Stream) -> Option<i8> {
         match u8::parse(s) {
             None => None,
-            Some(number) => Some(number.cast_signed()),
+            Some(number) => Some(number.to_signed()),
         }
     }
 }
@@ -72,7 +73,7 @@ impl RawNumber for i16 {
     fn parse(s: &mut Stream) -> Option<i16> {
         match u16::parse(s) {
             None => None,
-            Some(number) => Some(number.cast_signed()),
+            Some(number) => Some(number.to_signed()),
         }
     }
 }

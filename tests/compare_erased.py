@@ -17,7 +17,7 @@ TOKEN = re.compile(r"""//[^\n]*|[bc]?r(\#*)".*?"\1|[bc]?"(?:\\.|[^"\\])*"|b?'(?:
 HIDDEN = str.maketrans(" \n(){}[]<>;,", "\ue000\ue001\ue002\ue003\ue004\ue005\ue006\ue007\ue008\ue009\ue00a\ue00b")
 SHOWN = {value: key for key, value in HIDDEN.items()}
 # What Rattle has without an import, and what the prover alone reads of std.
-PRELUDE = {"HostRuntime", "String", "Vec", "CollectIn"}
+PRELUDE = {"HostRuntime", "String", "Vec", "CollectIn", "ToSigned"}
 GHOST_IMPORTS = {"marker::Model", "io::Input", "os::unix::fs::FileExt", "fmt::Write", "thiserror::Error"}
 VALUE = r"(?:& )?\w+(?: \. \w+ \( \))?"
 ITEMS = r"(?:[^()]|\((?:[^()]|\([^()]*\))*\))*"
@@ -36,7 +36,7 @@ SOURCE = [
 ]
 ERASED = [
     (r"# \[ cfg_attr \( not \( debug_assertions \) , inline \( always \) \) \]", "# [ inline ( always ) ]"),
-    (r"\bcollect_in\b", "collect"),
+    (r"\bcollect_in\b", "collect"), (r"\bto_signed\b", "cast_signed"),
     # What C calls is reached from another crate.
     (r"\bpub mod (\w+) ;", r"mod \1 ;"),
     (r"fn (\w+) \( \) (-> [^{]*)?\{ let (\w+) = HostRuntime :: new \( \) ;", r"fn \1 ( \3 : HostRuntime ) \2{"),

@@ -1,6 +1,5 @@
 //! Files of any format that is read: the file's first bytes name the format.
 
-use crate::erased::binfarce_bytes;
 use crate::erased::binfarce_sections::bytes as bytes_of;
 use crate::erased::binfarce_sections::error::SectionError;
 use crate::erased::binfarce_sections::sections as sections_of;
@@ -8,8 +7,8 @@ use crate::erased::binfarce_tools::functions as functions_of;
 use crate::erased::binfarce_tools::list::{self as listing, ListError, Sink};
 use crate::erased::binfarce_tools::report::{self as reporting, ReportError};
 use crate::error::{Error, ParseError};
-use crate::shim::alloc::Global;
-use crate::{FunctionSymbol, Section};
+use crate::shim::{self, alloc::Global};
+use crate::{FunctionSymbol, Section, string_of};
 
 /// Returns an iterator over the function symbols of a file, and the size of their section in bytes.
 ///
@@ -98,7 +97,7 @@ pub fn section_bytes<'a>(file: &'a [u8], name: &str) -> Result<&'a [u8], Error> 
 /// # Ok::<(), Box<dyn std::error::Error>>(())
 /// ```
 pub fn list(file: &[u8], section: &str) -> Result<String, Error> {
-    let mut text = Text::default();
+    let mut text = Text::new();
     listing::list(Global, file, section, &mut text)?;
     Ok(text.into_string())
 }
@@ -120,33 +119,31 @@ pub fn list(file: &[u8], section: &str) -> Result<String, Error> {
 /// # Ok::<(), Box<dyn std::error::Error>>(())
 /// ```
 pub fn report(file: &[u8], section: &str) -> Result<String, Error> {
-    let mut text = Text::default();
+    let mut text = Text::new();
     reporting::report(Global, file, section, &mut text)?;
     Ok(text.into_string())
 }
 
 /// Takes a text. It fails where there is no memory for it.
-#[derive(Default)]
 struct Text {
-    bytes: Vec<u8>,
+    bytes: shim::Vec<u8>,
     failed: bool,
 }
 
 impl Text {
-    /// The text. A listing or report is UTF-8, since it is made of UTF-8 names.
+    fn new() -> Self {
+        Text { bytes: shim::Vec::new(Global), failed: false }
+    }
+
     fn into_string(self) -> String {
-        String::from_utf8(self.bytes).unwrap_or_else(|e| String::from_utf8_lossy(e.as_bytes()).into_owned())
+        string_of(self.bytes)
     }
 }
 
 impl Sink for Text {
     fn write(&mut self, bytes: &[u8]) -> Option<usize> {
-        if self.bytes.try_reserve(bytes.len()).is_err() {
-            self.failed = true;
-            return None;
-        }
-        self.bytes.extend_from_slice(bytes);
-        Some(bytes.len())
+        self.failed = self.bytes.extend_from_slice(bytes).is_err();
+        if self.failed { None } else { Some(bytes.len()) }
     }
 
     fn failed(&self) -> bool {
@@ -185,8 +182,8 @@ impl From<SectionError> for Error {
             SectionError::NoBytes => Error::NoBytes,
             SectionError::PastEnd => Error::PastEnd,
             SectionError::OutOfMemory => Error::OutOfMemory,
-            // Bytes in memory have no sink and no source that could fail.
-            SectionError::Write | SectionError::Unreadable => Error::Parse(ParseError::from(binfarce_bytes::ParseError::UnexpectedEof)),
+            // Not of bytes in memory.
+            SectionError::Write | SectionError::Unreadable => Error::Parse(ParseError::UnexpectedEof),
         }
     }
 }

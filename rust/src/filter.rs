@@ -4,6 +4,7 @@ use crate::erased::binfarce_filtering::filter as erased;
 use crate::erased::binfarce_filtering::stream::{self, StreamError};
 use crate::error::OutOfMemory;
 use crate::shim::alloc::Global;
+use crate::string_of;
 use std::io::{self, Read, Write};
 
 /// Which text of a name is shown.
@@ -35,9 +36,7 @@ pub enum Form {
 /// # Ok::<(), binfarce::OutOfMemory>(())
 /// ```
 pub fn filter(text: &str, form: Form) -> Result<String, OutOfMemory> {
-    let filtered = erased::filter(Global, form == Form::Complete, text.as_bytes())?.into_std();
-    // Only ASCII runs are replaced, and by UTF-8.
-    Ok(String::from_utf8(filtered).unwrap_or_else(|e| String::from_utf8_lossy(e.as_bytes()).into_owned()))
+    Ok(string_of(erased::filter(Global, form == Form::Complete, text.as_bytes())?))
 }
 
 /// Copies `input` to `output` as [`filter`] does, byte strings of any kind. What has been read is written before the next

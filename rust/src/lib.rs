@@ -42,6 +42,8 @@ pub mod macho;
 pub mod pe;
 #[doc(hidden)]
 pub mod shim;
+#[cfg(test)]
+mod tests;
 
 pub use any::{Functions, Sections, functions, list, report, section_bytes, sections};
 pub use erased::binfarce_bytes::ByteOrder;
@@ -56,4 +58,9 @@ use demangle::SymbolData;
 /// The answer of an erased reader, with std's types.
 fn symbols_of((symbols, size): (shim::Vec<erased::binfarce_names::demangle::SymbolData>, u64)) -> (Vec<SymbolData>, u64) {
     (symbols.into_iter().map(SymbolData::from).collect(), size)
+}
+
+/// A text that is UTF-8, since it is made of UTF-8 texts.
+fn string_of(bytes: shim::Vec<u8>) -> String {
+    String::from_utf8(bytes.into_std()).unwrap_or_else(|e| String::from_utf8_lossy(e.as_bytes()).into_owned())
 }

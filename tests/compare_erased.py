@@ -103,8 +103,7 @@ def plain(path, own, rules, missing=()):
     def derived(found):
         names = [name for name in re.sub(r"\s", "", found[1]).split(",") if name not in ("", "Drop", "Error", "thiserror::Error")]
         return f"# [ derive ( {' , '.join(names)} ) ]" if names else ""
-    text = dropped(read(path), r"\bghost (?=\w)", ";,")
-    text = dropped(text, r"\b(?:requires|ensures) (?=(?:\w+ )?\{)", "}")
+    text = dropped(dropped(read(path), r"\bghost (?=\w)", ";,"), r"\b(?:requires|ensures) (?=(?:\w+ )?\{)", "}")
     text = dropped(text, r"# (?:! )?\[ (?:tactic|cycle|rattlefmt|unsafe)\b", "]")
     for pattern, instead in [(r"# \[ derive \( ([^)]*)\) \]", derived), (r"# \[ error \( (\S+) \) \] (\w+)", shown), (SHOWS, shows),
                              (r"\b(pub )?use ([^;]*);", gather), (rf"(?:pub )?\bmod (?:{'|'.join(['(?!)', *missing])}) ;", ""),
@@ -122,7 +121,6 @@ def difference(source, erased, own, missing):
     for item in sorted(wanted ^ given, key=str):
         if item[0] not in (GHOSTS if item in wanted else PRELUDE):
             return f"{source if item in wanted else erased}:1 alone has {item[0].translate(SHOWN)} as {item[1]}"
-    return None
 
 
 def main():

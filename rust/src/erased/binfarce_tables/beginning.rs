@@ -2,9 +2,9 @@
 
 //! The beginning of a Mach-O or PE file, of which its sections are read.
 
-/// A file's first bytes, in memory, whose sections are those of the file, and the file's length.
 use crate::shim::Vec;
 
+/// A file's first bytes, in memory, whose sections are those of the file, and the file's length.
 pub struct Beginning {
     pub(crate) bytes: Vec<u8>,
     pub(crate) file_length: u64,

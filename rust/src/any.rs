@@ -57,6 +57,8 @@ impl<'a> Iterator for Sections<'a> {
     }
 }
 
+debug_by_name!(Functions, Sections);
+
 /// Returns the bytes of the first section with this name, a part of the file.
 ///
 /// In a Mach-O file the name is `SEGMENT,SECTION`, as `__TEXT,__text`, or that of a section in any segment. In a PE file a
@@ -151,6 +153,7 @@ impl Sink for Text {
     }
 }
 
+#[doc(hidden)]
 impl From<ListError> for Error {
     fn from(e: ListError) -> Self {
         match e {
@@ -162,6 +165,7 @@ impl From<ListError> for Error {
     }
 }
 
+#[doc(hidden)]
 impl From<ReportError> for Error {
     fn from(e: ReportError) -> Self {
         match e {
@@ -173,6 +177,7 @@ impl From<ReportError> for Error {
     }
 }
 
+#[doc(hidden)]
 impl From<SectionError> for Error {
     fn from(e: SectionError) -> Self {
         match e {

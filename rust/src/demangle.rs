@@ -34,6 +34,7 @@ pub struct SymbolData {
     pub size: u64,
 }
 
+#[doc(hidden)]
 impl From<erased::SymbolData> for SymbolData {
     fn from(symbol: erased::SymbolData) -> Self {
         SymbolData { name: symbol.name.into(), address: symbol.address, size: symbol.size }
@@ -73,6 +74,7 @@ impl SymbolName {
     }
 }
 
+#[doc(hidden)]
 impl From<erased::SymbolName> for SymbolName {
     fn from(name: erased::SymbolName) -> Self {
         SymbolName {

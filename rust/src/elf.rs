@@ -227,6 +227,8 @@ macro_rules! reader {
                 self.0.next()
             }
         }
+
+        debug_by_name!(Sections, Functions);
     };
 }
 

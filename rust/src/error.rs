@@ -62,7 +62,8 @@ impl From<UnexpectedEof> for ParseError {
     }
 }
 
-/// For the calls whose signature has no place for a failed allocation: the program ends there, as where a `Vec` can't grow.
+// For the calls whose signature has no place for a failed allocation: the program ends there, as where a `Vec` can't grow.
+#[doc(hidden)]
 impl From<binfarce_bytes::ParseError> for ParseError {
     fn from(e: binfarce_bytes::ParseError) -> Self {
         match Error::from(e) {
@@ -137,6 +138,7 @@ impl From<OutOfMemory> for Error {
     }
 }
 
+#[doc(hidden)]
 impl From<binfarce_bytes::ParseError> for Error {
     fn from(e: binfarce_bytes::ParseError) -> Self {
         use binfarce_bytes::ParseError as Refusal;
@@ -163,6 +165,7 @@ impl fmt::Display for OutOfMemory {
 
 impl error::Error for OutOfMemory {}
 
+#[doc(hidden)]
 impl From<AllocError> for OutOfMemory {
     fn from(_: AllocError) -> Self {
         OutOfMemory

@@ -28,6 +28,17 @@
 #[cfg(not(target_pointer_width = "64"))]
 compile_error!("binfarce reads files on 64-bit machines only");
 
+/// Implements `Debug` for iterators over parts of a file, by their names alone.
+macro_rules! debug_by_name {
+    ($($Iterator:ident),*) => {$(
+        impl std::fmt::Debug for $Iterator<'_> {
+            fn fmt(&self, f: &mut std::fmt::Formatter<'_>) -> std::fmt::Result {
+                f.debug_struct(stringify!($Iterator)).finish_non_exhaustive()
+            }
+        }
+    )*};
+}
+
 mod any;
 pub mod demangle;
 mod elf;

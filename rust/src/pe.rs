@@ -170,3 +170,5 @@ impl<'a> Iterator for Sections<'a> {
         Some(self.0.next()?.map(Section).map_err(ParseError::from))
     }
 }
+
+debug_by_name!(Sections);

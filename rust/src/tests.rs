@@ -116,8 +116,8 @@ fn errors_are_those_of_the_original() {
     // The type of `.symtab`, in the third section header.
     file[267 + 2 * 64 + 4] = 1;
     assert_eq!(words(symbols(&file).err().unwrap()), ".symtab");
-    assert_eq!(functions(&file, ".text").err(), Some(Error::Parse(ParseError::SectionIsMissing(".symtab"))));
-    assert_eq!(functions(b"#!/bin/sh", ".text").err(), Some(Error::UnknownFormat));
+    assert_eq!(functions(&file, ".text").unwrap_err(), Error::Parse(ParseError::SectionIsMissing(".symtab")));
+    assert_eq!(functions(b"#!/bin/sh", ".text").unwrap_err(), Error::UnknownFormat);
     assert_eq!(ParseError::from(UnexpectedEof {}).to_string(), "unexpected end of file");
 }
 

@@ -19,7 +19,7 @@ fail() {
     status=1
 }
 
-# All that a program says of files, and its statuses, a file after the other.
+# The output and status of a program for each file.
 answers() {
     program=$1
     shift
@@ -28,7 +28,7 @@ answers() {
         "$program" "$file" 2>&1 || echo "status $?"
     done | sed 's/^binfarce-list: //'
 }
-# Holds what clients say of files against what the program says: compare "CLIENT .." FILE ..
+# Compares the answers of clients with those of the program: compare "CLIENT .." FILE ..
 compare() {
     clients=$1
     shift
@@ -64,7 +64,7 @@ gcc -std=c11 $flags examples/refused.c "$archive" -Wl,--wrap=malloc,--wrap=reall
 g++ -std=c++17 $flags examples/names.cpp "$archive" -o "$work/names"
 g++ -std=c++17 $flags $strict examples/names.cpp "$archive" -o "$work/names-checked"
 
-# The listing is made whole by the library, and symbol by symbol by the client.
+# `listing` asks the library for the whole listing, `symbols` for the function symbols.
 compare "$work/symbols $work/listing $work/symbols-checked $work/listing-checked $built/examples/symbols" \
     "$sample" "$work/symbols" README.md "$@"
 examples/hostile_files.py "$work/hostile-files" "$files"
@@ -75,9 +75,9 @@ for name in names names-checked; do
     "$work/$name" <examples/names.txt | cmp - examples/names.wanted || fail "$name of C++"
 done
 "$work/kinds-checked" <examples/names.txt | cut -d' ' -f1 | tr -d '\n' >"$work/given"
-[ "$(cat "$work/given")" = 2221100 ] || fail "a name's kind isn't the one that names.txt shows"
+[ "$(cat "$work/given")" = 2221100 ] || fail "a name's kind differs from the one in names.txt"
 
-# Of each section behind the first its number, name, address, offset and size.
+# The number, name, address, offset and size of each section but the first.
 for file in "$sample" "$work/symbols" "$work/header.o"; do
     readelf -SW "$file" | sed -n 's/^ *\[ *\([0-9]*\)\] */\1 /p' |
         awk '$1 > 0 { for (i = 4; i < 7; i++) sub(/^0*/, "", $i); print $1, $2, $4 ? $4 : 0, $5 ? $5 : 0, $6 ? $6 : 0 }' >"$work/wanted"

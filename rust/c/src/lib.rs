@@ -1,8 +1,8 @@
 // Written by rust/c/generate from include/binfarce.h.
 //! The library for C and C++, which `binfarce.h` declares: each function calls the erased export of its name.
 //!
-//! All of this repository's unsafe code is here: what C passes as a pointer and a length is borrowed as a slice. A panic
-//! can't pass into C: it ends the program.
+//! All of this repository's unsafe code is here: it borrows a pointer and a length from C as a slice. A panic doesn't unwind
+//! into C: it ends the program.
 
 use exports::*;
 use std::{mem, slice};
@@ -12,23 +12,23 @@ mod exports {
     pub use exported::shim::alloc::Global;
 }
 
-/// The bytes or structs that C passes. Where there are none, the pointer isn't looked at and may be null.
+/// The slice of `length` values at `start`. Where `length` is 0, `start` isn't used and may be null.
 ///
 /// # Safety
 ///
-/// `start` points to `length` readable values, which nothing writes as long as they are borrowed.
+/// `start` points to `length` readable values, and nothing writes to them during the borrow.
 unsafe fn values<'a, T>(start: *const T, length: usize) -> &'a [T] {
-    // SAFETY: what the caller owes.
+    // SAFETY: required of the caller.
     if length == 0 { &[] } else { unsafe { slice::from_raw_parts(start, length) } }
 }
 
-/// The same of values that are written.
+/// The same for values that are written.
 ///
 /// # Safety
 ///
-/// `start` points to `length` writable values, which nothing else reads or writes as long as they are borrowed.
+/// `start` points to `length` writable values, and nothing else reads or writes them during the borrow.
 unsafe fn values_mut<'a, T>(start: *mut T, length: usize) -> &'a mut [T] {
-    // SAFETY: what the caller owes.
+    // SAFETY: required of the caller.
     if length == 0 { &mut [] } else { unsafe { slice::from_raw_parts_mut(start, length) } }
 }
 
@@ -222,252 +222,252 @@ const _: () = {
 
 /// # Safety
 ///
-/// What `binfarce.h` asks of a caller.
+/// The caller keeps the rules of `binfarce.h`.
 #[unsafe(no_mangle)]
 pub unsafe extern "C" fn binfarce_status_text(status: u32, out: *mut u8, out_length: usize) -> usize {
-    // SAFETY: the header asks of the caller what is needed here, and nothing is kept after the call.
+    // SAFETY: the rules of binfarce.h say so; nothing is kept after the call.
     unsafe { exports::binfarce_status_text(status, values_mut(out, out_length)) }
 }
 
 /// # Safety
 ///
-/// What `binfarce.h` asks of a caller.
+/// The caller keeps the rules of `binfarce.h`.
 #[unsafe(no_mangle)]
 pub unsafe extern "C" fn binfarce_demangle(name: *const u8, name_length: usize, complete: *mut u8, complete_length: usize, trimmed: *mut u8, trimmed_length: usize, crate_name: *mut u8, crate_length: usize) -> SymbolName {
-    // SAFETY: the header asks of the caller what is needed here, and nothing is kept after the call.
+    // SAFETY: the rules of binfarce.h say so; nothing is kept after the call.
     unsafe { exports::binfarce_demangle(Global, values(name, name_length), values_mut(complete, complete_length), values_mut(trimmed, trimmed_length), values_mut(crate_name, crate_length)) }
 }
 
 /// # Safety
 ///
-/// What `binfarce.h` asks of a caller.
+/// The caller keeps the rules of `binfarce.h`.
 #[unsafe(no_mangle)]
 pub unsafe extern "C" fn binfarce_trimmed(name: *const u8, name_length: usize, out: *mut u8, out_length: usize) -> Text {
-    // SAFETY: the header asks of the caller what is needed here, and nothing is kept after the call.
+    // SAFETY: the rules of binfarce.h say so; nothing is kept after the call.
     unsafe { exports::binfarce_trimmed(Global, values(name, name_length), values_mut(out, out_length)) }
 }
 
 /// # Safety
 ///
-/// What `binfarce.h` asks of a caller.
+/// The caller keeps the rules of `binfarce.h`.
 #[unsafe(no_mangle)]
 pub unsafe extern "C" fn binfarce_crate_of(name: *const u8, name_length: usize, out: *mut u8, out_length: usize) -> Text {
-    // SAFETY: the header asks of the caller what is needed here, and nothing is kept after the call.
+    // SAFETY: the rules of binfarce.h say so; nothing is kept after the call.
     unsafe { exports::binfarce_crate_of(Global, values(name, name_length), values_mut(out, out_length)) }
 }
 
 /// # Safety
 ///
-/// What `binfarce.h` asks of a caller.
+/// The caller keeps the rules of `binfarce.h`.
 #[unsafe(no_mangle)]
 pub unsafe extern "C" fn binfarce_mangling(name: *const u8, name_length: usize, out: *mut Mangling) -> u32 {
-    // SAFETY: the header asks of the caller what is needed here, and nothing is kept after the call.
+    // SAFETY: the rules of binfarce.h say so; nothing is kept after the call.
     unsafe { exports::binfarce_mangling(values(name, name_length), &mut *out) }
 }
 
 /// # Safety
 ///
-/// What `binfarce.h` asks of a caller.
+/// The caller keeps the rules of `binfarce.h`.
 #[unsafe(no_mangle)]
 pub unsafe extern "C" fn binfarce_list(file: *const u8, file_length: usize, section: *const u8, section_length: usize, out: *mut u8, out_length: usize) -> Text {
-    // SAFETY: the header asks of the caller what is needed here, and nothing is kept after the call.
+    // SAFETY: the rules of binfarce.h say so; nothing is kept after the call.
     unsafe { exports::binfarce_list(Global, values(file, file_length), values(section, section_length), values_mut(out, out_length)) }
 }
 
 /// # Safety
 ///
-/// What `binfarce.h` asks of a caller.
+/// The caller keeps the rules of `binfarce.h`.
 #[unsafe(no_mangle)]
 pub unsafe extern "C" fn binfarce_report(file: *const u8, file_length: usize, section: *const u8, section_length: usize, out: *mut u8, out_length: usize) -> Text {
-    // SAFETY: the header asks of the caller what is needed here, and nothing is kept after the call.
+    // SAFETY: the rules of binfarce.h say so; nothing is kept after the call.
     unsafe { exports::binfarce_report(Global, values(file, file_length), values(section, section_length), values_mut(out, out_length)) }
 }
 
 /// # Safety
 ///
-/// What `binfarce.h` asks of a caller.
+/// The caller keeps the rules of `binfarce.h`.
 #[unsafe(no_mangle)]
 pub unsafe extern "C" fn binfarce_detect_format(file: *const u8, file_length: usize) -> u32 {
-    // SAFETY: the header asks of the caller what is needed here, and nothing is kept after the call.
+    // SAFETY: the rules of binfarce.h say so; nothing is kept after the call.
     unsafe { exports::binfarce_detect_format(values(file, file_length)) }
 }
 
 /// # Safety
 ///
-/// What `binfarce.h` asks of a caller.
+/// The caller keeps the rules of `binfarce.h`.
 #[unsafe(no_mangle)]
 pub unsafe extern "C" fn binfarce_elf32_header(file: *const u8, file_length: usize, big_endian: bool, out: *mut ElfHeader) -> u32 {
-    // SAFETY: the header asks of the caller what is needed here, and nothing is kept after the call.
+    // SAFETY: the rules of binfarce.h say so; nothing is kept after the call.
     unsafe { exports::binfarce_elf32_header(values(file, file_length), big_endian, &mut *out) }
 }
 
 /// # Safety
 ///
-/// What `binfarce.h` asks of a caller.
+/// The caller keeps the rules of `binfarce.h`.
 #[unsafe(no_mangle)]
 pub unsafe extern "C" fn binfarce_elf64_header(file: *const u8, file_length: usize, big_endian: bool, out: *mut ElfHeader) -> u32 {
-    // SAFETY: the header asks of the caller what is needed here, and nothing is kept after the call.
+    // SAFETY: the rules of binfarce.h say so; nothing is kept after the call.
     unsafe { exports::binfarce_elf64_header(values(file, file_length), big_endian, &mut *out) }
 }
 
 /// # Safety
 ///
-/// What `binfarce.h` asks of a caller.
+/// The caller keeps the rules of `binfarce.h`.
 #[unsafe(no_mangle)]
 pub unsafe extern "C" fn binfarce_macho_header(file: *const u8, file_length: usize) -> u32 {
-    // SAFETY: the header asks of the caller what is needed here, and nothing is kept after the call.
+    // SAFETY: the rules of binfarce.h say so; nothing is kept after the call.
     unsafe { exports::binfarce_macho_header(values(file, file_length)) }
 }
 
 /// # Safety
 ///
-/// What `binfarce.h` asks of a caller.
+/// The caller keeps the rules of `binfarce.h`.
 #[unsafe(no_mangle)]
 pub unsafe extern "C" fn binfarce_pe_header(file: *const u8, file_length: usize) -> u32 {
-    // SAFETY: the header asks of the caller what is needed here, and nothing is kept after the call.
+    // SAFETY: the rules of binfarce.h say so; nothing is kept after the call.
     unsafe { exports::binfarce_pe_header(values(file, file_length)) }
 }
 
 /// # Safety
 ///
-/// What `binfarce.h` asks of a caller.
+/// The caller keeps the rules of `binfarce.h`.
 #[unsafe(no_mangle)]
 pub unsafe extern "C" fn binfarce_elf32_functions(file: *const u8, file_length: usize, big_endian: bool, section: *const u8, section_length: usize, out: *mut Function, out_length: usize) -> Functions {
-    // SAFETY: the header asks of the caller what is needed here, and nothing is kept after the call.
+    // SAFETY: the rules of binfarce.h say so; nothing is kept after the call.
     unsafe { exports::binfarce_elf32_functions(Global, values(file, file_length), big_endian, values(section, section_length), values_mut(out, out_length)) }
 }
 
 /// # Safety
 ///
-/// What `binfarce.h` asks of a caller.
+/// The caller keeps the rules of `binfarce.h`.
 #[unsafe(no_mangle)]
 pub unsafe extern "C" fn binfarce_elf64_functions(file: *const u8, file_length: usize, big_endian: bool, section: *const u8, section_length: usize, out: *mut Function, out_length: usize) -> Functions {
-    // SAFETY: the header asks of the caller what is needed here, and nothing is kept after the call.
+    // SAFETY: the rules of binfarce.h say so; nothing is kept after the call.
     unsafe { exports::binfarce_elf64_functions(Global, values(file, file_length), big_endian, values(section, section_length), values_mut(out, out_length)) }
 }
 
 /// # Safety
 ///
-/// What `binfarce.h` asks of a caller.
+/// The caller keeps the rules of `binfarce.h`.
 #[unsafe(no_mangle)]
 pub unsafe extern "C" fn binfarce_macho_functions(file: *const u8, file_length: usize, out: *mut Function, out_length: usize) -> Functions {
-    // SAFETY: the header asks of the caller what is needed here, and nothing is kept after the call.
+    // SAFETY: the rules of binfarce.h say so; nothing is kept after the call.
     unsafe { exports::binfarce_macho_functions(Global, values(file, file_length), values_mut(out, out_length)) }
 }
 
 /// # Safety
 ///
-/// What `binfarce.h` asks of a caller.
+/// The caller keeps the rules of `binfarce.h`.
 #[unsafe(no_mangle)]
 pub unsafe extern "C" fn binfarce_pe_functions(file: *const u8, file_length: usize, out: *mut Function, out_length: usize) -> Functions {
-    // SAFETY: the header asks of the caller what is needed here, and nothing is kept after the call.
+    // SAFETY: the rules of binfarce.h say so; nothing is kept after the call.
     unsafe { exports::binfarce_pe_functions(Global, values(file, file_length), values_mut(out, out_length)) }
 }
 
 /// # Safety
 ///
-/// What `binfarce.h` asks of a caller.
+/// The caller keeps the rules of `binfarce.h`.
 #[unsafe(no_mangle)]
 pub unsafe extern "C" fn binfarce_elf32_section(file: *const u8, file_length: usize, big_endian: bool, name: *const u8, name_length: usize, out: *mut Section) -> u32 {
-    // SAFETY: the header asks of the caller what is needed here, and nothing is kept after the call.
+    // SAFETY: the rules of binfarce.h say so; nothing is kept after the call.
     unsafe { exports::binfarce_elf32_section(values(file, file_length), big_endian, values(name, name_length), &mut *out) }
 }
 
 /// # Safety
 ///
-/// What `binfarce.h` asks of a caller.
+/// The caller keeps the rules of `binfarce.h`.
 #[unsafe(no_mangle)]
 pub unsafe extern "C" fn binfarce_elf64_section(file: *const u8, file_length: usize, big_endian: bool, name: *const u8, name_length: usize, out: *mut Section) -> u32 {
-    // SAFETY: the header asks of the caller what is needed here, and nothing is kept after the call.
+    // SAFETY: the rules of binfarce.h say so; nothing is kept after the call.
     unsafe { exports::binfarce_elf64_section(values(file, file_length), big_endian, values(name, name_length), &mut *out) }
 }
 
 /// # Safety
 ///
-/// What `binfarce.h` asks of a caller.
+/// The caller keeps the rules of `binfarce.h`.
 #[unsafe(no_mangle)]
 pub unsafe extern "C" fn binfarce_macho_section(file: *const u8, file_length: usize, segment: *const u8, segment_length: usize, name: *const u8, name_length: usize, out: *mut Section) -> u32 {
-    // SAFETY: the header asks of the caller what is needed here, and nothing is kept after the call.
+    // SAFETY: the rules of binfarce.h say so; nothing is kept after the call.
     unsafe { exports::binfarce_macho_section(values(file, file_length), values(segment, segment_length), values(name, name_length), &mut *out) }
 }
 
 /// # Safety
 ///
-/// What `binfarce.h` asks of a caller.
+/// The caller keeps the rules of `binfarce.h`.
 #[unsafe(no_mangle)]
 pub unsafe extern "C" fn binfarce_pe_section(file: *const u8, file_length: usize, name: *const u8, name_length: usize, out: *mut Section) -> u32 {
-    // SAFETY: the header asks of the caller what is needed here, and nothing is kept after the call.
+    // SAFETY: the rules of binfarce.h say so; nothing is kept after the call.
     unsafe { exports::binfarce_pe_section(values(file, file_length), values(name, name_length), &mut *out) }
 }
 
 /// # Safety
 ///
-/// What `binfarce.h` asks of a caller.
+/// The caller keeps the rules of `binfarce.h`.
 #[unsafe(no_mangle)]
 pub unsafe extern "C" fn binfarce_elf32_section_at(file: *const u8, file_length: usize, big_endian: bool, index: usize, out: *mut Section) -> u32 {
-    // SAFETY: the header asks of the caller what is needed here, and nothing is kept after the call.
+    // SAFETY: the rules of binfarce.h say so; nothing is kept after the call.
     unsafe { exports::binfarce_elf32_section_at(values(file, file_length), big_endian, index, &mut *out) }
 }
 
 /// # Safety
 ///
-/// What `binfarce.h` asks of a caller.
+/// The caller keeps the rules of `binfarce.h`.
 #[unsafe(no_mangle)]
 pub unsafe extern "C" fn binfarce_elf64_section_at(file: *const u8, file_length: usize, big_endian: bool, index: usize, out: *mut Section) -> u32 {
-    // SAFETY: the header asks of the caller what is needed here, and nothing is kept after the call.
+    // SAFETY: the rules of binfarce.h say so; nothing is kept after the call.
     unsafe { exports::binfarce_elf64_section_at(values(file, file_length), big_endian, index, &mut *out) }
 }
 
 /// # Safety
 ///
-/// What `binfarce.h` asks of a caller.
+/// The caller keeps the rules of `binfarce.h`.
 #[unsafe(no_mangle)]
 pub unsafe extern "C" fn binfarce_macho_section_at(file: *const u8, file_length: usize, index: usize, out: *mut Section) -> u32 {
-    // SAFETY: the header asks of the caller what is needed here, and nothing is kept after the call.
+    // SAFETY: the rules of binfarce.h say so; nothing is kept after the call.
     unsafe { exports::binfarce_macho_section_at(values(file, file_length), index, &mut *out) }
 }
 
 /// # Safety
 ///
-/// What `binfarce.h` asks of a caller.
+/// The caller keeps the rules of `binfarce.h`.
 #[unsafe(no_mangle)]
 pub unsafe extern "C" fn binfarce_pe_section_at(file: *const u8, file_length: usize, index: usize, out: *mut Section) -> u32 {
-    // SAFETY: the header asks of the caller what is needed here, and nothing is kept after the call.
+    // SAFETY: the rules of binfarce.h say so; nothing is kept after the call.
     unsafe { exports::binfarce_pe_section_at(values(file, file_length), index, &mut *out) }
 }
 
 /// # Safety
 ///
-/// What `binfarce.h` asks of a caller.
+/// The caller keeps the rules of `binfarce.h`.
 #[unsafe(no_mangle)]
 pub unsafe extern "C" fn binfarce_elf32_sections(file: *const u8, file_length: usize, big_endian: bool, out: *mut Section, out_length: usize) -> Sections {
-    // SAFETY: the header asks of the caller what is needed here, and nothing is kept after the call.
+    // SAFETY: the rules of binfarce.h say so; nothing is kept after the call.
     unsafe { exports::binfarce_elf32_sections(values(file, file_length), big_endian, values_mut(out, out_length)) }
 }
 
 /// # Safety
 ///
-/// What `binfarce.h` asks of a caller.
+/// The caller keeps the rules of `binfarce.h`.
 #[unsafe(no_mangle)]
 pub unsafe extern "C" fn binfarce_elf64_sections(file: *const u8, file_length: usize, big_endian: bool, out: *mut Section, out_length: usize) -> Sections {
-    // SAFETY: the header asks of the caller what is needed here, and nothing is kept after the call.
+    // SAFETY: the rules of binfarce.h say so; nothing is kept after the call.
     unsafe { exports::binfarce_elf64_sections(values(file, file_length), big_endian, values_mut(out, out_length)) }
 }
 
 /// # Safety
 ///
-/// What `binfarce.h` asks of a caller.
+/// The caller keeps the rules of `binfarce.h`.
 #[unsafe(no_mangle)]
 pub unsafe extern "C" fn binfarce_macho_sections(file: *const u8, file_length: usize, out: *mut Section, out_length: usize) -> Sections {
-    // SAFETY: the header asks of the caller what is needed here, and nothing is kept after the call.
+    // SAFETY: the rules of binfarce.h say so; nothing is kept after the call.
     unsafe { exports::binfarce_macho_sections(values(file, file_length), values_mut(out, out_length)) }
 }
 
 /// # Safety
 ///
-/// What `binfarce.h` asks of a caller.
+/// The caller keeps the rules of `binfarce.h`.
 #[unsafe(no_mangle)]
 pub unsafe extern "C" fn binfarce_pe_sections(file: *const u8, file_length: usize, out: *mut Section, out_length: usize) -> Sections {
-    // SAFETY: the header asks of the caller what is needed here, and nothing is kept after the call.
+    // SAFETY: the rules of binfarce.h say so; nothing is kept after the call.
     unsafe { exports::binfarce_pe_sections(values(file, file_length), values_mut(out, out_length)) }
 }

@@ -64,6 +64,9 @@ gcc -std=c11 $flags examples/refused.c "$archive" -Wl,--wrap=malloc,--wrap=reall
 g++ -std=c++17 $flags examples/names.cpp "$archive" -o "$work/names"
 g++ -std=c++17 $flags $strict examples/names.cpp "$archive" -o "$work/names-checked"
 
+grep -oE '^[a-z].* binfarce_[a-z0-9_]+\(' include/binfarce.h | sed 's/.* //; s/($//' | sort >"$work/wanted"
+nm -D --defined-only "$built/libbinfarce.so" | awk '{ print $3 }' | sort | cmp "$work/wanted" - || fail "the shared library exports other names than the header declares"
+
 # `listing` asks the library for the whole listing, `symbols` for the function symbols.
 compare "$work/symbols $work/listing $work/symbols-checked $work/listing-checked $built/examples/symbols" \
     "$sample" "$work/symbols" README.md "$@"

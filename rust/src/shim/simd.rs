@@ -51,24 +51,24 @@ impl u8x16 {
     }
 }
 
-impl BitOr for u8x16 {
-    type Output = u8x16;
+/// An operator that takes sixteen bytes one by one.
+macro_rules! operator {
+    ($operator:ident, $name:ident, $type:ident, $f:expr) => {
+        impl $operator for $type {
+            type Output = $type;
 
-    #[inline(always)]
-    fn bitor(self, other: u8x16) -> u8x16 {
-        u8x16(each(|at| self.0[at] | other.0[at]))
-    }
+            #[inline(always)]
+            fn $name(self, other: $type) -> $type {
+                $type(each(|at| $f(self.0[at], other.0[at])))
+            }
+        }
+    };
 }
 
-impl Sub for u8x16 {
-    type Output = u8x16;
-
-    /// The differences, which wrap.
-    #[inline(always)]
-    fn sub(self, other: u8x16) -> u8x16 {
-        u8x16(each(|at| self.0[at].wrapping_sub(other.0[at])))
-    }
-}
+operator!(BitOr, bitor, u8x16, |a: u8, b: u8| a | b);
+operator!(Sub, sub, u8x16, |a: u8, b: u8| a.wrapping_sub(b));
+operator!(BitOr, bitor, Mask, |a: u8, b: u8| a | b);
+operator!(BitAnd, bitand, Mask, |a: u8, b: u8| a & b);
 
 impl Mask {
     /// A bit for each answer, the lowest one for the first byte.
@@ -80,23 +80,5 @@ impl Mask {
             (u64::from_le_bytes(bytes) & 0x8040_2010_0804_0201).wrapping_mul(0x0101_0101_0101_0101) >> 56
         };
         half(0) | half(8) << 8
-    }
-}
-
-impl BitOr for Mask {
-    type Output = Mask;
-
-    #[inline(always)]
-    fn bitor(self, other: Mask) -> Mask {
-        Mask(each(|at| self.0[at] | other.0[at]))
-    }
-}
-
-impl BitAnd for Mask {
-    type Output = Mask;
-
-    #[inline(always)]
-    fn bitand(self, other: Mask) -> Mask {
-        Mask(each(|at| self.0[at] & other.0[at]))
     }
 }

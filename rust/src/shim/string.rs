@@ -3,10 +3,10 @@
 use super::alloc::{AllocError, Global, reserve_text};
 use super::vec::Vec;
 use std::fmt::{self, Write};
-use std::ops::Deref;
+use std::ops::{Deref, DerefMut};
 use std::string;
 
-/// A text in memory of its own, as that of std's `String`.
+/// A text in memory of its own. What doesn't grow is as in std's `String`.
 #[derive(PartialEq, Eq, PartialOrd, Ord, Hash)]
 pub struct String(string::String);
 
@@ -21,7 +21,7 @@ impl String {
     #[inline]
     pub fn with_capacity(alloc: Global, capacity: usize) -> Result<String, AllocError> {
         let mut text = String::new(alloc);
-        reserve_text(&mut text.0, capacity)?;
+        text.reserve(capacity)?;
         Ok(text)
     }
 
@@ -52,12 +52,6 @@ impl String {
         Ends(self).write_fmt(arguments).map_err(|_| AllocError)
     }
 
-    /// How many bytes there is room for.
-    #[inline]
-    pub fn capacity(&self) -> usize {
-        self.0.capacity()
-    }
-
     /// Makes room for `more` bytes behind those that there are.
     #[inline]
     pub fn reserve(&mut self, more: usize) -> Result<(), AllocError> {
@@ -67,7 +61,7 @@ impl String {
     /// Adds a character at the end.
     #[inline]
     pub fn push(&mut self, c: char) -> Result<(), AllocError> {
-        reserve_text(&mut self.0, c.len_utf8())?;
+        self.reserve(c.len_utf8())?;
         self.0.push(c);
         Ok(())
     }
@@ -75,21 +69,9 @@ impl String {
     /// Adds a text at the end.
     #[inline]
     pub fn push_str(&mut self, text: &str) -> Result<(), AllocError> {
-        reserve_text(&mut self.0, text.len())?;
+        self.reserve(text.len())?;
         self.0.push_str(text);
         Ok(())
-    }
-
-    /// Removes the text, and keeps its memory.
-    #[inline]
-    pub fn clear(&mut self) {
-        self.0.clear();
-    }
-
-    /// Removes the bytes from `len` on, where a character has to begin.
-    #[inline]
-    pub fn truncate(&mut self, len: usize) {
-        self.0.truncate(len);
     }
 
     #[inline]
@@ -104,12 +86,6 @@ impl String {
     }
 }
 
-impl From<string::String> for String {
-    fn from(text: string::String) -> String {
-        String(text)
-    }
-}
-
 // The end of a text, as `write!` writes to it.
 struct Ends<'a>(&'a mut String);
 
@@ -119,12 +95,25 @@ impl Write for Ends<'_> {
     }
 }
 
+impl From<string::String> for String {
+    fn from(text: string::String) -> String {
+        String(text)
+    }
+}
+
 impl Deref for String {
-    type Target = str;
+    type Target = string::String;
 
     #[inline]
-    fn deref(&self) -> &str {
+    fn deref(&self) -> &string::String {
         &self.0
+    }
+}
+
+impl DerefMut for String {
+    #[inline]
+    fn deref_mut(&mut self) -> &mut string::String {
+        &mut self.0
     }
 }
 
@@ -143,6 +132,6 @@ impl fmt::Debug for String {
 
 impl fmt::Display for String {
     fn fmt(&self, f: &mut fmt::Formatter<'_>) -> fmt::Result {
-        f.pad(&self.0)
+        self.0.fmt(f)
     }
 }

@@ -63,7 +63,6 @@ fn vec() {
 #[test]
 fn vec_refused() {
     assert_eq!(refused_each(1, || Vec::<u8>::with_capacity(Global, 9)).capacity(), 9);
-    assert_eq!(*refused_each(1, || Vec::from_array(Global, [1, 2])), [1, 2]);
     assert_eq!(*refused_each(1, || Vec::from_slice(Global, &[1, 2])), [1, 2]);
     assert_eq!(*refused_each(1, || Vec::filled(Global, 7, 3)), [7, 7, 7]);
     assert_eq!(*refused_each(3, || (0..9).collect_in(Global)), [0, 1, 2, 3, 4, 5, 6, 7, 8]);
@@ -76,7 +75,7 @@ fn vec_refused() {
     assert_eq!(written, ErrorKind::OutOfMemory);
     assert_eq!(Vec::<u64>::with_capacity(Global, usize::MAX), Err(AllocError));
     // What isn't added leaves what there is as it is.
-    let mut items = Vec::from_array(Global, [3; 100]).unwrap();
+    let mut items = Vec::from_slice(Global, &[3; 100]).unwrap();
     assert!(refusing(1, || items.push(4)).0.is_err());
     assert!(refusing(1, || items.resize(200, 4)).0.is_err());
     assert_eq!(*items, [3; 100]);
@@ -123,7 +122,7 @@ fn string() {
     assert_eq!(format!("{:>4}|{:<4}", String::from(want.clone()), ""), format!("{want:>4}|{:<4}", ""));
     let bytes = Vec::from_slice(Global, text.as_bytes()).unwrap();
     assert_eq!(String::from_utf8(bytes).unwrap().into_std(), want);
-    assert!(String::from_utf8(Vec::from_array(Global, [0xFF]).unwrap()).is_err());
+    assert!(String::from_utf8(Vec::from_slice(Global, &[0xFF]).unwrap()).is_err());
     text.clear();
     assert!(text.is_empty() && text.capacity() > 0);
 }
@@ -234,7 +233,7 @@ fn reading_to_the_end() {
     let mut numbers = Numbers(7);
     for len in [0, 1, 8191, 8192, 8193, 100_000] {
         let bytes: std::vec::Vec<u8> = (0..len).map(|_| numbers.below(256) as u8).collect();
-        let mut read = Vec::from_array(Global, [b'a']).unwrap();
+        let mut read = Vec::from_slice(Global, b"a").unwrap();
         assert_eq!(io::Read::read_to_end(&mut Cursor::new(&bytes), &mut read).unwrap(), len);
         assert_eq!(read[1..], bytes);
         let mut read = Vec::new(Global);
@@ -242,7 +241,7 @@ fn reading_to_the_end() {
         assert_eq!(*read, bytes);
         let mut read = Vec::new(Global);
         let failed = io::Read::read_to_end(&mut Slow(bytes.clone(), false, Some(ErrorKind::Other)), &mut read);
-        assert_eq!((failed.unwrap_err().kind(), &*read), (ErrorKind::Other, &*bytes));
+        assert_eq!((failed.unwrap_err().kind(), &**read), (ErrorKind::Other, &*bytes));
         let (failed, _) = refusing(1, || io::Read::read_to_end(&mut Cursor::new(&bytes), &mut Vec::new(Global)));
         assert_eq!(failed.unwrap_err().kind(), ErrorKind::OutOfMemory);
     }

@@ -5,7 +5,7 @@ use std::io::{self, Write};
 use std::ops::{Deref, DerefMut};
 use std::{fmt, mem, slice, vec};
 
-/// Items in memory of their own, as those of std's `Vec`.
+/// Items in memory of their own. What doesn't grow is as in std's `Vec`.
 #[derive(PartialEq, Eq, PartialOrd, Ord, Hash)]
 pub struct Vec<T>(vec::Vec<T>);
 
@@ -24,20 +24,6 @@ impl<T> Vec<T> {
         Ok(items)
     }
 
-    /// The items of an array.
-    #[inline]
-    pub fn from_array<const N: usize>(alloc: Global, array: [T; N]) -> Result<Vec<T>, AllocError> {
-        let mut items = Vec::with_capacity(alloc, N)?;
-        items.0.extend(array);
-        Ok(items)
-    }
-
-    /// How many items there is room for.
-    #[inline]
-    pub fn capacity(&self) -> usize {
-        self.0.capacity()
-    }
-
     /// Makes room for `more` items behind those that there are.
     #[inline]
     pub fn reserve(&mut self, more: usize) -> Result<(), AllocError> {
@@ -47,16 +33,8 @@ impl<T> Vec<T> {
     /// Adds an item at the end.
     #[inline]
     pub fn push(&mut self, item: T) -> Result<(), AllocError> {
-        reserve(&mut self.0, 1)?;
+        self.reserve(1)?;
         self.0.push(item);
-        Ok(())
-    }
-
-    /// Adds an item before the one at `place`, or at the end.
-    #[inline]
-    pub fn insert(&mut self, place: usize, item: T) -> Result<(), AllocError> {
-        reserve(&mut self.0, 1)?;
-        self.0.insert(place, item);
         Ok(())
     }
 
@@ -67,22 +45,12 @@ impl<T> Vec<T> {
         self.0.push(item);
     }
 
-    /// Takes the last item, if there is one.
+    /// Adds an item before the one at `place`, or at the end.
     #[inline]
-    pub fn pop(&mut self) -> Option<T> {
-        self.0.pop()
-    }
-
-    /// Removes all items, and keeps their memory.
-    #[inline]
-    pub fn clear(&mut self) {
-        self.0.clear();
-    }
-
-    /// Removes the items from `len` on.
-    #[inline]
-    pub fn truncate(&mut self, len: usize) {
-        self.0.truncate(len);
+    pub fn insert(&mut self, place: usize, item: T) -> Result<(), AllocError> {
+        self.reserve(1)?;
+        self.0.insert(place, item);
+        Ok(())
     }
 
     /// Puts the items in the order of their keys, and those of one key in the order that they have.
@@ -102,16 +70,6 @@ impl<T> Vec<T> {
             order[place].1 = place;
         }
         Ok(())
-    }
-
-    #[inline]
-    pub fn as_slice(&self) -> &[T] {
-        &self.0
-    }
-
-    #[inline]
-    pub fn as_mut_slice(&mut self) -> &mut [T] {
-        &mut self.0
     }
 
     /// The items as std has them.
@@ -141,7 +99,7 @@ impl<T: Clone> Vec<T> {
     /// Adds copies of the items at the end.
     #[inline]
     pub fn extend_from_slice(&mut self, slice: &[T]) -> Result<(), AllocError> {
-        reserve(&mut self.0, slice.len())?;
+        self.reserve(slice.len())?;
         self.0.extend_from_slice(slice);
         Ok(())
     }
@@ -149,8 +107,7 @@ impl<T: Clone> Vec<T> {
     /// Makes it `len` items: removes those behind, or adds copies of `item`.
     #[inline]
     pub fn resize(&mut self, len: usize, item: T) -> Result<(), AllocError> {
-        let more = len.saturating_sub(self.0.len());
-        reserve(&mut self.0, more)?;
+        self.reserve(len.saturating_sub(self.len()))?;
         self.0.resize(len, item);
         Ok(())
     }
@@ -163,17 +120,17 @@ impl<T> From<vec::Vec<T>> for Vec<T> {
 }
 
 impl<T> Deref for Vec<T> {
-    type Target = [T];
+    type Target = vec::Vec<T>;
 
     #[inline]
-    fn deref(&self) -> &[T] {
+    fn deref(&self) -> &vec::Vec<T> {
         &self.0
     }
 }
 
 impl<T> DerefMut for Vec<T> {
     #[inline]
-    fn deref_mut(&mut self) -> &mut [T] {
+    fn deref_mut(&mut self) -> &mut vec::Vec<T> {
         &mut self.0
     }
 }
@@ -216,7 +173,7 @@ impl Write for Vec<u8> {
     }
 }
 
-/// `collect` of an iterator into memory.
+/// `collect` of an iterator.
 pub trait CollectIn: Iterator + Sized {
     /// The items in their order.
     fn collect_in(self, alloc: Global) -> Result<Vec<Self::Item>, AllocError> {

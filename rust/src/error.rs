@@ -145,7 +145,9 @@ impl From<binfarce_bytes::ParseError> for Error {
         Error::Parse(match e {
             Refusal::SymbolsSectionIsMissing => ParseError::SymbolsSectionIsMissing,
             Refusal::SectionIsMissing(name) => ParseError::SectionIsMissing(name),
-            Refusal::UnexpectedSectionType { expected, actual } => ParseError::UnexpectedSectionType { expected, actual },
+            Refusal::UnexpectedSectionType { expected, actual } => {
+                ParseError::UnexpectedSectionType { expected, actual }
+            }
             Refusal::MalformedInput => ParseError::MalformedInput,
             Refusal::UnexpectedEof => ParseError::UnexpectedEof,
             Refusal::OutOfMemory => return Error::OutOfMemory,

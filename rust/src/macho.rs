@@ -105,11 +105,7 @@ impl<'a> Macho<'a> {
     /// # Errors
     ///
     /// Those of [`Macho::find_section`].
-    pub fn section_with_name(
-        &self,
-        segment_name: &str,
-        section_name: &str,
-    ) -> Result<Option<Section<'a>>, ParseError> {
+    pub fn section_with_name(&self, segment_name: &str, section_name: &str) -> Result<Option<Section<'a>>, ParseError> {
         Ok(self.0.section_with_name(segment_name, section_name)?.map(Section))
     }
 

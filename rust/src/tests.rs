@@ -46,11 +46,8 @@ fn symbols_of_each_format() {
         assert_eq!(lines(&found, size), listing);
         assert_eq!(list(&file, ".text").unwrap(), listing);
         let (stored, size) = functions(&file, ".text").unwrap();
-        let named = |f: FunctionSymbol<'_>| SymbolData {
-            name: SymbolName::demangle(f.name),
-            address: f.address,
-            size: f.size,
-        };
+        let named =
+            |f: FunctionSymbol<'_>| SymbolData { name: SymbolName::demangle(f.name), address: f.address, size: f.size };
         assert_eq!(lines(&stored.map(named).collect::<Vec<_>>(), size), listing);
     }
 }

@@ -1,6 +1,6 @@
 // From crates/binfarce_at/src/main.rt, by tools/erase.
 
-//! `binfarce-at [--base ADDRESS] FILE [ADDRESS..]`: tells what stands at addresses in an executable.
+//! `binfarce-at [--base ADDRESS] FILE [ADDRESS..]`: symbolizes addresses in an executable.
 
 mod arguments;
 mod program;
@@ -9,7 +9,7 @@ mod tests;
 
 use crate::shim::HostRuntime;
 use crate::erased::binfarce_at::arguments::read_arguments;
-use crate::erased::binfarce_at::program::{Fault, run, run_lines};
+use crate::erased::binfarce_at::program::{Fault, run_file, run_file_lines};
 use crate::erased::binfarce_program::{arguments, exit, finish, open};
 use crate::erased::binfarce_tools::list::Out;
 use crate::shim::io;
@@ -25,7 +25,7 @@ fn tell(rt: &HostRuntime) -> Result<(), Fault> {
     let mut file = open(rt, asked.path)?;
     let mut out = Out::new(io::writer(rt));
     let told = if asked.addresses.is_empty() {
-        run_lines(
+        run_file_lines(
             rt.alloc(),
             &mut file,
             asked.base,
@@ -34,7 +34,7 @@ fn tell(rt: &HostRuntime) -> Result<(), Fault> {
         )
     } else {
         let addresses = asked.addresses.as_slice();
-        run(rt.alloc(), &mut file, asked.base, addresses, &mut out)
+        run_file(rt.alloc(), &mut file, asked.base, addresses, &mut out)
     };
     finish(out.into_inner(), told)
 }

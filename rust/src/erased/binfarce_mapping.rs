@@ -37,13 +37,8 @@ pub fn map<S: Sink>(
 /// # Errors
 ///
 /// As `map`.
-pub fn map_tables<S: Sink>(
-    alloc: Global,
-    tables: &Tables,
-    section: &str,
-    out: &mut S,
-) -> Result<(), ReportError> {
-    let sums = sums_of_tables(alloc, tables, section)?;
+pub fn map_tables<S: Sink>(alloc: Global, tables: &Tables, out: &mut S) -> Result<(), ReportError> {
+    let sums = sums_of_tables(alloc, tables)?;
     let text = picture(alloc, &sums)?;
     write_whole(out, text.as_bytes())?;
     Ok(())

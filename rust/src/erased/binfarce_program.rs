@@ -3,6 +3,7 @@
 //! What the programs share: their arguments, the file that they read, and how they end.
 
 use crate::shim::{CollectIn, HostRuntime, String, Vec};
+use crate::erased::binfarce_source::Source;
 use crate::shim::alloc::Global;
 use crate::shim::fs::File;
 use crate::shim::io::{self, ErrorKind, Read, Write};
@@ -15,7 +16,7 @@ use std::fmt;
 pub enum Failure {
     /// The arguments aren't those that the program takes.
     Usage,
-    /// The file can't be opened, or not read to its end.
+    /// The file can't be opened or read.
     File,
     /// An allocation failed.
     OutOfMemory,
@@ -25,8 +26,8 @@ pub enum Failure {
 
 /// Why a program ended early. Its text is the line that is printed.
 pub trait Fault: fmt::Display + From<Failure> {
-    /// Whether it is `Failure::Usage`.
-    fn is_usage(&self) -> bool;
+    /// The status that the program ends with: 2 for wrong arguments, and 1 for any other fault.
+    fn status(&self) -> u8;
 }
 
 /// The arguments after the program's own name. `Usage` where they can't be taken.
@@ -51,7 +52,18 @@ pub fn open(rt: &HostRuntime, path: &str) -> Result<File, Failure> {
     File::open(rt, path).map_err(|_| Failure::File)
 }
 
-/// What a reader's error is told as: a failed allocation as such, and any other as `File`.
+/// Whether the file can be read at offsets: it has a length above 0, and the last byte of that length.
+///
+/// A pipe has no length, a file of `/proc` has one of 0, and a file of `/sys` may have fewer bytes than its length: these are
+/// read to their end.
+pub fn is_read_at_offsets<S: Source>(file: &S) -> bool {
+    match file.length() {
+        Ok(length) if length > 0 => file.fill_at(length - 1, &mut [0]).is_ok(),
+        _ => false,
+    }
+}
+
+/// The failure that a reader's error is: `OutOfMemory` where an allocation failed, and `File` for any other.
 pub fn read_failure(e: io::Error) -> Failure {
     match e.kind() {
         ErrorKind::OutOfMemory => Failure::OutOfMemory,
@@ -77,18 +89,13 @@ pub fn finish<W: Write, F: From<Failure>>(mut out: W, ended: Result<(), F>) -> R
     Ok(())
 }
 
-/// The status that a program ends with: 2 for wrong arguments, and 1 for any other fault.
-pub fn status<F: Fault>(fault: &F) -> u8 {
-    if fault.is_usage() { 2 } else { 1 }
-}
-
 /// Prints a program's fault to standard error, if it has one, and gives the status that it ends with.
 pub fn exit<F: Fault>(rt: &HostRuntime, ended: Result<(), F>) -> ExitCode {
     match ended {
         Ok(()) => ExitCode::SUCCESS,
         Err(fault) => {
             let _ = rt.eprintln(format_args!("{fault}"));
-            ExitCode::from(status(&fault))
+            ExitCode::from(fault.status())
         }
     }
 }

@@ -41,12 +41,8 @@ impl<'a> Places<'a> {
     /// # Errors
     ///
     /// As `of_file`.
-    pub fn of_tables(
-        alloc: Global,
-        tables: &'a Tables,
-        section: &str,
-    ) -> Result<Places<'a>, ListError> {
-        let (functions, _) = tables.functions(alloc, section)?;
+    pub fn of_tables(alloc: Global, tables: &'a Tables) -> Result<Places<'a>, ListError> {
+        let (functions, _) = tables.functions(alloc)?;
         let places = places_of(alloc, functions)?;
         Ok(places)
     }
@@ -279,12 +275,11 @@ pub fn at<S: Sink>(
 pub fn at_tables<S: Sink>(
     alloc: Global,
     tables: &Tables,
-    section: &str,
     base: u64,
     addresses: &[u64],
     out: &mut S,
 ) -> Result<(), ListError> {
-    let places = Places::of_tables(alloc, tables, section)?;
+    let places = Places::of_tables(alloc, tables)?;
     let text = lines(alloc, &places, base, addresses)?;
     write_whole(out, text.as_slice())
 }

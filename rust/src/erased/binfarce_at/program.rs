@@ -2,20 +2,20 @@
 
 //! What the program does, over any reader and any writer.
 
-use crate::erased::binfarce_addresses::at::{Places, at_tables};
+use crate::erased::binfarce_addresses::at::{Places, at, at_tables};
 use crate::erased::binfarce_addresses::stream::{LinesError, answer_lines};
-use crate::erased::binfarce_program::Failure;
+use crate::erased::binfarce_program::{Failure, is_read_at_offsets, read_whole};
 use crate::erased::binfarce_source::Source;
 use crate::erased::binfarce_tables::ReadError;
 use crate::erased::binfarce_tools::list::{ListError, Out};
-use crate::erased::binfarce_tools::tables::{Tables, read_input};
+use crate::erased::binfarce_tools::tables::read;
 use crate::shim::alloc::Global;
 use crate::shim::io::{Read, Write};
 
 // The section whose function symbols are looked at in an ELF file.
 const SECTION: &str = ".text";
 
-/// Why the program told nothing of addresses. Its text is the line that is printed.
+/// Why the program failed. Its text is the line that is printed.
 #[derive(Debug)]
 pub enum Fault {
     /// The arguments aren't a base or none, a file and addresses.
@@ -24,7 +24,7 @@ pub enum Fault {
     File,
     /// The lines of standard input were not answered to its end.
     Lines(LinesError),
-    /// What stands at the addresses was not told.
+    /// The addresses were not symbolized.
     At(ListError),
 }
 
@@ -76,66 +76,113 @@ impl From<LinesError> for Fault {
 }
 
 impl crate::erased::binfarce_program::Fault for Fault {
-    fn is_usage(&self) -> bool {
-        matches!(self, Fault::Usage | Fault::Lines(LinesError::Address))
+    fn status(&self) -> u8 {
+        match self {
+            Fault::Usage | Fault::Lines(LinesError::Address) => 2,
+            _ => 1,
+        }
     }
 }
 
-/// Reads of the file what `read_input` does, and tells what stands at the addresses in it, once the base is taken off: of an
-/// ELF file by the function symbols of `.text`.
+/// Reads the file to its end, and symbolizes the addresses in it, once the base is taken off: of an ELF file by the function
+/// symbols of `.text`.
 ///
-/// `File` where a read fails; `At` where an allocation fails while it is read, where the file is refused, and as `at_tables`
-/// refuses.
-pub fn run<F: Read + Source, W: Write>(
+/// `File` where the reader fails; `At` where an allocation fails while it is read, and as `at` refuses.
+pub fn run<R: Read, W: Write>(
+    alloc: Global,
+    file: &mut R,
+    base: u64,
+    addresses: &[u64],
+    out: &mut Out<W>,
+) -> Result<(), Fault> {
+    let bytes = read_whole(alloc, file)?;
+    at(alloc, bytes.as_slice(), SECTION, base, addresses, out).map_err(Fault::At)
+}
+
+/// Does the same of a source, of which it reads the headers, the symbol table and the names alone.
+///
+/// `File` where the source can't be read at offsets, or a read of it fails; `At` as `run`.
+pub fn run_at<S: Source, W: Write>(
+    alloc: Global,
+    source: &S,
+    base: u64,
+    addresses: &[u64],
+    out: &mut Out<W>,
+) -> Result<(), Fault> {
+    let tables = read(alloc, source, SECTION)?;
+    at_tables(alloc, &tables, base, addresses, out).map_err(Fault::At)
+}
+
+/// Does what `run_at` does where the file can be read at offsets, and else what `run` does.
+pub fn run_file<F: Read + Source, W: Write>(
     alloc: Global,
     file: &mut F,
     base: u64,
     addresses: &[u64],
     out: &mut Out<W>,
 ) -> Result<(), Fault> {
-    let tables = read_tables(alloc, file)?;
-    match at_tables(alloc, &tables, SECTION, base, addresses, out) {
-        Ok(()) => Ok(()),
-        Err(e) => Err(Fault::At(e)),
+    if is_read_at_offsets(file) {
+        run_at(alloc, file, base, addresses, out)
+    } else {
+        run(alloc, file, base, addresses, out)
     }
 }
 
-/// Reads of the file what `read_input` does, and tells what stands at the addresses that the lines of `input` write, as
-/// `run` does, until it ends: what came is answered before more is read.
+/// Reads the file to its end, and symbolizes the addresses that the lines of `input` write, as `run` does, until it ends:
+/// what came is answered before more is read.
 ///
 /// `File`, and `At` before anything is read of `input`, as `run`; `Lines` where `answer_lines` fails.
-pub fn run_lines<F: Read + Source, I: Read, W: Write>(
+pub fn run_lines<R: Read, I: Read, W: Write>(
+    alloc: Global,
+    file: &mut R,
+    base: u64,
+    input: &mut I,
+    out: &mut Out<W>,
+) -> Result<(), Fault> {
+    let bytes = read_whole(alloc, file)?;
+    let places = Places::of_file(alloc, bytes.as_slice(), SECTION)?;
+    answer(alloc, places, base, input, out)
+}
+
+/// Does the same of a source, which it reads as `run_at` does.
+///
+/// `File`, and `At` before anything is read of `input`, as `run_at`; `Lines` as `run_lines`.
+pub fn run_lines_at<S: Source, I: Read, W: Write>(
+    alloc: Global,
+    source: &S,
+    base: u64,
+    input: &mut I,
+    out: &mut Out<W>,
+) -> Result<(), Fault> {
+    let tables = read(alloc, source, SECTION)?;
+    let places = Places::of_tables(alloc, &tables)?;
+    answer(alloc, places, base, input, out)
+}
+
+/// Does what `run_lines_at` does where the file can be read at offsets, and else what `run_lines` does.
+pub fn run_file_lines<F: Read + Source, I: Read, W: Write>(
     alloc: Global,
     file: &mut F,
     base: u64,
     input: &mut I,
     out: &mut Out<W>,
 ) -> Result<(), Fault> {
-    let tables = read_tables(alloc, file)?;
-    answer(alloc, &tables, base, input, out)
+    if is_read_at_offsets(file) {
+        run_lines_at(alloc, file, base, input, out)
+    } else {
+        run_lines(alloc, file, base, input, out)
+    }
 }
 
-// What is read of the file.
-fn read_tables<F: Read + Source>(alloc: Global, file: &mut F) -> Result<Tables, ReadError> {
-    read_input(alloc, file, SECTION)
-}
-
-// The same, of the file's tables.
+// Answers the lines by the places, with their names.
 fn answer<I: Read, W: Write>(
     alloc: Global,
-    tables: &Tables,
+    mut places: Places<'_>,
     base: u64,
     input: &mut I,
     out: &mut Out<W>,
 ) -> Result<(), Fault> {
-    let places = named_places(alloc, tables)?;
+    places.keep_names(alloc).map_err(ListError::from)?;
     answer_lines(alloc, &places, base, input, out)?;
     Ok(())
-}
-
-// The places of the function symbols of a file's tables, with their names.
-fn named_places(alloc: Global, tables: &Tables) -> Result<Places<'_>, ListError> {
-    let mut places = Places::of_tables(alloc, tables, SECTION)?;
-    places.keep_names(alloc)?;
-    Ok(places)
 }

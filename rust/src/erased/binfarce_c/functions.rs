@@ -167,11 +167,11 @@ fn function_of(function: FunctionSymbol<'_>) -> Function {
     }
 }
 
-/// The pointer to the first byte of a text; null where there is none.
+/// The pointer to a text, at its first byte; null where it is empty.
 pub(crate) fn start(text: &[u8]) -> *const u8 {
-    match text.first() {
-        Some(first) => ptr::from_ref(first),
-        None => ptr::null(),
+    match text {
+        [] => ptr::null(),
+        [first, ..] => ptr::from_ref(first),
     }
 }
 

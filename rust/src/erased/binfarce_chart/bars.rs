@@ -20,7 +20,7 @@ pub struct Bar<'a> {
     pub size: u64,
 }
 
-// The bars in falling order.
+// The bars in falling order, those of one size in the order in which they were given.
 pub(crate) fn falling<'a>(alloc: Global, bars: &[Bar<'a>]) -> Result<Vec<Bar<'a>>, AllocError> {
     let mut sorted = Vec::from_slice(alloc, bars)?;
     // Equal sizes keep their order, and so they do where both sides of the sort are turned round.

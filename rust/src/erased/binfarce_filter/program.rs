@@ -40,8 +40,11 @@ impl From<Failure> for Fault {
 }
 
 impl crate::erased::binfarce_program::Fault for Fault {
-    fn is_usage(&self) -> bool {
-        matches!(self, Fault::Usage)
+    fn status(&self) -> u8 {
+        match self {
+            Fault::Usage => 2,
+            _ => 1,
+        }
     }
 }
 

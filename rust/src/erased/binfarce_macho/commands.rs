@@ -44,13 +44,13 @@ pub(crate) struct Command {
 }
 
 /// The load commands, at most as many as are left. A command whose size is below 8 ends them with an error.
-pub(crate) struct LoadCommands<'a> {
+pub(crate) struct MachoCommandsIterator<'a> {
     pub(crate) bytes: &'a [u8],
     offset: usize,
     pub(crate) left: u32,
 }
 
-impl Iterator for LoadCommands<'_> {
+impl Iterator for MachoCommandsIterator<'_> {
     type Item = Result<Command, Damage>;
 
     fn next(&mut self) -> Option<Result<Command, Damage>> {
@@ -73,8 +73,8 @@ impl Iterator for LoadCommands<'_> {
 }
 
 // The load commands of a file, which has this header.
-pub(crate) fn commands(file: &[u8], header: MachoHeader) -> LoadCommands<'_> {
-    LoadCommands {
+pub(crate) fn commands(file: &[u8], header: MachoHeader) -> MachoCommandsIterator<'_> {
+    MachoCommandsIterator {
         bytes: file,
         offset: HEADER_LENGTH,
         left: header.ncmds,

@@ -3,7 +3,7 @@
 //! The sections of a file (`section_64` of Apple's `<mach-o/loader.h>`).
 
 use crate::erased::binfarce_macho::commands::{
-    Command, Damage, LC_SEGMENT_64, LoadCommands, commands,
+    Command, Damage, LC_SEGMENT_64, MachoCommandsIterator, commands,
 };
 use crate::erased::binfarce_macho::header::MachoHeader;
 use crate::erased::binfarce_bytes::parser::{
@@ -52,7 +52,7 @@ pub struct Sections<'a> {
 
 // The load commands after a segment command, and what is left of that segment.
 struct Left<'a> {
-    commands: LoadCommands<'a>,
+    commands: MachoCommandsIterator<'a>,
     segment: Segment,
 }
 
@@ -133,7 +133,7 @@ fn section_left(bytes: &[u8], segment: Segment) -> Result<Option<(Section<'_>, u
 }
 
 // The next segment command, before its first section.
-fn next_segment(commands: &mut LoadCommands<'_>) -> Option<Result<Segment, Damage>> {
+fn next_segment(commands: &mut MachoCommandsIterator<'_>) -> Option<Result<Segment, Damage>> {
     while let Some(item) = commands.next() {
         match item {
             Err(damage) => return Some(Err(damage)),

@@ -3,13 +3,13 @@
 //! What the program does, over any reader and any writer.
 
 use crate::shim::String;
-use crate::erased::binfarce_mapping::map_tables;
-use crate::erased::binfarce_program::{Failure, file_and_section};
+use crate::erased::binfarce_mapping::{map, map_tables};
+use crate::erased::binfarce_program::{Failure, file_and_section, is_read_at_offsets, read_whole};
 use crate::erased::binfarce_source::Source;
 use crate::erased::binfarce_tables::ReadError;
 use crate::erased::binfarce_tools::list::Out;
 use crate::erased::binfarce_tools::report::ReportError;
-use crate::erased::binfarce_tools::tables::read_input;
+use crate::erased::binfarce_tools::tables::read;
 use crate::shim::alloc::Global;
 use crate::shim::io::{Read, Write};
 
@@ -59,8 +59,11 @@ impl From<ReadError> for Fault {
 }
 
 impl crate::erased::binfarce_program::Fault for Fault {
-    fn is_usage(&self) -> bool {
-        matches!(self, Fault::Usage)
+    fn status(&self) -> u8 {
+        match self {
+            Fault::Usage => 2,
+            _ => 1,
+        }
     }
 }
 
@@ -71,19 +74,42 @@ pub fn words(arguments: &[String]) -> Result<(&str, &str), Fault> {
     Ok(file_and_section(arguments)?)
 }
 
-/// Reads of the file what `read_input` does, and draws how much of its section each crate takes.
+/// Reads the file to its end, and draws how much of its section each crate takes.
 ///
-/// `File` where a read fails; `Map` where an allocation fails while it is read, where the file is refused, and as
-/// `map_tables` refuses.
-pub fn run<F: Read + Source, W: Write>(
+/// `File` where the reader fails; `Map` where an allocation fails while it is read, and as `map` refuses.
+pub fn run<R: Read, W: Write>(
+    alloc: Global,
+    file: &mut R,
+    section: &str,
+    out: &mut Out<W>,
+) -> Result<(), Fault> {
+    let bytes = read_whole(alloc, file)?;
+    map(alloc, bytes.as_slice(), section, out).map_err(Fault::Map)
+}
+
+/// Does the same of a source, of which it reads the headers, the symbol table and the names alone.
+///
+/// `File` where the source can't be read at offsets, or a read of it fails; `Map` as `run`.
+pub fn run_at<S: Source, W: Write>(
+    alloc: Global,
+    source: &S,
+    section: &str,
+    out: &mut Out<W>,
+) -> Result<(), Fault> {
+    let tables = read(alloc, source, section)?;
+    map_tables(alloc, &tables, out).map_err(Fault::Map)
+}
+
+/// Does what `run_at` does where the file can be read at offsets, and else what `run` does.
+pub fn run_file<F: Read + Source, W: Write>(
     alloc: Global,
     file: &mut F,
     section: &str,
     out: &mut Out<W>,
 ) -> Result<(), Fault> {
-    let tables = read_input(alloc, file, section)?;
-    match map_tables(alloc, &tables, section, out) {
-        Ok(()) => Ok(()),
-        Err(e) => Err(Fault::Map(e)),
+    if is_read_at_offsets(file) {
+        run_at(alloc, file, section, out)
+    } else {
+        run(alloc, file, section, out)
     }
 }

@@ -3,7 +3,7 @@
 //! What the program does, over any reader and any writer.
 
 use crate::shim::String;
-use crate::erased::binfarce_program::{Failure, read_whole};
+use crate::erased::binfarce_program::{Failure, is_read_at_offsets, read_whole};
 use crate::erased::binfarce_sections::bytes::{write_section, write_section_of};
 use crate::erased::binfarce_sections::error::SectionError;
 use crate::erased::binfarce_sections::list::{list_sections, list_source};
@@ -57,8 +57,11 @@ impl From<SectionError> for Fault {
 }
 
 impl crate::erased::binfarce_program::Fault for Fault {
-    fn is_usage(&self) -> bool {
-        matches!(self, Fault::Usage)
+    fn status(&self) -> u8 {
+        match self {
+            Fault::Usage => 2,
+            _ => 1,
+        }
     }
 }
 
@@ -73,37 +76,11 @@ pub fn words(arguments: &[String]) -> Result<(&str, Option<&str>), Fault> {
     }
 }
 
-/// Writes the bytes of the section of this name, or lists all sections where none is named. Where the file tells a length
-/// above 0, it is read as `write_section_of` and `list_source` read it, and any other, as a pipe, to its end.
+/// Reads the file to its end, and writes the bytes of the section of this name, or lists all sections where none is named.
 ///
-/// `File` where a read fails; `Section` where an allocation fails while it is read, and as these calls refuse.
-pub fn run<F: Read + Source, W: Write>(
-    alloc: Global,
-    file: &mut F,
-    section: Option<&str>,
-    out: &mut Out<W>,
-) -> Result<(), Fault> {
-    if file.length().unwrap_or(0) > 0 {
-        run_at_offsets(alloc, &*file, section, out)
-    } else {
-        run_to_the_end(alloc, file, section, out)
-    }
-}
-
-fn run_at_offsets<F: Source, W: Write>(
-    alloc: Global,
-    file: &F,
-    section: Option<&str>,
-    out: &mut Out<W>,
-) -> Result<(), Fault> {
-    let written = match section {
-        Some(name) => write_section_of(alloc, file, name, out),
-        None => list_source(alloc, file, out),
-    };
-    Ok(written?)
-}
-
-fn run_to_the_end<R: Read, W: Write>(
+/// `File` where the reader fails; `Section` where an allocation fails while it is read, and as `write_section` and
+/// `list_sections` refuse.
+pub fn run<R: Read, W: Write>(
     alloc: Global,
     file: &mut R,
     section: Option<&str>,
@@ -115,4 +92,35 @@ fn run_to_the_end<R: Read, W: Write>(
         None => list_sections(alloc, bytes.as_slice(), out),
     };
     written.map_err(Fault::Section)
+}
+
+/// Does the same of a source, of which it reads the headers of the sections and their names, and the bytes of the one that
+/// is named.
+///
+/// `File` where the source can't be read at offsets, or a read of it fails; `Section` as `run`.
+pub fn run_at<S: Source, W: Write>(
+    alloc: Global,
+    source: &S,
+    section: Option<&str>,
+    out: &mut Out<W>,
+) -> Result<(), Fault> {
+    let written = match section {
+        Some(name) => write_section_of(alloc, source, name, out),
+        None => list_source(alloc, source, out),
+    };
+    Ok(written?)
+}
+
+/// Does what `run_at` does where the file can be read at offsets, and else what `run` does.
+pub fn run_file<F: Read + Source, W: Write>(
+    alloc: Global,
+    file: &mut F,
+    section: Option<&str>,
+    out: &mut Out<W>,
+) -> Result<(), Fault> {
+    if is_read_at_offsets(file) {
+        run_at(alloc, file, section, out)
+    } else {
+        run(alloc, file, section, out)
+    }
 }

@@ -183,7 +183,8 @@ fn read_section<C: Class, S: Source>(
 ///
 /// # Errors
 ///
-/// `Unreadable` where a read of the source fails, as where it ends before, and `OutOfMemory` where the allocation fails.
+/// `Unreadable` where a read of the source fails, as where it ends before `offset + size` (an opened file doesn't fail where
+/// `size` is 0), and `OutOfMemory` where the allocation fails.
 pub fn part<S: Source>(
     alloc: Global,
     source: &S,

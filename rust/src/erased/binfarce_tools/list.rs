@@ -134,13 +134,8 @@ pub fn list<S: Sink>(
 /// # Errors
 ///
 /// As `list`.
-pub fn list_tables<S: Sink>(
-    alloc: Global,
-    tables: &Tables,
-    section: &str,
-    out: &mut S,
-) -> Result<(), ListError> {
-    let (functions, size) = tables.functions(alloc, section)?;
+pub fn list_tables<S: Sink>(alloc: Global, tables: &Tables, out: &mut S) -> Result<(), ListError> {
+    let (functions, size) = tables.functions(alloc)?;
     let text = listing(alloc, functions, size)?;
     write_whole(out, text.as_bytes())
 }

@@ -98,10 +98,9 @@ pub fn report<S: Sink>(
 pub fn report_tables<S: Sink>(
     alloc: Global,
     tables: &Tables,
-    section: &str,
     out: &mut S,
 ) -> Result<(), ReportError> {
-    let sums = sums_of_tables(alloc, tables, section)?;
+    let sums = sums_of_tables(alloc, tables)?;
     let text = report_text(alloc, &sums)?;
     write_whole(out, text.as_bytes())?;
     Ok(())
@@ -132,12 +131,8 @@ pub fn sums_of_file(alloc: Global, data: &[u8], section: &str) -> Result<CrateSu
 /// # Errors
 ///
 /// As `report_tables`, but for `Write`.
-pub fn sums_of_tables(
-    alloc: Global,
-    tables: &Tables,
-    section: &str,
-) -> Result<CrateSums, ReportError> {
-    let (functions, size) = tables.functions(alloc, section)?;
+pub fn sums_of_tables(alloc: Global, tables: &Tables) -> Result<CrateSums, ReportError> {
+    let (functions, size) = tables.functions(alloc)?;
     crate_sums(alloc, functions, size)
 }
 

@@ -3,13 +3,12 @@
 //! What is read of a file to list its function symbols.
 
 use crate::shim::Vec;
-use crate::erased::binfarce_tools::functions::{Functions, all_of, functions_of_file};
+use crate::erased::binfarce_tools::functions::{Functions, all_of};
 use crate::erased::binfarce_tools::list::ListError;
 use crate::erased::binfarce_format::{Format, detect_format};
 use crate::erased::binfarce_source::{Source, read_part};
 use crate::erased::binfarce_tables::{ReadError, elf32, elf64, macho, pe};
 use crate::shim::alloc::Global;
-use crate::shim::io::Read;
 
 // How many of a file's first bytes name its format.
 const MAGIC_LENGTH: usize = 8;
@@ -24,8 +23,6 @@ pub enum Tables {
     Macho(macho::Parts),
     /// The parts of a PE file.
     Pe(pe::Parts),
-    /// All bytes of a file.
-    Whole(Vec<u8>),
     /// Nothing of a file whose first bytes name no format that is read.
     Unknown,
 }
@@ -36,7 +33,7 @@ impl Tables {
     /// # Errors
     ///
     /// As `functions_of_file`.
-    pub fn functions(&self, alloc: Global, section: &str) -> Result<(Functions<'_>, u64), ListError> {
+    pub fn functions(&self, alloc: Global) -> Result<(Functions<'_>, u64), ListError> {
         match self {
             Tables::Elf32(parts) => {
                 let (functions, size) = parts.functions();
@@ -54,7 +51,6 @@ impl Tables {
                 let listed = parts.functions(alloc)?;
                 Ok(all_of(listed))
             }
-            Tables::Whole(bytes) => functions_of_file(alloc, bytes.as_slice(), section),
             Tables::Unknown => Err(ListError::Unknown),
         }
     }
@@ -90,31 +86,6 @@ pub fn read<S: Source>(alloc: Global, source: &S, section: &str) -> Result<Table
         }
         Format::Unknown => Ok(Tables::Unknown),
     }
-}
-
-/// Reads of a file what `read` does, where it tells a length above 0 and so can be read at offsets, and any other, as a
-/// pipe, to its end.
-///
-/// # Errors
-///
-/// As `read`; `Unreadable` where any read fails, and never of a source that can't fail and has a byte; `OutOfMemory` also
-/// where a read says that an allocation failed.
-pub fn read_input<F: Read + Source>(
-    alloc: Global,
-    file: &mut F,
-    section: &str,
-) -> Result<Tables, ReadError> {
-    if file.length().unwrap_or(0) > 0 {
-        read(alloc, &*file, section)
-    } else {
-        read_to_the_end(alloc, file)
-    }
-}
-
-fn read_to_the_end<F: Read>(alloc: Global, file: &mut F) -> Result<Tables, ReadError> {
-    let mut bytes = Vec::new(alloc);
-    file.read_to_end(&mut bytes)?;
-    Ok(Tables::Whole(bytes))
 }
 
 /// The format that the first 8 bytes of a source of this length name. Of a shorter one all bytes are read.

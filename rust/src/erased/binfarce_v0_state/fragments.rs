@@ -71,8 +71,8 @@ pub struct Fragments {
 
 const LINEAR_SEARCH: usize = 16;
 
-// How many bytes a fragment takes, and its place in the index.
-const FRAGMENT_BYTES: usize = 160;
+// The bytes of a fragment, 80, and at most 96 of its entry in the index.
+const FRAGMENT_BYTES: usize = 176;
 
 // How much of a name is read silently before its back references' targets are looked for: most names that programs hold
 // end before.
@@ -131,11 +131,12 @@ impl Fragments {
         self.targets.look_for(part)
     }
 
-    // How many bytes of memory they take, about.
+    // How many bytes they have room for.
     pub(crate) fn bytes(&self) -> usize {
         self.fragments
             .capacity()
             .saturating_mul(FRAGMENT_BYTES)
+            .saturating_add(self.targets.bytes())
             .saturating_add(self.copy.capacity())
             .saturating_add(self.trimmed_copy.capacity())
     }

@@ -5,15 +5,15 @@
 use crate::erased::binfarce_v0_state::state::Buffers;
 use crate::shim::alloc::Global;
 
-/// The memory that names are printed in, one after the other. No clause speaks of it: a printing sees nothing of what its
+/// The memory that names are printed in, one after the other: at most `MOST_BYTES`. A printing sees nothing of what its
 /// buffers held.
 pub struct Memory {
     pub alloc: Global,
     buffers: Option<Buffers>,
 }
 
-// The most bytes that are kept.
-const MOST_BYTES: usize = 1 << 20;
+/// The most bytes that are kept.
+pub const MOST_BYTES: usize = 1 << 20;
 
 impl Memory {
     /// No memory yet.
@@ -36,8 +36,10 @@ impl Memory {
     /// Keeps the buffers of a printing for the next one, unless they take more than `MOST_BYTES`.
     #[cfg_attr(not(debug_assertions), inline(always))]
     pub fn put_back(&mut self, buffers: Buffers) {
-        if buffers.bytes() <= MOST_BYTES {
-            self.buffers = Some(buffers);
-        }
+        self.buffers = if buffers.bytes() <= MOST_BYTES {
+            Some(buffers)
+        } else {
+            None
+        };
     }
 }

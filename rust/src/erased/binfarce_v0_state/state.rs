@@ -30,7 +30,7 @@ impl Buffers {
         }
     }
 
-    // How many bytes of memory they take, about.
+    // How many bytes they have room for.
     pub(crate) fn bytes(&self) -> usize {
         self.kept
             .bytes()

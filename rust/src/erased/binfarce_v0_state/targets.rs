@@ -40,6 +40,11 @@ impl Targets {
         self.far.clear();
     }
 
+    // How many bytes they have room for beside a name's first 256 positions.
+    pub(crate) fn bytes(&self) -> usize {
+        self.far.capacity().saturating_mul(8)
+    }
+
     /// Looks for the targets of a name, where none was added yet. Nothing is allocated but for those from position 256 on.
     #[inline(never)]
     pub fn look_for(&mut self, part: &[u8]) -> Result<(), AllocError> {

@@ -6,7 +6,7 @@ use crate::shim::{HostRuntime, Vec};
 use crate::erased::binfarce_addresses::at::{Places, at, at_tables};
 use crate::erased::binfarce_addresses::stream::push_lines;
 use crate::erased::binfarce_tools::list::{ListError, Out};
-use crate::erased::binfarce_tools::tables::Tables;
+use crate::erased::binfarce_tools::tables::read;
 use crate::shim::alloc::{AllocError, Global};
 use crate::shim::test::Fail;
 use crate::erased::test_samples::elf::ELF64_LITTLE;
@@ -64,10 +64,12 @@ fn lines_are_told() -> Result<(), Fail> {
 #[test]
 fn lines_are_told_of_tables() -> Result<(), Fail> {
     let rt = HostRuntime::new();
-    let tables = Tables::Whole(Vec::from_slice(rt.alloc(), &ELF64_LITTLE)?);
+    let Ok(tables) = read(rt.alloc(), &ELF64_LITTLE.as_slice(), ".text") else {
+        return Err(Fail::from("no tables"));
+    };
     for (base, addresses, lines) in &TOLD {
         let mut out = Out::new(Vec::new(rt.alloc()));
-        let told = at_tables(rt.alloc(), &tables, ".text", *base, addresses, &mut out);
+        let told = at_tables(rt.alloc(), &tables, *base, addresses, &mut out);
         assert!(told == Ok(()), "{lines}");
         assert!(out.into_inner().as_slice() == lines.as_bytes(), "{lines}");
     }

@@ -7,9 +7,11 @@ use crate::erased::binfarce_addresses::at::Places;
 use crate::erased::binfarce_addresses::stream::{LinesError, answer_lines};
 use crate::erased::binfarce_tools::list::Out;
 use crate::shim::alloc::Global;
+use std::cell::Cell;
 use crate::shim::io::ErrorKind;
 use crate::shim::test::Fail;
 use crate::erased::test_samples::elf::ELF64_LITTLE;
+use crate::erased::test_streams::interrupted::InterruptedSource;
 use crate::erased::test_streams::{Source, Target};
 
 const TEXT: &[u8] = b"401000\n0x40100F\n401010\n400fff\n100f\n3fffff\n40100a";
@@ -60,6 +62,20 @@ fn short_reads_and_writes() -> Result<(), Fail> {
         assert!(ended == Ok(()), "{most}");
         assert!(taken.as_slice() == ANSWERS, "{most}");
     }
+    Ok(())
+}
+
+// An interrupted read is tried again.
+#[test]
+fn interrupted_reads() -> Result<(), Fail> {
+    let rt = HostRuntime::new();
+    let places = places(rt.alloc())?;
+    let unflushed = Cell::new(0);
+    let mut source = InterruptedSource::of(TEXT, &unflushed);
+    let mut out = Out::new(takes(rt.alloc(), usize::MAX));
+    let ended = answer_lines(rt.alloc(), &places, 0x40_0000, &mut source, &mut out);
+    assert!(ended == Ok(()));
+    assert!(out.into_inner().taken.as_slice() == ANSWERS);
     Ok(())
 }
 

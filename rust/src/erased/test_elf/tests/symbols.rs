@@ -119,7 +119,7 @@ type Row = (
 
 // What is changed, the section that is asked for, and the answer: a walk to the end of the greatest count of sections, a
 // table of strings that lies over another, and each row that isn't listed, made one that is.
-const CHANGED: [Row; 24] = [
+const CHANGED: [Row; 25] = [
     (
         "65,535 sections",
         Layout::Elf32Little,
@@ -147,6 +147,13 @@ const CHANGED: [Row; 24] = [
         &[(60, &[0xFF; 2])],
         "nope",
         TRUNCATED,
+    ),
+    (
+        "strings that are the section names",
+        Layout::Elf64Little,
+        &[(483, &[234]), (491, &[33])],
+        ".text",
+        "1000 16 .text .text Unknown None, section of 32",
     ),
     (
         "strings that are the section names",

@@ -6,7 +6,9 @@ use crate::shim::{HostRuntime, Vec};
 use crate::erased::binfarce_filtering::filter::MAX_RUN;
 use crate::erased::binfarce_filtering::stream::{StreamError, filter_stream};
 use crate::shim::alloc::{AllocError, Global};
+use std::cell::Cell;
 use crate::shim::io::ErrorKind;
+use crate::erased::test_streams::interrupted::{InterruptedSource, InterruptedTarget};
 use crate::erased::test_streams::{Source, Target};
 
 const TEXT: &[u8] = b"in _RNvC1a1b. at x_1 <_ZN3foo17h0123456789abcdefE+0x1f> _RNvC1c1d";
@@ -86,6 +88,45 @@ fn failed_writes() -> Result<(), AllocError> {
             assert!(ended == Err(StreamError::Write), "{left}");
             assert!(taken.as_slice() == &SHOWN[..left], "{left}");
         }
+    }
+    Ok(())
+}
+
+// Interrupted reads and writes are tried again, and what is written is flushed before more is read and at the end.
+#[test]
+fn interrupted_reads_and_writes() -> Result<(), AllocError> {
+    let rt = HostRuntime::new();
+    let unflushed = Cell::new(0);
+    let mut source = InterruptedSource::of(TEXT, &unflushed);
+    let mut target = InterruptedTarget {
+        target: takes(rt.alloc(), 1),
+        was_interrupted: false,
+        unflushed: &unflushed,
+        flush_error: None,
+    };
+    let ended = filter_stream(rt.alloc(), false, &mut source, &mut target);
+    assert!(ended == Ok(()));
+    assert!(target.target.taken.as_slice() == SHOWN);
+    assert!(!source.came_early);
+    assert!(unflushed.get() == 0);
+    Ok(())
+}
+
+// A failed flush is a failed write, also where nothing is written.
+#[test]
+fn failed_flushes() -> Result<(), AllocError> {
+    let rt = HostRuntime::new();
+    for text in [TEXT, b"".as_slice()] {
+        let unflushed = Cell::new(0);
+        let mut source = Source::of(text);
+        let mut target = InterruptedTarget {
+            target: takes(rt.alloc(), usize::MAX),
+            was_interrupted: true,
+            unflushed: &unflushed,
+            flush_error: Some(ErrorKind::Other),
+        };
+        let ended = filter_stream(rt.alloc(), false, &mut source, &mut target);
+        assert!(ended == Err(StreamError::Write));
     }
     Ok(())
 }

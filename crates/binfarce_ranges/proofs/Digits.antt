@@ -1,5 +1,5 @@
 -- Numbers of hexadecimal digits, digit after digit.
-use Rattle.std.proofs.Common.{◌≡◌, ℕ, ◌+◌, ◌*◌, ◌^◌, ◌<◌, ◌≤◌, ◌∙◌, Bool, ◌&&◌, List, [], ◌∷◌, length, drop, get_or, true, false, Some, None, if◌then◌else◌, refl, sym, ap, arith, add-one, drop-cons}
+use Rattle.std.proofs.Common.{◌≡◌, ℕ, ◌+◌, ◌*◌, ◌^◌, ◌<◌, ◌≤◌, ◌∙◌, Bool, ◌&&◌, List, [], ◌∷◌, length, drop, get_or, true, false, Option, Some, None, if◌then◌else◌, refl, sym, ap, arith, add-one, drop-cons}
 use Rattle.std.specs.Prelude.{◌==◌}
 use Rattle.std.specs.Char as char
 use Rattle.std.specs.Char.{is_ascii_hexdigit}
@@ -11,8 +11,13 @@ use Rattle.std.proofs.Math.Nat.{pow-le-pow_right}
 use Rattle.std.proofs.lemmas.Bool.Decides.{nat_tests}
 use Rattle.std.proofs.lemmas.Grind.{pow_more}
 use Rattle.binfarce_ranges.specs.Address.{hexadecimal}
-use Rattle.binfarce_ranges.specs.machine.Digits.{digit_value, number_from}
+use Rattle.binfarce_ranges.specs.machine.Digits.{digit_value}
 use Rattle.std.specs.Int.{is_in_range}
+
+-- the number whose digits these are, behind those of another number
+unfoldable pub number_from : ℕ → List ℕ → Option ℕ
+number_from number [] = Some number
+number_from number (digit ∷ others) = option_and_then (λ value. number_from (16 * number + value) others) (digit_value digit)
 
 -- a digit is worth less than 16
 pub digit_is_small : (digit value : ℕ) → digit_value digit ≡ Some value → value < 16

@@ -13,7 +13,7 @@ use Rattle.binfarce_sections.specs.declared.error.SectionError.TheVariants as er
 use Rattle.binfarce_section.specs.declared.program.Fault.{Fault}
 use Rattle.binfarce_section.specs.declared.program.Fault.TheVariants.{Usage, File, Section as OfSection}
 
--- the file and the section that arguments give, if there are one or two
+-- the file and the section that arguments give, if there are one or two; arguments of which one isn't UTF-8 are refused before, as a wrong call
 abbrev pub words_of : List (List ℕ) → Option (List ℕ × Option (List ℕ))
 words_of [] = None
 words_of (file ∷ []) = Some (file, None)

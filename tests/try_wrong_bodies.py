@@ -45,10 +45,7 @@ def below(crate, known):
 def path_of_answer(folder, goal):
     """The function that an answer belongs to. The functions of a cycle share a folder, whose name begins with `+`; a goal's name begins with its function's."""
     *path, name = folder.split("/")
-    if name.startswith("+"):
-        *path, name = [*path, *goal.split("-", 1)[0].split("::")]
-    holder = path[-1:] if path and path[-1][:1].isupper() else path
-    return "::".join([*holder, name])
+    return "::".join([*path, goal.split("-", 1)[0] if name.startswith("+") else name])
 
 
 class Prover:
@@ -104,7 +101,7 @@ class Prover:
             if source:
                 file, number = [it for it in source.groups() if it]
                 text = texts.get(file) or read(f"crates/{crate}/{file}")
-                found.setdefault(item_at(file, text.split("\n"), int(number) - 1)[2], line)
+                found.setdefault(item_at(crate, file, text.split("\n"), int(number) - 1)[2], line)
             elif answer:
                 found.setdefault(path_of_answer(*answer.groups()), line)
             elif re.match(r"(note: )?(\./)?(proofs|specs)/\S+:\d+:\d+: error", line):

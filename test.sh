@@ -87,13 +87,14 @@ part bench/count.py
 part tests/unreached
 part tests/documents
 part tests/wrong_bodies
-[ ! -e tools/erase ] || part tools/erase --check
-[ ! -e tests/compare_erased.py ] || part tests/compare_erased.py
+part tools/erase --check
+part python3 tests/compare_erased.py
 copy
 : >"$scratch/gate.log"
 start beside beside_the_gate
 beside=$!
-[ ! -e Cargo.toml ] || { start erased erased; erased=$!; }
+start erased erased
+erased=$!
 start edits tests/try_wrong_bodies.py $whole "$gate/crates" "$scratch/gate.log"
 edits=$!
 { cd "$gate" && rt ci || true; } 2>&1 | tee "$scratch/gate.log" | sed '$d'
@@ -102,7 +103,7 @@ echo ended >>"$scratch/gate.log"
 failed=
 case $last in *" passed, 0 failed") ;; *) failed="rt ci" ;; esac
 ends beside "$beside"
-[ ! -e Cargo.toml ] || ends erased "$erased"
+ends erased "$erased"
 ends edits "$edits"
 running=
 [ -z "$failed" ] || { echo "test.sh: failed: $failed; rt ci: $last"; exit 1; }
@@ -112,11 +113,7 @@ for name in list size map filter at section; do
     cp "$gate/crates/binfarce_$name/out/binfarce_$name" "$scratch/proved"
 done
 part tests/programs.sh "$scratch/proved"
-if [ -e tests/erased.sh ]; then
-    part tests/programs.sh "$built"
-    start side_by_side tests/erased.sh "$scratch/proved" "$built"
-    ends side_by_side "$!"
-    [ -z "$failed" ] || exit 1
-fi
+part tests/programs.sh "$built"
+part tests/erased.sh "$scratch/proved" "$built"
 sed -n 's/^tests: \([0-9]*\) passed, 0 failed$/\1/p; s/^wrong bodies: \([0-9]*\) refused, 0 not$/\1/p; s/^test result: ok[.] \([0-9]*\) passed.*/\1/p' "$scratch"/logs/* |
     awk -v gate="${last%% *}" '{ gate += $1 } END { print gate " passed, 0 failed" }'

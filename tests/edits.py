@@ -2,7 +2,7 @@
 
 Lines that `rt` doesn't read come first: `does:` (what the wrong body does), `refused by:` (the promise that refuses it),
 `tried: always` where the default run tries it, and `in: FUNCTION` where it is refused in another function than the one that
-it changes. Functions are named as the prover names them, by their type or else their module: `Section::name`, `elf::parse`.
+it changes. Functions have their paths in the crate, as the prover names them: `elf::parse`, `sections::Section::name`.
 """
 
 import os
@@ -31,18 +31,31 @@ def impl_name(impl):
     return "".join(word[:1].upper() + word[1:] for word in re.findall(r"\w+", f"{name} {trait}"))
 
 
-def item_at(file, lines, at):
+def module_of(file):
+    module = file.removeprefix("src/").removesuffix(".rt").replace("/", "::")
+    return "" if module in ("lib", "main") else module
+
+
+def home(crate, file, impl):
+    """The module that the prover counts an impl to: its own, or for an impl without a trait the one of the type."""
+    if " for " in impl or not re.match(r"impl\b", impl):
+        return module_of(file)
+    top, defined = f"{TOP}/crates/{crate}", re.compile(rf"\b(struct|enum) {impl_name(impl)}\b")
+    others = sorted(os.path.relpath(f"{folder}/{name}", top) for folder, _, names in os.walk(f"{top}/src") for name in names)
+    return module_of(next((it for it in [file, *others] if defined.search(read(f"crates/{crate}/{it}"))), file))
+
+
+def item_at(crate, file, lines, at):
     """The item of a source file, as `rt fmt` lays it out, that holds a line: its kind, its name and its path."""
     while re.match(r"\s*(#\[|//)", lines[at]):
         at += 1
-    kind, name, holder = "", "", file.removeprefix("src/").removesuffix(".rt").replace("/", "::")
-    holder = "" if holder in ("lib", "main") else holder
+    kind, name, holder = "", "", module_of(file)
     depth = indent(lines[at]) + 1
     for line in reversed(lines[: at + 1]):
         found = ITEM.match(line.strip())
         if found and indent(line) < depth:
             if found[1] in ("impl", "trait"):
-                holder = impl_name(line.strip())
+                holder = f"{home(crate, file, line.strip())}::{impl_name(line.strip())}"
             elif not kind or found[1] == "fn" and kind != "fn":
                 kind, name = found.groups()
             depth = indent(line)
@@ -73,7 +86,7 @@ class Edit:
         self.file, old, _ = self.pairs[0]
         text = read(f"crates/{crate}/{self.file}")
         start = max(text.find(old), 0) + len(old) - len(old.lstrip())
-        self.kind, self.function, self.own = item_at(self.file, text.split("\n"), text.count("\n", 0, start))
+        self.kind, self.function, self.own = item_at(crate, self.file, text.split("\n"), text.count("\n", 0, start))
         self.refused_in = self.says.get("in", self.own)
 
     def label(self):

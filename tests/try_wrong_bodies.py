@@ -6,8 +6,8 @@
 The edits that are always tried, or with --whole all. What the prover has to show of a function is made of its own body and of
 the contracts of what it calls, and of no other function's body. So the bodies of several functions can be wrong in one check,
 which loads the libraries once: each is refused by goals of its own function, and no other function may have an open goal.
-Only these functions are checked. An edit is tried alone where it has a line `in:`, and once more, over the whole crate, where
-the check before didn't refuse it.
+Only these functions are checked. An edit is tried alone where it has a line `in:`, and once more where the check before didn't
+refuse it.
 
 A crate's edits are tried as soon as the libraries below it are proved, in time that `rt ci` leaves over. A line for each edit
 has the first goal that refuses it; the last line counts them. The status is 1 if one wasn't refused.
@@ -45,10 +45,7 @@ def below(crate, known):
 def path_of_answer(folder, goal):
     """The function that an answer belongs to. The functions of a cycle share a folder, whose name begins with `+`; a goal's name begins with its function's."""
     *path, name = folder.split("/")
-    if name.startswith("+"):
-        *path, name = [*path, *goal.split("-", 1)[0].split("::")]
-    holder = path[-1:] if path and path[-1][:1].isupper() else path
-    return "::".join([*holder, name])
+    return "::".join([*path, goal.split("-", 1)[0] if name.startswith("+") else name])
 
 
 class Prover:
@@ -104,7 +101,7 @@ class Prover:
             if source:
                 file, number = [it for it in source.groups() if it]
                 text = texts.get(file) or read(f"crates/{crate}/{file}")
-                found.setdefault(item_at(file, text.split("\n"), int(number) - 1)[2], line)
+                found.setdefault(item_at(crate, file, text.split("\n"), int(number) - 1)[2], line)
             elif answer:
                 found.setdefault(path_of_answer(*answer.groups()), line)
             elif re.match(r"(note: )?(\./)?(proofs|specs)/\S+:\d+:\d+: error", line):
@@ -117,9 +114,7 @@ class Prover:
         found, why = self.goals(crate, texts, [it.refused_in for it in these])
         refused = {it.name: found[it.refused_in] for it in these if it.refused_in in found}
         if len(these) == 1:
-            if not refused:
-                found, why = self.goals(crate, texts)
-            return ({these[0].name: next(iter({**found, **refused}.values()))}, {}) if found else ({}, {these[0].name: why})
+            return (refused, {}) if refused else ({}, {these[0].name: why or f"no goal of {these[0].refused_in} is open"})
         if found.keys() - {it.refused_in for it in these}:
             # A function is refused that none of them changes.
             refused = {}

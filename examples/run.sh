@@ -57,7 +57,7 @@ rust/c/generate --check || fail "the wrappers aren't those of the header"
 echo '#include "binfarce.h"' >"$work/header.c"
 gcc -std=c99 $flags -c "$work/header.c" -o "$work/header.o" || fail "the header is no C99"
 g++ -std=c++98 $flags -x c++ -c "$work/header.c" -o "$work/header.o" || fail "the header is no C++"
-for name in symbols listing hostile sections kinds; do
+for name in symbols listing hostile sections kinds pointers; do
     gcc -std=c11 $flags "examples/$name.c" "$archive" -o "$work/$name"
     gcc -std=c11 $flags $strict "examples/$name.c" "$archive" -o "$work/$name-checked"
 done
@@ -95,6 +95,9 @@ for file in $(ls -d "$work/hostile-files"/* | head -n 1000); do
     ! grep -q "isn.t found by its" "$work/given" || fail "$(cat "$work/given") in $file"
 done
 
+for file in "$sample" "$work/symbols"; do
+    "$work/pointers-checked" "$file" || fail "a pointer goes elsewhere than to the name in $file"
+done
 "$work/hostile" 100000 10000 "$sample" || fail "a call depends on its buffer"
 "$work/hostile-checked" 2000 500 "$sample" || fail "a call depends on its buffer, under the sanitizers"
 "$work/refused" "$sample" || fail "a failed allocation isn't reported"

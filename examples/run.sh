@@ -5,10 +5,10 @@
 #   examples/run.sh [ARCHIVE [FILE ..]]  over the archive that `cargo build --release` makes, or over ARCHIVE, such as the
 #                                        one of bindings/archive.sh; the FILEs are listed too
 #   LIST=PROGRAM                         in place of cargo's binfarce-list
-#   FILES=N                              hostile files, in place of 10,000, with ten times as many hostile names
+#   FILES=N                              hostile files, in place of 2,000, with ten times as many hostile names
 set -eu
 cd "$(dirname "$0")/.."
-files=${FILES:-10000}
+files=${FILES:-2000}
 work=$(mktemp -d)
 trap 'rm -rf "$work"' EXIT
 trap 'exit 130' HUP INT TERM
@@ -39,7 +39,7 @@ compare() {
     done
 }
 
-for needed in cargo gcc g++ readelf python3 valgrind; do
+for needed in cargo gcc g++ nm readelf python3 valgrind; do
     command -v "$needed" >/dev/null || { echo "examples: $needed is missing" >&2; exit 1; }
 done
 cargo build --offline --quiet --release --workspace --lib --bins --examples
@@ -53,10 +53,11 @@ strict="-fsanitize=address,undefined -fno-sanitize-recover"
 flags="-O2 -g -Wall -Wextra -pedantic -Werror -Iinclude"
 sample=crates/binfarce_list/data/e-elf64-little.bin
 
+rust/c/generate --check || fail "the wrappers aren't those of the header"
 echo '#include "binfarce.h"' >"$work/header.c"
 gcc -std=c99 $flags -c "$work/header.c" -o "$work/header.o" || fail "the header is no C99"
 g++ -std=c++98 $flags -x c++ -c "$work/header.c" -o "$work/header.o" || fail "the header is no C++"
-for name in symbols listing hostile sections kinds; do
+for name in symbols listing hostile sections kinds pointers; do
     gcc -std=c11 $flags "examples/$name.c" "$archive" -o "$work/$name"
     gcc -std=c11 $flags $strict "examples/$name.c" "$archive" -o "$work/$name-checked"
 done
@@ -94,6 +95,9 @@ for file in $(ls -d "$work/hostile-files"/* | head -n 1000); do
     ! grep -q "isn.t found by its" "$work/given" || fail "$(cat "$work/given") in $file"
 done
 
+for file in "$sample" "$work/symbols"; do
+    "$work/pointers-checked" "$file" || fail "a pointer goes elsewhere than to the name in $file"
+done
 "$work/hostile" 100000 10000 "$sample" || fail "a call depends on its buffer"
 "$work/hostile-checked" 2000 500 "$sample" || fail "a call depends on its buffer, under the sanitizers"
 "$work/refused" "$sample" || fail "a failed allocation isn't reported"

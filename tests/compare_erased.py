@@ -126,7 +126,7 @@ def difference(source, erased, own, missing):
 def main():
     top = pathlib.Path(sys.argv[1] if sys.argv[1:] else pathlib.Path(__file__).resolve().parent.parent)
     folder, differences, compared = top / "rust/src/erased", [], 0
-    left = set(folder.rglob("*.rs")) - {folder / "mod.rs"}
+    left = {path for path in folder.rglob("*.rs") if re.sub(r"//.*|#!?\[.*\]|pub mod \w+;|\s", "", path.read_text()) or path.name != "mod.rs"}
     everything = " ".join(path.read_text() for path in left)
     for source in sorted(top.glob("crates/*/src/**/*.rt")):
         own, inner = source.relative_to(top).parts[1], pathlib.Path(*source.relative_to(top).with_suffix("").parts[3:])

@@ -23,6 +23,9 @@ synopsis() {
 }
 
 what="a page for each program"
+for needed in cargo gcc pkg-config readelf; do
+    command -v "$needed" >/dev/null || fail "$needed is missing"
+done
 programs=$(cd crates && ls -d */src/main.rt | sed 's|/.*||' | grep '^binfarce_' | tr _ -)
 for name in $programs; do
     page="man/$name.1"

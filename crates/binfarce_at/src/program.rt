@@ -1,10 +1,11 @@
 //! What the program does, over any reader and any writer.
 
-ghost use Rattle.std.specs.Prelude.{◌≡◌, ◌⊎◌, ℕ, List, [], true, codes, Some, Ok, IfSome};
+ghost use Rattle.std.specs.Prelude.{◌≡◌, ◌⊎◌, ℕ, List, [], true, codes, Some, IfSome};
 ghost use Rattle.binfarce.specs.Format.{format_of};
 ghost use Rattle.binfarce_tools.specs.Answer.{symbols_answer, NeedsMemory};
 ghost use Rattle.binfarce_tools.specs.Listing.{ListingFits};
 ghost use Rattle.binfarce_tools.specs.Sink.{writer_of, has_failed};
+ghost use Rattle.binfarce_tools.specs.Tables.{AreTablesOf};
 ghost use Rattle.binfarce_tools.specs.Writing.{ProgramTells, Takes, Fails, Leaves};
 ghost use Rattle.binfarce_addresses.specs.Lines.{AreLinesAt};
 ghost use Rattle.binfarce_addresses.specs.PlacesViews.{IsMadeOf};
@@ -16,7 +17,7 @@ use binfarce_program::{Failure, is_read_at_offsets, read_whole};
 use binfarce_source::Source;
 use binfarce_tables::ReadError;
 use binfarce_tools::list::{ListError, Out};
-use binfarce_tools::tables::read;
+use binfarce_tools::tables::{Tables, read};
 use std::alloc::Global;
 use std::io::{Read, Write};
 use thiserror::Error;
@@ -142,7 +143,10 @@ pub fn run_at<S: Source, W: Write>(
     ensures leaves { Leaves out.old out.new (outcome_of result) }
 {
     let tables = read(alloc, source, SECTION)?;
-    at_tables(alloc, &tables, base, addresses, out).map_err(Fault::At)
+    match at_tables(alloc, &tables, base, addresses, out) {
+        Ok(()) => Ok(()),
+        Err(e) => Err(Fault::At(e)),
+    }
 }
 
 /// Does what `run_at` does where the file can be read at offsets, and else what `run` does.
@@ -181,8 +185,7 @@ pub fn run_lines<R: Read, I: Read, W: Write>(
         (I.remaining input.old) (I.remaining input.new) (W.contents (writer_of out.old)) (W.contents (writer_of out.new)) result) }
 {
     let bytes = read_whole(alloc, file)?;
-    let places = Places::of_file(alloc, bytes.as_slice(), SECTION)?;
-    answer(alloc, places, base, input, out)
+    answer_in_bytes(alloc, bytes.as_slice(), base, input, out)
 }
 
 /// Does the same of a source, which it reads as `run_at` does.
@@ -199,8 +202,7 @@ pub fn run_lines_at<S: Source, I: Read, W: Write>(
         (I.remaining input.old) (I.remaining input.new) (W.contents (writer_of out.old)) (W.contents (writer_of out.new)) result }
 {
     let tables = read(alloc, source, SECTION)?;
-    let places = Places::of_tables(alloc, &tables)?;
-    answer(alloc, places, base, input, out)
+    answer_in_tables(alloc, &tables, base, input, out)
 }
 
 /// Does what `run_lines_at` does where the file can be read at offsets, and else what `run_lines` does.
@@ -221,19 +223,52 @@ pub fn run_file_lines<F: Read + Source, I: Read, W: Write>(
     }
 }
 
-// Answers the lines by the places, with their names.
-fn answer<I: Read, W: Write>(
+// Answers the lines by the function symbols of a file's bytes.
+fn answer_in_bytes<I: Read, W: Write>(
     alloc: Global,
-    mut places: Places<'_>,
+    file: &[u8],
     base: u64,
     input: &mut I,
     out: &mut Out<W>,
 ) -> Result<(), Fault>
-    ensures { (file : List ℕ) → IsMadeOf (NeedsMemory (format_of file) file) (symbols_answer (format_of file) file (codes ".text")) (Ok places.entry)
-        → AnswersLines ⊥ (NeedsMemory (format_of file) file) (symbols_answer (format_of file) file (codes ".text")) base
+    ensures { AnswersLines ⊥ (NeedsMemory (format_of file.now) file.now) (symbols_answer (format_of file.now) file.now (codes ".text")) base
         (I.remaining input.old) (I.remaining input.new) (W.contents (writer_of out.old)) (W.contents (writer_of out.new)) result }
 {
-    places.keep_names(alloc).map_err(ListError::from)?;
+    let places = named_places_in_bytes(alloc, file)?;
     answer_lines(alloc, &places, base, input, out)?;
     Ok(())
+}
+
+// The same, of a file's tables.
+fn answer_in_tables<I: Read, W: Write>(
+    alloc: Global,
+    tables: &Tables,
+    base: u64,
+    input: &mut I,
+    out: &mut Out<W>,
+) -> Result<(), Fault>
+    ensures { (file : List ℕ) → AreTablesOf file (codes ".text") tables.now → AnswersLines ⊥ (NeedsMemory (format_of file) file) (symbols_answer (format_of file) file (codes ".text")) base
+        (I.remaining input.old) (I.remaining input.new) (W.contents (writer_of out.old)) (W.contents (writer_of out.new)) result }
+{
+    let places = named_places_in_tables(alloc, tables)?;
+    answer_lines(alloc, &places, base, input, out)?;
+    Ok(())
+}
+
+// The places of the function symbols of a file's bytes, with their names.
+fn named_places_in_bytes(alloc: Global, file: &[u8]) -> Result<Places<'_>, ListError>
+    ensures { IsMadeOf (NeedsMemory (format_of file.entry.now) file.entry.now) (symbols_answer (format_of file.entry.now) file.entry.now (codes ".text")) result }
+{
+    let mut places = Places::of_file(alloc, file, SECTION)?;
+    places.keep_names(alloc)?;
+    Ok(places)
+}
+
+// The same, of a file's tables.
+fn named_places_in_tables(alloc: Global, tables: &Tables) -> Result<Places<'_>, ListError>
+    ensures { (file : List ℕ) → AreTablesOf file (codes ".text") tables.entry.now → IsMadeOf (NeedsMemory (format_of file) file) (symbols_answer (format_of file) file (codes ".text")) result }
+{
+    let mut places = Places::of_tables(alloc, tables)?;
+    places.keep_names(alloc)?;
+    Ok(places)
 }

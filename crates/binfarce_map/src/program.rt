@@ -125,7 +125,10 @@ pub fn run_at<S: Source, W: Write>(
     ensures leaves { Leaves out.old out.new (outcome_of result) }
 {
     let tables = read(alloc, source, section)?;
-    map_tables(alloc, &tables, out).map_err(Fault::Map)
+    match map_tables(alloc, &tables, out) {
+        Ok(()) => Ok(()),
+        Err(e) => Err(Fault::Map(e)),
+    }
 }
 
 /// Does what `run_at` does where the file can be read at offsets, and else what `run` does.

@@ -2,7 +2,7 @@ use Rattle.std.proofs.Common.{Ok, codes}
 use Rattle.binfarce.specs.Format.{format_of}
 use Rattle.binfarce_tools.specs.Answer.{symbols_answer, NeedsMemory}
 use Rattle.binfarce_at.proofs.Told.{told, told_less}
-use Rattle.binfarce_at.proofs.program.answer.Goals as goal
+use Rattle.binfarce_at.proofs.program.answer_in_tables.Goals as goal
 
 pub returns-in_err-answer_lines : goal.returns-in_err-answer_lines
 returns-in_err-answer_lines g c = λ file are.

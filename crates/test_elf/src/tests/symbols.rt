@@ -148,7 +148,8 @@ const CHANGED: [Row; 25] = [
     (
         "strings that are the section names",
         Layout::Elf64Little,
-        &[(483, &[234]), (491, &[33])],
+        // At 483 the strings' offset, and at 491 their size: one patch, since the answer is the same with the size as it was.
+        &[(483, &[234, 0, 0, 0, 0, 0, 0, 0, 33])],
         ".text",
         "1000 16 .text .text Unknown None, section of 32",
     ),

@@ -5,9 +5,9 @@ use binfarce::demangle::SymbolData;
 use binfarce::{ByteOrder, ParseError, elf32, elf64};
 use std::alloc::{AllocError, Global};
 use std::test::Fail;
+use test_samples::Patch;
 use test_samples::elf::{Layout, REFUSED};
 use test_samples::question::{Question, wrong_despite, wrong_with};
-use test_samples::{Patch, patched};
 
 pub(crate) const LISTING: &str = "1000 16 foo::bar foo Legacy None, section of 32";
 
@@ -116,7 +116,7 @@ type Row = (
 
 // What is changed, the section that is asked for, and the answer: a walk to the end of the greatest count of sections, a
 // table of strings that lies over another, and each row that isn't listed, made one that is.
-const CHANGED: [Row; 24] = [
+const CHANGED: [Row; 25] = [
     (
         "65,535 sections",
         Layout::Elf32Little,
@@ -144,6 +144,14 @@ const CHANGED: [Row; 24] = [
         &[(60, &[0xFF; 2])],
         "nope",
         TRUNCATED,
+    ),
+    (
+        "strings that are the section names",
+        Layout::Elf64Little,
+        // At 483 the strings' offset, and at 491 their size: one patch, since the answer is the same with the size as it was.
+        &[(483, &[234, 0, 0, 0, 0, 0, 0, 0, 33])],
+        ".text",
+        "1000 16 .text .text Unknown None, section of 32",
     ),
     (
         "strings that are the section names",
@@ -306,22 +314,6 @@ fn changed_files(rt: HostRuntime) -> Result<(), Fail> {
         let wrong = wrong_row(rt.alloc(), row)?;
         assert!(rt; wrong.is_none(), "{wrong:?}");
     }
-    Ok(())
-}
-
-// The string table's header names the offset and the size of the section names: the name at offset 1 is `.text` there. The
-// size alone changes no answer, so the row isn't one of those above.
-#[test]
-fn strings_at_the_section_names(rt: HostRuntime) -> Result<(), Fail> {
-    let question = Listed {
-        layout: Layout::Elf64Little,
-        section: ".text",
-    };
-    let patches: [Patch<'_>; 2] = [(483, &[234]), (491, &[33])];
-    let file = patched(rt.alloc(), question.layout.bytes(), &patches)?;
-    let answer = question.answer(rt.alloc(), &file)?;
-    let want = "1000 16 .text .text Unknown None, section of 32";
-    assert!(rt; answer.as_str() == want, "{answer}");
     Ok(())
 }
 

@@ -22,10 +22,11 @@ def indent(line):
 
 
 def impl_name(impl):
-    """What the prover calls an impl or a trait, of its first line: `impl RawNumber for u8 {` is U8RawNumber, `impl Stream<'_> {` Stream."""
+    """What the prover calls an impl or a trait, of its first line: `impl From<io::Error> for ReadError {` is ReadErrorFromIoError."""
     if not re.match(r"(unsafe )?impl\b", impl):
         return ITEM.match(impl)[2]
-    head = re.sub(r"\w+::", "", re.sub(r"^(unsafe )?impl(<[^>]*>)? ?", "", impl).rstrip(" {"))
+    head = re.sub(r"^(unsafe )?impl(<[^>]*>)? ?", "", impl).rstrip(" {")
+    head = re.sub(r"(^| for )(\w+::)+", r"\1", head)
     trait, _, name = head.rpartition(" for ")
     name = re.sub(r"<.*>", "", name.replace("&", " Ref ").replace("[", " Slice "))
     return "".join(word[:1].upper() + word[1:] for word in re.findall(r"\w+", f"{name} {trait}"))

@@ -154,7 +154,7 @@ def has_room():
         return int(re.search(r"^MemAvailable: +(\d+)", file.read(), re.M)[1]) > 5_000_000
 
 
-def try_all(these, crates, log, has_ended):
+def try_all(these, crates, log):
     os.nice(19)
     prover = Prover(crates)
     left = [(crate, it) for crate in sorted({it.crate for it in these}) for it in in_sets([it for it in these if it.crate == crate])]
@@ -163,9 +163,9 @@ def try_all(these, crates, log, has_ended):
     running, counts, processors = set(), [(0, 0)], os.cpu_count() or 1
     with ThreadPoolExecutor(processors) as pool:
         while left or running:
-            ended = has_ended()
             with open(log, encoding="utf-8", errors="replace") as file:
-                proved = {*re.findall(r"^rt: (\w+) (?:proved$|is kept: )", file.read(), re.M)}
+                text = file.read()
+            proved, ended = {*re.findall(r"^rt: (\w+) (?:proved$|is kept: )", text, re.M)}, text.endswith("\nended\n")
             ready = [it for it in left if proved.issuperset(below(it[0], prover.uses)[:-1])]
             lanes = processors if ended else max(1, processors // 2)
             for it in ready[: max(0, lanes - len(running)) if not running or has_room() else 0]:
@@ -183,12 +183,7 @@ def try_all(these, crates, log, has_ended):
 
 def main(words):
     every, (crates, log) = words[0] == "--whole", words[-2:]
-
-    def has_ended():
-        with open(log, encoding="utf-8", errors="replace") as file:
-            return file.read().endswith("\nended\n")
-
-    return try_all([it for it in edits() if every or it.always], crates, log, has_ended)
+    return try_all([it for it in edits() if every or it.always], crates, log)
 
 
 if __name__ == "__main__":

@@ -1,4 +1,4 @@
-//! Sixteen bytes that are compared side by side. std's own are in no stable Rust.
+//! Sixteen bytes that are compared side by side, as two words. std's own are in no stable Rust.
 
 /// What `std::simd::prelude` has of it.
 pub mod prelude {
@@ -7,78 +7,96 @@ pub mod prelude {
 
 use std::ops::{BitAnd, BitOr, Sub};
 
-/// Sixteen bytes.
+// The highest bit of each byte of a word.
+const HIGH: u64 = 0x8080_8080_8080_8080;
+
+/// Sixteen bytes, the first one in the lowest byte of the first word.
 #[allow(non_camel_case_types)]
 #[derive(Debug, Clone, Copy)]
-pub struct u8x16([u8; 16]);
+pub struct u8x16([u64; 2]);
 
-/// Sixteen answers, each 0xFF for yes or 0 for no.
+/// Sixteen answers: the highest bit of each byte.
 #[derive(Debug, Clone, Copy)]
-pub struct Mask([u8; 16]);
-
-#[inline(always)]
-fn each(f: impl Fn(usize) -> u8) -> [u8; 16] {
-    let mut bytes = [0; 16];
-    for (at, byte) in bytes.iter_mut().enumerate() {
-        *byte = f(at);
-    }
-    bytes
-}
+pub struct Mask([u64; 2]);
 
 impl u8x16 {
     /// The first 16 bytes of at least as many.
     #[inline(always)]
     pub fn from_slice(bytes: &[u8]) -> u8x16 {
-        u8x16(each(|at| bytes[..16][at]))
+        let bytes: [u8; 16] = bytes[..16].try_into().expect("16 bytes");
+        let both = u128::from_le_bytes(bytes);
+        u8x16([both as u64, (both >> 64) as u64])
     }
 
     /// The same byte sixteen times.
     #[inline(always)]
     pub fn splat(byte: u8) -> u8x16 {
-        u8x16([byte; 16])
+        u8x16([u64::from_ne_bytes([byte; 8]); 2])
+    }
+
+    #[inline(always)]
+    fn each(self, other: u8x16, f: impl Fn(u64, u64) -> u64) -> [u64; 2] {
+        [f(self.0[0], other.0[0]), f(self.0[1], other.0[1])]
     }
 
     /// Which bytes are equal.
     #[inline(always)]
     pub fn simd_eq(self, other: u8x16) -> Mask {
-        Mask(each(|at| 0u8.wrapping_sub((self.0[at] == other.0[at]).into())))
+        // A byte that differs has one of its bits, or its lower seven overflow into the highest one.
+        Mask(self.each(other, |a, b| !(((a ^ b) & !HIGH).wrapping_add(!HIGH) | (a ^ b)) & HIGH))
     }
 
     /// Which bytes aren't less.
     #[inline(always)]
     pub fn simd_ge(self, other: u8x16) -> Mask {
-        Mask(each(|at| 0u8.wrapping_sub((self.0[at] >= other.0[at]).into())))
+        // By the highest bits where these differ, and else by the lower ones, whose differences borrow from no other byte.
+        Mask(self.each(other, |a, b| ((a & !b) | (!(a ^ b) & (a | HIGH).wrapping_sub(b & !HIGH))) & HIGH))
     }
 }
 
-/// An operator that takes sixteen bytes one by one.
-macro_rules! operator {
-    ($operator:ident, $name:ident, $type:ident, $f:expr) => {
-        impl $operator for $type {
-            type Output = $type;
+impl BitOr for u8x16 {
+    type Output = u8x16;
 
-            #[inline(always)]
-            fn $name(self, other: $type) -> $type {
-                $type(each(|at| $f(self.0[at], other.0[at])))
-            }
-        }
-    };
+    #[inline(always)]
+    fn bitor(self, other: u8x16) -> u8x16 {
+        u8x16(self.each(other, |a, b| a | b))
+    }
 }
 
-operator!(BitOr, bitor, u8x16, |a: u8, b: u8| a | b);
-operator!(Sub, sub, u8x16, |a: u8, b: u8| a.wrapping_sub(b));
-operator!(BitOr, bitor, Mask, |a: u8, b: u8| a | b);
-operator!(BitAnd, bitand, Mask, |a: u8, b: u8| a & b);
+impl Sub for u8x16 {
+    type Output = u8x16;
+
+    /// The differences, which wrap.
+    #[inline(always)]
+    fn sub(self, other: u8x16) -> u8x16 {
+        u8x16(self.each(other, |a, b| (a | HIGH).wrapping_sub(b & !HIGH) ^ (!(a ^ b) & HIGH)))
+    }
+}
 
 impl Mask {
     /// A bit for each answer, the lowest one for the first byte.
     #[inline(always)]
     pub fn to_bitmask(self) -> u64 {
-        let half = |start: usize| {
-            let bytes: [u8; 8] = std::array::from_fn(|at| self.0[start + at]);
-            // Each byte's bit is moved to the highest byte, the first one's to its lowest bit.
-            (u64::from_le_bytes(bytes) & 0x8040_2010_0804_0201).wrapping_mul(0x0101_0101_0101_0101) >> 56
-        };
-        half(0) | half(8) << 8
+        // Each byte's bit moves to the highest byte, the first one's to its lowest bit.
+        let half = |word: u64| (word >> 7).wrapping_mul(0x0102_0408_1020_4080) >> 56;
+        half(self.0[0]) | half(self.0[1]) << 8
+    }
+}
+
+impl BitOr for Mask {
+    type Output = Mask;
+
+    #[inline(always)]
+    fn bitor(self, other: Mask) -> Mask {
+        Mask([self.0[0] | other.0[0], self.0[1] | other.0[1]])
+    }
+}
+
+impl BitAnd for Mask {
+    type Output = Mask;
+
+    #[inline(always)]
+    fn bitand(self, other: Mask) -> Mask {
+        Mask([self.0[0] & other.0[0], self.0[1] & other.0[1]])
     }
 }

@@ -21,13 +21,10 @@ thread_local! {
     static OUTPUT: RefCell<String> = const { RefCell::new(String::new()) };
 }
 
-/// Refuses the allocation whose turn it is. Room that is there already is never refused.
-pub fn count_allocation(grows: bool) -> std::result::Result<(), AllocError> {
+/// Refuses the allocation whose turn it is.
+pub fn count_allocation() -> std::result::Result<(), AllocError> {
     let left = LEFT.get();
-    if !grows || left == 0 {
-        return Ok(());
-    }
-    LEFT.set(left - 1);
+    LEFT.set(left.saturating_sub(1));
     if left == 1 { Err(AllocError) } else { Ok(()) }
 }
 

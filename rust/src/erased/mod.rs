@@ -2,9 +2,8 @@
 
 //! The proved sources without their clauses, a module for each crate.
 
-// Some parameters, fields and functions are there for clauses alone.
-#![allow(dead_code, unused_variables)]
-#![cfg_attr(test, allow(unused_imports))]
+// Some parameters, fields, functions and imports of tests are there for clauses alone.
+#![allow(dead_code, unused_imports, unused_variables)]
 
 pub mod binfarce_text;
 pub mod binfarce_legacy;

@@ -8,7 +8,7 @@ use crate::erased::binfarce_program::{Failure, is_read_at_offsets, read_whole};
 use crate::erased::binfarce_source::Source;
 use crate::erased::binfarce_tables::ReadError;
 use crate::erased::binfarce_tools::list::{ListError, Out};
-use crate::erased::binfarce_tools::tables::read;
+use crate::erased::binfarce_tools::tables::{Tables, read};
 use crate::shim::alloc::Global;
 use crate::shim::io::{Read, Write};
 
@@ -110,7 +110,10 @@ pub fn run_at<S: Source, W: Write>(
     out: &mut Out<W>,
 ) -> Result<(), Fault> {
     let tables = read(alloc, source, SECTION)?;
-    at_tables(alloc, &tables, base, addresses, out).map_err(Fault::At)
+    match at_tables(alloc, &tables, base, addresses, out) {
+        Ok(()) => Ok(()),
+        Err(e) => Err(Fault::At(e)),
+    }
 }
 
 /// Does what `run_at` does where the file can be read at offsets, and else what `run` does.
@@ -140,8 +143,7 @@ pub fn run_lines<R: Read, I: Read, W: Write>(
     out: &mut Out<W>,
 ) -> Result<(), Fault> {
     let bytes = read_whole(alloc, file)?;
-    let places = Places::of_file(alloc, bytes.as_slice(), SECTION)?;
-    answer(alloc, places, base, input, out)
+    answer_in_bytes(alloc, bytes.as_slice(), base, input, out)
 }
 
 /// Does the same of a source, which it reads as `run_at` does.
@@ -155,8 +157,7 @@ pub fn run_lines_at<S: Source, I: Read, W: Write>(
     out: &mut Out<W>,
 ) -> Result<(), Fault> {
     let tables = read(alloc, source, SECTION)?;
-    let places = Places::of_tables(alloc, &tables)?;
-    answer(alloc, places, base, input, out)
+    answer_in_tables(alloc, &tables, base, input, out)
 }
 
 /// Does what `run_lines_at` does where the file can be read at offsets, and else what `run_lines` does.
@@ -174,15 +175,42 @@ pub fn run_file_lines<F: Read + Source, I: Read, W: Write>(
     }
 }
 
-// Answers the lines by the places, with their names.
-fn answer<I: Read, W: Write>(
+// Answers the lines by the function symbols of a file's bytes.
+fn answer_in_bytes<I: Read, W: Write>(
     alloc: Global,
-    mut places: Places<'_>,
+    file: &[u8],
     base: u64,
     input: &mut I,
     out: &mut Out<W>,
 ) -> Result<(), Fault> {
-    places.keep_names(alloc).map_err(ListError::from)?;
+    let places = named_places_in_bytes(alloc, file)?;
     answer_lines(alloc, &places, base, input, out)?;
     Ok(())
+}
+
+// The same, of a file's tables.
+fn answer_in_tables<I: Read, W: Write>(
+    alloc: Global,
+    tables: &Tables,
+    base: u64,
+    input: &mut I,
+    out: &mut Out<W>,
+) -> Result<(), Fault> {
+    let places = named_places_in_tables(alloc, tables)?;
+    answer_lines(alloc, &places, base, input, out)?;
+    Ok(())
+}
+
+// The places of the function symbols of a file's bytes, with their names.
+fn named_places_in_bytes(alloc: Global, file: &[u8]) -> Result<Places<'_>, ListError> {
+    let mut places = Places::of_file(alloc, file, SECTION)?;
+    places.keep_names(alloc)?;
+    Ok(places)
+}
+
+// The same, of a file's tables.
+fn named_places_in_tables(alloc: Global, tables: &Tables) -> Result<Places<'_>, ListError> {
+    let mut places = Places::of_tables(alloc, tables)?;
+    places.keep_names(alloc)?;
+    Ok(places)
 }

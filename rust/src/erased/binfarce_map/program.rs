@@ -97,7 +97,10 @@ pub fn run_at<S: Source, W: Write>(
     out: &mut Out<W>,
 ) -> Result<(), Fault> {
     let tables = read(alloc, source, section)?;
-    map_tables(alloc, &tables, out).map_err(Fault::Map)
+    match map_tables(alloc, &tables, out) {
+        Ok(()) => Ok(()),
+        Err(e) => Err(Fault::Map(e)),
+    }
 }
 
 /// Does what `run_at` does where the file can be read at offsets, and else what `run` does.

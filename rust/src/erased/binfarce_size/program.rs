@@ -93,7 +93,10 @@ pub fn run_at<S: Source, W: Write>(
     out: &mut Out<W>,
 ) -> Result<(), Fault> {
     let tables = read(alloc, source, section)?;
-    report_tables(alloc, &tables, out).map_err(Fault::Report)
+    match report_tables(alloc, &tables, out) {
+        Ok(()) => Ok(()),
+        Err(e) => Err(Fault::Report(e)),
+    }
 }
 
 /// Does what `run_at` does where the file can be read at offsets, and else what `run` does.

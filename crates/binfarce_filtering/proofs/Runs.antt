@@ -9,7 +9,7 @@ use Rattle.std.proofs.lemmas.Str.{IsUtf8-from_ascii}
 use Rattle.std.proofs.lemmas.Str.Ascii.{IsAscii-from_all}
 use Rattle.std.specs.Str.{IsUtf8}
 use Rattle.binfarce_filtering.specs.Filter.{IsFiltered, IsRun, IsShown, is_dot, is_run_byte, last_run, run_then}
-use Rattle.binfarce_filtering.specs.FilterViews.{Continues}
+use Rattle.binfarce_filtering.specs.Continued.{Continues}
 
 pub is_no_dot : (b : ℕ) → ¬ (b ≡ 46) → is_dot b ≡ false
 is_no_dot b is = grind (arith, nat_tests)

@@ -1,4 +1,5 @@
 pub mod Filter
+pub mod Continued
 pub mod FilterViews
 pub mod Stream
 pub mod machine

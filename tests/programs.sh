@@ -1,7 +1,7 @@
 #!/bin/sh
-# Runs programs where no stored run can: with a full device or a closed pipe for standard output, on a file of 4 MiB, on one of
-# 8 GiB in little memory, on a pipe, on a folder, on a file that isn't there, and with a wrong call. Status 1 where one ends
-# otherwise than it must.
+# Runs the programs that the repository has built where no stored run can: with a full device or a closed pipe for standard
+# output, on a file of 4 MiB, on one of 8 GiB in little memory, on a path with blanks, on a pipe, on files of /proc and /sys,
+# on a folder, on a file that isn't there, and with a wrong call. Status 1 where one ends otherwise than it must.
 #
 # Usage: tests/programs.sh FOLDER, which has the programs as `binfarce_list` or as `binfarce-list`
 set -eu
@@ -9,13 +9,25 @@ set -eu
 folder=$(cd "$1" && pwd)
 cd "$(dirname "$0")/.."
 scratch=$(mktemp -d)
-trap 'rm -rf "$scratch"' EXIT
+holder=
+trap 'kill $holder 2>/dev/null; rm -rf "$scratch"' EXIT
 trap 'exit 130' HUP INT TERM
 
 sample=crates/binfarce_list/data/e-elf64-little.bin
 { cat "$sample"; head -c 4194304 /dev/zero; } >"$scratch/large"
 cp "$sample" "$scratch/sparse"
 truncate -s 8G "$scratch/sparse"
+blanks="$scratch/ a  file "
+cp "$sample" "$blanks"
+
+# Files whose length isn't the number of their bytes. One of /proc has length 0 and the sample's bytes: the words of a program
+# that waits, with a zero byte after each. One of /sys has length 4096 and a few digits.
+mkfifo "$scratch/never-read"
+exec 5<>"$scratch/never-read"
+python3 -c 'import os, sys; os.execvp("yes", open(sys.argv[1], "rb").read().split(b"\0"))' "$sample" >&5 &
+holder=$!
+of_proc=/proc/$holder/cmdline of_sys=/sys/kernel/uevent_seqnum
+until head -c 4 "$of_proc" | grep -q ELF; do sleep 0.1; done
 
 # call PROGRAM ARGUMENT..: runs a program of the folder.
 call() {
@@ -63,6 +75,9 @@ for name in list size map; do
     ends 0 "crates/$program/stdout" "" "$program" "$sample"
     ends 0 "crates/$program/stdout" "" "$program" "$scratch/large" .text
     cat "$scratch/large" | ends 0 "crates/$program/stdout" "" "$program" /dev/stdin
+    ends 0 "crates/$program/stdout" "" "$program" "$blanks"
+    ends 0 "crates/$program/stdout" "" "$program" "$of_proc"
+    ends 1 /dev/null "$shown: unknown file format" "$program" "$of_sys"
     ends 1 /dev/null "$shown: symbols section is missing" "$program" "$scratch/large" .data
     ends 1 /dev/null "$shown: cannot read file" "$program" "$scratch"
     ends 1 /dev/null "$shown: cannot read file" "$program" "$scratch/missing"
@@ -84,7 +99,13 @@ told 1 "$(cat "$scratch/ended")" "$shown: write failed" "$program" "$sample" .te
 { sleep 0.5; run "$program" "$sample"; } | :
 told 1 "$(cat "$scratch/ended")" "$shown: write failed" "$program" "$sample"
 ends 0 "crates/$program/stdout" "" "$program" "$sample"
+cat "$sample" | ends 0 "crates/$program/stdout" "" "$program" /dev/stdin
+ends 0 "crates/$program/stdout" "" "$program" "$blanks"
+ends 0 "crates/$program/stdout" "" "$program" "$of_proc"
+ends 1 /dev/null "$shown: unknown file format" "$program" "$of_sys"
 printf '\0_ZN3foo3barE\0bad\0' >"$scratch/strings"
+cat "$sample" | ends 0 "$scratch/strings" "" "$program" /dev/stdin .strtab
+ends 0 "$scratch/strings" "" "$program" "$of_proc" .strtab
 ends 0 "$scratch/strings" "" "$program" "$scratch/large" .strtab
 ends 1 /dev/null "$shown: no section of this name" "$program" "$sample" .data
 head -c 395 "$sample" >"$scratch/truncated"
@@ -121,7 +142,10 @@ ended=0
 call binfarce_at "$sample" 1000 >/dev/full 2>"$scratch/error" || ended=$?
 told 1 "$ended" "binfarce-at: write failed" binfarce_at "$sample" 1000
 ends 0 crates/binfarce_at/stdout "" binfarce_at "$sample" 1000 0x1005 100f 1010 0fff
-cat "$sample" | ends 0 crates/binfarce_at/stdout "" binfarce_at /dev/stdin 1000 0x1005 100f 1010 0fff
+for file in /dev/stdin "$blanks" "$of_proc"; do
+    cat "$sample" | ends 0 crates/binfarce_at/stdout "" binfarce_at "$file" 1000 0x1005 100f 1010 0fff
+done
+ends 1 /dev/null "binfarce-at: unknown file format" binfarce_at "$of_sys" 1000
 (ulimit -v 65536 && call binfarce_at "$scratch/sparse" 1000 0x1005 100f 1010 0fff) | cmp crates/binfarce_at/stdout -
 echo "binfarce_at $scratch/sparse: the same in 64 MiB"
 ends 1 /dev/null "binfarce-at: cannot read file" binfarce_at "$scratch/missing" 1000
@@ -129,7 +153,9 @@ ends 1 /dev/null "binfarce-at: unknown file format" binfarce_at /dev/null 1000
 ends 2 /dev/null "$usage" binfarce_at
 ends 2 /dev/null "$usage" binfarce_at "$sample" 1000 10g
 ends 2 /dev/null "$usage" binfarce_at --base "$sample" 1000
-printf '1000\n0x1005\n100f\n1010\n0fff' | ends 0 crates/binfarce_at/stdout "" binfarce_at "$sample"
+for file in "$sample" "$of_proc"; do
+    printf '1000\n0x1005\n100f\n1010\n0fff' | ends 0 crates/binfarce_at/stdout "" binfarce_at "$file"
+done
 printf '401000\n401005\n40100f\n401010\n400fff\n' | call binfarce_at --base 400000 "$sample" | sed 's/^000000000040/000000000000/' | cmp crates/binfarce_at/stdout -
 head -n 1 crates/binfarce_at/stdout >"$scratch/first"
 printf '1000\nno\n1005\n' | ends 2 "$scratch/first" "binfarce-at: not an address" binfarce_at "$sample"
@@ -142,5 +168,5 @@ echo 1000 >&3
 IFS= read -r line <&4
 [ "$line" = "$(cat "$scratch/first")" ] || { echo "binfarce_at: a line is not answered as it comes" && exit 1; }
 exec 3>&-
-wait
+wait $!
 echo "binfarce_at: a line is answered as it comes"

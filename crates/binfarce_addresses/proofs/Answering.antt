@@ -7,7 +7,7 @@ use Rattle.binfarce_tools.specs.Writing.{AppendsBeginning}
 use Rattle.binfarce_ranges.specs.Address.{address_of}
 use Rattle.binfarce_addresses.specs.Answered.{AnswersOf}
 use Rattle.binfarce_addresses.specs.Lines.{IsLineAt, AreLinesOf}
-use Rattle.binfarce_addresses.specs.Stream.{with_line_feeds, IsWritten, Begins, IsPart, Reads, AreTold, BreaksOff, Streams}
+use Rattle.binfarce_addresses.specs.Stream.{with_line_feeds, WritesAddress, Begins, HasNoLineFeed, Reads, AreTold, BreaksOff, Streams}
 use Rattle.binfarce_addresses.specs.machine.Answering.{WritesAll, Goes, Stops, AnswersUpTo, AnswersPart, AnswersAll, AnswersLast}
 use Rattle.binfarce_addresses.specs.declared.stream.Answered.{Answered}
 use Rattle.binfarce_addresses.specs.declared.stream.LinesError.{LinesError}
@@ -57,7 +57,7 @@ feeds_both (first ∷ lines) more = ap (λ (xs : List ℕ). (first ++ 10 ∷ [])
 begins_both : (text first left second rest : List ℕ) → Begins text first left → Begins left second rest → Begins text (first ++ second) rest
 begins_both text first left second rest a b = record {
   lines = a.lines ++ b.lines;
-  each = all_zip_both IsWritten a.lines b.lines first second a.each b.each;
+  each = all_zip_both WritesAddress a.lines b.lines first second a.each b.each;
   are = a.are ∙ ap (λ (xs : List ℕ). with_line_feeds a.lines ++ xs) b.are
       ∙ sym (append_assoc (with_line_feeds a.lines) (with_line_feeds b.lines) rest)
       ∙ ap (λ (xs : List ℕ). xs ++ rest) (sym (feeds_both a.lines b.lines));
@@ -178,7 +178,7 @@ part_not_kept entries base text bytes left len old new (Err e) same is goes =
 abbrev pub HasAnswered : List Entry → ℕ → List ℕ → List ℕ → Option (List ℕ) → Option (List ℕ) → Option (List ℕ) → Option (List ℕ) → Type 0
 HasAnswered entries base before after given left old new = (came : List ℕ) × Consumes given left came × Goes entries base (before ++ came) after old new
 
-pub nothing_answered : (entries : List Entry) (base : ℕ) (before : List ℕ) (given old : Option (List ℕ)) → IsPart before → HasAnswered entries base before before given given old old
+pub nothing_answered : (entries : List Entry) (base : ℕ) (before : List ℕ) (given old : Option (List ℕ)) → HasNoLineFeed before → HasAnswered entries base before before given given old old
 nothing_answered entries base before given old part =
     let P : List ℕ → Type 0 = λ xs. Begins xs [] before in
     ([], consumes_none given, ([], subst P (sym (append-nil before)) (begins_none before), part, told_none entries base old))

@@ -5,7 +5,7 @@ use Rattle.std.proofs.lemmas.Bool.Decides.{nat_tests}
 use Rattle.std.proofs.lemmas.List.{drop-drop, take_all, length-drop, length-take-le, get_or-take, take-append-drop}
 use Rattle.std.proofs.lemmas.List.Elements.{All-from_get_or}
 use Rattle.binfarce_ranges.specs.Address.{address_of}
-use Rattle.binfarce_addresses.specs.Stream.{with_line_feeds, IsWritten, Begins, BeginsWrong, IsPart}
+use Rattle.binfarce_addresses.specs.Stream.{with_line_feeds, WritesAddress, Begins, BeginsWrong, HasNoLineFeed}
 use Rattle.binfarce_addresses.specs.machine.Answering.{AreAddressesOf, IsFirst}
 use Rattle.binfarce_addresses.proofs.AddressLines.{all_zip_push}
 
@@ -31,7 +31,7 @@ pub line_within : (bytes line others : List ℕ) (len : ℕ) → len ≤ length 
 line_within bytes line others len le is = omega (arith, ap (length {A = ℕ}) is, length-drop len bytes, length-append line (10 ∷ others))
 
 -- the first line ends at the first line feed
-pub line_before : (bytes : List ℕ) (i : ℕ) → i < length bytes → get_or bytes i 0 ≡ 10 → ((k : ℕ) → k < i → get_or bytes k 0 ≡ 10 → ⊥) → IsPart (take i bytes) × ((others : List ℕ) × (bytes ≡ take i bytes ++ 10 ∷ others))
+pub line_before : (bytes : List ℕ) (i : ℕ) → i < length bytes → get_or bytes i 0 ≡ 10 → ((k : ℕ) → k < i → get_or bytes k 0 ≡ 10 → ⊥) → HasNoLineFeed (take i bytes) × ((others : List ℕ) × (bytes ≡ take i bytes ++ 10 ∷ others))
 line_before bytes i lt is before = (
   All-from_get_or (λ byte. byte ≢ 10) (take i bytes) 0 (λ k low. let within : k < i = omega (arith, length-take-le i bytes) in rw (get_or-take i bytes k 0) (before k within)),
   (drop (i + 1) bytes, sym (take-append-drop i bytes) ∙ ap (λ (xs : List ℕ). take i bytes ++ xs) (rest i lt is)),
@@ -40,7 +40,7 @@ line_before bytes i lt is before = (
     rest : (i : ℕ) → i < length bytes → get_or bytes i 0 ≡ 10 → drop i bytes ≡ 10 ∷ drop (i + 1) bytes
     rest i lt is = rw (add-one, drop-cons bytes i 0, is) refl
 
-pub no_line : (bytes : List ℕ) → ((k : ℕ) → k < length bytes → get_or bytes k 0 ≡ 10 → ⊥) → IsPart bytes
+pub no_line : (bytes : List ℕ) → ((k : ℕ) → k < length bytes → get_or bytes k 0 ≡ 10 → ⊥) → HasNoLineFeed bytes
 no_line bytes none = All-from_get_or (λ byte. byte ≢ 10) bytes 0 none
 
 -- from its first line feed on
@@ -59,16 +59,20 @@ first_of_digits bytes len address lt feed writes = record {
 }
 
 -- what was read, where no whole line is left
-pub all_lines : (bytes addresses : List ℕ) (len : ℕ) → len ≤ length bytes → Begins bytes addresses (drop len bytes) → IsPart (take (length bytes - len) (drop len bytes)) → AreAddressesOf bytes addresses (record { len = len; wrong = ltb 18 (length bytes - len) })
+pub all_lines : (bytes addresses : List ℕ) (len : ℕ) → len ≤ length bytes → Begins bytes addresses (drop len bytes) → HasNoLineFeed (take (length bytes - len) (drop len bytes)) → AreAddressesOf bytes addresses (record { len = len; wrong = ltb 18 (length bytes - len) })
 all_lines bytes addresses len within begins part = record {
   within = within;
   begins = begins;
-  wrong = λ long. inr (subst IsPart (left_of bytes len) part, omega (arith, length-drop len bytes, is_long (length bytes - len) long));
-  part = λ short. subst IsPart (left_of bytes len) part;
+  wrong = λ long. inr (subst HasNoLineFeed (left_of bytes len) part, omega (arith, length-drop len bytes, is_long (length bytes - len) long));
+  part = λ short. subst HasNoLineFeed (left_of bytes len) part;
+  short = λ short. omega (arith, length-drop len bytes, is_short (length bytes - len) short);
 }
   where
     is_long : (n : ℕ) → ltb 18 n ≡ true → 18 < n
     is_long n e = grind (arith, nat_tests)
+
+    is_short : (n : ℕ) → ltb 18 n ≡ false → n ≤ 18
+    is_short n e = grind (arith, nat_tests)
 
 -- one line more
 pub one_more : (bytes addresses new line others : List ℕ) (len address : ℕ) → Begins bytes addresses (drop len bytes) → drop len bytes ≡ line ++ 10 ∷ others → address_of line ≡ Some address → new ≡ addresses ++ address ∷ [] → Begins bytes new (drop (len + (length line + 1)) bytes)
@@ -77,7 +81,7 @@ one_more bytes addresses new line others len address begins is writes grown =
     let P : List ℕ → Type 0 = λ xs. Begins bytes xs (drop (len + (length line + 1)) bytes) in
     subst P (sym grown) (record {
       lines = begins.lines ++ line ∷ [];
-      each = all_zip_push IsWritten begins.lines addresses line address begins.each writes;
+      each = all_zip_push WritesAddress begins.lines addresses line address begins.each writes;
       are = begins.are ∙ ap (λ (xs : List ℕ). with_line_feeds begins.lines ++ xs) is
           ∙ regroup (with_line_feeds begins.lines) line (10 ∷ []) others
           ∙ ap (λ (xs : List ℕ). xs ++ others) (sym (feeds_push begins.lines line))

@@ -67,15 +67,11 @@ impl<'a> Places<'a> {
     /// # Errors
     ///
     /// As `of_file`.
-    pub fn of_tables(
-        alloc: Global,
-        tables: &'a Tables,
-        section: &str,
-    ) -> Result<Places<'a>, ListError>
-        ensures made { (file : List ℕ) → AreTablesOf file section.now tables.entry.now → IsMadeOf (NeedsMemory (format_of file) file) (symbols_answer (format_of file) file section.now) result }
+    pub fn of_tables(alloc: Global, tables: &'a Tables) -> Result<Places<'a>, ListError>
+        ensures made { (file section : List ℕ) → AreTablesOf file section tables.entry.now → IsMadeOf (NeedsMemory (format_of file) file) (symbols_answer (format_of file) file section) result }
         ensures unwritten { IfErr result (λ e. e ≢ Write) }
     {
-        let (functions, _) = tables.functions(alloc, section)?;
+        let (functions, _) = tables.functions(alloc)?;
         let places = places_of(alloc, functions)?;
         Ok(places)
     }
@@ -343,17 +339,16 @@ pub fn at<S: Sink>(
 pub fn at_tables<S: Sink>(
     alloc: Global,
     tables: &Tables,
-    section: &str,
     base: u64,
     addresses: &[u64],
     out: &mut S,
 ) -> Result<(), ListError>
-    ensures tells { (file : List ℕ) → AreTablesOf file section.now tables.now → Tells ListingFits (NeedsMemory (format_of file) file) (symbols_answer (format_of file) file section.now) (outcome_of result) }
-    ensures takes { (file : List ℕ) → AreTablesOf file section.now tables.now → Takes (AreLinesAt base addresses.now) (symbols_answer (format_of file) file section.now) (S.taken out.old) (S.taken out.new) (outcome_of result) }
+    ensures tells { (file section : List ℕ) → AreTablesOf file section tables.now → Tells ListingFits (NeedsMemory (format_of file) file) (symbols_answer (format_of file) file section) (outcome_of result) }
+    ensures takes { (file section : List ℕ) → AreTablesOf file section tables.now → Takes (AreLinesAt base addresses.now) (symbols_answer (format_of file) file section) (S.taken out.old) (S.taken out.new) (outcome_of result) }
     ensures fails { Fails (S.has_failed out.old) (S.has_failed out.new) (outcome_of result) }
     ensures leaves { Leaves out.old out.new (outcome_of result) }
 {
-    let places = Places::of_tables(alloc, tables, section)?;
+    let places = Places::of_tables(alloc, tables)?;
     let text = lines(alloc, &places, base, addresses)?;
     write_whole(out, text.as_slice())
 }

@@ -2,7 +2,7 @@
 
 ghost use Rattle.std.specs.Prelude.{◌≡◌, ◌<◌, ◌++◌, ◌∷◌, ℕ, List, length, MatchOption, IfOk};
 ghost use Rattle.binfarce_addresses.specs.Answered.{AnswersOf};
-ghost use Rattle.binfarce_addresses.specs.Stream.{IsPart, Streams};
+ghost use Rattle.binfarce_addresses.specs.Stream.{HasNoLineFeed, Streams};
 ghost use Rattle.binfarce_addresses.specs.machine.Answering.{AreAddressesOf, AnswersAll, AnswersLast, AnswersPart, AnswersUpTo, IsFirst, WritesAll};
 
 use crate::at::Places;
@@ -113,7 +113,7 @@ fn addresses_of(alloc: Global, bytes: &[u8]) -> Result<(Vec<u64>, Answered), All
 
 // What the first line of the bytes writes, if it writes an address, and how many bytes it has with its line feed.
 fn first_address(bytes: &[u8]) -> Option<(Option<u64>, usize)>
-    ensures { MatchOption result (IsPart bytes.now) (λ r. IsFirst bytes.now r.0 r.1) }
+    ensures { MatchOption result (HasNoLineFeed bytes.now) (λ r. IsFirst bytes.now r.0 r.1) }
 {
     if let Some((address, len)) = hex_line(bytes) {
         return Some((Some(address), len + 1));
@@ -124,7 +124,7 @@ fn first_address(bytes: &[u8]) -> Option<(Option<u64>, usize)>
 
 // The bytes before the first line feed.
 fn first_line(bytes: &[u8]) -> Option<&[u8]>
-    ensures { MatchOption result (IsPart bytes.now) (λ line. IsPart line.now × ((others : List ℕ) × (bytes.now ≡ line.now ++ 10 ∷ others))) }
+    ensures { MatchOption result (HasNoLineFeed bytes.now) (λ line. HasNoLineFeed line.now × ((others : List ℕ) × (bytes.now ≡ line.now ++ 10 ∷ others))) }
 {
     for (len, byte) in bytes.iter().enumerate() {
         if *byte == b'\n' {
@@ -164,7 +164,7 @@ fn answer_all<R: Read, S: Sink>(
     input: &mut R,
     out: &mut S,
 ) -> Result<(), LinesError>
-    requires { IsPart line.old.items }
+    requires { HasNoLineFeed line.old.items }
     ensures { AnswersAll places.now base line.old.items line.new.items (R.remaining input.old) (R.remaining input.new) (S.taken out.old) (S.taken out.new) result }
 {
     let mut chunk = new_chunk(alloc)?;
@@ -188,7 +188,7 @@ fn answer_chunks<R: Read, S: Sink>(
     input: &mut R,
     out: &mut S,
 ) -> Result<(), LinesError>
-    requires part { IsPart line.old.items }
+    requires part { HasNoLineFeed line.old.items }
     requires room { 0 < length chunk.now }
     ensures { AnswersAll places.now base line.old.items line.new.items (R.remaining input.old) (R.remaining input.new) (S.taken out.old) (S.taken out.new) result }
 {

@@ -1,5 +1,6 @@
 -- How the lines of standard input are answered: where the file isn't read, and where its entries can be had.
 use Rattle.std.proofs.Common.{◌≡◌, inl, inr, ℕ, List, [], Option, Some, None, Result, Ok, Err, IsErrAnd, refl, sym, subst, append-nil}
+use Rattle.std.specs.Prelude.{IfSome}
 use Rattle.std.specs.Io.KnownBytes.{Appends, Consumes}
 use Rattle.binfarce.specs.Format.{format_of}
 use Rattle.binfarce.specs.Refusal.{Refusal, refusal_of}
@@ -57,9 +58,14 @@ unread may bytes section base given old e (Err x) reads is =
     let P : Fault → Type 0 = λ f. AnswersLines may (NeedsMemory (format_of bytes) bytes) (symbols_answer (format_of bytes) bytes section) base given given old old (Err f) in
     subst P (sym is) (not_read may bytes section base given old e reads)
 
--- lines that are answered of a file that was read are answered of one that may be unreadable
-pub answers_as_well : (may : Type 0) (memory : Result Listed Refusal → Type 0) (answer : Option (Result Listed Refusal)) (base : ℕ) (given left old new : Option (List ℕ)) (result : Result (Unit {0}) Fault)
-    → AnswersLines ⊥ memory answer base given left old new result → AnswersLines may memory answer base given left old new result
-answers_as_well may memory answer base given left old new result (inl (inl (never, is), rest)) = absurd never
-answers_as_well may memory answer base given left old new result (inl (inr is, rest)) = inl (inr is, rest)
-answers_as_well may memory answer base given left old new result (inr answers) = inr answers
+-- lines that are answered of a file that may be unreadable in some cases are answered of one that may be so in more
+pub answers_as_well : (P Q : Type 0) → (P → Q) → (memory : Result Listed Refusal → Type 0) (answer : Option (Result Listed Refusal)) (base : ℕ) (given left old new : Option (List ℕ)) (result : Result (Unit {0}) Fault)
+    → AnswersLines P memory answer base given left old new result → AnswersLines Q memory answer base given left old new result
+answers_as_well P Q more memory answer base given left old new result (inl (inl (may, is), rest)) = inl (inl (more may, is), rest)
+answers_as_well P Q more memory answer base given left old new result (inl (inr is, rest)) = inl (inr is, rest)
+answers_as_well P Q more memory answer base given left old new result (inr answers) = inr answers
+
+-- what holds of the bytes that were read holds of those that the reader had left, where these are known
+pub all_read : (known : Option (List ℕ)) (items : List ℕ) (P : List ℕ → Type 0) → IfSome known (λ bytes. items ≡ bytes) → P items → IfSome known P
+all_read None items P is holds = tt
+all_read (Some bytes) items P is holds = subst P is holds

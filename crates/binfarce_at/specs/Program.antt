@@ -69,9 +69,9 @@ lines_end (Err e) = Err (Lines e)
 abbrev pub IsUntouched : Option (List ℕ) → Option (List ℕ) → Option (List ℕ) → Option (List ℕ) → Type 0
 IsUntouched given left old new = Consumes given left [] × Appends old new []
 
--- how the lines of standard input are answered, of a file whose answer is this: the file can't be read, which is told only where it may be unreadable, or an allocation failed; the file is refused; or its entries answer the lines
+-- how the lines of standard input are answered, of a file whose answer is this: the file can't be read, which is reported only where MayFail says so, or an allocation failed; the file is refused; or its entries answer the lines
 abbrev pub AnswersLines : Type 0 → (Result Listed Refusal → Type 0) → Option (Result Listed Refusal) → ℕ → Option (List ℕ) → Option (List ℕ) → Option (List ℕ) → Option (List ℕ) → Result (Unit {0}) Fault → Type 0
-AnswersLines MayBeUnreadable NeedsMemory answer base given left old new result =
-    (((MayBeUnreadable × (result ≡ Err File)) ⊎ (result ≡ Err (At errors.OutOfMemory))) × IsUntouched given left old new)
+AnswersLines MayFail NeedsMemory answer base given left old new result =
+    (((MayFail × (result ≡ Err File)) ⊎ (result ≡ Err (At errors.OutOfMemory))) × IsUntouched given left old new)
     ⊎ ((e : ListError) × IsMadeOf NeedsMemory answer (Err e) × (result ≡ Err (At e)) × IsUntouched given left old new)
     ⊎ ((listed : Listed) × (ended : Result (Unit {0}) LinesError) × (answer ≡ Some (Ok listed)) × Streams listed.entries base given left old new ended × (result ≡ lines_end ended))

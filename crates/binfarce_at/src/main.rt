@@ -1,4 +1,4 @@
-//! `binfarce-at [--base ADDRESS] FILE [ADDRESS..]`: tells what stands at addresses in an executable.
+//! `binfarce-at [--base ADDRESS] FILE [ADDRESS..]`: symbolizes addresses in an executable.
 #![tactic(auto)]
 
 mod arguments;
@@ -7,7 +7,7 @@ mod program;
 mod tests;
 
 use crate::arguments::read_arguments;
-use crate::program::{Fault, run, run_lines};
+use crate::program::{Fault, run_file, run_file_lines};
 use binfarce_program::{arguments, exit, finish, open};
 use binfarce_tools::list::Out;
 use std::io::{self, Input};
@@ -23,7 +23,7 @@ fn tell(rt: &HostRuntime) -> Result<(), Fault> {
     let mut file = open(rt, asked.path)?;
     let mut out = Out::new(io::writer(rt));
     let told = if asked.addresses.is_empty() {
-        run_lines(
+        run_file_lines(
             rt.alloc(),
             &mut file,
             asked.base,
@@ -32,7 +32,7 @@ fn tell(rt: &HostRuntime) -> Result<(), Fault> {
         )
     } else {
         let addresses = asked.addresses.as_slice();
-        run(rt.alloc(), &mut file, asked.base, addresses, &mut out)
+        run_file(rt.alloc(), &mut file, asked.base, addresses, &mut out)
     };
     finish(out.into_inner(), told)
 }

@@ -2,10 +2,13 @@
 // or all lines.
 
 use crate::arguments::read_arguments;
-use crate::program::{Fault, run, run_lines};
+use crate::program::{Fault, run, run_at, run_file, run_file_lines, run_lines, run_lines_at};
 use binfarce_tools::list::Out;
 use std::alloc::{AllocError, Global};
-use test_streams::{HELD, Held, READERS, Source, ended_with, failed_with, large_file};
+use test_streams::{
+    HELD, Held, Interrupted, READERS, Source, ended_with, failed_with, files_of, large_file,
+    samples,
+};
 
 const USAGE: &str = "usage: binfarce-at [--base ADDRESS] FILE [ADDRESS..]";
 
@@ -74,53 +77,138 @@ fn takes_a_base_and_addresses(rt: HostRuntime) -> Result<(), AllocError> {
     Ok(())
 }
 
+// Addresses, as lines write them, and their lines in the sample files.
+const ADDRESSES: [u64; 3] = [0x41, 0x1000, 0x1041];
+
+const WRITTEN: &[u8] = b"41\n0x1000\n1041";
+
+const LINES: [&str; 3] = [
+    "0000000000000041 ??\n0000000000001000 foo+0x0\n0000000000001041 ??\n",
+    "0000000000000041 ??\n0000000000001000 a+0x0\n0000000000001041 c+0x1\n",
+    "0000000000000041 c+0x1\n0000000000001000 ??\n0000000000001041 ??\n",
+];
+
+// Whether the work ended without a fault, and this text was written.
+fn is_written(ended: Result<(), Fault>, out: Out<Vec<u8>>, text: &str) -> bool {
+    ended.is_ok() && out.into_inner().as_slice() == text.as_bytes()
+}
+
+// A reader that is interrupted before each read and gives one byte then.
+fn short(bytes: &[u8]) -> Interrupted<'_> {
+    let source = Source {
+        most: 1,
+        ..Source::of(bytes)
+    };
+    Interrupted {
+        source,
+        is_next: false,
+    }
+}
+
 #[test]
-fn tells_why_nothing_is_told(rt: HostRuntime) -> Result<(), AllocError> {
-    for (label, bytes, end, want) in &READERS {
+fn symbolizes_in_bytes_that_are_read_to_the_end(rt: HostRuntime) -> Result<(), AllocError> {
+    for (file, want) in samples(rt.alloc())?.iter().zip(&LINES) {
         let mut out = Out::new(Vec::new(rt.alloc()));
-        let mut source = Source {
-            end: *end,
-            ..Source::of(bytes)
-        };
-        let told = run(rt.alloc(), &mut source, 0, &[0x10], &mut out);
-        let is_told = failed_with(rt.alloc(), told, "binfarce-at", want)?;
-        assert!(&rt; is_told, "{label}");
-        assert!(&rt; out.into_inner().is_empty(), "{label}");
+        let ended = run(rt.alloc(), &mut file.as_slice(), 0, &ADDRESSES, &mut out);
+        assert!(&rt; is_written(ended, out, want), "{want}");
+        let mut out = Out::new(Vec::new(rt.alloc()));
+        let ended = run(rt.alloc(), &mut short(file), 0, &ADDRESSES, &mut out);
+        assert!(&rt; is_written(ended, out, want), "{want}");
+        let mut out = Out::new(Vec::new(rt.alloc()));
+        let ended = run_lines(
+            rt.alloc(),
+            &mut file.as_slice(),
+            0,
+            &mut short(WRITTEN),
+            &mut out,
+        );
+        assert!(&rt; is_written(ended, out, want), "{want}");
     }
     Ok(())
 }
 
 #[test]
-fn tells_why_a_file_is_not_read_at_offsets(rt: HostRuntime) -> Result<(), AllocError> {
-    for (label, bytes, length, end, want) in &HELD {
+fn symbolizes_in_bytes_that_are_read_at_offsets(rt: HostRuntime) -> Result<(), AllocError> {
+    for (file, want) in samples(rt.alloc())?.iter().zip(&LINES) {
         let mut out = Out::new(Vec::new(rt.alloc()));
-        let mut held = Held {
-            bytes,
-            length: *length,
-            end: *end,
-        };
-        let told = run(rt.alloc(), &mut held, 0, &[0x10], &mut out);
-        let is_told = failed_with(rt.alloc(), told, "binfarce-at", want)?;
-        assert!(&rt; is_told, "{label}");
-        assert!(&rt; out.into_inner().is_empty(), "{label}");
+        let ended = run_at(rt.alloc(), &file.as_slice(), 0, &ADDRESSES, &mut out);
+        assert!(&rt; is_written(ended, out, want), "{want}");
+        let mut out = Out::new(Vec::new(rt.alloc()));
+        let mut lines = Source::of(WRITTEN);
+        let ended = run_lines_at(rt.alloc(), &file.as_slice(), 0, &mut lines, &mut out);
+        assert!(&rt; is_written(ended, out, want), "{want}");
+    }
+    Ok(())
+}
+
+#[test]
+fn symbolizes_in_any_file(rt: HostRuntime) -> Result<(), AllocError> {
+    for (file, want) in samples(rt.alloc())?.iter().zip(&LINES) {
+        for (label, mut opened) in files_of(file) {
+            let mut out = Out::new(Vec::new(rt.alloc()));
+            let ended = run_file(rt.alloc(), &mut opened, 0, &ADDRESSES, &mut out);
+            assert!(&rt; is_written(ended, out, want), "{label}");
+        }
+        for (label, mut opened) in files_of(file) {
+            let mut out = Out::new(Vec::new(rt.alloc()));
+            let mut lines = Source::of(WRITTEN);
+            let ended = run_file_lines(rt.alloc(), &mut opened, 0, &mut lines, &mut out);
+            assert!(&rt; is_written(ended, out, want), "{label}");
+        }
     }
     Ok(())
 }
 
 // Where the file is refused, nothing is read of the lines.
 #[test]
-fn reads_the_file_before_the_lines(rt: HostRuntime) -> Result<(), AllocError> {
-    for (label, bytes, length, end, want) in &HELD {
+fn reports_why_a_file_is_not_read(rt: HostRuntime) -> Result<(), AllocError> {
+    for (label, bytes, end, want) in &READERS {
         let mut out = Out::new(Vec::new(rt.alloc()));
-        let mut held = Held {
-            bytes,
-            length: *length,
+        let mut source = Source {
             end: *end,
+            ..Source::of(bytes)
+        };
+        let ended = run(rt.alloc(), &mut source, 0, &[0x10], &mut out);
+        assert!(&rt;
+            failed_with(rt.alloc(), ended, "binfarce-at", want)?,
+            "{label}"
+        );
+        let mut source = Source {
+            end: *end,
+            ..Source::of(bytes)
         };
         let mut lines = Source::of(b"10\n");
-        let told = run_lines(rt.alloc(), &mut held, 0, &mut lines, &mut out);
-        let is_told = failed_with(rt.alloc(), told, "binfarce-at", want)?;
-        assert!(&rt; is_told, "{label}");
+        let ended = run_lines(rt.alloc(), &mut source, 0, &mut lines, &mut out);
+        assert!(&rt;
+            failed_with(rt.alloc(), ended, "binfarce-at", want)?,
+            "{label}"
+        );
+        assert!(&rt; lines.bytes == b"10\n".as_slice(), "{label}");
+        assert!(&rt; out.into_inner().is_empty(), "{label}");
+    }
+    Ok(())
+}
+
+#[test]
+fn reports_why_a_file_is_not_read_at_offsets(rt: HostRuntime) -> Result<(), AllocError> {
+    for (label, bytes, length, end, want) in &HELD {
+        let held = Held {
+            bytes,
+            length: Some(*length),
+            end: *end,
+        };
+        let mut out = Out::new(Vec::new(rt.alloc()));
+        let ended = run_at(rt.alloc(), &held, 0, &[0x10], &mut out);
+        assert!(&rt;
+            failed_with(rt.alloc(), ended, "binfarce-at", want)?,
+            "{label}"
+        );
+        let mut lines = Source::of(b"10\n");
+        let ended = run_lines_at(rt.alloc(), &held, 0, &mut lines, &mut out);
+        assert!(&rt;
+            failed_with(rt.alloc(), ended, "binfarce-at", want)?,
+            "{label}"
+        );
         assert!(&rt; lines.bytes == b"10\n".as_slice(), "{label}");
         assert!(&rt; out.into_inner().is_empty(), "{label}");
     }
@@ -132,8 +220,8 @@ fn reads_a_large_file(rt: HostRuntime) -> Result<(), AllocError> {
     let bytes = large_file(rt.alloc())?;
     let mut out = Out::new(Vec::new(rt.alloc()));
     let mut source = Source::of(&bytes);
-    let told = run(rt.alloc(), &mut source, 0, &[0x10], &mut out);
+    let ended = run(rt.alloc(), &mut source, 0, &[0x10], &mut out);
     let want = "symbols section is missing";
-    assert!(&rt; failed_with(rt.alloc(), told, "binfarce-at", want)?);
+    assert!(&rt; failed_with(rt.alloc(), ended, "binfarce-at", want)?);
     Ok(())
 }

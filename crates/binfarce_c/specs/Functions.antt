@@ -1,20 +1,13 @@
 -- What the exports give that list the function symbols of a file.
-use Rattle.std.specs.Prelude.{◌≡◌, ◌⊎◌, ℕ, List, [], ◌∷◌, Result, Ok, Err, length}
-use Rattle.std.specs.Borrow.{Bor}
+use Rattle.std.specs.Prelude.{◌≡◌, ◌⊎◌, ℕ, List, Result, Ok, Err, length}
 use Rattle.std.specs.List.{AllZip}
-use Rattle.std.specs.Ptr.{Ptr, null_ptr, as_ptr}
 use Rattle.std.specs.Str.{IsUtf8}
 use Rattle.binfarce.specs.Refusal.{Refusal, out_of_memory}
 use Rattle.binfarce.specs.Symbol.{Entry, Listed}
 use Rattle.binfarce_c.specs.declared.functions.Function.{Function}
 use Rattle.binfarce_c.specs.declared.functions.Functions.{Functions}
-use Rattle.binfarce_c.specs.Buffer.{put}
+use Rattle.binfarce_c.specs.Buffer.{put, PointsTo}
 use Rattle.binfarce_c.specs.Status.{ok, not_utf8, status_of, detail_of}
-
--- the pointer is that of a borrow of the text's first byte; null where there is none
-abbrev pub PointsTo : (text : List ℕ) (pointer : Ptr) → Type 0
-PointsTo [] pointer = pointer ≡ null_ptr
-PointsTo (byte ∷ text) pointer = (first : Bor ℕ) × (first.now ≡ byte) × (pointer ≡ as_ptr first)
 
 -- the entry's numbers, the length of its name, and a pointer to it
 pub record IsFunctionOf (entry : Entry) (function : Function) : Type 0 where

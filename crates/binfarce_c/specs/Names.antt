@@ -9,8 +9,7 @@ use Rattle.binfarce_names.specs.declared.demangle.Kind.TheVariants.{Unknown, Leg
 use Rattle.binfarce_c.specs.declared.buffer.Text.{Text}
 use Rattle.binfarce_c.specs.declared.names.Mangling.{Mangling}
 use Rattle.binfarce_c.specs.declared.names.SymbolName.{SymbolName}
-use Rattle.binfarce_c.specs.Buffer.{put}
-use Rattle.binfarce_c.specs.Functions.{PointsTo}
+use Rattle.binfarce_c.specs.Buffer.{put, PointsTo}
 use Rattle.binfarce_c.specs.Status.{ok, none, not_utf8, no_memory}
 
 -- no text, for this reason

@@ -10,7 +10,7 @@ use Rattle.binfarce.specs.Pe as pe
 use Rattle.binfarce.specs.Refusal.{Refusal, unexpected_eof, malformed_input}
 use Rattle.binfarce.specs.Walk.{Walk, first}
 use Rattle.binfarce_c.specs.declared.sections.Section.{Section}
-use Rattle.binfarce_c.specs.Functions.{PointsTo}
+use Rattle.binfarce_c.specs.Buffer.{PointsTo}
 use Rattle.binfarce_c.specs.Names.{text_or_none, is_there}
 use Rattle.binfarce_c.specs.Status.{ok, none, not_utf8, status_of}
 

@@ -10,7 +10,8 @@ ghost use Rattle.binfarce.specs.Symbol.{Answers, ListsSome};
 ghost use Rattle.binfarce.specs.SymbolViews.{function_view, HoldsFunctions};
 ghost use Rattle.binfarce.specs.declared.FunctionSymbol.{FunctionSymbol};
 ghost use Rattle.binfarce_tools.specs.Answer.{elf_file_answer, macho_file_answer, pe_file_answer};
-ghost use Rattle.binfarce_c.specs.Functions.{AreFunctionsOf, GivesAnswer, GivesFunctions, IsFunctionOf, PointsTo};
+ghost use Rattle.binfarce_c.specs.Buffer.{PointsTo};
+ghost use Rattle.binfarce_c.specs.Functions.{AreFunctionsOf, GivesAnswer, GivesFunctions, IsFunctionOf};
 ghost use Rattle.binfarce_c.specs.Headers.{order_of};
 ghost use Rattle.binfarce_c.specs.machine.Found.{Ends, HoldsFound, Lists, ListsOr};
 
@@ -219,13 +220,13 @@ fn function_of(function: FunctionSymbol<'_>) -> Function
     }
 }
 
-/// The pointer to the first byte of a text; null where there is none.
+/// The pointer to a text, at its first byte; null where it is empty.
 pub(crate) fn start(text: &[u8]) -> *const u8
     ensures { PointsTo text.now result }
 {
-    match text.first() {
-        Some(first) => ptr::from_ref(first),
-        None => ptr::null(),
+    match text {
+        [] => ptr::null(),
+        [first, ..] => ptr::from_ref(first),
     }
 }
 

@@ -9,7 +9,7 @@ ghost use Rattle.binfarce.specs.MachoViews as macho_view;
 ghost use Rattle.binfarce.specs.Pe as pe;
 ghost use Rattle.binfarce.specs.PeViews as pe_view;
 ghost use Rattle.binfarce.specs.Refusal.{Gives, refusal_of};
-ghost use Rattle.binfarce_c.specs.Functions.{PointsTo};
+ghost use Rattle.binfarce_c.specs.Buffer.{PointsTo};
 ghost use Rattle.binfarce_c.specs.Headers.{order_of};
 ghost use Rattle.binfarce_c.specs.Sections.{GivesSection, HasName, IsSection, OfUtf8, elf_told, macho_told, pe_told, numbered, elf_table_section, elf_table_numbered, elf_section, elf_numbered, macho_section, macho_numbered, pe_section, pe_numbered};
 ghost use Rattle.binfarce_c.specs.Status.{status_of};

@@ -1,11 +1,13 @@
 -- Rows, one after the other.
-use Rattle.std.proofs.Common.{◌≡◌, ℕ, ◌+◌, ◌-◌, ◌*◌, ◌<◌, ◌≤◌, List, [], ◌∷◌, ◌++◌, length, map, drop, take, reverse, get_or, min, nat_le, true, false, refl, sym, ap, ◌∙◌, arith, append_assoc, append-nil, codes}
-use Rattle.std.specs.List.Sorted.{IsNonDecreasingBy}
-use Rattle.std.proofs.lemmas.List.{drop_more, get_or-map, get_or-reverse, length-append, length-map, length-reverse, length-take, take-append-drop}
+use Rattle.std.proofs.Common.{◌≡◌, ℕ, ◌+◌, ◌-◌, ◌*◌, ◌<◌, ◌≤◌, Bool, cond, List, [], ◌∷◌, ◌++◌, length, map, drop, take, reverse, get_or, is_lt, min, nat_cmp, nat_le, true, false, refl, sym, ap, ◌∙◌, arith, append_assoc, append-nil, codes}
+use Rattle.std.specs.List.{filter}
+use Rattle.std.specs.List.Sorted.{IsNonDecreasingBy, IsStableByKey, ties}
+use Rattle.std.proofs.lemmas.List.{drop_more, get_or-map, get_or-reverse, length-append, length-map, length-reverse, length-take, reverse-append, reverse-reverse, take-append-drop}
+use Rattle.std.proofs.lemmas.List.Elements.{filter-append}
 use Rattle.std.proofs.lemmas.List.Sums.{sum_by-append, sum_by-cons}
 use Rattle.std.proofs.lemmas.Bool.Decides.{nat_tests}
 use Rattle.binfarce_chart.specs.declared.bars.Bar.{Bar}
-use Rattle.binfarce_chart.specs.Chart.{Row, Falls, bar_length, others, shown, total}
+use Rattle.binfarce_chart.specs.Chart.{Row, Falls, KeepsOrder, bar_length, others, shown, total}
 use Rattle.binfarce_chart.specs.Svg.{head, picture, row, rows}
 use Rattle.binfarce_chart.specs.machine.Rows.{last_row}
 use Rattle.binfarce_chart.specs.Views.{bar_view}
@@ -34,6 +36,35 @@ falls bars up i j d le low =
     let bar : Bar = record { name = record { ref_ptr = (0, 0); now = d.name }; size = d.size } in
     rw (get_or-map bar_view (reverse bars) j bar d (omega (arith, length-reverse bars)), get_or-map bar_view (reverse bars) i bar d (omega (arith, length-reverse bars)), get_or-reverse bars j bar inside, get_or-reverse bars i bar (omega arith))
     (up (length bars - 1 - j) (length bars - 1 - i) bar (omega arith) (omega arith))
+
+-- a test of a list turned round
+filter-reverse : {X : Type 0} (p : X → Bool) (xs : List X) → filter p (reverse xs) ≡ reverse (filter p xs)
+filter-reverse p [] = refl
+filter-reverse p (x ∷ xs) =
+    ap (filter p) (reverse-append (x ∷ []) xs) ∙ filter-append p (reverse xs) (x ∷ []) ∙ ap (λ ys. ys ++ filter p (x ∷ [])) (filter-reverse p xs) ∙ put_last (p x)
+  where
+    put_last : (b : Bool) → reverse (filter p xs) ++ cond b (x ∷ []) [] ≡ reverse (cond b (x ∷ filter p xs) (filter p xs))
+    put_last true = sym (reverse-append (x ∷ []) (filter p xs))
+    put_last false = append-nil (reverse (filter p xs))
+
+-- and of what a view makes of a list
+filter-map : {X Y : Type 0} (p : Y → Bool) (view : X → Y) (xs : List X) → filter p (map view xs) ≡ map view (filter (λ x. p (view x)) xs)
+filter-map p view [] = refl
+filter-map p view (x ∷ xs) = ap (λ ys. cond (p (view x)) (view x ∷ ys) ys) (filter-map p view xs) ∙ put_first (p (view x))
+  where
+    put_first : (b : Bool) → cond b (view x ∷ map view (filter (λ x. p (view x)) xs)) (map view (filter (λ x. p (view x)) xs)) ≡ map view (cond b (x ∷ filter (λ x. p (view x)) xs) (filter (λ x. p (view x)) xs))
+    put_first true = refl
+    put_first false = refl
+
+-- a stable sort between two turns keeps the order of what ties
+pub keeps : (bars sorted : List Bar) → IsStableByKey (λ (b : Bar). b.size) nat_cmp (reverse bars) sorted → KeepsOrder (map bar_view bars) (map bar_view (reverse sorted))
+keeps bars sorted stable r =
+    let bar : Bar = record { name = record { ref_ptr = (0, 0); now = r.name }; size = r.size } in
+    let row_ties : Row → Bool = ties (λ x y. is_lt (nat_cmp x.size y.size)) r in
+    let bar_ties : Bar → Bool = ties (λ x y. is_lt (nat_cmp x.size y.size)) bar in
+    filter-map row_ties bar_view (reverse sorted)
+    ∙ ap (map bar_view) (filter-reverse bar_ties sorted ∙ ap reverse (stable bar ∙ filter-reverse bar_ties bars) ∙ reverse-reverse (filter bar_ties bars))
+    ∙ sym (filter-map row_ties bar_view bars)
 
 -- a row after the others
 rows_and_one : (xs : List Row) (r : Row) (all before top : ℕ) → rows all before top (xs ++ r ∷ []) ≡ rows all before top xs ++ row (top + 24 * length xs) r (bar_length all (before + total xs) r.size)

@@ -2,6 +2,8 @@
 use Rattle.std.specs.Prelude.{ℕ, ◌+◌, ◌-◌, ◌*◌, ◌/◌, ◌%◌, ◌<◌, ◌≤◌, List, [], ◌∷◌, ◌++◌, length, take, drop, codes, nat_le, if◌then◌else◌, slice_index_or}
 use Rattle.std.specs.Fmt.{decimal}
 use Rattle.std.specs.List.{sum_by}
+use Rattle.std.specs.List.Sorted.{IsStableByKey}
+use Rattle.std.specs.Ordering.{nat_cmp}
 
 -- a name, and the size of what it names
 pub record Row : Type 0 where
@@ -14,6 +16,10 @@ total rows = sum_by (λ r. r.size) rows
 -- no size is greater than one that stands before it
 abbrev pub Falls : List Row → Type 0
 Falls rows = (i j : ℕ) (d : Row) → i ≤ j → j < length rows → (slice_index_or rows j d).size ≤ (slice_index_or rows i d).size
+
+-- rows of one size stand in the order in which they were given
+abbrev pub KeepsOrder : List Row → List Row → Type 0
+KeepsOrder given falling = IsStableByKey (λ (r : Row). r.size) nat_cmp given falling
 
 -- `[{count} others]`
 abbrev pub others_label : ℕ → List ℕ

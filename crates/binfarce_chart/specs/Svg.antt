@@ -2,28 +2,29 @@
 use Rattle.std.specs.Prelude.{◌≡◌, ◌≢◌, ℕ, ◌+◌, ◌*◌, ◌/◌, ◌%◌, ◌≤◌, false, ◌&&◌, List, [], ◌∷◌, ◌++◌, length, codes, nat_eq, nat_le, if◌then◌else◌, IsPermutation}
 use Rattle.std.specs.Fmt.{decimal, digit_glyph}
 use Rattle.std.specs.List.{flat_map}
-use Rattle.binfarce_chart.specs.Chart.{Row, Falls, bar_length, percents, shown, total}
+use Rattle.std.specs.Str.{byte}
+use Rattle.binfarce_chart.specs.Chart.{Row, Falls, KeepsOrder, bar_length, percents, shown, total}
 
 -- `\x` and two hexadecimal digits
 abbrev pub hex_byte : ℕ → List ℕ
-hex_byte byte = codes "\\x" ++ (digit_glyph false (byte / 16 % 16) ∷ digit_glyph false (byte % 16) ∷ [])
+hex_byte b = codes "\\x" ++ (digit_glyph false (b / 16 % 16) ∷ digit_glyph false (b % 16) ∷ [])
 
 -- a byte of a name: as an entity where it means something in XML, as itself where it is printable ASCII, and else in digits
 unfoldable pub escaped_byte : ℕ → List ℕ
-escaped_byte byte =
-    if nat_eq byte 60 then codes "&lt;"
-    else if nat_eq byte 62 then codes "&gt;"
-    else if nat_eq byte 38 then codes "&amp;"
-    else if nat_eq byte 34 then codes "&quot;"
-    else if nat_le 32 byte && nat_le byte 126 then byte ∷ []
-    else hex_byte byte
+escaped_byte b =
+    if nat_eq b (byte "<") then codes "&lt;"
+    else if nat_eq b (byte ">") then codes "&gt;"
+    else if nat_eq b (byte "&") then codes "&amp;"
+    else if nat_eq b (byte "\"") then codes "&quot;"
+    else if nat_le (byte " ") b && nat_le b (byte "~") then b ∷ []
+    else hex_byte b
 
 unfoldable pub escaped : List ℕ → List ℕ
 escaped name = flat_map escaped_byte name
 
 -- printable ASCII, and neither `<` nor `>` nor `"`
 abbrev pub IsPlain : ℕ → Type 0
-IsPlain byte = (32 ≤ byte) × (byte ≤ 126) × (byte ≢ 60) × (byte ≢ 62) × (byte ≢ 34)
+IsPlain b = (byte " " ≤ b) × (b ≤ byte "~") × (b ≢ byte "<") × (b ≢ byte ">") × (b ≢ byte "\"")
 
 -- where a row begins, so far from the top; its name ends where the bars begin
 unfoldable pub row_start : ℕ → List ℕ
@@ -62,6 +63,6 @@ head count sum size = opening (24 * count + 48) ++ caption sum size
 abbrev pub picture : List Row → ℕ → ℕ → List ℕ
 picture bars sum size = head (length bars) sum size ++ (rows sum 0 40 bars ++ codes "</svg>\n")
 
--- text is the picture of rows in falling order, and of their section's size
+-- text is the picture of the section's size and of the rows: the largest first, rows of one size in the order in which they were given
 abbrev pub IsChartOf : List Row → ℕ → List ℕ → Type 0
-IsChartOf all size text = (falling : List Row) × IsPermutation all falling × Falls falling × (text ≡ picture (shown falling) (total falling) size)
+IsChartOf all size text = (falling : List Row) × IsPermutation all falling × Falls falling × KeepsOrder all falling × (text ≡ picture (shown falling) (total falling) size)

@@ -2,7 +2,7 @@
 
 ghost use Rattle.std.specs.Prelude.{◌≡◌, ◌+◌, ◌<◌, ◌≤◌, ◌^◌, map, IfOk, IsPermutation};
 ghost use Rattle.std.specs.String.{string_bytes};
-ghost use Rattle.binfarce_chart.specs.Chart.{Falls, bar_length, others_label, total};
+ghost use Rattle.binfarce_chart.specs.Chart.{Falls, KeepsOrder, bar_length, others_label, total};
 ghost use Rattle.binfarce_chart.specs.Views.{bar_view};
 
 use std::alloc::{AllocError, Global};
@@ -22,10 +22,11 @@ pub struct Bar<'a> {
     pub size: u64,
 }
 
-// The bars in falling order.
+// The bars in falling order, those of one size in the order in which they were given.
 pub(crate) fn falling<'a>(alloc: Global, bars: &[Bar<'a>]) -> Result<Vec<Bar<'a>>, AllocError>
     ensures same { IfOk result (λ v. IsPermutation (map bar_view bars.now) (map bar_view v.items)) }
     ensures falls { IfOk result (λ v. Falls (map bar_view v.items)) }
+    ensures keeps { IfOk result (λ v. KeepsOrder (map bar_view bars.now) (map bar_view v.items)) }
 {
     let mut sorted = Vec::from_slice(alloc, bars)?;
     // Equal sizes keep their order, and so they do where both sides of the sort are turned round.

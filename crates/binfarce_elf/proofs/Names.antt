@@ -33,7 +33,7 @@ name_is_in_file class table section name e = by_names (names_section class table
     by_strings names is None at e = absurd cc
 
     by_names : (o : Option Section) → names_section class table ≡ o
-        → (o >>= λ names. contents table.file names >>= λ strings. text_at strings section.name_offset) ≡ Some name → NameIsInFile class table section name
+        → ((o >>= λ names. contents table.file names) >>= λ strings. text_at strings section.name_offset) ≡ Some name → NameIsInFile class table section name
     by_names (Some names) is e = by_strings names is (contents table.file names) refl e
     by_names None is e = absurd cc
 

@@ -233,12 +233,21 @@ contents file section = if nat_le (section.offset + section.size) (length file) 
 abbrev pub names_section : ElfClass → SectionTable → Option Section
 names_section class table = if nat_lt table.shstrndx (whole_headers class table) then Some (section_of class table table.shstrndx) else None
 
+-- the bytes of the section names, where they lie in the file
+abbrev pub names_bytes : ElfClass → SectionTable → Option (List ℕ)
+names_bytes class table = do
+  names ← names_section class table
+  contents table.file names
+
+-- the name at an offset among the section names, where there are any
+abbrev pub name_among : Option (List ℕ) → ℕ → Option (List ℕ)
+name_among names offset = do
+  strings ← names
+  text_at strings offset
+
 -- a section's name, where it has one: the text at its name offset among the section names
 unfoldable pub name_of : ElfClass → SectionTable → Section → Option (List ℕ)
-name_of class table section = do
-  names ← names_section class table
-  strings ← contents table.file names
-  text_at strings section.name_offset
+name_of class table section = name_among (names_bytes class table) section.name_offset
 
 -- the name is the bytes of the file at its offset among the section names
 abbrev pub NameIsInFile : ElfClass → SectionTable → Section → List ℕ → Type 0

@@ -3,10 +3,9 @@ use Rattle.std.specs.Prelude.{ℕ, List, Option, Result, Ok, codes, nat_eq}
 use Rattle.binfarce_bytes.specs.declared.ByteOrder.{ByteOrder}
 use Rattle.binfarce_bytes.specs.Refusal.{◌>>=◌, Refusal, symbols_section_is_missing, section_is_missing}
 use Rattle.binfarce_elf.specs.declared.parts.Needed.{Needed}
-use Rattle.binfarce_elf.specs.Elf.{ElfClass, Section, SectionTable, walk}
+use Rattle.binfarce_elf.specs.Elf.{ElfClass, Section, SectionTable, walk, name_among}
 use Rattle.binfarce_elf.specs.ElfSymbols.{sought, is_named, string_table_kind}
 use Rattle.binfarce_elf.specs.ElfViews.{section_view}
-use Rattle.binfarce_elf.specs.machine.RawElf.{name_among}
 
 -- the section that was asked for, the symbol table, and the section of its strings
 pub record NeededSections : Type 0 where

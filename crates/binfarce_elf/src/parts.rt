@@ -4,11 +4,11 @@ ghost use Rattle.std.specs.Prelude.{◌≡◌};
 ghost use Rattle.std.specs.Option.{option_map};
 ghost use Rattle.binfarce_bytes.specs.Refusal.{Gives, refusal_of, unexpected_eof, symbols_section_is_missing};
 ghost use Rattle.binfarce_bytes.specs.Walk.{first};
-ghost use Rattle.binfarce_elf.specs.Elf.{walk};
+ghost use Rattle.binfarce_elf.specs.Elf.{walk, name_among};
 ghost use Rattle.binfarce_elf.specs.ElfParts.{headers_alone, needed, needed_view};
 ghost use Rattle.binfarce_elf.specs.ElfSymbols.{is_named, sought, entries_from};
 ghost use Rattle.binfarce_elf.specs.ElfViews.{section_view, functions_view};
-ghost use Rattle.binfarce_elf.specs.machine.RawElf.{table_view, name_among};
+ghost use Rattle.binfarce_elf.specs.machine.RawElf.{table_view};
 
 use crate::class::{Class, Half};
 use crate::sections::{Section, Sections, Table, first_section, is_named, name_at, sections_of};

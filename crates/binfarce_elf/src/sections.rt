@@ -4,10 +4,10 @@ ghost use Rattle.std.specs.Prelude.{◌≡◌, ◌+◌, ◌<◌, ◌≤◌, ◌^
 ghost use Rattle.std.specs.Option.{option_map};
 ghost use Rattle.binfarce_bytes.specs.Refusal.{Gives, refusal_of, malformed_input, unexpected_eof};
 ghost use Rattle.binfarce_bytes.specs.Walk.{MayBeAsked, FirstAccepted, first, ended, ahead_of};
-ghost use Rattle.binfarce_elf.specs.Elf.{ElfFile, header_of, section_table, walk, name_of, entry_count, NameIsInFile, section_at, names_section};
+ghost use Rattle.binfarce_elf.specs.Elf.{ElfFile, header_of, section_table, walk, name_of, entry_count, NameIsInFile, section_at, names_section, names_bytes, name_among};
 ghost use Rattle.binfarce_elf.specs.ElfSymbols.{is_named, section_data};
 ghost use Rattle.binfarce_elf.specs.ElfViews.{header_view, section_view};
-ghost use Rattle.binfarce_elf.specs.machine.RawElf.{table_view, names_bytes, name_among, section_count, walk_from};
+ghost use Rattle.binfarce_elf.specs.machine.RawElf.{table_view, section_count, walk_from};
 
 use crate::class::{Class, Half, Word};
 use crate::header::Header;

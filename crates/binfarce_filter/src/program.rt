@@ -42,8 +42,11 @@ impl binfarce_program::Fault for Fault {
 
     ghost is_usage = { is_usage };
 
-    fn is_usage(&self) -> bool {
-        matches!(self, Fault::Usage)
+    fn status(&self) -> u8 {
+        match self {
+            Fault::Usage => 2,
+            _ => 1,
+        }
     }
 }
 

@@ -6,8 +6,8 @@ use Rattle.std.proofs.lemmas.Bool.{false≢true, not-true}
 use Rattle.std.proofs.lemmas.Bool.Decides.{nat_tests}
 use Rattle.std.proofs.lemmas.List.{take-append-drop, take_more}
 use Rattle.std.proofs.lemmas.List.Folds.{list_all-append}
-use Rattle.binfarce_filtering.specs.Filter.{Continues, IsRun, IsShown, is_name_run, is_passed, is_run_byte, last_run}
-use Rattle.binfarce_filtering.specs.FilterViews.{Goes, HasTaken, Holds, IsBetweenRuns, IsDone, IsKept, Shows, shown_so_far}
+use Rattle.binfarce_filtering.specs.Filter.{IsRun, IsShown, is_name_run, is_run_byte, last_run}
+use Rattle.binfarce_filtering.specs.FilterViews.{Continues, Goes, HasTaken, Holds, IsBetweenRuns, IsDone, IsKept, Shows, is_passed, shown_so_far}
 use Rattle.binfarce_filtering.specs.declared.filter.TextFilter.{TextFilter}
 use Rattle.binfarce_filtering.proofs.Runs.{continues_run, continues_both, filtered_same}
 

@@ -8,7 +8,8 @@ use Rattle.std.proofs.lemmas.List.Sums.{AllPass-from_list_all, list_all-from_All
 use Rattle.std.proofs.lemmas.Str.{IsUtf8-from_ascii}
 use Rattle.std.proofs.lemmas.Str.Ascii.{IsAscii-from_all}
 use Rattle.std.specs.Str.{IsUtf8}
-use Rattle.binfarce_filtering.specs.Filter.{Continues, IsFiltered, IsRun, IsShown, is_dot, is_run_byte, last_run, run_then}
+use Rattle.binfarce_filtering.specs.Filter.{IsFiltered, IsRun, IsShown, is_dot, is_run_byte, last_run, run_then}
+use Rattle.binfarce_filtering.specs.FilterViews.{Continues}
 
 pub is_no_dot : (b : ℕ) → ¬ (b ≡ 46) → is_dot b ≡ false
 is_no_dot b is = grind (arith, nat_tests)

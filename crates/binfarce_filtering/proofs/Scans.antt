@@ -3,7 +3,8 @@ use Rattle.std.proofs.Common.{◌≡◌, ℕ, ◌-◌, ◌<◌, ◌≤◌, Bool,
 use Rattle.std.proofs.lemmas.Bool.{true≢false}
 use Rattle.std.proofs.lemmas.Bool.Decides.{nat_tests}
 use Rattle.std.proofs.lemmas.List.{take_more}
-use Rattle.binfarce_filtering.specs.Filter.{Continues, IsFiltered, IsRun, IsShown, is_passed, is_run_byte, run_then}
+use Rattle.binfarce_filtering.specs.Filter.{IsFiltered, IsRun, IsShown, is_run_byte, run_then}
+use Rattle.binfarce_filtering.specs.FilterViews.{Continues, is_passed}
 use Rattle.binfarce_filtering.specs.machine.Scan.{IsOutside, ends_inside, is_plain}
 use Rattle.binfarce_filtering.proofs.Runs.{filtered_same}
 use Rattle.binfarce_filtering.proofs.Parts.{both_are_run, passed_is_shown, passed_more}

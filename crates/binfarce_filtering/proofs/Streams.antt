@@ -4,8 +4,8 @@ use Rattle.std.proofs.Common.{length, take, drop, ◌+◌, ◌-◌, Result, Ok, 
 use Rattle.std.proofs.Math.Seq.{take-add}
 use Rattle.std.proofs.lemmas.List.{take-append-drop, take_all}
 use Rattle.std.specs.Io.KnownBytes.{Appends, Consumes, Keeps}
-use Rattle.binfarce_filtering.specs.Filter.{Continues, IsFiltered, IsRun, is_passed, is_run_byte, last_run, run_then}
-use Rattle.binfarce_filtering.specs.FilterViews.{Goes, Holds, IsDone}
+use Rattle.binfarce_filtering.specs.Filter.{IsFiltered, IsRun, is_run_byte, last_run, run_then}
+use Rattle.binfarce_filtering.specs.FilterViews.{Continues, Goes, Holds, IsDone, is_passed}
 use Rattle.binfarce_filtering.specs.Stream.{Filters, IsBeginning, Streams}
 use Rattle.binfarce_filtering.specs.declared.stream.StreamError.{StreamError}
 use Rattle.binfarce_filtering.specs.declared.stream.StreamError.TheVariants.{Read, Write, OutOfMemory}

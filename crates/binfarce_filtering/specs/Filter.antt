@@ -2,18 +2,18 @@
 use Rattle.std.specs.Prelude.{◌≡◌, ℕ, ◌-◌, Bool, true, false, not, ◌&&◌, ◌||◌, ◌==◌, nat_lt, List, [], ◌∷◌, ◌++◌, length, take, drop, if◌then◌else◌}
 use Rattle.std.specs.Char.{is_ascii_alphanumeric, is_control}
 use Rattle.std.specs.List.{list_all, list_any, suffix_len}
-use Rattle.std.specs.Str.{chars}
+use Rattle.std.specs.Str.{byte, chars}
 use Rattle.binfarce_names.specs.Name.{Name}
 use Rattle.binfarce_names.specs.Named.{IsNamed}
 use Rattle.binfarce_filtering.specs.declared.filter.TheConstants.{MAX_RUN}
 
 -- `.`
 abbrev pub is_dot : (b : ℕ) → Bool
-is_dot b = b == 46
+is_dot b = b == byte "."
 
 -- a byte of a run: an ASCII letter or digit, `_`, `$` or `.`
 abbrev pub is_run_byte : (b : ℕ) → Bool
-is_run_byte b = is_ascii_alphanumeric b || b == 95 || b == 36 || is_dot b
+is_run_byte b = is_ascii_alphanumeric b || b == byte "_" || b == byte "$" || is_dot b
 
 -- each byte is one of a run
 abbrev pub IsRun : (run : List ℕ) → Type 0
@@ -22,7 +22,7 @@ IsRun run = list_all is_run_byte run ≡ true
 -- a run that is read as a name: it begins with `_`, and is no longer than `MAX_RUN`
 abbrev pub is_name_run : (run : List ℕ) → Bool
 is_name_run [] = false
-is_name_run (b ∷ run) = b == 95 && not (nat_lt MAX_RUN (length (b ∷ run)))
+is_name_run (b ∷ run) = b == byte "_" && not (nat_lt MAX_RUN (length (b ∷ run)))
 
 -- the length of a run without the dots that it ends in
 abbrev pub name_length : (run : List ℕ) → ℕ
@@ -54,12 +54,3 @@ IsShown full run shown = IsShownIf (is_name_run run) full run shown
 pub data IsFiltered (full : Bool) : (text filtered : List ℕ) → Type 0 where
   last_run : (run shown : List ℕ) → IsRun run → IsShown full run shown → IsFiltered full run shown
   run_then : (run shown : List ℕ) (b : ℕ) (text filtered : List ℕ) → IsRun run → IsShown full run shown → is_run_byte b ≡ false → IsFiltered full text filtered → IsFiltered full (run ++ b ∷ text) (shown ++ b ∷ filtered)
-
--- shown stands in place of the text whatever comes after it
-abbrev pub Continues : (full : Bool) (text shown : List ℕ) → Type 0
-Continues full text shown = (more filtered : List ℕ) → IsFiltered full more filtered → IsFiltered full (text ++ more) (shown ++ filtered)
-
--- a run that is no name, whatever follows it
-abbrev pub is_passed : (run : List ℕ) → Bool
-is_passed [] = false
-is_passed (b ∷ run) = not (is_name_run (b ∷ run))

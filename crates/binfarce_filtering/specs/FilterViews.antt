@@ -1,7 +1,16 @@
 -- What a `TextFilter` has shown of a text that comes in parts.
-use Rattle.std.specs.Prelude.{◌≡◌, ℕ, Bool, true, false, List, [], ◌++◌, if◌then◌else◌}
-use Rattle.binfarce_filtering.specs.Filter.{Continues, IsFiltered, IsRun, IsShown, is_passed}
+use Rattle.std.specs.Prelude.{◌≡◌, ℕ, Bool, true, false, not, List, [], ◌∷◌, ◌++◌, if◌then◌else◌}
+use Rattle.binfarce_filtering.specs.Filter.{IsFiltered, IsRun, IsShown, is_name_run}
 use Rattle.binfarce_filtering.specs.declared.filter.TextFilter.{TextFilter}
+
+-- shown stands in place of the text whatever comes after it
+abbrev pub Continues : (full : Bool) (text shown : List ℕ) → Type 0
+Continues full text shown = (more filtered : List ℕ) → IsFiltered full more filtered → IsFiltered full (text ++ more) (shown ++ filtered)
+
+-- a run that is no name, whatever follows it
+abbrev pub is_passed : (run : List ℕ) → Bool
+is_passed [] = false
+is_passed (b ∷ run) = not (is_name_run (b ∷ run))
 
 -- what is shown of the run that a text ends in so far: a run that is no name, whatever follows it, as it is
 abbrev pub shown_so_far : (run : List ℕ) → List ℕ

@@ -11,7 +11,7 @@ stream_words Read = codes "read failed"
 stream_words Write = codes "write failed"
 stream_words OutOfMemory = codes "out of memory"
 
--- shown is a beginning of what stands in place of the text: whatever stands in place of what comes after some byte of it
+-- shown is a beginning of what stands in place of the text: the text is two parts, and whatever stands in place of the second, shown and some more stand in place of both
 abbrev pub IsBeginning : (full : Bool) (text shown : List ℕ) → Type 0
 IsBeginning full text shown =
     (before : List ℕ) × (after : List ℕ) × (text ≡ before ++ after)

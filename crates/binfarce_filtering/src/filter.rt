@@ -5,7 +5,7 @@ ghost use Rattle.std.specs.List.{list_all, suffix_len};
 ghost use Rattle.std.specs.String.{string_bytes};
 ghost use Rattle.binfarce_names.specs.Name.{Name};
 ghost use Rattle.binfarce_names.specs.Named.{IsNamed};
-ghost use Rattle.binfarce_filtering.specs.Filter.{Continues, IsFiltered, IsReadable, IsShown, has_control, is_dot, is_name_run, is_passed, is_run_byte, text_of};
+ghost use Rattle.binfarce_filtering.specs.Filter.{IsFiltered, IsReadable, IsShown, has_control, is_dot, is_name_run, is_run_byte, text_of};
 ghost use Rattle.binfarce_filtering.specs.machine.Scan.{IsOutside, MayGoOn, is_plain};
 
 use binfarce_names::demangle::{SymbolName, push_trimmed};
@@ -49,7 +49,7 @@ pub struct TextFilter {
 }
 
 impl TextFilter {
-    ghost use Rattle.binfarce_filtering.specs.FilterViews.{Goes, Holds, IsBetweenRuns, IsDone, Shows};
+    ghost use Rattle.binfarce_filtering.specs.FilterViews.{Continues, Goes, Holds, IsBetweenRuns, IsDone, Shows, is_passed};
 
     /// A filter of a text of which nothing came yet. A name is shown by its trimmed text, or `full` by its complete one.
     pub fn new(alloc: Global, full: bool) -> TextFilter

@@ -20,7 +20,7 @@ elf_format_of class order =
 abbrev pub begins : List ℕ → List ℕ → Bool
 begins bytes magic = starts_with nat_eq bytes magic
 
--- the five magic numbers of Mach-O: of several architectures, of 32 and 64 bits, and the latter two mirrored
+-- the five magic numbers of Mach-O: of several architectures, of 32 and 64 bits, and the latter two mirrored; the reader reads files of the last alone, of 64 bits in little endian
 abbrev pub begins_macho : List ℕ → Bool
 begins_macho bytes =
     begins bytes (0xCA ∷ 0xFE ∷ 0xBA ∷ 0xBE ∷ [])

@@ -87,7 +87,7 @@ named_by : (class : ElfClass) (table : SectionTable) (section s : Section) (name
     → name_of class table section ≡ text_at names n
 unfolding name_of
 named_by class table section s names n at holds offset =
-    ap (λ (o : Option Section). o >>= λ (t : Section). contents table.file t >>= λ (strings : List ℕ). text_at strings section.name_offset) at
+    ap (λ (o : Option Section). (o >>= λ (t : Section). contents table.file t) >>= λ (strings : List ℕ). text_at strings section.name_offset) at
     ∙ ap (λ (o : Option (List ℕ)). o >>= λ (strings : List ℕ). text_at strings section.name_offset) holds
     ∙ ap (text_at names) offset
 

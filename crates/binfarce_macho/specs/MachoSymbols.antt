@@ -124,7 +124,7 @@ address_of rows k = if nat_eq (symbol_of rows k).value 0 then None else Some (re
 abbrev pub row_addresses : List ℕ → List RowAddress
 row_addresses rows = filter_map (address_of rows) (range_with_len 0 (length rows / symbol_length))
 
--- a row with a name offset, one of the two bits of its type, and the number 1 of the file's first section, whichever that is
+-- a row with a name offset, of one of the types that the format defines other than N_UNDF (N_TYPE 2, 0xA, 0xC or 0xE), and in section number 1, the file's first section, whichever that is
 abbrev pub is_candidate : SymbolRow ℕ → Bool
 is_candidate row = not (nat_eq row.name 0) && not (nat_eq (bit_and row.kind 0x0A) 0) && nat_eq row.section 1
 

@@ -61,13 +61,13 @@ pub(crate) struct Command {
 
 /// The load commands, at most as many as are left. A command whose size is below 8 ends them with an error.
 #[derive(Drop)]
-pub(crate) struct LoadCommands<'a> {
+pub(crate) struct MachoCommandsIterator<'a> {
     pub(crate) bytes: &'a [u8],
     offset: usize,
     pub(crate) left: u32,
 }
 
-impl Iterator for LoadCommands<'_> {
+impl Iterator for MachoCommandsIterator<'_> {
     ghost use Rattle.std.specs.Prelude.{◌≡◌};
     ghost use Rattle.std.specs.Iterator.{at_most};
     ghost use Rattle.binfarce_macho.specs.machine.RawMacho.{Takes, commands_left};
@@ -98,14 +98,14 @@ impl Iterator for LoadCommands<'_> {
 }
 
 // The load commands of a file, which has this header.
-pub(crate) fn commands(file: &[u8], header: MachoHeader) -> LoadCommands<'_>
+pub(crate) fn commands(file: &[u8], header: MachoHeader) -> MachoCommandsIterator<'_>
     requires { header_view header ≡ header_of file.now }
     ensures bytes { result.bytes.now ≡ file.now }
     ensures left { commands_left result ≡ commands file.now }
     // No more items come than the header has commands, and then they end.
-    ensures at_most { UpTo (⟦<LoadCommands<'static> as Iterator>⟧.remaining result) (header_of file.now).ncmds }
+    ensures at_most { UpTo (⟦<MachoCommandsIterator<'static> as Iterator>⟧.remaining result) (header_of file.now).ncmds }
 {
-    LoadCommands {
+    MachoCommandsIterator {
         bytes: file,
         offset: HEADER_LENGTH,
         left: header.ncmds,

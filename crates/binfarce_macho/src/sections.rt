@@ -9,7 +9,7 @@ ghost use Rattle.binfarce_macho.specs.Macho.{header_of, walk, segment, section_a
 ghost use Rattle.binfarce_macho.specs.MachoViews.{header_view, section_view};
 ghost use Rattle.binfarce_macho.specs.machine.RawMacho.{damage_refusal, commands_left, section_count, segment_from, sections_left, IsWithin, StepsSegment};
 
-use crate::commands::{Command, Damage, LC_SEGMENT_64, LoadCommands, commands};
+use crate::commands::{Command, Damage, LC_SEGMENT_64, MachoCommandsIterator, commands};
 use crate::header::MachoHeader;
 use binfarce_bytes::parser::{Stream, UnexpectedEof, number_at, range, up_to_nul, utf8_text};
 use binfarce_bytes::{ByteOrder, ParseError};
@@ -65,7 +65,7 @@ pub struct Sections<'a> {
 // The load commands after a segment command, and what is left of that segment.
 #[derive(Drop)]
 struct Left<'a> {
-    commands: LoadCommands<'a>,
+    commands: MachoCommandsIterator<'a>,
     segment: Segment,
 }
 
@@ -180,7 +180,7 @@ fn section_left(bytes: &[u8], segment: Segment) -> Result<Option<(Section<'_>, u
 }
 
 // The next segment command, before its first section.
-fn next_segment(commands: &mut LoadCommands<'_>) -> Option<Result<Segment, Damage>>
+fn next_segment(commands: &mut MachoCommandsIterator<'_>) -> Option<Result<Segment, Damage>>
     ensures bytes { commands.new.bytes.now ≡ commands.old.bytes.now }
     ensures fewer { OnSome result (commands.new.left < commands.old.left) }
     ensures steps { StepsSegment commands.old.bytes.now (commands_left commands.old) result (commands_left commands.new) }

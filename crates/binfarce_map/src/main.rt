@@ -5,7 +5,7 @@ mod program;
 #[cfg(test)]
 mod tests;
 
-use crate::program::{Fault, run, words};
+use crate::program::{Fault, run_file, words};
 use binfarce_program::{arguments, exit, finish, open};
 use binfarce_tools::list::Out;
 use std::io;
@@ -20,6 +20,6 @@ fn map_file(rt: &HostRuntime) -> Result<(), Fault> {
     let (path, section) = words(arguments.as_slice())?;
     let mut file = open(rt, path)?;
     let mut out = Out::new(io::writer(rt));
-    let mapped = run(rt.alloc(), &mut file, section, &mut out);
+    let mapped = run_file(rt.alloc(), &mut file, section, &mut out);
     finish(out.into_inner(), mapped)
 }

@@ -52,18 +52,13 @@ pub fn map<S: Sink>(
 /// # Errors
 ///
 /// As `map`.
-pub fn map_tables<S: Sink>(
-    alloc: Global,
-    tables: &Tables,
-    section: &str,
-    out: &mut S,
-) -> Result<(), ReportError>
-    ensures tells { (file : List ℕ) → AreTablesOf file section.now tables.now → Tells ReportFits (NeedsMemory (format_of file) file) (symbols_answer (format_of file) file section.now) (outcome_of result) }
-    ensures takes { (file : List ℕ) → AreTablesOf file section.now tables.now → Takes IsMapOf (symbols_answer (format_of file) file section.now) (S.taken out.old) (S.taken out.new) (outcome_of result) }
+pub fn map_tables<S: Sink>(alloc: Global, tables: &Tables, out: &mut S) -> Result<(), ReportError>
+    ensures tells { (file section : List ℕ) → AreTablesOf file section tables.now → Tells ReportFits (NeedsMemory (format_of file) file) (symbols_answer (format_of file) file section) (outcome_of result) }
+    ensures takes { (file section : List ℕ) → AreTablesOf file section tables.now → Takes IsMapOf (symbols_answer (format_of file) file section) (S.taken out.old) (S.taken out.new) (outcome_of result) }
     ensures fails { Fails (S.has_failed out.old) (S.has_failed out.new) (outcome_of result) }
     ensures leaves { Leaves out.old out.new (outcome_of result) }
 {
-    let sums = sums_of_tables(alloc, tables, section)?;
+    let sums = sums_of_tables(alloc, tables)?;
     let text = picture(alloc, &sums)?;
     write_whole(out, text.as_bytes())?;
     Ok(())

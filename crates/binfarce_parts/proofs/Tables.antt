@@ -131,11 +131,11 @@ pub name_same : (class : ElfClass) (table : SectionTable) (other : List ℕ) →
     → IfSome (names_section class table) (SameContents table.file other) → name_of class (of_file table other) ≡ name_of class table
 unfolding name_of
 name_same class table other header same = fun_ext (λ section.
-    ap (λ names. names >>= λ found. contents other found >>= λ strings. text_at strings section.name_offset) header
+    ap (λ names. (names >>= λ found. contents other found) >>= λ strings. text_at strings section.name_offset) header
     ∙ by_names section (names_section class table) same)
   where
     by_names : (section : Section) (names : Option Section) → IfSome names (SameContents table.file other)
-        → (names >>= λ found. contents other found >>= λ strings. text_at strings section.name_offset)
-        ≡ (names >>= λ found. contents table.file found >>= λ strings. text_at strings section.name_offset)
+        → ((names >>= λ found. contents other found) >>= λ strings. text_at strings section.name_offset)
+        ≡ ((names >>= λ found. contents table.file found) >>= λ strings. text_at strings section.name_offset)
     by_names section None same = refl
     by_names section (Some found) same = ap (λ (bytes : Option (List ℕ)). bytes >>= λ strings. text_at strings section.name_offset) (sym same)

@@ -5,7 +5,7 @@ use Rattle.std.specs.declared.io.ErrorKind.TheVariants as kinds
 use Rattle.binfarce_program.specs.declared.Failure.{Failure}
 use Rattle.binfarce_program.specs.declared.Failure.TheVariants.{File, OutOfMemory}
 
--- the file and the section that arguments give, if there are one or two
+-- the file and the section that arguments give, if there are one or two; arguments of which one isn't UTF-8 are refused before, as a wrong call
 abbrev pub words_of : List (List ℕ) → Option (List ℕ × List ℕ)
 words_of [] = None
 words_of (file ∷ []) = Some (file, codes ".text")

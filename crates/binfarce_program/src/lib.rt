@@ -1,7 +1,7 @@
 //! What the programs share: their arguments, the file that they read, and how they end.
 #![tactic(auto)]
 
-ghost use Rattle.std.specs.Prelude.{◌≡◌, ◌⊎◌, Bool, map, Err, Some, MatchResult, IfSome, IfOk, IfErr, OnOk};
+ghost use Rattle.std.specs.Prelude.{◌≡◌, ◌≢◌, ◌⊎◌, [], Bool, true, false, map, Err, Some, None, MatchResult, IfSome, IfOk, IfErr, OnOk};
 ghost use Rattle.std.specs.IoError.{error_kind};
 ghost use Rattle.std.specs.Process.{exit_status};
 ghost use Rattle.std.specs.String.{string_bytes};
@@ -9,6 +9,7 @@ ghost use Rattle.binfarce_program.specs.Given.{words_of, failure_of};
 ghost use Rattle.binfarce_program.specs.Status.{status_of};
 ghost use Rattle.binfarce_program.specs.declared.Failure.TheVariants.{Usage, File as Unreadable, OutOfMemory, Write as Unwritten};
 
+use binfarce_source::Source;
 use std::alloc::Global;
 use std::fs::File;
 use std::io::{self, ErrorKind, Read, Write};
@@ -20,7 +21,7 @@ use std::{env, fmt};
 pub enum Failure {
     /// The arguments aren't those that the program takes.
     Usage,
-    /// The file can't be opened, or not read to its end.
+    /// The file can't be opened or read.
     File,
     /// An allocation failed.
     OutOfMemory,
@@ -33,9 +34,9 @@ pub trait Fault: fmt::Display + From<Failure> {
     // The arguments aren't those that the program takes.
     ghost is_usage: { Self → Bool };
 
-    /// Whether it is `Failure::Usage`.
-    fn is_usage(&self) -> bool
-        ensures { result ≡ is_usage self.now };
+    /// The status that the program ends with: 2 for wrong arguments, and 1 for any other fault.
+    fn status(&self) -> u8
+        ensures { result ≡ status_of (is_usage self.now) };
 }
 
 /// The arguments after the program's own name. `Usage` where they can't be taken.
@@ -67,7 +68,21 @@ pub fn open(rt: &HostRuntime, path: &str) -> Result<File, Failure>
     File::open(rt, path).map_err(|_| Failure::File)
 }
 
-/// What a reader's error is told as: a failed allocation as such, and any other as `File`.
+/// Whether the file can be read at offsets: it has a length above 0, and the last byte of that length.
+///
+/// A pipe has no length, a file of `/proc` has one of 0, and a file of `/sys` may have fewer bytes than its length: these are
+/// read to their end.
+pub fn is_read_at_offsets<S: Source>(file: &S) -> bool
+    ensures yes { result ≡ true → IfSome (S.bytes file.now) (λ bytes. bytes ≢ []) }
+    ensures no { result ≡ false → IfSome (S.bytes file.now) (λ bytes. (bytes ≡ []) ⊎ (S.may_fail file.now ≡ true)) }
+{
+    match file.length() {
+        Ok(length) if length > 0 => file.fill_at(length - 1, &mut [0]).is_ok(),
+        _ => false,
+    }
+}
+
+/// The failure that a reader's error is: `OutOfMemory` where an allocation failed, and `File` for any other.
 pub fn read_failure(e: io::Error) -> Failure
     ensures { result ≡ failure_of (error_kind e) }
 {
@@ -101,13 +116,6 @@ pub fn finish<W: Write + Drop, F: From<Failure>>(mut out: W, ended: Result<(), F
     Ok(())
 }
 
-/// The status that a program ends with: 2 for wrong arguments, and 1 for any other fault.
-pub fn status<F: Fault>(fault: &F) -> u8
-    ensures { result ≡ status_of (F.is_usage fault.now) }
-{
-    if fault.is_usage() { 2 } else { 1 }
-}
-
 /// Prints a program's fault to standard error, if it has one, and gives the status that it ends with.
 pub fn exit<F: Fault + Drop>(rt: &HostRuntime, ended: Result<(), F>) -> ExitCode
     ensures { MatchResult ended (λ _. exit_status result ≡ 0) (λ f. exit_status result ≡ status_of (F.is_usage f)) }
@@ -116,7 +124,7 @@ pub fn exit<F: Fault + Drop>(rt: &HostRuntime, ended: Result<(), F>) -> ExitCode
         Ok(()) => ExitCode::SUCCESS,
         Err(fault) => {
             let _ = eprintln!(rt; "{fault}");
-            ExitCode::from(status(&fault))
+            ExitCode::from(fault.status())
         }
     }
 }

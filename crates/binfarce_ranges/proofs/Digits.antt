@@ -1,11 +1,23 @@
 -- Numbers of hexadecimal digits, digit after digit.
-use Rattle.std.proofs.Common.{◌≡◌, ℕ, ◌+◌, ◌*◌, ◌^◌, ◌<◌, ◌≤◌, List, length, drop, get_or, true, false, Some, None, refl, arith, add-one, drop-cons}
+use Rattle.std.proofs.Common.{◌≡◌, ℕ, ◌+◌, ◌*◌, ◌^◌, ◌<◌, ◌≤◌, ◌∙◌, Bool, ◌&&◌, List, [], ◌∷◌, length, drop, get_or, true, false, Option, Some, None, if◌then◌else◌, refl, sym, ap, arith, add-one, drop-cons}
 use Rattle.std.specs.Prelude.{◌==◌}
+use Rattle.std.specs.Char as char
+use Rattle.std.specs.Char.{is_ascii_hexdigit}
+use Rattle.std.specs.List.{list_all}
+use Rattle.std.specs.Option.{option_and_then}
+use Rattle.std.specs.Str.Parse.{digits_value_after}
 use Rattle.std.proofs.Math.ListN.{drop_of_length-le}
 use Rattle.std.proofs.Math.Nat.{pow-le-pow_right}
 use Rattle.std.proofs.lemmas.Bool.Decides.{nat_tests}
 use Rattle.std.proofs.lemmas.Grind.{pow_more}
-use Rattle.binfarce_ranges.specs.Address.{digit_value, number_from, hexadecimal, is_within}
+use Rattle.binfarce_ranges.specs.Address.{hexadecimal}
+use Rattle.binfarce_ranges.specs.machine.Digits.{digit_value}
+use Rattle.std.specs.Int.{is_in_range}
+
+-- the number whose digits these are, behind those of another number
+unfoldable pub number_from : ℕ → List ℕ → Option ℕ
+number_from number [] = Some number
+number_from number (digit ∷ others) = option_and_then (λ value. number_from (16 * number + value) others) (digit_value digit)
 
 -- a digit is worth less than 16
 pub digit_is_small : (digit value : ℕ) → digit_value digit ≡ Some value → value < 16
@@ -26,11 +38,27 @@ pub all_digits : (number : ℕ) (digits : List ℕ) (i : ℕ) → length digits 
 unfolding number_from
 all_digits number digits i le = rw (drop_of_length-le digits le) refl
 
--- 1 to 16 digits write the number that is read from them
-pub is_hexadecimal : (digits : List ℕ) → 1 ≤ length digits → length digits ≤ 16 → hexadecimal digits ≡ number_from 0 digits
-is_hexadecimal digits low high = rw (test (length digits) low high) refl
+-- a digit is worth what std says
+value_is : (digit : ℕ) → digit_value digit ≡ (if is_ascii_hexdigit digit then Some (char.digit_value digit) else None)
+value_is digit = grind (arith, nat_tests)
+
+-- digits write the number that is read from them
+number_is : (number : ℕ) (digits : List ℕ) → number_from number digits ≡ (if list_all is_ascii_hexdigit digits then Some (digits_value_after 16 number digits) else None)
+unfolding number_from
+number_is number [] = refl
+number_is number (digit ∷ others) = ap (option_and_then (λ value. number_from (16 * number + value) others)) (value_is digit) ∙ first (is_ascii_hexdigit digit) (number_is (number * 16 + char.digit_value digit) others)
   where
-    test : (n : ℕ) → 1 ≤ n → n ≤ 16 → is_within 1 16 n ≡ true
+    first : (b : Bool) → number_from (number * 16 + char.digit_value digit) others ≡ (if list_all is_ascii_hexdigit others then Some (digits_value_after 16 (number * 16 + char.digit_value digit) others) else None)
+        → option_and_then (λ value. number_from (16 * number + value) others) (if b then Some (char.digit_value digit) else None) ≡ (if b && list_all is_ascii_hexdigit others then Some (digits_value_after 16 (number * 16 + char.digit_value digit) others) else None)
+    first true rest =
+        let same : 16 * number + char.digit_value digit ≡ number * 16 + char.digit_value digit = omega arith in
+        ap (λ n. number_from n others) same ∙ rest
+    first false rest = refl
+
+pub is_hexadecimal : (digits : List ℕ) → 1 ≤ length digits → length digits ≤ 16 → hexadecimal digits ≡ number_from 0 digits
+is_hexadecimal digits low high = rw (test (length digits) low high) (sym (number_is 0 digits))
+  where
+    test : (n : ℕ) → 1 ≤ n → n ≤ 16 → is_in_range 1 16 n ≡ true
     test n low high = grind (arith, nat_tests)
 
 -- a number of i digits, and one digit more

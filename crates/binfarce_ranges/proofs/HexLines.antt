@@ -4,8 +4,9 @@ use Rattle.std.specs.List.{starts_with}
 use Rattle.std.specs.Option.{option_and_then}
 use Rattle.std.proofs.lemmas.Bool.Decides.{nat_tests}
 use Rattle.std.proofs.lemmas.List.{take_more, length-take-le}
-use Rattle.binfarce_ranges.specs.Address.{digit_value, number_from, address_of}
-use Rattle.binfarce_ranges.proofs.Digits.{digit_is_small, fits_times, is_hexadecimal, next_below}
+use Rattle.binfarce_ranges.specs.Address.{address_of}
+use Rattle.binfarce_ranges.specs.machine.Digits.{digit_value}
+use Rattle.binfarce_ranges.proofs.Digits.{number_from, digit_is_small, fits_times, is_hexadecimal, next_below}
 
 -- digits, and more of them
 number_append : (number : ℕ) (digits more : List ℕ) → number_from number (digits ++ more) ≡ option_and_then (λ n. number_from n more) (number_from number digits)

@@ -1,11 +1,11 @@
 -- What is found from a range's address up to the next one's.
-use Rattle.std.proofs.Common.{◌≡◌, ℕ, ◌+◌, ◌-◌, ◌^◌, ◌<◌, ◌≤◌, ◌⊎◌, inl, inr, min, List, length, get_or, refl, sym, ap, subst, ◌∙◌, arith}
-use Rattle.std.proofs.lemmas.List.{get_or_default}
-use Rattle.binfarce_ranges.specs.Range.{NoneHolds, IsFoundAt, IsSpanOf}
+use Rattle.std.proofs.Common.{◌≡◌, ℕ, ◌+◌, ◌-◌, ◌^◌, ◌<◌, ◌≤◌, ◌⊎◌, inl, inr, min, List, length, map, get_or, slice_index, refl, sym, ap, subst, ◌∙◌, arith}
+use Rattle.std.proofs.lemmas.List.{get_or_default, get_or-map, length-map}
+use Rattle.binfarce_ranges.specs.Range.{NoneHolds, IsFoundAt, IsOrderOf, IsSpanAt, IsSpanOf}
 use Rattle.binfarce_ranges.specs.declared.ranges.AddressRange.{AddressRange}
 use Rattle.binfarce_ranges.specs.declared.ranges.Row.{Row}
 use Rattle.binfarce_ranges.specs.declared.ranges.Node.{Node}
-use Rattle.binfarce_ranges.specs.machine.Index.{AreNodesOf, AreRowsOf, IsBound, DoRise, row_at, node_at, no_range}
+use Rattle.binfarce_ranges.specs.machine.Index.{AreNodesOf, AreRowsOf, IsBound, DoRise, last_of, row_at, node_at, no_range, no_row}
 use Rattle.binfarce_ranges.proofs.Rows.{addresses_rise}
 use Rattle.binfarce_ranges.proofs.Found.{Passed, searched, passed_on, reach_further, is_found, none_holds}
 
@@ -49,4 +49,51 @@ span_is ranges rows nodes rows_are nodes_are k inside here is behind end until f
         | inl cut ↦ absurd (omega arith)
         | inr free ↦ none_in_span ranges rows rows_are k behind inside follows address (omega (arith, free.1)) (omega arith) (omega (arith, free.1)) (reach_further rows nodes nodes_are k inside free.0) (omega (arith, free.1))
       ];
+    }
+
+-- the places of the rows
+abbrev pub places_of : List Row → List ℕ
+places_of rows = map (λ (r : Row). r.place.0) rows
+
+place_at : (rows : List Row) (k : ℕ) → k < length rows → slice_index (places_of rows) k ≡ (row_at rows k).place.0
+place_at rows k lt = get_or-map (λ (r : Row). r.place.0) rows k no_row 0 lt
+
+address_at : (ranges : List AddressRange) (rows : List Row) → AreRowsOf ranges rows → (k : ℕ) → k < length rows → (d : AddressRange) → (get_or ranges (slice_index (places_of rows) k) d).address ≡ (row_at rows k).address
+address_at ranges rows are k lt d =
+    let row = are.row_is k lt in
+    ap (λ n. (get_or ranges n d).address) (place_at rows k lt) ∙ sym (row.1 ∙ ap (λ (r : AddressRange). r.address) (get_or_default ranges (row_at rows k).place.0 no_range d row.0))
+
+-- they are in the order of addresses
+in_order : (ranges : List AddressRange) (rows : List Row) → AreRowsOf ranges rows → IsOrderOf ranges (places_of rows)
+in_order ranges rows are = record {
+  count = length-map rows (λ (r : Row). r.place.0) ∙ are.count;
+  each = λ place lt.
+      let row = are.has_row place lt in
+      (row.0, omega (arith, row.1, length-map rows (λ (r : Row). r.place.0)), get_or-map (λ (r : Row). r.place.0) rows row.0 no_row place row.1 ∙ row.2);
+  rises = λ i j le lt d.
+      let low : j < length rows = omega (arith, length-map rows (λ (r : Row). r.place.0)) in
+      let first = address_at ranges rows are i (omega arith) d in
+      let other = address_at ranges rows are j low d in
+      elim (are.rise i j le low) [
+        | inl lower ↦ inl (omega (arith, lower, first, other))
+        | inr same ↦ inr (first ∙ same.0 ∙ sym other, omega (arith, same.1, place_at rows i (omega arith), place_at rows j low))
+      ];
+}
+
+-- and a row's span is that of its place
+pub span_at : (ranges : List AddressRange) (rows : List Row) → AreRowsOf ranges rows → (k : ℕ) → k < length rows → (here : Row) → here ≡ row_at rows k → (behind end until : ℕ) → (k + 1 < length rows → behind ≡ (row_at rows (k + 1)).address) → (length rows ≤ k + 1 → behind ≡ 2 ^ 64 - 1)
+    → end ≡ min behind (min (here.last + 1) (2 ^ 64 - 1)) → IsSpanAt ranges k (record { place = here.place.0; address = here.address; end = end; until = until })
+span_at ranges rows are k inside here is behind end until next last ends =
+    let count = length-map rows (λ (r : Row). r.place.0) in
+    let row = are.row_is k inside in
+    let place : (row_at rows k).place.0 ≡ here.place.0 = ap (λ (r : Row). r.place.0) (sym is) in
+    let reach : (d : AddressRange) → here.last ≡ last_of (get_or ranges here.place.0 d) = λ d.
+    ap (λ (r : Row). r.last) is ∙ row.2 ∙ ap last_of (get_or_default ranges (row_at rows k).place.0 no_range d row.0) ∙ ap (λ n. last_of (get_or ranges n d)) place in
+    record {
+      places = places_of rows;
+      order = in_order ranges rows are;
+      within = omega (arith, count);
+      place = place_at rows k inside ∙ place;
+      last = λ d none. omega (arith, ends, reach d, last (omega (arith, count)));
+      next = λ d more. omega (arith, ends, reach d, next (omega (arith, count)), address_at ranges rows are (k + 1) (omega (arith, count)) d);
     }

@@ -2,7 +2,7 @@
 use Rattle.std.proofs.Common.{◌≡◌, ℕ, ◌<◌, ◌≤◌, Bool, true, ◌&&◌, nat_eq, nat_le, nat_lt, List, ◌∷◌, ◌++◌, get_or, Option, Some, None, refl, arith, replicate}
 use Rattle.std.proofs.lemmas.Bool.Decides.{nat_tests}
 use Rattle.std.proofs.lemmas.Bool.{agree_below_at}
-use Rattle.binfarce_ranges.specs.Address.{digit_value}
+use Rattle.binfarce_ranges.specs.machine.Digits.{digit_value}
 
 -- before `0`, to `9`, before `A`, to `F`, before `a`, to `f`, and behind
 abbrev values : List ℕ

@@ -1,5 +1,5 @@
 -- Ranges of addresses, and which of several is found at an address.
-use Rattle.std.specs.Prelude.{◌≡◌, ℕ, ◌+◌, ◌-◌, ◌<◌, ◌≤◌, ◌⊎◌, max, List, All, length, slice_index_or, Option, MatchOption}
+use Rattle.std.specs.Prelude.{◌≡◌, ℕ, ◌+◌, ◌-◌, ◌^◌, ◌<◌, ◌≤◌, ◌⊎◌, min, max, List, All, Contains, length, slice_index, slice_index_or, Option, MatchOption}
 use Rattle.binfarce_ranges.specs.declared.ranges.AddressRange.{AddressRange}
 use Rattle.binfarce_ranges.specs.declared.ranges.Found.{Found}
 use Rattle.binfarce_ranges.specs.declared.ranges.Span.{Span}
@@ -31,3 +31,28 @@ pub record IsSpanOf (ranges : List AddressRange) (span : Span) : Type 0 where
   pub address : (d : AddressRange) → (slice_index_or ranges span.place d).address ≡ span.address
   pub found : (address : ℕ) → span.address ≤ address → address < span.end → IsFoundAt ranges address span.place
   pub none : (address : ℕ) → span.end ≤ address → address < span.until → NoneHolds ranges address
+
+-- of the ranges at two places the first has the lower address, or the same and stands behind the other
+abbrev pub ComesFirst : List AddressRange → ℕ → ℕ → Type 0
+ComesFirst ranges place other =
+    (d : AddressRange) → ((slice_index_or ranges place d).address < (slice_index_or ranges other d).address)
+    ⊎ (((slice_index_or ranges place d).address ≡ (slice_index_or ranges other d).address) × (other ≤ place))
+
+-- the places of all ranges in the order of addresses, those of one address from the last to the first
+pub record IsOrderOf (ranges : List AddressRange) (places : List ℕ) : Type 0 where
+  pub count : length places ≡ length ranges
+  pub each : (place : ℕ) → place < length ranges → Contains places place
+  pub rises : (i j : ℕ) → i ≤ j → j < length places → ComesFirst ranges (slice_index places i) (slice_index places j)
+
+-- where the range ends, and at most the last address
+abbrev pub end_of : AddressRange → ℕ
+end_of range = min (range.address + max range.size 1) (2 ^ 64 - 1)
+
+-- the span is that of the range with this place in the order: it ends where that range ends, or where the next one begins
+pub record IsSpanAt (ranges : List AddressRange) (row : ℕ) (span : Span) : Type 0 where
+  pub places : List ℕ
+  pub order : IsOrderOf ranges places
+  pub within : row < length places
+  pub place : slice_index places row ≡ span.place
+  pub last : (d : AddressRange) → row + 1 ≡ length places → span.end ≡ end_of (slice_index_or ranges span.place d)
+  pub next : (d : AddressRange) → row + 1 < length places → span.end ≡ min (slice_index_or ranges (slice_index places (row + 1)) d).address (end_of (slice_index_or ranges span.place d))

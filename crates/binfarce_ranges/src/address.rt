@@ -1,7 +1,8 @@
 //! Addresses as words.
 
 ghost use Rattle.std.specs.Prelude.{◌≡◌, ◌<◌, ◌≤◌, length, slice_index_or, take, Some, IfSome};
-ghost use Rattle.binfarce_ranges.specs.Address.{address_of, hexadecimal, digit_value};
+ghost use Rattle.binfarce_ranges.specs.Address.{address_of, hexadecimal};
+ghost use Rattle.binfarce_ranges.specs.machine.Digits.{digit_value};
 
 /// The address that a word writes: 1 to 16 hexadecimal digits, in upper or lower case, before which `0x` may stand. `None`
 /// for any other word.

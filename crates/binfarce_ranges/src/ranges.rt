@@ -1,7 +1,7 @@
 //! Which of several ranges is found at an address.
 
-ghost use Rattle.std.specs.Prelude.{◌≡◌, ◌+◌, ◌-◌, ◌<◌, ◌≤◌, ◌^◌, ◌⊎◌, List, length, true, MatchOption, IfOk};
-ghost use Rattle.binfarce_ranges.specs.Range.{Finds, IsFoundAt, IsSpanOf, NoneHolds};
+ghost use Rattle.std.specs.Prelude.{◌≡◌, ◌+◌, ◌-◌, ◌<◌, ◌≤◌, ◌^◌, ◌⊎◌, List, length, true, MatchOption, IfOk, IfSome};
+ghost use Rattle.binfarce_ranges.specs.Range.{Finds, IsFoundAt, IsSpanAt, IsSpanOf, NoneHolds};
 ghost use Rattle.binfarce_ranges.specs.declared.ranges.AddressRange.{AddressRange};
 ghost use Rattle.binfarce_ranges.specs.machine.Index.{AreRowsOf, AreSlicesOf, AreLinked, AreLinksOf, AreNodesOf, ArePast, DoReachFurther, DoRise, IsBound, IsIndexed, IsOuter, JumpsOver, Follows, last_of, node_at, row_at, slice_at};
 
@@ -120,7 +120,8 @@ impl Ranges {
     /// The span of the range that has this place in the order of addresses, where ranges of one address stand from the last
     /// to the first; `None` past the end.
     pub fn span(&self, row: usize) -> Option<Span>
-        ensures { MatchOption result (length self.now ≤ row) (IsSpanOf self.now) }
+        ensures span { MatchOption result (length self.now ≤ row) (IsSpanOf self.now) }
+        ensures at { IfSome result (IsSpanAt self.now row) }
     {
         if row >= self.rows.len() {
             return None;
@@ -236,7 +237,8 @@ fn rows_up_to(rows: &[Row], slices: &Slices, address: u64) -> usize
 // The address of the row behind this one, or the last of all.
 fn address_behind(rows: &[Row], row: usize) -> u64
     requires { row < length rows.now }
-    ensures { row + 1 < length rows.now → result ≡ (row_at rows.now (row + 1)).address }
+    ensures next { row + 1 < length rows.now → result ≡ (row_at rows.now (row + 1)).address }
+    ensures last { length rows.now ≤ row + 1 → result ≡ 2 ^ 64 - 1 }
 {
     match rows.get(row + 1) {
         Some(next) => next.address,

@@ -13,7 +13,7 @@ use Rattle.binfarce_sections.specs.declared.error.SectionError.TheVariants as er
 use Rattle.binfarce_section.specs.declared.program.Fault.{Fault}
 use Rattle.binfarce_section.specs.declared.program.Fault.TheVariants.{Usage, File, Section as OfSection}
 
--- the file and the section that arguments give, if there are one or two
+-- the file and the section that arguments give, if there are one or two; arguments of which one isn't UTF-8 are refused before, as a wrong call
 abbrev pub words_of : List (List ℕ) → Option (List ℕ × Option (List ℕ))
 words_of [] = None
 words_of (file ∷ []) = Some (file, None)
@@ -43,12 +43,12 @@ abbrev pub Takes : Option (Walk Section) → List ℕ → Option (List ℕ) → 
 Takes sections file (Some name) old new result = TakesBytes (bytes_named sections file name) old new result
 Takes sections file None old new result = TakesLines sections old new result
 
--- what the program has written: what the call takes; and nothing where the file can't be read, which is told only where it may be unreadable, or an allocation failed as it was read
+-- what the program has written: what the call takes; and nothing where the file can't be read, which is reported only where MayFail says so, or an allocation failed as it was read
 abbrev pub Runs : Type 0 → Option (Walk Section) → List ℕ → Option (List ℕ) → Option (List ℕ) → Option (List ℕ) → Result (Unit {0}) Fault → Type 0
-Runs MayBeUnreadable sections file name old new (Ok x) = Takes sections file name old new (Ok x)
-Runs MayBeUnreadable sections file name old new (Err Usage) = ⊥
-Runs MayBeUnreadable sections file name old new (Err File) = MayBeUnreadable × Appends old new []
-Runs MayBeUnreadable sections file name old new (Err (OfSection e)) = Takes sections file name old new (Err e) ⊎ ((e ≡ errors.OutOfMemory) × Appends old new [])
+Runs MayFail sections file name old new (Ok x) = Takes sections file name old new (Ok x)
+Runs MayFail sections file name old new (Err Usage) = ⊥
+Runs MayFail sections file name old new (Err File) = MayFail × Appends old new []
+Runs MayFail sections file name old new (Err (OfSection e)) = Takes sections file name old new (Err e) ⊎ ((e ≡ errors.OutOfMemory) × Appends old new [])
 
 -- whether the sink has failed afterwards: where a write failed; anything else leaves it as it was
 abbrev pub Fails : Bool → Bool → Result (Unit {0}) Fault → Type 0

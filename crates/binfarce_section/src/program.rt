@@ -1,16 +1,15 @@
 //! What the program does, over any reader and any writer.
 
-ghost use Rattle.std.specs.Prelude.{◌≡◌, ℕ, List, map, true, Some, None, MatchResult, IfSome};
+ghost use Rattle.std.specs.Prelude.{◌≡◌, ◌⊎◌, ℕ, List, [], map, true, Some, None, MatchResult, IfSome};
 ghost use Rattle.std.specs.Option.{option_map};
 ghost use Rattle.std.specs.String.{string_bytes};
 ghost use Rattle.binfarce.specs.Format.{format_of};
 ghost use Rattle.binfarce_sections.specs.Section.{sections_of};
 ghost use Rattle.binfarce_tools.specs.Sink.{writer_of, has_failed};
-ghost use Rattle.binfarce_tools.specs.Tables.{BothGive, MayBeUnreadable};
 ghost use Rattle.binfarce_section.specs.Program.{words_of, Runs, Fails};
 ghost use Rattle.binfarce_section.specs.declared.program.Fault.TheVariants.{Usage};
 
-use binfarce_program::{Failure, read_whole};
+use binfarce_program::{Failure, is_read_at_offsets, read_whole};
 use binfarce_sections::bytes::{write_section, write_section_of};
 use binfarce_sections::error::SectionError;
 use binfarce_sections::list::{list_sections, list_source};
@@ -68,8 +67,11 @@ impl binfarce_program::Fault for Fault {
 
     ghost is_usage = { is_usage };
 
-    fn is_usage(&self) -> bool {
-        matches!(self, Fault::Usage)
+    fn status(&self) -> u8 {
+        match self {
+            Fault::Usage => 2,
+            _ => 1,
+        }
     }
 }
 
@@ -87,45 +89,11 @@ pub fn words(arguments: &[String]) -> Result<(&str, Option<&str>), Fault>
     }
 }
 
-/// Writes the bytes of the section of this name, or lists all sections where none is named. Where the file tells a length
-/// above 0, it is read as `write_section_of` and `list_source` read it, and any other, as a pipe, to its end.
+/// Reads the file to its end, and writes the bytes of the section of this name, or lists all sections where none is named.
 ///
-/// `File` where a read fails; `Section` where an allocation fails while it is read, and as these calls refuse.
-pub fn run<F: Read + Source, W: Write>(
-    alloc: Global,
-    file: &mut F,
-    section: Option<&str>,
-    out: &mut Out<W>,
-) -> Result<(), Fault>
-    ensures takes { (bytes : List ℕ) → BothGive (F.bytes file.old) (F.remaining file.old) bytes → Runs (MayBeUnreadable (F.may_fail file.old) bytes) (sections_of (format_of bytes) bytes) bytes (option_map (λ t. t.now) section.entry)
-        (W.contents (writer_of out.old)) (W.contents (writer_of out.new)) result }
-    ensures fails { Fails (has_failed out.old) (has_failed out.new) result }
-{
-    if file.length().unwrap_or(0) > 0 {
-        run_at_offsets(alloc, &*file, section, out)
-    } else {
-        run_to_the_end(alloc, file, section, out)
-    }
-}
-
-fn run_at_offsets<F: Source, W: Write>(
-    alloc: Global,
-    file: &F,
-    section: Option<&str>,
-    out: &mut Out<W>,
-) -> Result<(), Fault>
-    ensures takes { (bytes : List ℕ) → F.bytes file.now ≡ Some bytes → Runs (F.may_fail file.now ≡ true) (sections_of (format_of bytes) bytes) bytes (option_map (λ t. t.now) section.entry)
-        (W.contents (writer_of out.old)) (W.contents (writer_of out.new)) result }
-    ensures fails { Fails (has_failed out.old) (has_failed out.new) result }
-{
-    let written = match section {
-        Some(name) => write_section_of(alloc, file, name, out),
-        None => list_source(alloc, file, out),
-    };
-    Ok(written?)
-}
-
-fn run_to_the_end<R: Read, W: Write>(
+/// `File` where the reader fails; `Section` where an allocation fails while it is read, and as `write_section` and
+/// `list_sections` refuse.
+pub fn run<R: Read, W: Write>(
     alloc: Global,
     file: &mut R,
     section: Option<&str>,
@@ -141,4 +109,43 @@ fn run_to_the_end<R: Read, W: Write>(
         None => list_sections(alloc, bytes.as_slice(), out),
     };
     written.map_err(Fault::Section)
+}
+
+/// Does the same of a source, of which it reads the headers of the sections and their names, and the bytes of the one that
+/// is named.
+///
+/// `File` where the source can't be read at offsets, or a read of it fails; `Section` as `run`.
+pub fn run_at<S: Source, W: Write>(
+    alloc: Global,
+    source: &S,
+    section: Option<&str>,
+    out: &mut Out<W>,
+) -> Result<(), Fault>
+    ensures takes { (bytes : List ℕ) → S.bytes source.now ≡ Some bytes → Runs (S.may_fail source.now ≡ true) (sections_of (format_of bytes) bytes) bytes (option_map (λ t. t.now) section.entry)
+        (W.contents (writer_of out.old)) (W.contents (writer_of out.new)) result }
+    ensures fails { Fails (has_failed out.old) (has_failed out.new) result }
+{
+    let written = match section {
+        Some(name) => write_section_of(alloc, source, name, out),
+        None => list_source(alloc, source, out),
+    };
+    Ok(written?)
+}
+
+/// Does what `run_at` does where the file can be read at offsets, and else what `run` does.
+pub fn run_file<F: Read + Source, W: Write>(
+    alloc: Global,
+    file: &mut F,
+    section: Option<&str>,
+    out: &mut Out<W>,
+) -> Result<(), Fault>
+    ensures takes { (bytes : List ℕ) → F.bytes file.old ≡ Some bytes → F.remaining file.old ≡ Some bytes → Runs ((F.may_fail file.old ≡ true) ⊎ (bytes ≡ [])) (sections_of (format_of bytes) bytes) bytes (option_map (λ t. t.now) section.entry)
+        (W.contents (writer_of out.old)) (W.contents (writer_of out.new)) result }
+    ensures fails { Fails (has_failed out.old) (has_failed out.new) result }
+{
+    if is_read_at_offsets(file) {
+        run_at(alloc, file, section, out)
+    } else {
+        run(alloc, file, section, out)
+    }
 }

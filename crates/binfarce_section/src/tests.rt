@@ -1,11 +1,14 @@
 // bench/refuse-memory.sh lets each of the program's allocations fail in turn: it prints the usage, `out of memory` or all
 // that is due.
 
-use crate::program::{run, words};
+use crate::program::{Fault, run, run_at, run_file, words};
 use binfarce_tools::list::Out;
 use std::alloc::{AllocError, Global};
 use std::io::ErrorKind;
-use test_streams::{HELD, Held, READERS, Source, Target, ended_with, failed_with, large_file};
+use test_streams::{
+    HELD, Held, Interrupted, READERS, Source, Target, ended_with, failed_with, files_of,
+    large_file, samples,
+};
 
 const USAGE: &str = "usage: binfarce-section FILE [SECTION]";
 
@@ -44,8 +47,80 @@ fn takes_a_file_and_a_section(rt: HostRuntime) -> Result<(), AllocError> {
     Ok(())
 }
 
+// Which of the sample files, a section's name, or none, and what is written: the bytes of that section, or the lines of all.
+const WRITTEN: [(usize, Option<&str>, &[u8]); 4] = [
+    (0, Some(".strtab"), b"\0_ZN3foo3barE\0bad\0"),
+    (
+        0,
+        None,
+        b"0000000000000000         64          0 \n\
+        0000000000000000         64         32 .text\n\
+        0000000000000000         96        120 .symtab\n\
+        0000000000000000        216         18 .strtab\n\
+        0000000000000000        234         33 .shstrtab\n",
+    ),
+    (
+        1,
+        None,
+        b"0000000000001000          0        256 __TEXT,__text\n",
+    ),
+    (2, None, b"0000000000000000          0        256 .text\n"),
+];
+
+// Whether the work ended without a fault, and these bytes were written.
+fn is_written(ended: Result<(), Fault>, out: Out<Vec<u8>>, bytes: &[u8]) -> bool {
+    ended.is_ok() && out.into_inner().as_slice() == bytes
+}
+
 #[test]
-fn tells_why_nothing_is_written(rt: HostRuntime) -> Result<(), AllocError> {
+fn writes_what_is_read_to_the_end(rt: HostRuntime) -> Result<(), AllocError> {
+    let samples = samples(rt.alloc())?;
+    for (sample, name, want) in &WRITTEN {
+        let file = samples[*sample].as_slice();
+        let mut out = Out::new(Vec::new(rt.alloc()));
+        let ended = run(rt.alloc(), &mut { file }, *name, &mut out);
+        assert!(&rt; is_written(ended, out, want), "{sample}, {name:?}");
+        let mut out = Out::new(Vec::new(rt.alloc()));
+        let source = Source {
+            most: 1,
+            ..Source::of(file)
+        };
+        let mut short = Interrupted {
+            source,
+            is_next: false,
+        };
+        let ended = run(rt.alloc(), &mut short, *name, &mut out);
+        assert!(&rt; is_written(ended, out, want), "{sample}, {name:?}");
+    }
+    Ok(())
+}
+
+#[test]
+fn writes_what_is_read_at_offsets(rt: HostRuntime) -> Result<(), AllocError> {
+    let samples = samples(rt.alloc())?;
+    for (sample, name, want) in &WRITTEN {
+        let mut out = Out::new(Vec::new(rt.alloc()));
+        let ended = run_at(rt.alloc(), &samples[*sample].as_slice(), *name, &mut out);
+        assert!(&rt; is_written(ended, out, want), "{sample}, {name:?}");
+    }
+    Ok(())
+}
+
+#[test]
+fn writes_of_any_file(rt: HostRuntime) -> Result<(), AllocError> {
+    let samples = samples(rt.alloc())?;
+    for (sample, name, want) in &WRITTEN {
+        for (label, mut opened) in files_of(&samples[*sample]) {
+            let mut out = Out::new(Vec::new(rt.alloc()));
+            let ended = run_file(rt.alloc(), &mut opened, *name, &mut out);
+            assert!(&rt; is_written(ended, out, want), "{label}, {sample}, {name:?}");
+        }
+    }
+    Ok(())
+}
+
+#[test]
+fn reports_why_nothing_is_written(rt: HostRuntime) -> Result<(), AllocError> {
     for name in [None, Some(".text")] {
         for (label, bytes, end, want) in &READERS {
             let mut out = Out::new(Vec::new(rt.alloc()));
@@ -63,16 +138,16 @@ fn tells_why_nothing_is_written(rt: HostRuntime) -> Result<(), AllocError> {
 }
 
 #[test]
-fn tells_why_a_file_is_not_read_at_offsets(rt: HostRuntime) -> Result<(), AllocError> {
+fn reports_why_nothing_is_written_at_offsets(rt: HostRuntime) -> Result<(), AllocError> {
     for name in [None, Some(".text")] {
         for (label, bytes, length, end, want) in &HELD {
             let mut out = Out::new(Vec::new(rt.alloc()));
-            let mut held = Held {
+            let held = Held {
                 bytes,
-                length: *length,
+                length: Some(*length),
                 end: *end,
             };
-            let written = run(rt.alloc(), &mut held, name, &mut out);
+            let written = run_at(rt.alloc(), &held, name, &mut out);
             let is_told = failed_with(rt.alloc(), written, "binfarce-section", want)?;
             assert!(&rt; is_told, "{label}");
             assert!(&rt; out.into_inner().is_empty(), "{label}");
@@ -110,16 +185,16 @@ const PE: &[u8] =
 #[test]
 fn reads_a_section_where_it_lies(rt: HostRuntime) -> Result<(), AllocError> {
     for missing in 0..6 {
-        let mut held = Held {
+        let held = Held {
             bytes: PE.get(..PE.len().saturating_sub(missing)).unwrap_or(PE),
-            length: PE.len() as u64,
+            length: Some(PE.len() as u64),
             end: None,
         };
         let mut out = Out::new(Vec::new(rt.alloc()));
-        let listed = run(rt.alloc(), &mut held, None, &mut out);
+        let listed = run_at(rt.alloc(), &held, None, &mut out);
         assert!(&rt; listed.is_ok(), "{missing}");
         let mut out = Out::new(Vec::new(rt.alloc()));
-        let written = run(rt.alloc(), &mut held, Some(".dep-v0"), &mut out);
+        let written = run_at(rt.alloc(), &held, Some(".dep-v0"), &mut out);
         let want = if missing == 0 { "bytes" } else { "" };
         let is_told = match missing {
             0 => written.is_ok(),

@@ -1,23 +1,23 @@
 //! What the program does, over any reader and any writer.
 
-ghost use Rattle.std.specs.Prelude.{◌≡◌, ℕ, List, map, Some, None, MatchResult};
+ghost use Rattle.std.specs.Prelude.{◌≡◌, ◌⊎◌, ℕ, List, [], true, map, Some, None, MatchResult, IfSome};
 ghost use Rattle.std.specs.String.{string_bytes};
 ghost use Rattle.binfarce_format.specs.Format.{format_of};
 ghost use Rattle.binfarce_tools.specs.Answer.{symbols_answer, NeedsMemory};
 ghost use Rattle.binfarce_tools.specs.Report.{IsReportOf, ReportFits};
 ghost use Rattle.binfarce_tools.specs.Sink.{writer_of, has_failed};
-ghost use Rattle.binfarce_tools.specs.Tables.{BothGive, MayBeUnreadable};
 ghost use Rattle.binfarce_tools.specs.Writing.{ProgramTells, Takes, Fails, Leaves};
 ghost use Rattle.binfarce_program.specs.Given.{words_of};
-ghost use Rattle.binfarce_size.specs.Program.{outcome_of};
+ghost use Rattle.binfarce_program.specs.Status.{status_of};
+ghost use Rattle.binfarce_size.specs.Program.{outcome_of, is_usage};
 ghost use Rattle.binfarce_size.specs.declared.program.Fault.TheVariants.{Usage};
 
-use binfarce_program::{Failure, file_and_section};
+use binfarce_program::{Failure, file_and_section, is_read_at_offsets, read_whole};
 use binfarce_source::Source;
 use binfarce_tables::ReadError;
 use binfarce_tools::list::Out;
-use binfarce_tools::report::{ReportError, report_tables};
-use binfarce_tools::tables::read_input;
+use binfarce_tools::report::{ReportError, report, report_tables};
+use binfarce_tools::tables::read;
 use std::alloc::Global;
 use std::io::{Read, Write};
 use thiserror::Error;
@@ -71,8 +71,8 @@ impl binfarce_program::Fault for Fault {
 
     ghost is_usage = { is_usage };
 
-    fn is_usage(&self) -> bool {
-        matches!(self, Fault::Usage)
+    fn status(&self) -> u8 {
+        status(self)
     }
 }
 
@@ -86,25 +86,73 @@ pub fn words(arguments: &[String]) -> Result<(&str, &str), Fault>
     Ok(file_and_section(arguments)?)
 }
 
-/// Reads of the file what `read_input` does, and reports how much of its section each crate takes.
+/// Reads the file to its end, and reports how much of its section each crate takes.
 ///
-/// `File` where a read fails; `Report` where an allocation fails while it is read, where the file is refused, and as
-/// `report_tables` refuses.
-pub fn run<F: Read + Source, W: Write>(
+/// `File` where the reader fails; `Report` where an allocation fails while it is read, and as `report` refuses.
+pub fn run<R: Read, W: Write>(
+    alloc: Global,
+    file: &mut R,
+    section: &str,
+    out: &mut Out<W>,
+) -> Result<(), Fault>
+    ensures tells { IfSome (R.remaining file.old) (λ bytes. ProgramTells (Unit {0}) ReportFits (NeedsMemory (format_of bytes) bytes) (symbols_answer (format_of bytes) bytes section.now) (outcome_of result)) }
+    ensures takes { IfSome (R.remaining file.old) (λ bytes. Takes IsReportOf (symbols_answer (format_of bytes) bytes section.now)
+        (W.contents (writer_of out.old)) (W.contents (writer_of out.new)) (outcome_of result)) }
+    ensures fails { Fails (has_failed out.old) (has_failed out.new) (outcome_of result) }
+    ensures leaves { Leaves out.old out.new (outcome_of result) }
+{
+    let bytes = read_whole(alloc, file)?;
+    report(alloc, bytes.as_slice(), section, out).map_err(Fault::Report)
+}
+
+/// Does the same of a source, of which it reads the headers, the symbol table and the names alone.
+///
+/// `File` where the source can't be read at offsets, or a read of it fails; `Report` as `run`.
+pub fn run_at<S: Source, W: Write>(
+    alloc: Global,
+    source: &S,
+    section: &str,
+    out: &mut Out<W>,
+) -> Result<(), Fault>
+    ensures tells { (bytes : List ℕ) → S.bytes source.now ≡ Some bytes → ProgramTells (S.may_fail source.now ≡ true) ReportFits (NeedsMemory (format_of bytes) bytes) (symbols_answer (format_of bytes) bytes section.now) (outcome_of result) }
+    ensures takes { (bytes : List ℕ) → S.bytes source.now ≡ Some bytes → Takes IsReportOf (symbols_answer (format_of bytes) bytes section.now)
+        (W.contents (writer_of out.old)) (W.contents (writer_of out.new)) (outcome_of result) }
+    ensures fails { Fails (has_failed out.old) (has_failed out.new) (outcome_of result) }
+    ensures leaves { Leaves out.old out.new (outcome_of result) }
+{
+    let tables = read(alloc, source, section)?;
+    match report_tables(alloc, &tables, out) {
+        Ok(()) => Ok(()),
+        Err(e) => Err(Fault::Report(e)),
+    }
+}
+
+/// Does what `run_at` does where the file can be read at offsets, and else what `run` does.
+pub fn run_file<F: Read + Source, W: Write>(
     alloc: Global,
     file: &mut F,
     section: &str,
     out: &mut Out<W>,
 ) -> Result<(), Fault>
-    ensures tells { (bytes : List ℕ) → BothGive (F.bytes file.old) (F.remaining file.old) bytes → ProgramTells (MayBeUnreadable (F.may_fail file.old) bytes) ReportFits (NeedsMemory (format_of bytes) bytes) (symbols_answer (format_of bytes) bytes section.now) (outcome_of result) }
-    ensures takes { (bytes : List ℕ) → BothGive (F.bytes file.old) (F.remaining file.old) bytes → Takes IsReportOf (symbols_answer (format_of bytes) bytes section.now)
+    ensures tells { (bytes : List ℕ) → F.bytes file.old ≡ Some bytes → F.remaining file.old ≡ Some bytes → ProgramTells ((F.may_fail file.old ≡ true) ⊎ (bytes ≡ [])) ReportFits (NeedsMemory (format_of bytes) bytes) (symbols_answer (format_of bytes) bytes section.now) (outcome_of result) }
+    ensures takes { (bytes : List ℕ) → F.bytes file.old ≡ Some bytes → F.remaining file.old ≡ Some bytes → Takes IsReportOf (symbols_answer (format_of bytes) bytes section.now)
         (W.contents (writer_of out.old)) (W.contents (writer_of out.new)) (outcome_of result) }
     ensures fails { Fails (has_failed out.old) (has_failed out.new) (outcome_of result) }
     ensures leaves { Leaves out.old out.new (outcome_of result) }
 {
-    let tables = read_input(alloc, file, section)?;
-    match report_tables(alloc, &tables, section, out) {
-        Ok(()) => Ok(()),
-        Err(e) => Err(Fault::Report(e)),
+    if is_read_at_offsets(file) {
+        run_at(alloc, file, section, out)
+    } else {
+        run(alloc, file, section, out)
+    }
+}
+
+/// The status that the program ends with: 2 for the usage, and 1 for any other fault.
+pub fn status(fault: &Fault) -> u8
+    ensures { result ≡ status_of (is_usage fault.now) }
+{
+    match fault {
+        Fault::Usage => 2,
+        _ => 1,
     }
 }

@@ -1,10 +1,20 @@
 // bench/refuse-memory.sh lets each of the program's allocations fail in turn: it prints the usage, `out of memory` or the
 // whole report.
 
-use crate::program::{run, words};
+use crate::program::{Fault, run, run_at, run_file, status, words};
 use binfarce_tools::list::Out;
 use std::alloc::AllocError;
-use test_streams::{HELD, Held, READERS, Source, ended_with, failed_with, large_file};
+use test_streams::{
+    HELD, Held, Interrupted, READERS, Source, ended_with, failed_with, files_of, large_file,
+    samples,
+};
+
+// The reports on the sample files.
+const REPORTS: [&str; 3] = [
+    "        16 foo\nsum 16\ntext 32\n",
+    "       320 [unknown]\nsum 320\ntext 256\n",
+    "       448 [unknown]\nsum 448\ntext 256\n",
+];
 
 #[test]
 fn needs_a_file(rt: HostRuntime) -> Result<(), AllocError> {
@@ -15,15 +25,68 @@ fn needs_a_file(rt: HostRuntime) -> Result<(), AllocError> {
 }
 
 #[test]
-fn tells_why_no_report_is_made(rt: HostRuntime) -> Result<(), AllocError> {
+fn ends_with_2_for_the_usage(rt: HostRuntime) {
+    assert!(&rt; status(&Fault::Usage) == 2);
+    assert!(&rt; status(&Fault::File) == 1);
+}
+
+// Whether the work ended without a fault, and this text was written.
+fn is_written(ended: Result<(), Fault>, out: Out<Vec<u8>>, text: &str) -> bool {
+    ended.is_ok() && out.into_inner().as_slice() == text.as_bytes()
+}
+
+#[test]
+fn reports_bytes_that_are_read_to_the_end(rt: HostRuntime) -> Result<(), AllocError> {
+    for (file, want) in samples(rt.alloc())?.iter().zip(&REPORTS) {
+        let mut out = Out::new(Vec::new(rt.alloc()));
+        let ended = run(rt.alloc(), &mut file.as_slice(), ".text", &mut out);
+        assert!(&rt; is_written(ended, out, want), "{want}");
+        let mut out = Out::new(Vec::new(rt.alloc()));
+        let mut short = Interrupted {
+            source: Source {
+                most: 1,
+                ..Source::of(file)
+            },
+            is_next: false,
+        };
+        let ended = run(rt.alloc(), &mut short, ".text", &mut out);
+        assert!(&rt; is_written(ended, out, want), "{want}");
+    }
+    Ok(())
+}
+
+#[test]
+fn reports_bytes_that_are_read_at_offsets(rt: HostRuntime) -> Result<(), AllocError> {
+    for (file, want) in samples(rt.alloc())?.iter().zip(&REPORTS) {
+        let mut out = Out::new(Vec::new(rt.alloc()));
+        let ended = run_at(rt.alloc(), &file.as_slice(), ".text", &mut out);
+        assert!(&rt; is_written(ended, out, want), "{want}");
+    }
+    Ok(())
+}
+
+#[test]
+fn reports_any_file(rt: HostRuntime) -> Result<(), AllocError> {
+    for (file, want) in samples(rt.alloc())?.iter().zip(&REPORTS) {
+        for (label, mut opened) in files_of(file) {
+            let mut out = Out::new(Vec::new(rt.alloc()));
+            let ended = run_file(rt.alloc(), &mut opened, ".text", &mut out);
+            assert!(&rt; is_written(ended, out, want), "{label}");
+        }
+    }
+    Ok(())
+}
+
+#[test]
+fn reports_why_no_report_is_made(rt: HostRuntime) -> Result<(), AllocError> {
     for (label, bytes, end, want) in &READERS {
         let mut out = Out::new(Vec::new(rt.alloc()));
         let mut source = Source {
             end: *end,
             ..Source::of(bytes)
         };
-        let reported = run(rt.alloc(), &mut source, ".text", &mut out);
-        let is_told = failed_with(rt.alloc(), reported, "binfarce-size", want)?;
+        let ended = run(rt.alloc(), &mut source, ".text", &mut out);
+        let is_told = failed_with(rt.alloc(), ended, "binfarce-size", want)?;
         assert!(&rt; is_told, "{label}");
         assert!(&rt; out.into_inner().is_empty(), "{label}");
     }
@@ -31,16 +94,16 @@ fn tells_why_no_report_is_made(rt: HostRuntime) -> Result<(), AllocError> {
 }
 
 #[test]
-fn tells_why_a_file_is_not_read_at_offsets(rt: HostRuntime) -> Result<(), AllocError> {
+fn reports_why_no_report_is_made_at_offsets(rt: HostRuntime) -> Result<(), AllocError> {
     for (label, bytes, length, end, want) in &HELD {
         let mut out = Out::new(Vec::new(rt.alloc()));
-        let mut held = Held {
+        let held = Held {
             bytes,
-            length: *length,
+            length: Some(*length),
             end: *end,
         };
-        let reported = run(rt.alloc(), &mut held, ".text", &mut out);
-        let is_told = failed_with(rt.alloc(), reported, "binfarce-size", want)?;
+        let ended = run_at(rt.alloc(), &held, ".text", &mut out);
+        let is_told = failed_with(rt.alloc(), ended, "binfarce-size", want)?;
         assert!(&rt; is_told, "{label}");
         assert!(&rt; out.into_inner().is_empty(), "{label}");
     }
@@ -51,8 +114,8 @@ fn tells_why_a_file_is_not_read_at_offsets(rt: HostRuntime) -> Result<(), AllocE
 fn reads_a_large_file(rt: HostRuntime) -> Result<(), AllocError> {
     let bytes = large_file(rt.alloc())?;
     let mut out = Out::new(Vec::new(rt.alloc()));
-    let reported = run(rt.alloc(), &mut Source::of(&bytes), ".text", &mut out);
+    let ended = run(rt.alloc(), &mut Source::of(&bytes), ".text", &mut out);
     let want = "symbols section is missing";
-    assert!(&rt; failed_with(rt.alloc(), reported, "binfarce-size", want)?);
+    assert!(&rt; failed_with(rt.alloc(), ended, "binfarce-size", want)?);
     Ok(())
 }

@@ -1,13 +1,13 @@
 -- The bytes of a source.
-use Rattle.std.specs.Prelude.{◌≡◌, ◌⊎◌, ◌+◌, ◌<◌, ℕ, Bool, true, List, take, drop, length, Option, IfSome}
+use Rattle.std.specs.Prelude.{◌≡◌, ◌⊎◌, ◌+◌, ◌<◌, ◌≤◌, ℕ, Bool, true, List, take, drop, length, Option, IfSome}
 
 -- the bytes from an offset on, as many as size; fewer where the source ends
 abbrev pub bytes_at : List ℕ → ℕ → ℕ → List ℕ
 bytes_at bytes offset size = take size (drop offset bytes)
 
--- part is what the source holds from the offset on, where its bytes are known
+-- part is what the source holds from the offset on, and ends where the source does or before, where its bytes are known
 abbrev pub IsPart : Option (List ℕ) → ℕ → List ℕ → Type 0
-IsPart known offset part = IfSome known (λ bytes. part ≡ bytes_at bytes offset (length part))
+IsPart known offset part = IfSome known (λ bytes. (offset + length part ≤ length bytes) × (part ≡ bytes_at bytes offset (length part)))
 
 -- as many bytes as size from the offset on may be missed: the source may fail, or it ends before them, where its bytes are known
 abbrev pub MayMiss : Bool → Option (List ℕ) → ℕ → ℕ → Type 0

@@ -5,9 +5,8 @@ use Rattle.std.proofs.lemmas.Bool.{cases_lt, lt-leb, le-leb, lt-ltb, le-ltb}
 use Rattle.std.proofs.lemmas.List.{length-take-le}
 use Rattle.binfarce_bytes.specs.Number.{bytes_at}
 use Rattle.binfarce_bytes.specs.Refusal.{Refusal, malformed_input, unexpected_eof, bytes_in_file}
-use Rattle.binfarce_elf.specs.Elf.{ElfClass, SectionTable, Section, section_at, section_of, whole_headers, contents}
+use Rattle.binfarce_elf.specs.Elf.{ElfClass, SectionTable, Section, section_at, section_of, whole_headers, contents, names_bytes}
 use Rattle.binfarce_elf.specs.ElfSymbols.{section_data}
-use Rattle.binfarce_elf.specs.machine.RawElf.{names_bytes}
 use Rattle.binfarce_tables.proofs.HeadersAlone.{HasWithin, section_in}
 
 pub data_malformed : (file : List ℕ) (s : Section) → 2 ^ 64 ≤ s.offset + s.size → section_data file s ≡ Err malformed_input

@@ -1,4 +1,3 @@
-mod NamesAmong
 mod HeadersAlone
 mod Readings
 mod Located

@@ -7,16 +7,14 @@ use Rattle.binfarce_bytes.specs.declared.ByteOrder.{ByteOrder}
 use Rattle.binfarce_bytes.specs.Refusal.{◌>>=◌, Refusal, symbols_section_is_missing, section_is_missing, unexpected_eof}
 use Rattle.binfarce_bytes.specs.Walk.{Walk, ended}
 use Rattle.binfarce_symbols.specs.Entries.{Listed}
-use Rattle.binfarce_elf.specs.Elf.{ElfClass, SectionTable, Section, section_table, walk, whole_headers, name_of}
+use Rattle.binfarce_elf.specs.Elf.{ElfClass, SectionTable, Section, section_table, walk, whole_headers, name_of, names_bytes, name_among}
 use Rattle.binfarce_elf.specs.ElfParts.{NeededSections, headers_alone, needed}
 use Rattle.binfarce_elf.specs.ElfSymbols.{Located, sought, is_named, section_data, string_table_kind, whole_rows, located, elf_answer, entries_from}
-use Rattle.binfarce_elf.specs.machine.RawElf.{names_bytes, name_among}
 use Rattle.binfarce_tables.specs.declared.error.ReadError.{ReadError}
 use Rattle.binfarce_tables.specs.Reading.{Reads, file_answer}
 use Rattle.binfarce_tables.proofs.Readings.{instead}
 use Rattle.binfarce_tables.specs.machine.Places.{table_step, headers_of}
 use Rattle.binfarce_tables.proofs.HeadersAlone.{HasWithin, headers_walk}
-use Rattle.binfarce_tables.proofs.NamesAmong.{names_among}
 
 -- what is needed, by the walk
 needed_by : ElfClass → Walk Section → Option (List ℕ) → List ℕ → Result NeededSections Refusal
@@ -95,10 +93,9 @@ located_is class table wanted = refl
 
 -- where the symbols are, by what is needed
 pub located_from : (class : ElfClass) (table : SectionTable) (wanted : List ℕ) → located class table wanted ≡ (needed class table (names_bytes class table) wanted >>= bytes_of class table.file)
-unfolding needed located_by
+unfolding needed located_by name_of
 located_from class table wanted =
     located_is class table wanted
-    ∙ ap (λ name. located_by class table name wanted) (names_among class table)
     ∙ sym (chained class (walk class table) (names_bytes class table) table.file wanted)
 
 -- what follows the bytes of the rows, those of the strings, and what is needed, up to the answer

@@ -2,7 +2,7 @@
 use Rattle.std.proofs.Common.{◌≡◌, ℕ, zero, suc, ◌+◌, ◌-◌, ◌<◌, ◌≤◌, Bool, true, false, cond, ltb, leb, eqb, ◌&&◌, List, [], ◌∷◌, length, drop, min, find, codes, Option, Some, None, Result, Ok, Err, refl, sym, ap, ap₂, ◌∙◌, arith}
 use Rattle.std.proofs.Math.Nat.{div-mul-le_self}
 use Rattle.std.proofs.lemmas.Bool.{and_parts, ltb-false, ltb-true, leb-true, eqb-true, le-ltb, le-leb}
-use Rattle.std.proofs.lemmas.List.{length-take-le}
+use Rattle.std.proofs.lemmas.List.{length-take-le, take_all}
 use Rattle.std.proofs.lemmas.Nat.{le-div}
 use Rattle.std.specs.List.{range_with_len, filter_map, cons_option}
 use Rattle.binfarce_bytes.specs.declared.ByteOrder.TheVariants.{LittleEndian}
@@ -14,7 +14,7 @@ use Rattle.binfarce_macho.specs.Macho.{Command, Section, header_of, header_field
 use Rattle.binfarce_macho.specs.MachoSymbols.{SymbolTable, symbol_table_at, symbol_table_fields, text_section, some_size, symbol_command, whole_table}
 use Rattle.binfarce_macho.specs.MachoParts.{NeededTables, needed, named_table, holds_body, holds_from, holds_commands}
 use Rattle.binfarce_macho.proofs.CommandWalks.{bad, given}
-use Rattle.binfarce_tables.specs.BeginningReading.{macho_sections}
+use Rattle.binfarce_tables.specs.BeginningReading.{Begins, macho_sections}
 use Rattle.binfarce_tables.specs.machine.MachoPlaces.{said_end, command_bytes}
 use Rattle.binfarce_tables.proofs.HeadersAlone.{bytes_in}
 
@@ -279,3 +279,10 @@ walk_of_bytes file inside = by_held (holds_commands (bytes_at file 0 (said_end f
 pub sections_of_bytes : (file bytes : List ℕ) → 28 ≤ length file → bytes ≡ command_bytes file → macho_sections bytes ≡ macho_sections file
 sections_of_bytes file bytes inside is =
     ap macho_sections is ∙ rw (le-ltb (length (command_bytes file)) 28 (command_bytes_long file inside), le-ltb (length file) 28 inside) (ap Ok (walk_of_bytes file inside))
+
+pub begins_with_commands : (file bytes : List ℕ) → bytes ≡ command_bytes file → Begins file bytes
+begins_with_commands file bytes is = by_held (holds_commands (bytes_at file 0 (said_end file))) is
+  where
+    by_held : (b : Bool) → bytes ≡ cond b (bytes_at file 0 (said_end file)) file → Begins file bytes
+    by_held true is = (said_end file, is)
+    by_held false is = (length file, is ∙ sym (take_all (length file) file (omega arith)))

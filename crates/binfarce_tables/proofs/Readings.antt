@@ -68,7 +68,15 @@ pub part_read : (known : Option (List ℕ)) (file items : List ℕ) (offset size
 part_read None file items offset size is part long = absurd cc
 part_read (Some bytes) file items offset size is part long =
     let same : bytes ≡ file = cc in
-    ap Ok (ap (λ n. bytes_at file offset n) (sym long) ∙ ap (λ b. bytes_at b offset (length items)) (sym same) ∙ sym part)
+    ap Ok (ap (λ n. bytes_at file offset n) (sym long) ∙ ap (λ b. bytes_at b offset (length items)) (sym same) ∙ sym part.1)
+
+-- no part that ends past the file's end was read
+pub none_past : (known : Option (List ℕ)) (file items : List ℕ) (offset size : ℕ) → known ≡ Some file → IsPart known offset items → length items ≡ size → length file < offset + size → ⊥
+none_past None file items offset size is part long past = cc
+none_past (Some bytes) file items offset size is part long past =
+    let same : bytes ≡ file = cc in
+    let all : length bytes ≡ length file = ap length same in
+    omega (arith, part.0, long, past, all)
 
 -- what a source says of its length is the file's
 pub length_told : (known : Option (List ℕ)) (file : List ℕ) (len : ℕ) → known ≡ Some file → IfSome known (λ all. len ≡ length all) → len ≡ length file

@@ -5,15 +5,13 @@ use Rattle.std.proofs.lemmas.Nat.{div_below}
 use Rattle.binfarce_bytes.specs.declared.ByteOrder.{ByteOrder}
 use Rattle.binfarce_bytes.specs.Refusal.{◌>>=◌, Refusal, refusal_of, unexpected_eof}
 use Rattle.binfarce_bytes.specs.Walk.{Walk}
-use Rattle.binfarce_elf.specs.Elf.{ElfClass, SectionTable, Section, section_table, whole_headers, walk, name_of}
+use Rattle.binfarce_elf.specs.Elf.{ElfClass, SectionTable, Section, section_table, whole_headers, walk, name_of, names_bytes, name_among}
 use Rattle.binfarce_elf.specs.ElfParts.{headers_alone}
-use Rattle.binfarce_elf.specs.machine.RawElf.{names_bytes, name_among}
 use Rattle.binfarce_tables.specs.Reading.{Reads}
 use Rattle.binfarce_tables.specs.SectionReading.{FileSections, file_sections}
 use Rattle.binfarce_tables.specs.declared.error.ReadError.{ReadError}
 use Rattle.binfarce_tables.specs.declared.error.ReadError.TheVariants.{Refused, Unreadable, OutOfMemory}
 use Rattle.binfarce_tables.specs.machine.Places.{table_step}
-use Rattle.binfarce_tables.proofs.NamesAmong.{names_among}
 use Rattle.binfarce_tables.proofs.Readings.{taken}
 
 -- what was read, seen by another view
@@ -71,6 +69,7 @@ sections_from class order file = by_test (ltb (length file) class.header_length)
 pub sections_read : (class : ElfClass) (order : ByteOrder) (file : List ℕ) (table : SectionTable) (sections : Walk Section) (names : Option (List ℕ)) (len : ℕ)
     → table_step class order file ≡ Ok table → sections ≡ walk class table → names ≡ names_bytes class table → len ≡ length file
     → file_sections class order file ≡ Ok (record { sections = sections; name = λ s. name_among names s.name_offset; file_length = len })
+unfolding name_of
 sections_read class order file table sections names len placed walked named long =
     sections_from class order file
     ∙ ap (λ (a : Result SectionTable Refusal). a >>= of_table class file) placed
@@ -79,6 +78,5 @@ sections_read class order file table sections names len placed walked named long
     same_parts : of_parts (walk class table) (name_of class table) (length file) ≡ of_parts sections (λ s. name_among names s.name_offset) len
     same_parts =
         ap (λ (w : Walk Section). of_parts w (name_of class table) (length file)) (sym walked)
-        ∙ ap (λ (f : Section → Option (List ℕ)). of_parts sections f (length file)) (names_among class table)
         ∙ ap (λ (n : Option (List ℕ)). of_parts sections (λ s. name_among n s.name_offset) (length file)) (sym named)
         ∙ ap (of_parts sections (λ s. name_among names s.name_offset)) (sym long)

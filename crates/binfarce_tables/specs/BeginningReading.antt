@@ -1,5 +1,5 @@
 -- What a reading of a file's beginning gives, of which its sections are read.
-use Rattle.std.specs.Prelude.{◌≡◌, ℕ, Bool, true, List, length, Result, Ok, Err, nat_lt, if◌then◌else◌}
+use Rattle.std.specs.Prelude.{◌≡◌, ℕ, Bool, true, List, length, take, Result, Ok, Err, nat_lt, if◌then◌else◌}
 use Rattle.binfarce_bytes.specs.Refusal.{Refusal, refusal_of, unexpected_eof}
 use Rattle.binfarce_bytes.specs.Walk.{Walk}
 use Rattle.binfarce_macho.specs.Macho as macho
@@ -22,9 +22,13 @@ bytes_of b = b.bytes.items
 abbrev pub file_length_of : Beginning → ℕ
 file_length_of b = b.file_length
 
+-- these are the file's first bytes, however many
+abbrev pub Begins : List ℕ → List ℕ → Type 0
+Begins file first = (count : ℕ) × (first ≡ take count file)
+
 -- a file's beginning, which has the file's sections, and the file's length; or its refusal, or a source that may fail can't be read, or an allocation failed
 abbrev pub ReadsBeginning : {Y : Type 0} → Bool → (List ℕ → Result Y Refusal) → List ℕ → Result Beginning ReadError → Type 0
-ReadsBeginning may_fail sections file (Ok b) = (sections (bytes_of b) ≡ sections file) × (file_length_of b ≡ length file)
+ReadsBeginning may_fail sections file (Ok b) = Begins file (bytes_of b) × (sections (bytes_of b) ≡ sections file) × (file_length_of b ≡ length file)
 ReadsBeginning may_fail sections file (Err (Refused e)) = sections file ≡ Err (refusal_of e)
 ReadsBeginning may_fail sections file (Err Unreadable) = may_fail ≡ true
 ReadsBeginning may_fail sections file (Err OutOfMemory) = Unit {0}

@@ -4,9 +4,8 @@ use Rattle.std.specs.Option.{option_map}
 use Rattle.binfarce_bytes.specs.declared.ByteOrder.{ByteOrder}
 use Rattle.binfarce_bytes.specs.Refusal.{Refusal, unexpected_eof}
 use Rattle.binfarce_bytes.specs.Walk.{Walk}
-use Rattle.binfarce_elf.specs.Elf.{ElfClass, Section, section_table, walk, name_of}
+use Rattle.binfarce_elf.specs.Elf.{ElfClass, Section, section_table, walk, name_of, name_among}
 use Rattle.binfarce_elf.specs.ElfParts.{headers_alone}
-use Rattle.binfarce_elf.specs.machine.RawElf.{name_among}
 use Rattle.binfarce_tables.specs.declared.sections.SectionParts.{SectionParts}
 
 -- a file's sections, the name that each has, and how many bytes the file has

@@ -1,14 +1,14 @@
 //! The parts of an ELF file of either class that the function symbols of a section are read from.
 
 ghost use Rattle.std.specs.Prelude.{◌≡◌, ◌+◌, ◌<◌, ◌≤◌, List, ℕ, Ok, Some, length, MatchResult};
+ghost use Rattle.std.specs.Result.{IsErr};
 ghost use Rattle.std.specs.Option.{option_map};
 ghost use Rattle.binfarce_bytes.specs.Number.{bytes_at};
 ghost use Rattle.binfarce_bytes.specs.Refusal.{Gives, refusal_of, unexpected_eof};
-ghost use Rattle.binfarce_elf.specs.Elf.{contents, header_of};
+ghost use Rattle.binfarce_elf.specs.Elf.{contents, header_of, names_bytes};
 ghost use Rattle.binfarce_elf.specs.ElfParts.{headers_alone, needed, needed_view};
 ghost use Rattle.binfarce_elf.specs.ElfSymbols.{section_data};
 ghost use Rattle.binfarce_elf.specs.ElfViews.{header_view, section_view, functions_view};
-ghost use Rattle.binfarce_elf.specs.machine.RawElf.{names_bytes};
 ghost use Rattle.binfarce_tables.specs.Reading.{Reads, Known, file_answer, parts_view};
 ghost use Rattle.binfarce_tables.specs.machine.Places.{table_at, table_step, headers_of};
 
@@ -219,14 +219,16 @@ fn read_section<C: Class, S: Source>(
 ///
 /// # Errors
 ///
-/// `Unreadable` where a read of the source fails, as where it ends before, and `OutOfMemory` where the allocation fails.
+/// `Unreadable` where a read of the source fails, as where it ends before `offset + size` (an opened file doesn't fail where
+/// `size` is 0), and `OutOfMemory` where the allocation fails.
 pub fn part<S: Source>(
     alloc: Global,
     source: &S,
     offset: usize,
     size: usize,
 ) -> Result<Vec<u8>, ReadError>
-    ensures { (file : List ℕ) → S.bytes source.now ≡ Some file → offset + size ≤ length file → Reads (S.may_fail source.now) (λ v. v.items) (Ok (bytes_at file offset size)) result }
+    ensures part { (file : List ℕ) → S.bytes source.now ≡ Some file → offset + size ≤ length file → Reads (S.may_fail source.now) (λ v. v.items) (Ok (bytes_at file offset size)) result }
+    ensures past_end { (file : List ℕ) → S.bytes source.now ≡ Some file → length file < offset + size → IsErr result }
 {
     Ok(read_part(alloc, source, offset as u64, size)?)
 }

@@ -23,9 +23,9 @@ Tells Fits NeedsMemory (Some (Ok listed)) outcome = (outcome ≡ no_memory)
     ⊎ (Fits listed × ((outcome ≡ written) ⊎ (outcome ≡ write_failed)))
     ⊎ ((¬ (Fits listed)) × (outcome ≡ too_large))
 
--- the same of a program, which reads the file first: that it can't be read may be told only where it may be unreadable, and that an allocation failed of any file
+-- the same of a program, which reads the file first: that it can't be read is reported only where MayFail says so, and that an allocation failed of any file
 abbrev pub ProgramTells : Type 0 → (Listed → Type 0) → (Result Listed Refusal → Type 0) → Option (Result Listed Refusal) → Outcome → Type 0
-ProgramTells MayBeUnreadable Fits NeedsMemory answer outcome = (MayBeUnreadable × (outcome ≡ unreadable)) ⊎ (outcome ≡ no_memory) ⊎ Tells Fits NeedsMemory answer outcome
+ProgramTells MayFail Fits NeedsMemory answer outcome = (MayFail × (outcome ≡ unreadable)) ⊎ (outcome ≡ no_memory) ⊎ Tells Fits NeedsMemory answer outcome
 
 -- text is due: a text of this kind, of a file that has an answer
 abbrev pub IsDue : (Listed → List ℕ → Type 0) → Option (Result Listed Refusal) → List ℕ → Type 0

@@ -188,18 +188,13 @@ pub fn list<S: Sink>(
 /// # Errors
 ///
 /// As `list`.
-pub fn list_tables<S: Sink>(
-    alloc: Global,
-    tables: &Tables,
-    section: &str,
-    out: &mut S,
-) -> Result<(), ListError>
-    ensures tells { (file : List ℕ) → AreTablesOf file section.now tables.now → Tells ListingFits (NeedsMemory (format_of file) file) (symbols_answer (format_of file) file section.now) (outcome_of result) }
-    ensures takes { (file : List ℕ) → AreTablesOf file section.now tables.now → Takes IsListingOf (symbols_answer (format_of file) file section.now) (S.taken out.old) (S.taken out.new) (outcome_of result) }
+pub fn list_tables<S: Sink>(alloc: Global, tables: &Tables, out: &mut S) -> Result<(), ListError>
+    ensures tells { (file section : List ℕ) → AreTablesOf file section tables.now → Tells ListingFits (NeedsMemory (format_of file) file) (symbols_answer (format_of file) file section) (outcome_of result) }
+    ensures takes { (file section : List ℕ) → AreTablesOf file section tables.now → Takes IsListingOf (symbols_answer (format_of file) file section) (S.taken out.old) (S.taken out.new) (outcome_of result) }
     ensures fails { Fails (S.has_failed out.old) (S.has_failed out.new) (outcome_of result) }
     ensures leaves { Leaves out.old out.new (outcome_of result) }
 {
-    let (functions, size) = tables.functions(alloc, section)?;
+    let (functions, size) = tables.functions(alloc)?;
     let text = listing(alloc, functions, size)?;
     write_whole(out, text.as_bytes())
 }

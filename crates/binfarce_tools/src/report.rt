@@ -129,15 +129,14 @@ pub fn report<S: Sink>(
 pub fn report_tables<S: Sink>(
     alloc: Global,
     tables: &Tables,
-    section: &str,
     out: &mut S,
 ) -> Result<(), ReportError>
-    ensures tells { (file : List ℕ) → AreTablesOf file section.now tables.now → Tells ReportFits (NeedsMemory (format_of file) file) (symbols_answer (format_of file) file section.now) (outcome_of result) }
-    ensures takes { (file : List ℕ) → AreTablesOf file section.now tables.now → Takes IsReportOf (symbols_answer (format_of file) file section.now) (S.taken out.old) (S.taken out.new) (outcome_of result) }
+    ensures tells { (file section : List ℕ) → AreTablesOf file section tables.now → Tells ReportFits (NeedsMemory (format_of file) file) (symbols_answer (format_of file) file section) (outcome_of result) }
+    ensures takes { (file section : List ℕ) → AreTablesOf file section tables.now → Takes IsReportOf (symbols_answer (format_of file) file section) (S.taken out.old) (S.taken out.new) (outcome_of result) }
     ensures fails { Fails (S.has_failed out.old) (S.has_failed out.new) (outcome_of result) }
     ensures leaves { Leaves out.old out.new (outcome_of result) }
 {
-    let sums = sums_of_tables(alloc, tables, section)?;
+    let sums = sums_of_tables(alloc, tables)?;
     let text = report_text(alloc, &sums)?;
     write_whole(out, text.as_bytes())?;
     Ok(())
@@ -171,16 +170,12 @@ pub fn sums_of_file(alloc: Global, data: &[u8], section: &str) -> Result<CrateSu
 /// # Errors
 ///
 /// As `report_tables`, but for `Write`.
-pub fn sums_of_tables(
-    alloc: Global,
-    tables: &Tables,
-    section: &str,
-) -> Result<CrateSums, ReportError>
-    ensures sums { (file : List ℕ) → AreTablesOf file section.now tables.now → GetsSums (NeedsMemory (format_of file) file) (symbols_answer (format_of file) file section.now) result }
+pub fn sums_of_tables(alloc: Global, tables: &Tables) -> Result<CrateSums, ReportError>
+    ensures sums { (file section : List ℕ) → AreTablesOf file section tables.now → GetsSums (NeedsMemory (format_of file) file) (symbols_answer (format_of file) file section) result }
     ensures made { IfOk result (λ s. (shares : List Share) × AreSumsOf shares s) }
     ensures unwritten { IfErr result (λ e. e ≢ Write) }
 {
-    let (functions, size) = tables.functions(alloc, section)?;
+    let (functions, size) = tables.functions(alloc)?;
     crate_sums(alloc, functions, size)
 }
 

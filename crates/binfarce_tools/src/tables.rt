@@ -6,15 +6,14 @@ ghost use Rattle.binfarce_tables.specs.Reading.{Reads, Known};
 ghost use Rattle.binfarce_tools.specs.Answer.{symbols_answer, NeedsMemory};
 ghost use Rattle.binfarce_tools.specs.Entries.{Gets};
 ghost use Rattle.binfarce_tools.specs.declared.list.ListError.TheVariants.{Write};
-ghost use Rattle.binfarce_tools.specs.Tables.{AreTablesOf, ReadsTables, BothGive, MayBeUnreadable};
+ghost use Rattle.binfarce_tools.specs.Tables.{AreTablesOf, ReadsTables};
 
-use crate::functions::{Functions, all_of, functions_of_file};
+use crate::functions::{Functions, all_of};
 use crate::list::ListError;
 use binfarce_format::{Format, detect_format};
 use binfarce_source::{Source, read_part};
 use binfarce_tables::{ReadError, elf32, elf64, macho, pe};
 use std::alloc::Global;
-use std::io::Read;
 
 // How many of a file's first bytes name its format.
 const MAGIC_LENGTH: usize = 8;
@@ -30,8 +29,6 @@ pub enum Tables {
     Macho(macho::Parts),
     /// The parts of a PE file.
     Pe(pe::Parts),
-    /// All bytes of a file.
-    Whole(Vec<u8>),
     /// Nothing of a file whose first bytes name no format that is read.
     Unknown,
 }
@@ -42,8 +39,8 @@ impl Tables {
     /// # Errors
     ///
     /// As `functions_of_file`.
-    pub fn functions(&self, alloc: Global, section: &str) -> Result<(Functions<'_>, u64), ListError>
-        ensures gets { (file : List ℕ) → AreTablesOf file section.now self.entry.now → Gets (NeedsMemory (format_of file) file) (symbols_answer (format_of file) file section.now) result }
+    pub fn functions(&self, alloc: Global) -> Result<(Functions<'_>, u64), ListError>
+        ensures gets { (file section : List ℕ) → AreTablesOf file section self.entry.now → Gets (NeedsMemory (format_of file) file) (symbols_answer (format_of file) file section) result }
         ensures unwritten { IfErr result (λ e. e ≢ Write) }
     {
         match self {
@@ -63,7 +60,6 @@ impl Tables {
                 let listed = parts.functions(alloc)?;
                 Ok(all_of(listed))
             }
-            Tables::Whole(bytes) => functions_of_file(alloc, bytes.as_slice(), section),
             Tables::Unknown => Err(ListError::Unknown),
         }
     }
@@ -101,35 +97,6 @@ pub fn read<S: Source>(alloc: Global, source: &S, section: &str) -> Result<Table
         }
         Format::Unknown => Ok(Tables::Unknown),
     }
-}
-
-/// Reads of a file what `read` does, where it tells a length above 0 and so can be read at offsets, and any other, as a
-/// pipe, to its end.
-///
-/// # Errors
-///
-/// As `read`; `Unreadable` where any read fails, and never of a source that can't fail and has a byte; `OutOfMemory` also
-/// where a read says that an allocation failed.
-pub fn read_input<F: Read + Source>(
-    alloc: Global,
-    file: &mut F,
-    section: &str,
-) -> Result<Tables, ReadError>
-    ensures { (bytes : List ℕ) → BothGive (F.bytes file.old) (F.remaining file.old) bytes → ReadsTables (MayBeUnreadable (F.may_fail file.old) bytes) bytes section.now result }
-{
-    if file.length().unwrap_or(0) > 0 {
-        read(alloc, &*file, section)
-    } else {
-        read_to_the_end(alloc, file)
-    }
-}
-
-fn read_to_the_end<F: Read>(alloc: Global, file: &mut F) -> Result<Tables, ReadError>
-    ensures { (bytes : List ℕ) (section : List ℕ) → F.remaining file.old ≡ Some bytes → ReadsTables (Unit {0}) bytes section result }
-{
-    let mut bytes = Vec::new(alloc);
-    file.read_to_end(&mut bytes)?;
-    Ok(Tables::Whole(bytes))
 }
 
 /// The format that the first 8 bytes of a source of this length name. Of a shorter one all bytes are read.

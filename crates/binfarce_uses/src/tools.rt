@@ -3,7 +3,6 @@
 pub mod fails_at_a_byte;
 pub mod first_stored;
 pub mod format_of_source;
-pub mod input_tables;
 pub mod list_text;
 pub mod listing;
 pub mod report_text;

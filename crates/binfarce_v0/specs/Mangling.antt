@@ -1,4 +1,4 @@
--- Rust's v0 manglings (RFC 2603, "Symbol name": <symbol-name> = "_R" <path> [<instantiating-crate>]).
+-- Rust's v0 manglings (RFC 2603, "Symbol name": <symbol-name> = "_R" [<decimal-number>] <path> [<instantiating-crate>]; no encoding version is defined, and a name with that number isn't read).
 use Rattle.std.specs.Prelude.{◌≡◌, ℕ, ◌≤◌, List, [], ◌∷◌, Option, Some, Bool, true, false, slice_index, drop, codes}
 use Rattle.std.proofs.Common.{refl, arith}
 use Rattle.std.proofs.lemmas.Str.Ascii.{IsAscii-cons, IsAscii-nil}

@@ -20,8 +20,8 @@ pub record UndisambiguatedIdentifier : Type 0 where
 unfoldable pub length_at : (part : List ℕ) (at : ℕ) → Option (ℕ × ℕ)
 length_at part at =
     let digits = take_while is_ascii_digit (drop at part) in
-    let base_62_number = if is_empty digits then None else limited (digits_value 10 digits) (at + length digits) in
-    if slice_index part at == '0' then Some (0, at + 1) else base_62_number
+    let decimal = if is_empty digits then None else limited (digits_value 10 digits) (at + length digits) in
+    if slice_index part at == '0' then Some (0, at + 1) else decimal
 
 -- the position after a byte that may stand here
 abbrev pub past : (part : List ℕ) (byte at : ℕ) → ℕ

@@ -221,7 +221,7 @@ unfoldable mutual
 
 -- Lifetimes under binders
 
--- an index counts the lifetimes that the binders around it announce, from the innermost out; 0 is none of them
+-- an index counts the lifetimes that the binders around it announce, from the innermost out, from 1 on; 0 is the erased lifetime, which is in scope everywhere
 abbrev pub is_announced : (binder_depth index : ℕ) → Bool
 is_announced binder_depth index = nat_le index binder_depth
 

@@ -2,3 +2,4 @@
 pub mod Printing
 pub mod Kept
 pub mod Outcome
+pub mod MemoryKept

@@ -1,9 +1,10 @@
 //! What a printing keeps of its own text: a back reference's target that was printed whole isn't read again.
 
-ghost use Rattle.std.specs.Prelude.{◌≡◌, ◌≤◌, ◌++◌, ◌∷◌, [], IfOk, IfSome, OnOk, OnErr, MatchOption, Some, true, false, is_ok, if◌then◌else◌};
+ghost use Rattle.std.specs.Prelude.{◌≡◌, ◌-◌, ◌≤◌, ◌^◌, min, ◌++◌, ◌∷◌, [], IfOk, IfSome, OnOk, OnErr, MatchOption, Some, true, false, is_ok, if◌then◌else◌};
 ghost use Rattle.std.specs.String.{string_bytes};
 ghost use Rattle.binfarce_v0_grammar.specs.declared.limits.TheConstants.{MAX_LEVELS};
 ghost use Rattle.binfarce_v0_state.specs.machine.Printing.{with_state, readers, into, back_to};
+ghost use Rattle.binfarce_v0_state.specs.machine.MemoryKept.{fragments_bytes};
 ghost use Rattle.binfarce_v0_state.specs.machine.Kept.{production_view, left_open_of, read, IsFragmentFor, IsMark, MayKeep, again, raised, lowered};
 
 use crate::state::Printer;
@@ -75,8 +76,8 @@ pub struct Fragments {
 
 const LINEAR_SEARCH: usize = 16;
 
-// How many bytes a fragment takes, and its place in the index.
-const FRAGMENT_BYTES: usize = 160;
+// The bytes of a fragment, 80, and at most 96 of its entry in the index.
+const FRAGMENT_BYTES: usize = 176;
 
 // How much of a name is read silently before its back references' targets are looked for: most names that programs hold
 // end before.
@@ -147,11 +148,14 @@ impl Fragments {
         self.targets.look_for(part)
     }
 
-    // How many bytes of memory they take, about.
-    pub(crate) fn bytes(&self) -> usize {
+    // How many bytes they have room for.
+    pub(crate) fn bytes(&self) -> usize
+        ensures { result ≡ min (fragments_bytes self.now) (2 ^ 64 - 1) }
+    {
         self.fragments
             .capacity()
             .saturating_mul(FRAGMENT_BYTES)
+            .saturating_add(self.targets.bytes())
             .saturating_add(self.copy.capacity())
             .saturating_add(self.trimmed_copy.capacity())
     }

@@ -1,9 +1,13 @@
 //! The memory that names are printed in, one after the other.
 
+ghost use Rattle.std.specs.Prelude.{◌≡◌, ◌≤◌};
+ghost use Rattle.binfarce_v0_state.specs.machine.MemoryKept.{kept_bytes};
+ghost use Rattle.binfarce_v0_state.specs.declared.memory.TheConstants.{MOST_BYTES};
+
 use crate::state::Buffers;
 use std::alloc::Global;
 
-/// The memory that names are printed in, one after the other. No clause speaks of it: a printing sees nothing of what its
+/// The memory that names are printed in, one after the other: at most `MOST_BYTES`. A printing sees nothing of what its
 /// buffers held.
 #[derive(Drop)]
 pub struct Memory {
@@ -11,12 +15,14 @@ pub struct Memory {
     buffers: Option<Buffers>,
 }
 
-// The most bytes that are kept.
-const MOST_BYTES: usize = 1 << 20;
+/// The most bytes that are kept.
+pub const MOST_BYTES: usize = 1 << 20;
 
 impl Memory {
     /// No memory yet.
-    pub fn new(alloc: Global) -> Memory {
+    pub fn new(alloc: Global) -> Memory
+        ensures { kept_bytes result ≡ 0 }
+    {
         Memory {
             alloc,
             buffers: None,
@@ -25,7 +31,9 @@ impl Memory {
 
     /// The buffers of an earlier printing, or new ones.
     #[inline(always)]
-    pub fn take(&mut self) -> Buffers {
+    pub fn take(&mut self) -> Buffers
+        ensures { kept_bytes self.new ≡ 0 }
+    {
         match self.buffers.take() {
             Some(buffers) => buffers,
             None => Buffers::empty(self.alloc),
@@ -34,9 +42,13 @@ impl Memory {
 
     /// Keeps the buffers of a printing for the next one, unless they take more than `MOST_BYTES`.
     #[inline(always)]
-    pub fn put_back(&mut self, buffers: Buffers) {
-        if buffers.bytes() <= MOST_BYTES {
-            self.buffers = Some(buffers);
-        }
+    pub fn put_back(&mut self, buffers: Buffers)
+        ensures { kept_bytes self.new ≤ MOST_BYTES }
+    {
+        self.buffers = if buffers.bytes() <= MOST_BYTES {
+            Some(buffers)
+        } else {
+            None
+        };
     }
 }

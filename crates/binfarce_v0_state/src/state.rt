@@ -1,10 +1,11 @@
 //! The state of a printing: where it reads, what it has counted, and what it has written.
 
-ghost use Rattle.std.specs.Prelude.{◌≡◌, ◌-◌, ◌≤◌, ◌++◌, IfOk, OnOk, IsTrue, MatchOption, option_map, true, false, if◌then◌else◌, ◌&&◌, nat_le};
+ghost use Rattle.std.specs.Prelude.{◌≡◌, ◌-◌, ◌^◌, min, ◌≤◌, ◌++◌, IfOk, OnOk, IsTrue, MatchOption, option_map, true, false, if◌then◌else◌, ◌&&◌, nat_le};
 ghost use Rattle.std.specs.Str.{IsAscii};
 ghost use Rattle.std.specs.String.{string_bytes};
 ghost use Rattle.binfarce_v0_grammar.specs.Tree.{lifetime_steps};
 ghost use Rattle.binfarce_v0_grammar.specs.machine.View.{undisambiguated_view, lifetime_view};
+ghost use Rattle.binfarce_v0_state.specs.machine.MemoryKept.{buffers_bytes};
 ghost use Rattle.binfarce_v0_state.specs.machine.Printing.{with_state, first_printing, write, disambiguate, seek, after_invalid_syntax, stopped, take, entered, rooted, into, back_to, set_muted};
 
 use crate::fragments::{Fragments, or_forget, share};
@@ -36,8 +37,10 @@ impl Buffers {
         }
     }
 
-    // How many bytes of memory they take, about.
-    pub(crate) fn bytes(&self) -> usize {
+    // How many bytes they have room for.
+    pub(crate) fn bytes(&self) -> usize
+        ensures { result ≡ min (buffers_bytes self.now) (2 ^ 64 - 1) }
+    {
         self.kept
             .bytes()
             .saturating_add(self.complete.capacity())

@@ -1,6 +1,6 @@
 //! Which positions of a name its back references may mean.
 
-ghost use Rattle.std.specs.Prelude.{◌≡◌, ◌<◌, ◌≤◌, ◌+◌, length};
+ghost use Rattle.std.specs.Prelude.{◌≡◌, ◌<◌, ◌≤◌, ◌+◌, ◌-◌, ◌*◌, ◌^◌, length, min, vec_capacity};
 
 use binfarce_v0_grammar::numbers::{back_reference, byte_at};
 use std::alloc::{AllocError, Global};
@@ -38,6 +38,13 @@ impl Targets {
         self.any = 0;
         self.near = [0; 4];
         self.far.clear();
+    }
+
+    // How many bytes they have room for beside a name's first 256 positions.
+    pub(crate) fn bytes(&self) -> usize
+        ensures { result ≡ min (vec_capacity self.now.far * 8) (2 ^ 64 - 1) }
+    {
+        self.far.capacity().saturating_mul(8)
     }
 
     /// Looks for the targets of a name, where none was added yet. Nothing is allocated but for those from position 256 on.

@@ -51,7 +51,8 @@ fn main(rt: HostRuntime) -> ExitCode {
     }
 }
 
-// What the file gives beside the sample.
+// What the file gives beside the sample. No clause says what an opened file gives, so this run alone refuses a `fill_at` of
+// `File` that reads at another offset (`read_exact_at(buf, 0)`, or `offset + 1`), and a `length` below the file's.
 fn given_by_a_file(rt: &HostRuntime) -> Option<Given> {
     let file = File::open(rt, SAMPLE).ok()?;
     let layout = Layout::Elf64Little;

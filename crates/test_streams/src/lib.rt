@@ -1,9 +1,15 @@
 //! What programs are tested with: readers and writers that are short or fail, and how a program's work has to end.
 #![tactic(auto)]
 
-use binfarce_program::{Fault, status};
+pub mod interrupted;
+
+use binfarce_program::Fault;
 use std::alloc::{AllocError, Global};
 use std::io::{self, Error, ErrorKind, Read, Write};
+use test_samples::elf::ELF64_LITTLE;
+use test_samples::macho::{MACHO, MAGIC as MACHO_MAGIC};
+use test_samples::pe::{MAGIC as PE_MAGIC, PE};
+use test_samples::{first_bytes, patched};
 
 /// Gives its bytes, at most `most` in a call, and then ends or fails.
 #[derive(Drop)]
@@ -39,33 +45,34 @@ impl<'a> Read for Source<'a> {
     }
 }
 
-impl<'a> binfarce_source::Source for Source<'a> {
-    fn length(&self) -> io::Result<u64> {
-        Err(Error::from(ErrorKind::Unsupported))
-    }
+/// Gives what its reader gives, and is interrupted before each read.
+#[derive(Drop)]
+pub struct Interrupted<'a> {
+    pub source: Source<'a>,
+    pub is_next: bool,
+}
 
-    fn fill_at(&self, _: u64, _: &mut [u8]) -> io::Result<()> {
-        Err(Error::from(ErrorKind::Unsupported))
+impl<'a> Read for Interrupted<'a> {
+    fn read(&mut self, buf: &mut [u8]) -> io::Result<usize> {
+        self.is_next = !self.is_next;
+        if self.is_next {
+            return Err(Error::from(ErrorKind::Interrupted));
+        }
+        self.source.read(buf)
     }
 }
 
-/// Gives its bytes at offsets alone: it tells a length, and then fails, if it has an error.
+/// Gives its bytes at offsets, and fails, if it has an error. Its length may be another than the number of its bytes.
 #[derive(Drop)]
 pub struct Held<'a> {
     pub bytes: &'a [u8],
-    pub length: u64,
+    pub length: Option<u64>,
     pub end: Option<ErrorKind>,
-}
-
-impl<'a> Read for Held<'a> {
-    fn read(&mut self, _: &mut [u8]) -> io::Result<usize> {
-        Err(Error::from(ErrorKind::Unsupported))
-    }
 }
 
 impl<'a> binfarce_source::Source for Held<'a> {
     fn length(&self) -> io::Result<u64> {
-        Ok(self.length)
+        self.length.ok_or(Error::from(ErrorKind::Unsupported))
     }
 
     fn fill_at(&self, offset: u64, buf: &mut [u8]) -> io::Result<()> {
@@ -74,6 +81,62 @@ impl<'a> binfarce_source::Source for Held<'a> {
             Some(kind) => Err(Error::from(kind)),
         }
     }
+}
+
+/// A file: what it gives at offsets, and what it gives to its end.
+#[derive(Drop)]
+pub struct Opened<'a> {
+    pub held: Held<'a>,
+    pub left: Source<'a>,
+}
+
+impl<'a> Read for Opened<'a> {
+    fn read(&mut self, buf: &mut [u8]) -> io::Result<usize> {
+        self.left.read(buf)
+    }
+}
+
+impl<'a> binfarce_source::Source for Opened<'a> {
+    fn length(&self) -> io::Result<u64> {
+        self.held.length()
+    }
+
+    fn fill_at(&self, offset: u64, buf: &mut [u8]) -> io::Result<()> {
+        self.held.fill_at(offset, buf)
+    }
+}
+
+/// These bytes as the files that a program opens, each of which is to be read as the bytes are.
+pub fn files_of(bytes: &[u8]) -> [(&'static str, Opened<'_>); 4] {
+    let fails = Source {
+        bytes: &[],
+        most: 0,
+        end: Some(ErrorKind::Other),
+    };
+    [
+        (
+            "a file that gives nothing to its end",
+            opened_as(bytes, Some(bytes.len() as u64), fails),
+        ),
+        ("a pipe", opened_as(&[], None, Source::of(bytes))),
+        (
+            "a file of length 0, as in /proc",
+            opened_as(bytes, Some(0), Source::of(bytes)),
+        ),
+        (
+            "a file of fewer bytes than its length, as in /sys",
+            opened_as(first_bytes(bytes, 40), Some(4096), Source::of(bytes)),
+        ),
+    ]
+}
+
+fn opened_as<'a>(bytes: &'a [u8], length: Option<u64>, left: Source<'a>) -> Opened<'a> {
+    let held = Held {
+        bytes,
+        length,
+        end: None,
+    };
+    Opened { held, left }
 }
 
 /// Takes up to `left` bytes, at most `most` in a call. A call that takes none is answered with 0, or fails.
@@ -130,7 +193,7 @@ pub const READERS: [(&str, &[u8], Option<ErrorKind>, &str); 5] = [
     ),
 ];
 
-/// What a file gives at offsets that tells this length, how it ends, and what a program says of it as above.
+/// What a source gives at offsets, its length, how it ends, and what a program says of it as above.
 pub const HELD: [(&str, &[u8], u64, Option<ErrorKind>, &str); 7] = [
     ("one byte", b"\x7F", 1, None, "unknown file format"),
     ("truncated", ELF, 8, None, "unexpected end of file"),
@@ -153,6 +216,15 @@ pub const HELD: [(&str, &[u8], u64, Option<ErrorKind>, &str); 7] = [
     ),
 ];
 
+/// The sample files: ELF of 64 bits, Mach-O and PE.
+pub fn samples(alloc: Global) -> Result<[Vec<u8>; 3], AllocError> {
+    Ok([
+        Vec::from_slice(alloc, &ELF64_LITTLE)?,
+        patched(alloc, &MACHO, &[MACHO_MAGIC])?,
+        patched(alloc, &PE, &[PE_MAGIC])?,
+    ])
+}
+
 /// A Mach-O file without load commands, of 3 MiB.
 pub fn large_file(alloc: Global) -> Result<Vec<u8>, AllocError> {
     let mut bytes = Vec::from_slice(alloc, &[0xCF, 0xFA, 0xED, 0xFE])?;
@@ -171,7 +243,7 @@ pub fn ended_with<F: Fault + Drop>(
         Ok(()) => Ok(false),
         Err(fault) => {
             let text = format!(in alloc; "{fault}")?;
-            Ok(text.as_str() == line && status(&fault) == code)
+            Ok(text.as_str() == line && fault.status() == code)
         }
     }
 }

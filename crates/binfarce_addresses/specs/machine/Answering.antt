@@ -4,7 +4,7 @@ use Rattle.std.specs.Io.KnownBytes.{Appends, Consumes, IsAtEnd}
 use Rattle.binfarce.specs.Symbol.{Entry}
 use Rattle.binfarce_tools.specs.Writing.{AppendsBeginning}
 use Rattle.binfarce_ranges.specs.Address.{address_of}
-use Rattle.binfarce_addresses.specs.Stream.{Begins, BeginsWrong, IsPart, Reads, AreTold, BreaksOff}
+use Rattle.binfarce_addresses.specs.Stream.{Begins, BeginsWrong, HasNoLineFeed, Reads, AreTold, BreaksOff}
 use Rattle.binfarce_addresses.specs.declared.stream.Answered.{Answered}
 use Rattle.binfarce_addresses.specs.declared.stream.LinesError.{LinesError}
 use Rattle.binfarce_addresses.specs.declared.stream.LinesError.TheVariants.{Read, Address, OutOfMemory, Write}
@@ -16,7 +16,7 @@ WritesAll old new bytes (Err e) = (e ≡ Write) × AppendsBeginning old new byte
 
 -- the whole lines of a text were answered, and what is left has no line feed
 abbrev pub Goes : List Entry → ℕ → List ℕ → List ℕ → Option (List ℕ) → Option (List ℕ) → Type 0
-Goes entries base text left old new = (addresses : List ℕ) × Begins text addresses left × IsPart left × AreTold entries base addresses old new
+Goes entries base text left old new = (addresses : List ℕ) × Begins text addresses left × HasNoLineFeed left × AreTold entries base addresses old new
 
 -- why no more of a text was answered
 abbrev pub Stops : List Entry → ℕ → List ℕ → Option (List ℕ) → Option (List ℕ) → LinesError → Type 0
@@ -54,12 +54,13 @@ pub record IsFirst (text : List ℕ) (address : Option ℕ) (len : ℕ) : Type 0
   pub others : List ℕ
   pub are : text ≡ line ++ 10 ∷ others
   pub writes : address_of line ≡ address
-  pub part : address ≡ None → IsPart line
+  pub part : address ≡ None → HasNoLineFeed line
   pub count : len ≡ length line + 1
 
--- the lines at the text's front write the addresses; what is left begins with a line that writes no address where that is told, and has no line feed elsewhere
+-- the lines at the text's front write the addresses; what is left begins with a line that writes no address, where `wrong` says so, and else has no line feed and at most 18 bytes
 pub record AreAddressesOf (text addresses : List ℕ) (answered : Answered) : Type 0 where
   pub within : answered.len ≤ length text
   pub begins : Begins text addresses (drop answered.len text)
   pub wrong : answered.wrong ≡ true → BeginsWrong (drop answered.len text)
-  pub part : answered.wrong ≡ false → IsPart (drop answered.len text)
+  pub part : answered.wrong ≡ false → HasNoLineFeed (drop answered.len text)
+  pub short : answered.wrong ≡ false → length (drop answered.len text) ≤ 18

@@ -1,15 +1,13 @@
 -- What private clauses see of the values that files of both classes are read into, and the layouts by the width of a word.
-use Rattle.std.specs.Prelude.{ℕ, ◌+◌, ◌-◌, ◌*◌, List, map, min, Option, Some, None}
+use Rattle.std.specs.Prelude.{ℕ, ◌+◌, ◌-◌, ◌*◌, map, min, Option, Some, None}
 use Rattle.std.specs.List.{range_with_len}
 use Rattle.binfarce_bytes.specs.Walk.{Walk, ended}
-use Rattle.binfarce_bytes.specs.Steps.{◌>>=◌}
-use Rattle.binfarce_bytes.specs.Text.{text_at}
 use Rattle.binfarce_bytes.specs.Field.{Field, field}
 use Rattle.binfarce_elf.specs.declared.class.SymbolRow.{SymbolRow}
 use Rattle.binfarce_elf.specs.declared.sections.Table.{Table}
 use Rattle.binfarce_elf.specs.declared.symbols.Located.{Located}
 use Rattle.binfarce_elf.specs.Elf as elf
-use Rattle.binfarce_elf.specs.Elf.{ElfClass, Header, SectionHeader, SectionTable, section_of, whole_headers, walk, names_section, contents}
+use Rattle.binfarce_elf.specs.Elf.{ElfClass, Header, SectionHeader, SectionTable, section_of, whole_headers, walk}
 use Rattle.binfarce_elf.specs.ElfSymbols as symbols
 use Rattle.binfarce_elf.specs.ElfViews.{section_view}
 
@@ -67,15 +65,3 @@ walk_from class table (Some k) = record {
 -- where the symbols are
 abbrev pub located_view : {C : Type 0} → (C → ℕ) → Located C → symbols.Located
 located_view number l = record { section = section_view number l.section; strings = l.strings.now; rows = l.rows.now }
-
--- the bytes of the section of the section names
-abbrev pub names_bytes : ElfClass → SectionTable → Option (List ℕ)
-names_bytes class table = do
-  names ← names_section class table
-  contents table.file names
-
--- the name at an offset among those bytes
-abbrev pub name_among : Option (List ℕ) → ℕ → Option (List ℕ)
-name_among names offset = do
-  strings ← names
-  text_at strings offset

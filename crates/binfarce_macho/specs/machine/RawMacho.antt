@@ -4,7 +4,7 @@ use Rattle.std.specs.List.{range_with_len, filter_map}
 use Rattle.binfarce_macho.specs.declared.commands.Command.{Command}
 use Rattle.binfarce_macho.specs.declared.commands.Damage.{Damage}
 use Rattle.binfarce_macho.specs.declared.commands.Damage.TheVariants.{Malformed, Truncated}
-use Rattle.binfarce_macho.specs.declared.commands.LoadCommands.{LoadCommands}
+use Rattle.binfarce_macho.specs.declared.commands.MachoCommandsIterator.{MachoCommandsIterator}
 use Rattle.binfarce_macho.specs.declared.sections.Segment.{Segment}
 use Rattle.binfarce_macho.specs.declared.sections.Left.{Left}
 use Rattle.binfarce_macho.specs.declared.symbols.SymbolRow.{SymbolRow}
@@ -21,7 +21,7 @@ damage_refusal Malformed = malformed_input
 damage_refusal Truncated = unexpected_eof
 
 -- the commands that an iterator has left
-abbrev pub commands_left : LoadCommands → Walk macho.Command
+abbrev pub commands_left : MachoCommandsIterator → Walk macho.Command
 commands_left it = macho.commands_from it.bytes.now it.left it.offset
 
 -- what the command iterator gives of a walk, and what is left then

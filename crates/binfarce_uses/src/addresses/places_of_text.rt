@@ -13,5 +13,5 @@ use std::alloc::Global;
 pub fn places_of_text(alloc: Global, tables: &Tables) -> Result<Places<'_>, ListError>
     ensures { (file : List ℕ) → AreTablesOf file (codes ".text") tables.now → IsMadeOf (NeedsMemory (format_of file) file) (symbols_answer (format_of file) file (codes ".text")) result }
 {
-    Places::of_tables(alloc, tables, ".text")
+    Places::of_tables(alloc, tables)
 }

@@ -21,5 +21,5 @@ pub fn write_lines<S: Sink>(
     ensures { (file : List ℕ) → AreTablesOf file (codes ".text") tables.now
         → Takes (AreLinesAt 0x555555554000 frames.now) (symbols_answer (format_of file) file (codes ".text")) (S.taken out.old) (S.taken out.new) (outcome_of result) }
 {
-    at_tables(alloc, tables, ".text", 0x5555_5555_4000, frames, out)
+    at_tables(alloc, tables, 0x5555_5555_4000, frames, out)
 }

@@ -17,5 +17,5 @@ pub fn draw_text<S: Sink>(alloc: Global, tables: &Tables, out: &mut S) -> Result
     ensures { (file : List ℕ) → AreTablesOf file (codes ".text") tables.now
         → Takes IsMapOf (symbols_answer (format_of file) file (codes ".text")) (S.taken out.old) (S.taken out.new) (outcome_of result) }
 {
-    map_tables(alloc, tables, ".text", out)
+    map_tables(alloc, tables, out)
 }

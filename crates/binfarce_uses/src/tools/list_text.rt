@@ -15,5 +15,5 @@ pub fn list_text<S: Sink>(alloc: Global, tables: &Tables, out: &mut S) -> Result
     ensures { (file : List ℕ) → AreTablesOf file (codes ".text") tables.now
         → Takes IsListingOf (symbols_answer (format_of file) file (codes ".text")) (S.taken out.old) (S.taken out.new) (outcome_of result) }
 {
-    list_tables(alloc, tables, ".text", out)
+    list_tables(alloc, tables, out)
 }

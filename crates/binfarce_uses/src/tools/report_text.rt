@@ -16,5 +16,5 @@ pub fn report_text<S: Sink>(alloc: Global, tables: &Tables, out: &mut S) -> Resu
     ensures { (file : List ℕ) → AreTablesOf file (codes ".text") tables.now
         → Takes IsReportOf (symbols_answer (format_of file) file (codes ".text")) (S.taken out.old) (S.taken out.new) (outcome_of result) }
 {
-    report_tables(alloc, tables, ".text", out)
+    report_tables(alloc, tables, out)
 }

@@ -13,5 +13,5 @@ use std::alloc::Global;
 pub fn stored_of_tables(alloc: Global, tables: &Tables) -> Result<(Functions<'_>, u64), ListError>
     ensures { (file : List ℕ) → AreTablesOf file (codes ".text") tables.now → Gets (NeedsMemory (format_of file) file) (symbols_answer (format_of file) file (codes ".text")) result }
 {
-    tables.functions(alloc, ".text")
+    tables.functions(alloc)
 }

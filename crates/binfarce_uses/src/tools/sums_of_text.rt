@@ -12,5 +12,5 @@ use std::alloc::Global;
 pub fn sums_of_text(alloc: Global, tables: &Tables) -> Result<CrateSums, ReportError>
     ensures { (file : List ℕ) → AreTablesOf file (codes ".text") tables.now → GetsSums (NeedsMemory (format_of file) file) (symbols_answer (format_of file) file (codes ".text")) result }
 {
-    sums_of_tables(alloc, tables, ".text")
+    sums_of_tables(alloc, tables)
 }

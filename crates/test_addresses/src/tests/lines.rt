@@ -3,7 +3,7 @@
 use binfarce_addresses::at::{Places, at, at_tables};
 use binfarce_addresses::stream::push_lines;
 use binfarce_tools::list::{ListError, Out};
-use binfarce_tools::tables::Tables;
+use binfarce_tools::tables::read;
 use std::alloc::{AllocError, Global};
 use std::test::Fail;
 use test_samples::elf::ELF64_LITTLE;
@@ -59,10 +59,12 @@ fn lines_are_told(rt: HostRuntime) -> Result<(), Fail> {
 
 #[test]
 fn lines_are_told_of_tables(rt: HostRuntime) -> Result<(), Fail> {
-    let tables = Tables::Whole(Vec::from_slice(rt.alloc(), &ELF64_LITTLE)?);
+    let Ok(tables) = read(rt.alloc(), &ELF64_LITTLE.as_slice(), ".text") else {
+        return Err(Fail::from("no tables"));
+    };
     for (base, addresses, lines) in &TOLD {
         let mut out = Out::new(Vec::new(rt.alloc()));
-        let told = at_tables(rt.alloc(), &tables, ".text", *base, addresses, &mut out);
+        let told = at_tables(rt.alloc(), &tables, *base, addresses, &mut out);
         assert!(rt; told == Ok(()), "{lines}");
         assert!(rt; out.into_inner().as_slice() == lines.as_bytes(), "{lines}");
     }

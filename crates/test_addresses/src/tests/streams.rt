@@ -4,9 +4,11 @@ use binfarce_addresses::at::Places;
 use binfarce_addresses::stream::{LinesError, answer_lines};
 use binfarce_tools::list::Out;
 use std::alloc::Global;
+use std::cell::Cell;
 use std::io::ErrorKind;
 use std::test::Fail;
 use test_samples::elf::ELF64_LITTLE;
+use test_streams::interrupted::InterruptedSource;
 use test_streams::{Source, Target};
 
 const TEXT: &[u8] = b"401000\n0x40100F\n401010\n400fff\n100f\n3fffff\n40100a";
@@ -56,6 +58,19 @@ fn short_reads_and_writes(rt: HostRuntime) -> Result<(), Fail> {
         assert!(rt; ended == Ok(()), "{most}");
         assert!(rt; taken.as_slice() == ANSWERS, "{most}");
     }
+    Ok(())
+}
+
+// An interrupted read is tried again.
+#[test]
+fn interrupted_reads(rt: HostRuntime) -> Result<(), Fail> {
+    let places = places(rt.alloc())?;
+    let unflushed = Cell::new(0);
+    let mut source = InterruptedSource::of(TEXT, &unflushed);
+    let mut out = Out::new(takes(rt.alloc(), usize::MAX));
+    let ended = answer_lines(rt.alloc(), &places, 0x40_0000, &mut source, &mut out);
+    assert!(rt; ended == Ok(()));
+    assert!(rt; out.into_inner().taken.as_slice() == ANSWERS);
     Ok(())
 }
 

@@ -116,7 +116,7 @@ type Row = (
 
 // What is changed, the section that is asked for, and the answer: a walk to the end of the greatest count of sections, a
 // table of strings that lies over another, and each row that isn't listed, made one that is.
-const CHANGED: [Row; 24] = [
+const CHANGED: [Row; 25] = [
     (
         "65,535 sections",
         Layout::Elf32Little,
@@ -144,6 +144,14 @@ const CHANGED: [Row; 24] = [
         &[(60, &[0xFF; 2])],
         "nope",
         TRUNCATED,
+    ),
+    (
+        "strings that are the section names",
+        Layout::Elf64Little,
+        // At 483 the strings' offset, and at 491 their size: one patch, since the answer is the same with the size as it was.
+        &[(483, &[234, 0, 0, 0, 0, 0, 0, 0, 33])],
+        ".text",
+        "1000 16 .text .text Unknown None, section of 32",
     ),
     (
         "strings that are the section names",

@@ -3,7 +3,9 @@
 use binfarce_filtering::filter::MAX_RUN;
 use binfarce_filtering::stream::{StreamError, filter_stream};
 use std::alloc::{AllocError, Global};
+use std::cell::Cell;
 use std::io::ErrorKind;
+use test_streams::interrupted::{InterruptedSource, InterruptedTarget};
 use test_streams::{Source, Target};
 
 const TEXT: &[u8] = b"in _RNvC1a1b. at x_1 <_ZN3foo17h0123456789abcdefE+0x1f> _RNvC1c1d";
@@ -80,6 +82,43 @@ fn failed_writes(rt: HostRuntime) -> Result<(), AllocError> {
             assert!(&rt; ended == Err(StreamError::Write), "{left}");
             assert!(&rt; taken.as_slice() == &SHOWN[..left], "{left}");
         }
+    }
+    Ok(())
+}
+
+// Interrupted reads and writes are tried again, and what is written is flushed before more is read and at the end.
+#[test]
+fn interrupted_reads_and_writes(rt: HostRuntime) -> Result<(), AllocError> {
+    let unflushed = Cell::new(0);
+    let mut source = InterruptedSource::of(TEXT, &unflushed);
+    let mut target = InterruptedTarget {
+        target: takes(rt.alloc(), 1),
+        was_interrupted: false,
+        unflushed: &unflushed,
+        flush_error: None,
+    };
+    let ended = filter_stream(rt.alloc(), false, &mut source, &mut target);
+    assert!(&rt; ended == Ok(()));
+    assert!(&rt; target.target.taken.as_slice() == SHOWN);
+    assert!(&rt; !source.came_early);
+    assert!(&rt; unflushed.get() == 0);
+    Ok(())
+}
+
+// A failed flush is a failed write, also where nothing is written.
+#[test]
+fn failed_flushes(rt: HostRuntime) -> Result<(), AllocError> {
+    for text in [TEXT, b"".as_slice()] {
+        let unflushed = Cell::new(0);
+        let mut source = Source::of(text);
+        let mut target = InterruptedTarget {
+            target: takes(rt.alloc(), usize::MAX),
+            was_interrupted: true,
+            unflushed: &unflushed,
+            flush_error: Some(ErrorKind::Other),
+        };
+        let ended = filter_stream(rt.alloc(), false, &mut source, &mut target);
+        assert!(&rt; ended == Err(StreamError::Write));
     }
     Ok(())
 }

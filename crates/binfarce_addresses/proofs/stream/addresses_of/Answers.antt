@@ -30,6 +30,7 @@ returns-in-None c =
       begins = c.loop-address.invariant.begins;
       wrong = λ told. first_wrong bytes part len c.in-Some.line_len refl first;
       part = λ never. absurd cc;
+      short = λ never. absurd cc;
     }
 
 pub returns : goal.returns

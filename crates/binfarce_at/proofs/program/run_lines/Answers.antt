@@ -1,11 +1,13 @@
-use Rattle.std.proofs.Common.{codes}
+use Rattle.std.proofs.Common.{List, ℕ, subst, codes}
 use Rattle.binfarce.specs.Format.{format_of}
 use Rattle.binfarce_tools.specs.Answer.{symbols_answer, NeedsMemory}
-use Rattle.binfarce_at.proofs.Told.{unread, answers_as_well}
+use Rattle.binfarce_at.specs.Program.{AnswersLines}
+use Rattle.binfarce_at.proofs.Told.{answers_as_well, all_read}
 use Rattle.binfarce_at.proofs.program.run_lines.Goals as goal
 
-pub returns-in_err-tables : goal.returns-in_err-tables
-returns-in_err-tables g c = λ bytes both. unread _ bytes (codes ".text") c.args.base _ _ c.in_err-tables.field-0.0 c.from_residual.result (c.in_err-tables.ensures bytes both) c.from_residual.ensures.1
-
 pub returns : goal.returns
-returns g c = λ bytes both. answers_as_well _ (NeedsMemory (format_of bytes) bytes) (symbols_answer (format_of bytes) bytes (codes ".text")) c.args.base _ _ _ _ c.answer.result (c.answer.ensures bytes (c.in_ok-tables.ensures bytes both))
+returns g c =
+    let P : List ℕ → Type 0 = λ bytes. AnswersLines (Unit {0}) (NeedsMemory (format_of bytes) bytes) (symbols_answer (format_of bytes) bytes (codes ".text")) c.args.base _ _ _ _ c.answer_in_bytes.result in
+    let bytes = c.as_slice.result.now in
+    all_read _ c.in_ok-bytes.bytes.items P c.in_ok-bytes.ensures
+    (subst P c.as_slice.ensures.value (answers_as_well ⊥ (Unit {0}) absurd (NeedsMemory (format_of bytes) bytes) (symbols_answer (format_of bytes) bytes (codes ".text")) c.args.base _ _ _ _ c.answer_in_bytes.result c.answer_in_bytes.ensures))

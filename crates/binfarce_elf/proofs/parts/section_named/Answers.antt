@@ -2,9 +2,9 @@ use Rattle.std.proofs.Common.{rules}
 use Rattle.std.specs.Option.{option_map}
 use Rattle.binfarce_bytes.specs.Refusal.{unexpected_eof}
 use Rattle.binfarce_elf.specs.ElfViews.{section_view}
-use Rattle.binfarce_elf.specs.Elf.{walk}
+use Rattle.binfarce_elf.specs.Elf.{walk, name_among}
 use Rattle.binfarce_elf.specs.ElfSymbols.{is_named}
-use Rattle.binfarce_elf.specs.machine.RawElf.{table_view, name_among}
+use Rattle.binfarce_elf.specs.machine.RawElf.{table_view}
 use Rattle.binfarce_bytes.proofs.Firsts.{first_is}
 use Rattle.binfarce_elf.proofs.parts.section_named.Goals as goal
 

@@ -1,7 +1,8 @@
 use Rattle.std.proofs.Common.{◌≡◌, ◌<◌, ◌∙◌, Some, get_or, take, ap, sym, subst, arith}
 use Rattle.std.specs.Prelude.{ℕ}
 use Rattle.std.proofs.lemmas.List.{get_or-take, length-take-le}
-use Rattle.binfarce_ranges.specs.Address.{address_of, digit_value}
+use Rattle.binfarce_ranges.specs.Address.{address_of}
+use Rattle.binfarce_ranges.specs.machine.Digits.{digit_value}
 use Rattle.binfarce_ranges.proofs.HexLines.{full_more, no_digits, writes}
 use Rattle.binfarce_ranges.proofs.address.full_line.Goals as goal
 

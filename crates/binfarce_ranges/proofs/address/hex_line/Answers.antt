@@ -1,5 +1,5 @@
 use Rattle.std.proofs.Common.{◌≡◌, Some, get_or, arith, sym, ◌∙◌}
-use Rattle.binfarce_ranges.specs.Address.{digit_value}
+use Rattle.binfarce_ranges.specs.machine.Digits.{digit_value}
 use Rattle.binfarce_ranges.proofs.Digits.{digit_is_small, fits_times, next_below}
 use Rattle.binfarce_ranges.proofs.HexLines.{digit_more, no_digits, writes}
 use Rattle.binfarce_ranges.proofs.address.hex_line.Goals as goal

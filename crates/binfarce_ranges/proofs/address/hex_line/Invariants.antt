@@ -1,5 +1,5 @@
 use Rattle.std.proofs.Common.{◌≡◌, ◌<◌, ◌≤◌, ◌^◌, Some, take}
-use Rattle.binfarce_ranges.specs.Address.{number_from}
+use Rattle.binfarce_ranges.proofs.Digits.{number_from}
 use Rattle.binfarce_ranges.proofs.address.hex_line.Given as goal
 
 -- all bytes so far are digits, and write the number so far

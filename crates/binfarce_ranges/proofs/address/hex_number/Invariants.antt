@@ -1,5 +1,5 @@
 use Rattle.std.proofs.Common.{◌≡◌, ◌<◌, ◌^◌, drop}
-use Rattle.binfarce_ranges.specs.Address.{number_from}
+use Rattle.binfarce_ranges.proofs.Digits.{number_from}
 use Rattle.binfarce_ranges.proofs.address.hex_number.Given as goal
 
 -- the digits that are left, behind the number so far, write the same number

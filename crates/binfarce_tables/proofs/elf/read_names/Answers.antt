@@ -21,6 +21,6 @@ returns-in-Ok g c = λ file known.
     let within : HasWithin class = within_class class g.C.RawNumber.SIZE g.met.C.Class.header g.met.C.Class.header_length g.met.C.Class.section g.met.C.Class.section_fields in
     let there : (c.args.place.shoff + c.args.place.shstrndx * c.SECTION_LENGTH-2.result) + c.SECTION_LENGTH-3.result ≤ length file = rw (two, three) (header_inside (length file) c.args.place.shoff class.section_length c.args.place.shstrndx lt) in
     let part : c.in_ok-header.header.items ≡ bytes_at file (c.args.place.shoff + c.args.place.shstrndx * c.SECTION_LENGTH-2.result) c.SECTION_LENGTH-3.result =
-    taken (c.in_ok-header.ensures file known.0 there) in
+    taken (c.in_ok-header.ensures.part file known.0 there) in
     let header : c.deref.result.now ≡ bytes_at file (c.args.place.shoff + c.args.place.shstrndx * class.section_length) class.section_length = c.deref.ensures.value ∙ part ∙ ap₂ (λ (a b : ℕ). bytes_at file (c.args.place.shoff + c.args.place.shstrndx * a) b) two three in
     instead _ _ _ _ _ (ap Ok (names_are class table c.deref.result.now (section_view g.C.Class.number_of c.in-Ok.section) within lt header c.in-Ok.ensures.1)) (c.read_contents.ensures file known)

@@ -2,7 +2,7 @@ use Rattle.std.proofs.Common.{◌≡◌, ℕ, Vec, Global, List, Result, Ok, Err
 use Rattle.binfarce_bytes.specs.Refusal.{◌>>=◌, Refusal, refusal_of}
 use Rattle.binfarce_elf.specs.ElfParts.{needed, needed_view}
 use Rattle.binfarce_elf.specs.ElfSymbols.{section_data, whole_rows, entries_from}
-use Rattle.binfarce_elf.specs.machine.RawElf.{names_bytes}
+use Rattle.binfarce_elf.specs.Elf.{names_bytes}
 use Rattle.binfarce_tables.specs.Reading.{Known, parts_view}
 use Rattle.binfarce_tables.specs.declared.elf.Parts.{Parts}
 use Rattle.binfarce_tables.specs.machine.Places.{table_at}

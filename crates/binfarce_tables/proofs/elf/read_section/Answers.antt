@@ -23,4 +23,4 @@ returns g c = λ file known.
     let inside : s.offset + s.size ≤ length file = omega (arith, known.1, c.in_ok-range.ensures.1, c.if-range-len.false) in
     let size : c.in_ok-range.range.end - c.in_ok-range.range.start ≡ s.size = omega (arith, c.in_ok-range.ensures.0, c.in_ok-range.ensures.1) in
     let is = data_inside file s (omega (arith, inside, known.1, c.ranges.len.fits)) inside in
-    instead _ _ _ _ _ (is ∙ ap Ok (sym (ap₂ (λ (a b : ℕ). bytes_at file a b) c.in_ok-range.ensures.0 size))) (c.part.ensures file known.0 (omega (arith, inside, size, c.in_ok-range.ensures.0)))
+    instead _ _ _ _ _ (is ∙ ap Ok (sym (ap₂ (λ (a b : ℕ). bytes_at file a b) c.in_ok-range.ensures.0 size))) (c.part.ensures.part file known.0 (omega (arith, inside, size, c.in_ok-range.ensures.0)))

@@ -14,4 +14,5 @@ returns g c = λ file known.
     let fits : c.in_ok-file_length.file_length < 2 ^ 64 = omega (arith, t) in
     let end : c.min.result ≡ min (max (places.sections + max (places.section_count * 40) 1) 64) (length file) = omega (arith, told.1, fits, c.max.ensures, c.saturating_add.ensures, c.max-end.ensures, c.min.ensures) in
     let there : 0 + c.min.result ≤ length file = omega (arith, end) in
-    (ap pe_sections (taken (c.in_ok-bytes.ensures file known there)) ∙ sections_held file places c.min.result (c.in_ok-places.ensures file told) end, told.1)
+    let read = taken (c.in_ok-bytes.ensures.part file known there) in
+    ((c.min.result, read), ap pe_sections read ∙ sections_held file places c.min.result (c.in_ok-places.ensures file told) end, told.1)

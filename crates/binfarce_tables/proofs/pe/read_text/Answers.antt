@@ -18,7 +18,7 @@ returns-in_err-text_in g c = λ file known.
     let inside : places.sections < length file = omega (arith, known.1, c.if-offset-len.false) in
     let any : 0 < places.section_count = omega (arith, c.if-places-eq0.false) in
     let least : c.min.result ≡ min size (length file - places.sections) = c.min.ensures ∙ ap (λ n. min size (n - places.sections)) known.1 in
-    let headers : c.deref.result.now ≡ headers_of file places = c.deref.ensures.value ∙ taken (c.in_ok-headers.ensures file known.0 (omega (arith, least, inside))) ∙ ap (bytes_at file places.sections) least in
+    let headers : c.deref.result.now ≡ headers_of file places = c.deref.ensures.value ∙ taken (c.in_ok-headers.ensures.part file known.0 (omega (arith, least, inside))) ∙ ap (bytes_at file places.sections) least in
     let same = sym (text_alone file places inside any) ∙ ap (λ h. text_place (headers_alone h places.section_count)) (sym headers) in
     converted (g.S.Source.may_fail c.args.source.now) text_view _ c.in_err-text_in.field-0.0 c.from_residual-in_err-text_in.result c.from_residual-in_err-text_in.ensures (same ∙ c.in_err-text_in.ensures)
 
@@ -29,6 +29,6 @@ returns g c = λ file known.
     let inside : places.sections < length file = omega (arith, known.1, c.if-offset-len.false) in
     let any : 0 < places.section_count = omega (arith, c.if-places-eq0.false) in
     let least : c.min.result ≡ min size (length file - places.sections) = c.min.ensures ∙ ap (λ n. min size (n - places.sections)) known.1 in
-    let headers : c.deref.result.now ≡ headers_of file places = c.deref.ensures.value ∙ taken (c.in_ok-headers.ensures file known.0 (omega (arith, least, inside))) ∙ ap (bytes_at file places.sections) least in
+    let headers : c.deref.result.now ≡ headers_of file places = c.deref.ensures.value ∙ taken (c.in_ok-headers.ensures.part file known.0 (omega (arith, least, inside))) ∙ ap (bytes_at file places.sections) least in
     let same = sym (text_alone file places inside any) ∙ ap (λ h. text_place (headers_alone h places.section_count)) (sym headers) in
     same ∙ c.in_ok-text_in.ensures

@@ -23,7 +23,7 @@ returns-then-place-eq0 g c = λ file known.
     seen_as (g.S.Source.may_fail c.args.source.now) (λ (v : Vec ℕ Global). v.items) (λ (v : Vec ℕ Global). walk class (headers_alone c.args.place.byte_order v.items c.args.place.shnum))
     (bytes_at file c.args.place.shoff 1) (walk class table) c.part.result
     (λ v is. sym (walk_of_none class table v.items inside c.if-place-eq0.true (ap length is ∙ part_long file c.args.place.shoff 1 there)))
-    (c.part.ensures file known.0 there)
+    (c.part.ensures.part file known.0 there)
 
 pub returns : goal.returns
 returns g c = λ file known.

@@ -6,6 +6,6 @@ use Rattle.binfarce_tools.proofs.Lines.{takes}
 use Rattle.binfarce_tools.proofs.list.list_tables.Goals as goal
 
 pub returns-clause-takes : goal.returns-clause-takes
-returns-clause-takes g c = λ file are.
-    takes (NeedsMemory (format_of file) file) (symbols_answer (format_of file) file c.args.section.now) c.in_ok-functions.functions c.in_ok-functions.size c.as_bytes.result.now _ _ c.write_whole.result
-    (c.in_ok-functions.ensures.gets file are) (λ listed holds. subst (IsListingOf listed) (sym c.as_bytes.ensures.value) (c.in_ok-text.ensures listed holds)) c.write_whole.ensures.takes
+returns-clause-takes g c = λ file section are.
+    takes (NeedsMemory (format_of file) file) (symbols_answer (format_of file) file section) c.in_ok-functions.functions c.in_ok-functions.size c.as_bytes.result.now _ _ c.write_whole.result
+    (c.in_ok-functions.ensures.gets file section are) (λ listed holds. subst (IsListingOf listed) (sym c.as_bytes.ensures.value) (c.in_ok-text.ensures listed holds)) c.write_whole.ensures.takes

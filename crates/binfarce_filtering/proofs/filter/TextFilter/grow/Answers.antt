@@ -1,7 +1,7 @@
 use Rattle.std.specs.Result.{is_ok}
 use Rattle.std.proofs.Common.{ℕ, List, true, false, cond, ◌≡◌, ◌++◌, ◌∙◌, ap, [], refl, sym, append-nil}
 use Rattle.binfarce_filtering.proofs.Parts.{Takes, grown, keeps_on, last_write, passes_on, starts_to_pass}
-use Rattle.binfarce_filtering.specs.Filter.{is_passed}
+use Rattle.binfarce_filtering.specs.FilterViews.{is_passed}
 use Rattle.binfarce_filtering.proofs.filter.TextFilter.grow.Goals as goal
 
 pub returns-then-self : goal.returns-then-self

@@ -1,0 +1,36 @@
+// From crates/binfarce/src/elf64.rt, by tools/erase.
+
+//! 64-bit ELF files of either byte order (System V gABI).
+
+use crate::erased::binfarce::elf;
+use crate::erased::binfarce_bytes::{ByteOrder, ParseError};
+use crate::erased::binfarce_elf::{header, sections, symbols};
+
+// The standard's data types of this class (gABI, "Data Representation"): the word by which it is known.
+type Address = u64;
+
+type Offset = u64;
+
+/// A 64-bit ELF file. It borrows the file's bytes.
+pub type Elf64<'a> = elf::Elf<'a, Address>;
+
+/// The file header of a 64-bit file.
+pub type Elf64Header = header::Header<Address>;
+
+/// A section header's values in a 64-bit file, and the section's index.
+pub type Section = sections::Section<Offset>;
+
+/// The sections of a 64-bit file that are left: what [`Elf64::sections`](elf::Elf::sections) gives.
+pub type Sections<'a> = sections::Sections<'a, Offset>;
+
+/// The function symbols of a section that are left: what [`Elf64::functions`](elf::Elf::functions) gives.
+pub type Functions<'a> = symbols::Functions<'a, Address>;
+
+/// Reads the file header in the given order, without a look at the magic number. Nothing is copied.
+///
+/// # Errors
+///
+/// `UnexpectedEof` for fewer than 64 bytes.
+pub fn parse(data: &[u8], byte_order: ByteOrder) -> Result<Elf64<'_>, ParseError> {
+    elf::parse(data, byte_order)
+}

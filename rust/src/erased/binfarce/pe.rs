@@ -1,0 +1,126 @@
+// From crates/binfarce/src/pe.rt, by tools/erase.
+
+//! PE files with COFF symbols (Microsoft PE Format), which are little endian.
+
+use crate::shim::Vec;
+use crate::erased::binfarce_bytes::ParseError;
+use crate::erased::binfarce_names::demangle::SymbolData;
+use crate::erased::binfarce_naming::symbols::symbols_of;
+pub use crate::erased::binfarce_pe::header::PeHeader;
+use crate::erased::binfarce_pe::header::parse_header;
+use crate::erased::binfarce_pe::parts::{Places, places_after};
+pub use crate::erased::binfarce_pe::sections::{Section, Sections};
+use crate::erased::binfarce_pe::sections::{self, first_of_file};
+use crate::erased::binfarce_pe::symbols::functions_of_file;
+use crate::erased::binfarce_symbols::functions::FunctionSymbol;
+use crate::shim::alloc::Global;
+
+/// A PE file. It borrows the file's bytes.
+#[derive(Debug, Clone)]
+pub struct Pe<'a> {
+    data: &'a [u8],
+    pe_pointer: u32,
+    header: PeHeader,
+}
+
+/// Reads the file header, without a look at the signature.
+///
+/// # Errors
+///
+/// `UnexpectedEof` for fewer than 64 bytes, and where the file header that they point to is truncated.
+pub fn parse(data: &[u8]) -> Result<Pe<'_>, ParseError> {
+    let (pe_pointer, header) = parse_header(data)?;
+    Ok(Pe {
+        data,
+        pe_pointer,
+        header,
+    })
+}
+
+impl<'a> Pe<'a> {
+    /// The file's bytes, as they were given to `parse`.
+    pub fn data(&self) -> &'a [u8] {
+        self.data
+    }
+
+    /// The file header, as it was read by `parse`.
+    pub fn header(&self) -> PeHeader {
+        self.header
+    }
+
+    /// The sections in file order, which `find_section` searches. Each is read when it is asked for.
+    ///
+    /// `UnexpectedEof` comes, and after it nothing, where `find_section` with a callback that always answers false
+    /// has it: where the section table doesn't begin in the file, or a header is truncated.
+    pub fn sections(&self) -> Sections<'a> {
+        sections::sections_of(self.data, self.places())
+    }
+
+    /// The bytes that the section has in the file, a part of it.
+    ///
+    /// # Errors
+    ///
+    /// `UnexpectedEof` where they end past the file.
+    pub fn section_bytes(&self, section: &Section<'_>) -> Result<&'a [u8], ParseError> {
+        sections::section_data(self.data, section)
+    }
+
+    /// The first section that the callback accepts, in file order; `None` where it accepts none.
+    ///
+    /// A section header is read only when the callback has refused the sections before it. A section whose name isn't
+    /// UTF-8 is skipped.
+    ///
+    /// # Errors
+    ///
+    /// `UnexpectedEof` where the section table doesn't begin in the file, or a header that is
+    /// read is truncated; only the last 16 bytes of a header aren't read.
+    pub fn find_section<F: Fn(Section<'_>) -> bool>(
+        &self,
+        callback: F,
+    ) -> Result<Option<Section<'a>>, ParseError> {
+        Ok(first_of_file(self.data, self.places(), callback)?)
+    }
+
+    /// The first section with this name.
+    ///
+    /// # Errors
+    ///
+    /// Those of `find_section`.
+    pub fn section_with_name(&self, name: &str) -> Result<Option<Section<'a>>, ParseError> {
+        Ok(sections::section_with_name(self.data, self.places(), name)?)
+    }
+
+    /// The function symbols of the section `.text`, by address and at equal addresses in table order, and the size in
+    /// bytes that the section has in the file.
+    ///
+    /// Their names, which are still mangled, are parts of the file. An address is what the row holds: the offset in the
+    /// section, in bytes. Kept are rows of external functions that name the section by its number and have a name: the
+    /// row's own 8 bytes up to the first NUL, which may be empty but have to be UTF-8, or the text at an offset in the
+    /// string table ("COFF Symbol Table"). A symbol's size is the distance to the least greater one among the addresses
+    /// of the kept rows and the section's size, and 0 where none is greater.
+    ///
+    /// # Errors
+    ///
+    /// In this order: as `find_section`;
+    /// `SymbolsSectionIsMissing`; `UnexpectedEof` where the symbol table doesn't begin in the file, even an empty one,
+    /// or passes its end. `OutOfMemory` comes only in place of a list that isn't empty.
+    pub fn functions(&self, alloc: Global) -> Result<(Vec<FunctionSymbol<'a>>, u64), ParseError> {
+        functions_of_file(alloc, self.data, self.places())
+    }
+
+    /// The function symbols of `functions` with readable names, and the size in bytes that `.text` has in the file.
+    ///
+    /// # Errors
+    ///
+    /// Those of `functions`.
+    pub fn symbols(&self, alloc: Global) -> Result<(Vec<SymbolData>, u64), ParseError> {
+        let (functions, size) = self.functions(alloc)?;
+        let symbols = symbols_of(alloc, functions.into_iter())?;
+        Ok((symbols, size))
+    }
+
+    // Where the tables are.
+    fn places(&self) -> Places {
+        places_after(self.pe_pointer, self.header)
+    }
+}

@@ -1,0 +1,299 @@
+// From crates/binfarce_addresses/src/at.rt, by tools/erase.
+
+//! What stands at addresses in an executable, a line each.
+
+use crate::shim::{String, Vec};
+use crate::erased::binfarce_addresses::cells::Cells;
+use crate::erased::binfarce_addresses::digits::{push_address, push_offset};
+use crate::erased::binfarce_addresses::names::{Names, name_of, names_of};
+use crate::erased::binfarce::FunctionSymbol;
+use crate::erased::binfarce_ranges::ranges::{AddressRange, Found, Ranges};
+use crate::erased::binfarce_tools::functions::{Functions, functions_of_file};
+use crate::erased::binfarce_tools::list::{ListError, Sink};
+use crate::erased::binfarce_tools::tables::Tables;
+use crate::erased::binfarce_tools::writing::write_whole;
+use crate::shim::alloc::{AllocError, Global};
+
+/// The function symbols of a file, arranged so that what stands at an address takes a search.
+///
+/// Clauses see the entries in their order.
+pub struct Places<'a> {
+    functions: Vec<FunctionSymbol<'a>>,
+    ranges: Ranges,
+    names: Names,
+    cells: Cells,
+}
+
+impl<'a> Places<'a> {
+    /// The places of a file's function symbols: of an ELF file those of the section.
+    ///
+    /// # Errors
+    ///
+    /// As `list`, but for `Write`.
+    pub fn of_file(alloc: Global, data: &'a [u8], section: &str) -> Result<Places<'a>, ListError> {
+        let (functions, _) = functions_of_file(alloc, data, section)?;
+        let places = places_of(alloc, functions)?;
+        Ok(places)
+    }
+
+    /// The places of the function symbols of a file's tables: for the section that they were read for.
+    ///
+    /// # Errors
+    ///
+    /// As `of_file`.
+    pub fn of_tables(alloc: Global, tables: &'a Tables) -> Result<Places<'a>, ListError> {
+        let (functions, _) = tables.functions(alloc)?;
+        let places = places_of(alloc, functions)?;
+        Ok(places)
+    }
+
+    /// Makes each name readable and keeps it: lines of many addresses take less time then.
+    ///
+    /// # Errors
+    ///
+    /// `AllocError` where an allocation failed.
+    pub fn keep_names(&mut self, alloc: Global) -> Result<(), AllocError> {
+        let names = names_of(alloc, &self.functions)?;
+        self.cells = Cells::new(alloc, &self.ranges, &names.bounds)?;
+        self.names = names;
+        Ok(())
+    }
+
+    /// The function symbol that an address is shown by once the base is taken off, and the offset into it.
+    pub fn find(&self, base: u64, address: u64) -> Option<(FunctionSymbol<'a>, u64)> {
+        let (_, function, offset) = self.find_place(base, address)?;
+        Some((function, offset))
+    }
+
+    // Its place, itself, and the offset into it.
+    fn find_place(&self, base: u64, address: u64) -> Option<(usize, FunctionSymbol<'a>, u64)> {
+        let in_file = address.checked_sub(base)?;
+        let place = self.ranges.find(in_file)?;
+        let function = self.functions[place];
+        Some((place, function, in_file - function.address))
+    }
+
+    /// Writes the line of an address after the text: the address, the symbol that it is shown by once the base is taken
+    /// off, and the offset into that; or `??` where there is none.
+    ///
+    /// # Errors
+    ///
+    /// `AllocError` where an allocation failed.
+    pub fn push_line(
+        &self,
+        alloc: Global,
+        text: &mut Vec<u8>,
+        base: u64,
+        address: u64,
+    ) -> Result<(), AllocError> {
+        let shown = self.find_shown(base, address);
+        self.push_shown(alloc, text, base, address, shown)
+    }
+
+    // Writes the lines of addresses after the text. What all need of memory is read before the first is written: it comes
+    // sooner where many wait at once.
+    pub(crate) fn push_all(
+        &self,
+        alloc: Global,
+        text: &mut Vec<u8>,
+        base: u64,
+        addresses: &[u64],
+    ) -> Result<(), AllocError> {
+        let nears = self.cells.nears(alloc, base, addresses)?;
+        let names = self.names.text.as_bytes();
+        self.cells.ends_of_names(alloc, &nears, names)?;
+        for k in 0..addresses.len() {
+            self.push_near(alloc, text, base, addresses[k], nears[k])?;
+        }
+        Ok(())
+    }
+
+    // Writes the line of an address after the text: what the cell at this place tells, or what is found.
+    fn push_near(
+        &self,
+        alloc: Global,
+        text: &mut Vec<u8>,
+        base: u64,
+        address: u64,
+        near: usize,
+    ) -> Result<(), AllocError> {
+        if let Some((name, offset)) = self.near_name(base, address, near) {
+            push_address(text, address)?;
+            text.extend_from_slice(name)?;
+            push_offset(text, offset)?;
+            return Ok(());
+        }
+        if self.is_free(base, address, near) {
+            return self.push_shown(alloc, text, base, address, None);
+        }
+        self.push_line(alloc, text, base, address)
+    }
+
+    // The kept name of the function symbol that an address is shown by, and the offset into that, if the cell at this place
+    // tells it.
+    #[cfg_attr(not(debug_assertions), inline(always))]
+    fn near_name(&self, base: u64, address: u64, near: usize) -> Option<(&[u8], u64)> {
+        let cell = *self.cells.cells.get(near)?;
+        if address < base {
+            return None;
+        }
+        let in_file = address - base;
+        if in_file < cell.address || in_file - cell.address >= u64::from(cell.size) {
+            return None;
+        }
+        let text = self.names.text.as_bytes();
+        let start = cell.start as usize;
+        let stop = start + cell.len as usize;
+        Some((&text[start..stop], in_file - cell.address))
+    }
+
+    // Whether the cell at this place tells that none is shown at the address.
+    #[cfg_attr(not(debug_assertions), inline(always))]
+    fn is_free(&self, base: u64, address: u64, near: usize) -> bool {
+        match self.cells.cells.get(near) {
+            Some(cell) if address >= base && address - base >= cell.address => {
+                let offset = address - base - cell.address;
+                u64::from(cell.size) <= offset && offset < u64::from(cell.until)
+            }
+            _ => false,
+        }
+    }
+
+    // What an address is shown by: the place of a function symbol, and the offset into that.
+    fn find_shown(&self, base: u64, address: u64) -> Option<Found> {
+        match self.find_place(base, address) {
+            Some(found) => Some(Found {
+                place: found.0,
+                offset: found.2,
+            }),
+            None => None,
+        }
+    }
+
+    // Writes the line of an address, which is shown by this, after the text.
+    fn push_shown(
+        &self,
+        alloc: Global,
+        text: &mut Vec<u8>,
+        base: u64,
+        address: u64,
+        shown: Option<Found>,
+    ) -> Result<(), AllocError> {
+        push_address(text, address)?;
+        match shown {
+            Some(found) => {
+                self.push_name(alloc, text, found.place)?;
+                push_offset(text, found.offset)?;
+                Ok(())
+            }
+            None => {
+                text.extend_from_slice(b"??\n")?;
+                Ok(())
+            }
+        }
+    }
+
+    // Writes the trimmed name of the function symbol at a place after the text.
+    fn push_name(&self, alloc: Global, text: &mut Vec<u8>, place: usize) -> Result<(), AllocError> {
+        match self.kept_name(place) {
+            Some(name) => {
+                text.extend_from_slice(name)?;
+                Ok(())
+            }
+            None => {
+                let name = name_of(alloc, self.functions[place])?;
+                text.extend_from_slice(name.as_bytes())?;
+                Ok(())
+            }
+        }
+    }
+
+    // The trimmed name of the function symbol at a place, where it is kept.
+    fn kept_name(&self, place: usize) -> Option<&[u8]> {
+        let count = self.names.bounds.len().saturating_sub(1);
+        if place >= count {
+            return None;
+        }
+        let start = self.names.bounds[place];
+        let end = self.names.bounds[place + 1];
+        let text = self.names.text.as_bytes();
+        Some(&text[start..end])
+    }
+}
+
+// The places of function symbols.
+fn places_of(alloc: Global, functions: Functions<'_>) -> Result<Places<'_>, AllocError> {
+    let mut kept = Vec::new(alloc);
+    let mut ranges = Vec::new(alloc);
+    for function in functions {
+        ranges.push(AddressRange {
+            address: function.address,
+            size: function.size,
+        })?;
+        kept.push(function)?;
+    }
+    Ok(Places {
+        functions: kept,
+        ranges: Ranges::new(alloc, ranges)?,
+        names: Names {
+            text: String::new(alloc),
+            bounds: Vec::new(alloc),
+        },
+        cells: Cells::none(alloc),
+    })
+}
+
+/// Writes what stands at each of the addresses in an executable: a line each, in their order.
+///
+/// The format and the section are as `list` has them. A line is `{address:016x} {trimmed}+0x{offset:x}`: the address, the
+/// trimmed name of the function symbol that it is shown by, and the offset into that. The base is taken off first. A symbol
+/// holds the addresses of its range, of size 0 its own; of several that hold an address it is shown by the one of greatest
+/// address, and of these by the first in the order of the listing. `{address:016x} ??` stands for an address that none holds,
+/// and for one below the base.
+///
+/// # Errors
+///
+/// As `list`; only `Write` can leave a beginning of the lines written.
+pub fn at<S: Sink>(
+    alloc: Global,
+    data: &[u8],
+    section: &str,
+    base: u64,
+    addresses: &[u64],
+    out: &mut S,
+) -> Result<(), ListError> {
+    let places = Places::of_file(alloc, data, section)?;
+    let text = lines(alloc, &places, base, addresses)?;
+    write_whole(out, text.as_slice())
+}
+
+/// Writes what `at` does, of a file's tables: for the section that they were read for.
+///
+/// # Errors
+///
+/// As `at`.
+pub fn at_tables<S: Sink>(
+    alloc: Global,
+    tables: &Tables,
+    base: u64,
+    addresses: &[u64],
+    out: &mut S,
+) -> Result<(), ListError> {
+    let places = Places::of_tables(alloc, tables)?;
+    let text = lines(alloc, &places, base, addresses)?;
+    write_whole(out, text.as_slice())
+}
+
+// The lines of the addresses.
+fn lines(
+    alloc: Global,
+    places: &Places<'_>,
+    base: u64,
+    addresses: &[u64],
+) -> Result<Vec<u8>, AllocError> {
+    let mut text = Vec::new(alloc);
+    for address in addresses {
+        places.push_line(alloc, &mut text, base, *address)?;
+    }
+    Ok(text)
+}

@@ -1,0 +1,76 @@
+// From crates/binfarce_addresses/src/digits.rt, by tools/erase.
+
+//! Numbers in hexadecimal digits.
+
+use crate::shim::Vec;
+use crate::shim::alloc::AllocError;
+
+/// Writes an address and a blank after the text.
+pub(crate) fn push_address(text: &mut Vec<u8>, address: u64) -> Result<(), AllocError> {
+    let mut shown = [b' '; 17];
+    put_all_digits(&mut shown, address);
+    text.extend_from_slice(&shown)?;
+    Ok(())
+}
+
+/// Writes an offset and a line feed after the text.
+pub(crate) fn push_offset(text: &mut Vec<u8>, offset: u64) -> Result<(), AllocError> {
+    // Most offsets are small, and a part of known length is written by a few stores.
+    if offset < 16 {
+        let shown = [b'+', b'0', b'x', hex_digit(offset), b'\n'];
+        text.extend_from_slice(&shown)?;
+        return Ok(());
+    }
+    if offset < 256 {
+        let shown = [
+            b'+',
+            b'0',
+            b'x',
+            hex_digit(offset / 16),
+            hex_digit(offset % 16),
+            b'\n',
+        ];
+        text.extend_from_slice(&shown)?;
+        return Ok(());
+    }
+    push_any_offset(text, offset)
+}
+
+// The same of any offset.
+fn push_any_offset(text: &mut Vec<u8>, offset: u64) -> Result<(), AllocError> {
+    let mut shown = [b'0'; 16];
+    let at = put_digits(&mut shown, offset);
+    text.extend_from_slice(b"+0x")?;
+    text.extend_from_slice(&shown[at..])?;
+    text.push(b'\n')?;
+    Ok(())
+}
+
+// Puts all 16 digits of a number before a last byte: how many of them there are in steps is known, so none is guessed wrong.
+fn put_all_digits(shown: &mut [u8], number: u64) {
+    let mut rest = number;
+    for k in 0..16 {
+        shown[15 - k] = hex_digit(rest % 16);
+        rest /= 16;
+    }
+}
+
+// Puts a number in the last of 16 zeros, and gives where it begins.
+fn put_digits(shown: &mut [u8], number: u64) -> usize {
+    let mut rest = number;
+    let mut at = 15;
+    while rest >= 16 {
+        shown[at] = hex_digit(rest % 16);
+        rest /= 16;
+        at -= 1;
+    }
+    shown[at] = hex_digit(rest);
+    at
+}
+
+// A lower-case hexadecimal digit.
+#[cfg_attr(not(debug_assertions), inline(always))]
+fn hex_digit(value: u64) -> u8 {
+    const DIGITS: [u8; 16] = *b"0123456789abcdef";
+    DIGITS[value as usize]
+}

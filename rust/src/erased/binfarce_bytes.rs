@@ -1,0 +1,19 @@
+// From crates/binfarce_bytes/src/lib.rt, by tools/erase.
+
+//! Numbers and texts in a file's bytes, and why a file can't be read: what the readers of all formats stand on.
+
+pub mod error;
+pub mod parser;
+mod text;
+
+pub use crate::erased::binfarce_bytes::error::ParseError;
+pub use crate::erased::binfarce_bytes::parser::UnexpectedEof;
+
+/// The order of a number's bytes in a file.
+#[derive(Clone, Copy, PartialEq, Eq, Hash, Debug)]
+pub enum ByteOrder {
+    /// The first byte has the least weight.
+    LittleEndian,
+    /// The first byte has the greatest weight.
+    BigEndian,
+}

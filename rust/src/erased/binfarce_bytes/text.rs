@@ -1,0 +1,85 @@
+// From crates/binfarce_bytes/src/text.rt, by tools/erase.
+
+//! Texts at an offset, and in a field of their own.
+
+/// The bytes up to the first NUL, or all where there is none; a part of `bytes`.
+pub fn up_to_nul(bytes: &[u8]) -> &[u8] {
+    match first_nul(bytes) {
+        None => bytes,
+        Some(len) => &bytes[..len],
+    }
+}
+
+/// The text from `start` to the first NUL, which is a part of `bytes`.
+///
+/// `None` where `start` is past the end, there is no NUL, the text is empty, or it isn't UTF-8.
+pub fn parse_null_string(bytes: &[u8], start: usize) -> Option<&str> {
+    text_from(bytes, start)
+}
+
+fn text_from(bytes: &[u8], start: usize) -> Option<&str> {
+    match bytes.get(start..) {
+        None => None,
+        Some(rest) => match find_nul(rest) {
+            None => None,
+            Some(len) => first_text(rest, len),
+        },
+    }
+}
+
+// How many bytes are looked at together: first so many, and then fewer.
+const STRIDE: usize = 32;
+
+const LAST_STRIDE: usize = 8;
+
+fn find_nul(bytes: &[u8]) -> Option<usize> {
+    let far = past_strides(bytes, 0, STRIDE);
+    let at = past_strides(bytes, far, LAST_STRIDE);
+    match first_nul(&bytes[at..]) {
+        None => None,
+        Some(i) => Some(at + i),
+    }
+}
+
+// The offset after the strides from `start` on that have no NUL, where none stands before `start`.
+#[cfg_attr(not(debug_assertions), inline(always))]
+fn past_strides(bytes: &[u8], start: usize, stride: usize) -> usize {
+    let mut at = start;
+    while bytes.len() - at >= stride {
+        if has_nul(&bytes[at..at + stride]) {
+            break;
+        }
+        at += stride;
+    }
+    at
+}
+
+fn first_nul(bytes: &[u8]) -> Option<usize> {
+    bytes.iter().position(|b| *b == 0)
+}
+
+// Without an early end, so that the bytes are compared side by side.
+#[cfg_attr(not(debug_assertions), inline(always))]
+fn has_nul(bytes: &[u8]) -> bool {
+    let mut found = false;
+    for b in bytes {
+        found |= *b == 0;
+    }
+    found
+}
+
+// The first `len` bytes.
+fn first_text(bytes: &[u8], len: usize) -> Option<&str> {
+    if len == 0 {
+        return None;
+    }
+    utf8_text(&bytes[..len])
+}
+
+/// The bytes as a text, which is a part of them; `None` where they aren't UTF-8.
+pub fn utf8_text(bytes: &[u8]) -> Option<&str> {
+    match std::str::from_utf8(bytes) {
+        Ok(text) => Some(text),
+        Err(_) => None,
+    }
+}

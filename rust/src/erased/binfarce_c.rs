@@ -1,0 +1,15 @@
+// From crates/binfarce_c/src/lib.rt, by tools/erase.
+
+//! The library for C and C++: `binfarce.h` declares what is exported here, and says what a caller has to keep.
+//!
+//! Each export calls one function of `binfarce` or `binfarce_tools`, and its clauses are that function's, over numbers and
+//! buffers.
+
+pub mod all_sections;
+pub mod buffer;
+pub mod functions;
+pub mod headers;
+pub mod names;
+pub mod sections;
+pub mod status;
+pub mod texts;

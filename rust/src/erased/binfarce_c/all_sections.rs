@@ -1,0 +1,142 @@
+// From crates/binfarce_c/src/all_sections.rt, by tools/erase.
+
+//! All sections of a file, in a caller's array.
+
+use crate::erased::binfarce_c::headers::order_of;
+use crate::erased::binfarce_c::sections::{Section, shown_32, shown_64, shown_macho, shown_pe};
+use crate::erased::binfarce_c::status::{OK, status_of};
+use crate::erased::binfarce::{elf32, elf64, macho, pe};
+
+/// What a call that gives sections returns: `struct binfarce_sections`.
+#[repr(C)]
+pub struct Sections {
+    /// `BINFARCE_OK`, or the refusal of what stands behind the last section.
+    pub status: u32,
+    /// How many sections there are, however many of them the array had room for.
+    pub count: usize,
+}
+
+/// All sections of a 32-bit ELF file.
+pub fn binfarce_elf32_sections(
+    file: &[u8],
+    big_endian: bool,
+    out: &mut [Section],
+) -> Sections {
+    match elf32::parse(file, order_of(big_endian)) {
+        Ok(file) => fill_32(&file, out),
+        Err(e) => Sections {
+            status: status_of(e),
+            count: 0,
+        },
+    }
+}
+
+/// All sections of a 64-bit ELF file.
+pub fn binfarce_elf64_sections(
+    file: &[u8],
+    big_endian: bool,
+    out: &mut [Section],
+) -> Sections {
+    match elf64::parse(file, order_of(big_endian)) {
+        Ok(file) => fill_64(&file, out),
+        Err(e) => Sections {
+            status: status_of(e),
+            count: 0,
+        },
+    }
+}
+
+/// All sections of a Mach-O file.
+pub fn binfarce_macho_sections(file: &[u8], out: &mut [Section]) -> Sections {
+    match macho::parse(file) {
+        Ok(file) => fill_macho(&file, out),
+        Err(e) => Sections {
+            status: status_of(e),
+            count: 0,
+        },
+    }
+}
+
+/// All sections of a PE file.
+pub fn binfarce_pe_sections(file: &[u8], out: &mut [Section]) -> Sections {
+    match pe::parse(file) {
+        Ok(file) => fill_pe(&file, out),
+        Err(e) => Sections {
+            status: status_of(e),
+            count: 0,
+        },
+    }
+}
+
+fn fill_32(file: &elf32::Elf32<'_>, out: &mut [Section]) -> Sections {
+    let mut count = 0;
+    for section in file.sections() {
+        match section {
+            Ok(section) => count = place(shown_32(file, section), count, out),
+            Err(e) => {
+                return Sections {
+                    status: status_of(e),
+                    count,
+                };
+            }
+        }
+    }
+    Sections { status: OK, count }
+}
+
+fn fill_64(file: &elf64::Elf64<'_>, out: &mut [Section]) -> Sections {
+    let mut count = 0;
+    for section in file.sections() {
+        match section {
+            Ok(section) => count = place(shown_64(file, section), count, out),
+            Err(e) => {
+                return Sections {
+                    status: status_of(e),
+                    count,
+                };
+            }
+        }
+    }
+    Sections { status: OK, count }
+}
+
+fn fill_macho(file: &macho::Macho<'_>, out: &mut [Section]) -> Sections {
+    let mut count = 0;
+    for section in file.sections() {
+        match section {
+            Ok(section) => count = place(shown_macho(section), count, out),
+            Err(e) => {
+                return Sections {
+                    status: status_of(e),
+                    count,
+                };
+            }
+        }
+    }
+    Sections { status: OK, count }
+}
+
+fn fill_pe(file: &pe::Pe<'_>, out: &mut [Section]) -> Sections {
+    let mut count = 0;
+    for section in file.sections() {
+        match section {
+            Ok(section) => count = place(shown_pe(section), count, out),
+            Err(e) => {
+                return Sections {
+                    status: status_of(e),
+                    count,
+                };
+            }
+        }
+    }
+    Sections { status: OK, count }
+}
+
+// Puts a section into the array behind those that came before it, where it has room, and gives how many came then.
+fn place(section: Section, count: usize, out: &mut [Section]) -> usize {
+    let room = out.len();
+    if count < room {
+        out[count] = section;
+    }
+    count.saturating_add(1)
+}

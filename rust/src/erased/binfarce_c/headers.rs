@@ -1,0 +1,140 @@
+// From crates/binfarce_c/src/headers.rt, by tools/erase.
+
+//! The format of a file, and its header.
+
+use crate::erased::binfarce_c::status::{OK, status_of};
+use crate::erased::binfarce::{ByteOrder, Format, detect_format, elf32, elf64, macho, pe};
+
+/// The file header of an ELF file of either class: `struct binfarce_elf_header`.
+#[repr(C)]
+#[derive(Clone, Copy)]
+pub struct ElfHeader {
+    /// `e_type`.
+    pub elf_type: u16,
+    /// `e_machine`.
+    pub machine: u16,
+    /// `e_version`.
+    pub version: u32,
+    /// `e_entry`.
+    pub entry: u64,
+    /// `e_phoff`.
+    pub phoff: u64,
+    /// `e_shoff`.
+    pub shoff: u64,
+    /// `e_flags`.
+    pub flags: u32,
+    /// `e_ehsize`.
+    pub ehsize: u16,
+    /// `e_phentsize`.
+    pub phentsize: u16,
+    /// `e_phnum`.
+    pub phnum: u16,
+    /// `e_shentsize`.
+    pub shentsize: u16,
+    /// `e_shnum`.
+    pub shnum: u16,
+    /// `e_shstrndx`.
+    pub shstrndx: u16,
+}
+
+/// The format that a file's first bytes name: 0 for none, and then ELF of 32 bits in little-endian and in big-endian
+/// order, of 64 bits the same, Mach-O, PE.
+pub fn binfarce_detect_format(file: &[u8]) -> u32 {
+    match detect_format(file) {
+        Format::Unknown => 0,
+        Format::Elf32 { byte_order } => 1 + of_order(byte_order),
+        Format::Elf64 { byte_order } => 3 + of_order(byte_order),
+        Format::Macho => 5,
+        Format::PE => 6,
+    }
+}
+
+fn of_order(byte_order: ByteOrder) -> u32 {
+    match byte_order {
+        ByteOrder::LittleEndian => 0,
+        ByteOrder::BigEndian => 1,
+    }
+}
+
+/// The file header of a 32-bit ELF file.
+pub fn binfarce_elf32_header(file: &[u8], big_endian: bool, out: &mut ElfHeader) -> u32 {
+    match elf32::parse(file, order_of(big_endian)) {
+        Ok(elf) => {
+            *out = of_32_bits(elf.header());
+            OK
+        }
+        Err(e) => status_of(e),
+    }
+}
+
+/// The file header of a 64-bit ELF file.
+pub fn binfarce_elf64_header(file: &[u8], big_endian: bool, out: &mut ElfHeader) -> u32 {
+    match elf64::parse(file, order_of(big_endian)) {
+        Ok(elf) => {
+            *out = of_64_bits(elf.header());
+            OK
+        }
+        Err(e) => status_of(e),
+    }
+}
+
+fn of_32_bits(header: elf32::Elf32Header) -> ElfHeader {
+    ElfHeader {
+        elf_type: header.elf_type,
+        machine: header.machine,
+        version: header.version,
+        entry: u64::from(header.entry),
+        phoff: u64::from(header.phoff),
+        shoff: u64::from(header.shoff),
+        flags: header.flags,
+        ehsize: header.ehsize,
+        phentsize: header.phentsize,
+        phnum: header.phnum,
+        shentsize: header.shentsize,
+        shnum: header.shnum,
+        shstrndx: header.shstrndx,
+    }
+}
+
+fn of_64_bits(header: elf64::Elf64Header) -> ElfHeader {
+    ElfHeader {
+        elf_type: header.elf_type,
+        machine: header.machine,
+        version: header.version,
+        entry: header.entry,
+        phoff: header.phoff,
+        shoff: header.shoff,
+        flags: header.flags,
+        ehsize: header.ehsize,
+        phentsize: header.phentsize,
+        phnum: header.phnum,
+        shentsize: header.shentsize,
+        shnum: header.shnum,
+        shstrndx: header.shstrndx,
+    }
+}
+
+/// Whether a Mach-O file has its file header.
+pub fn binfarce_macho_header(file: &[u8]) -> u32 {
+    match macho::parse(file) {
+        Ok(_) => OK,
+        Err(e) => status_of(e),
+    }
+}
+
+/// Whether a PE file has its file header.
+pub fn binfarce_pe_header(file: &[u8]) -> u32 {
+    match pe::parse(file) {
+        Ok(_) => OK,
+        Err(e) => status_of(e),
+    }
+}
+
+/// The byte order that a caller names.
+pub(crate) fn order_of(big_endian: bool) -> ByteOrder {
+    if big_endian {
+        ByteOrder::BigEndian
+    } else {
+        ByteOrder::LittleEndian
+    }
+}

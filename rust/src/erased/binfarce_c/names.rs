@@ -1,0 +1,174 @@
+// From crates/binfarce_c/src/names.rt, by tools/erase.
+
+//! Names of symbols in readable form.
+
+use crate::shim::String;
+use crate::erased::binfarce_c::buffer::{Text, give, put};
+use crate::erased::binfarce_c::functions::start;
+use crate::erased::binfarce_c::status::{NONE, NOT_UTF8, OK, OUT_OF_MEMORY};
+use crate::erased::binfarce::demangle::{self, Demangled, Kind, crate_of, push_trimmed};
+use crate::shim::alloc::{AllocError, Global};
+use std::str::{self, Utf8Error};
+
+/// What `binfarce_demangle` returns: `struct binfarce_name`.
+#[repr(C)]
+pub struct SymbolName {
+    /// How the call ended.
+    pub status: u32,
+    /// How the name is mangled: 0 unknown, 1 legacy, 2 v0.
+    pub kind: u32,
+    /// The whole length of the complete text in bytes.
+    pub complete_length: usize,
+    /// The whole length of the trimmed text in bytes.
+    pub trimmed_length: usize,
+    /// The whole length of the crate's name in bytes.
+    pub crate_length: usize,
+    /// Whether the name has a crate.
+    pub has_crate: bool,
+}
+
+/// How a name is mangled, and the part of it that is kept: `struct binfarce_mangling`.
+#[repr(C)]
+#[derive(Clone, Copy)]
+pub struct Mangling {
+    /// The first byte of the part, in the name; null where the part is empty.
+    pub part: *const u8,
+    /// The length of the part in bytes.
+    pub part_length: usize,
+    /// How the name is mangled: 0 unknown, 1 legacy, 2 v0.
+    pub kind: u32,
+}
+
+// Why a name has no text.
+#[derive(Clone, Copy)]
+enum NameError {
+    NotUtf8,
+    OutOfMemory,
+}
+
+impl From<Utf8Error> for NameError {
+    fn from(_: Utf8Error) -> Self {
+        NameError::NotUtf8
+    }
+}
+
+impl From<AllocError> for NameError {
+    fn from(_: AllocError) -> Self {
+        NameError::OutOfMemory
+    }
+}
+
+/// The readable form of a name, all of it: the complete text, the trimmed one and the crate, each in a buffer of its own.
+pub fn binfarce_demangle(
+    alloc: Global,
+    name: &[u8],
+    complete: &mut [u8],
+    trimmed: &mut [u8],
+    crate_name: &mut [u8],
+) -> SymbolName {
+    match symbol_name(alloc, name) {
+        Ok(found) => {
+            let told = match &found.crate_name {
+                Some(text) => text.as_bytes(),
+                None => &[],
+            };
+            put(found.complete.as_bytes(), complete);
+            put(found.trimmed.as_bytes(), trimmed);
+            put(told, crate_name);
+            SymbolName {
+                status: OK,
+                kind: kind_number(found.kind),
+                complete_length: found.complete.len(),
+                trimmed_length: found.trimmed.len(),
+                crate_length: told.len(),
+                has_crate: found.crate_name.is_some(),
+            }
+        }
+        Err(e) => SymbolName {
+            status: status_of(e),
+            kind: 0,
+            complete_length: 0,
+            trimmed_length: 0,
+            crate_length: 0,
+            has_crate: false,
+        },
+    }
+}
+
+/// The trimmed text of a name, in a buffer.
+pub fn binfarce_trimmed(alloc: Global, name: &[u8], out: &mut [u8]) -> Text {
+    match trimmed_text(alloc, name) {
+        Ok(text) => give(text.as_bytes(), out),
+        Err(e) => none(status_of(e)),
+    }
+}
+
+/// The crate that a name tells, in a buffer.
+pub fn binfarce_crate_of(alloc: Global, name: &[u8], out: &mut [u8]) -> Text {
+    match crate_text(alloc, name) {
+        Ok(Some(text)) => give(text.as_bytes(), out),
+        Ok(None) => none(NONE),
+        Err(e) => none(status_of(e)),
+    }
+}
+
+/// How a name is mangled, decided without memory.
+pub fn binfarce_mangling(name: &[u8], out: &mut Mangling) -> u32 {
+    match str::from_utf8(name) {
+        Ok(name) => {
+            *out = mangling_of(demangle::demangle(name));
+            OK
+        }
+        Err(_) => NOT_UTF8,
+    }
+}
+
+fn mangling_of(name: Demangled<'_>) -> Mangling {
+    let part = name.part().as_bytes();
+    Mangling {
+        part: start(part),
+        part_length: part.len(),
+        kind: kind_number(name.kind()),
+    }
+}
+
+fn symbol_name(alloc: Global, name: &[u8]) -> Result<demangle::SymbolName, NameError> {
+    let text = str::from_utf8(name)?;
+    Ok(demangle::SymbolName::demangle(alloc, text)?)
+}
+
+fn trimmed_text(alloc: Global, name: &[u8]) -> Result<String, NameError> {
+    let stored = str::from_utf8(name)?;
+    let mut text = String::new(alloc);
+    push_trimmed(alloc, &mut text, stored)?;
+    Ok(text)
+}
+
+fn crate_text(alloc: Global, name: &[u8]) -> Result<Option<String>, NameError> {
+    let text = str::from_utf8(name)?;
+    Ok(crate_of(alloc, text)?)
+}
+
+fn status_of(error: NameError) -> u32 {
+    match error {
+        NameError::NotUtf8 => NOT_UTF8,
+        NameError::OutOfMemory => OUT_OF_MEMORY,
+    }
+}
+
+fn kind_number(kind: Kind) -> u32 {
+    match kind {
+        Kind::Unknown => 0,
+        Kind::Legacy => 1,
+        Kind::V0 => 2,
+    }
+}
+
+/// No text, for this reason.
+pub(crate) fn none(status: u32) -> Text {
+    Text {
+        status,
+        detail: 0,
+        length: 0,
+    }
+}

@@ -1,0 +1,156 @@
+// From crates/binfarce_chart/src/svg.rt, by tools/erase.
+
+//! The text of a picture.
+
+use crate::shim::String;
+use crate::erased::binfarce_chart::bars::{Bar, MOST_BARS, falling, length_of, others, size_of_all};
+use crate::shim::alloc::{AllocError, Global};
+
+/// The picture of these sizes, as an SVG document of its own: a bar for each, the greatest first.
+///
+/// The sum of the sizes has to be below 2^64. Of more than 40 bars the last one stands for all from the 40th on. The
+/// lengths are shares of the sum in hundredths of a per cent, and are written beside the bars; they add up to 100.00.
+/// Names are escaped. Refused: an allocation that fails.
+pub fn chart(alloc: Global, bars: &[Bar<'_>], section_size: u64) -> Result<String, AllocError> {
+    let sorted = falling(alloc, bars)?;
+    picture_of(alloc, sorted.as_slice(), section_size)
+}
+
+// The picture of bars in the order in which they are shown.
+fn picture_of(alloc: Global, bars: &[Bar<'_>], section_size: u64) -> Result<String, AllocError> {
+    let sum = size_of_all(bars);
+    let mut text = String::new(alloc);
+    push_head(&mut text, bars.len().min(MOST_BARS), sum, section_size)?;
+    push_shown(alloc, &mut text, bars, sum)?;
+    text.push_str("</svg>\n")?;
+    Ok(text)
+}
+
+// What stands before so many rows.
+fn push_head(text: &mut String, count: usize, sum: u64, section_size: u64) -> Result<(), AllocError> {
+    push_opening(text, 24 * count as u128 + 48)?;
+    push_caption(text, sum, section_size)
+}
+
+fn push_opening(text: &mut String, height: u128) -> Result<(), AllocError> {
+    writeln!(
+        text,
+        "<svg xmlns=\"http://www.w3.org/2000/svg\" width=\"800\" height=\"{height}\" viewBox=\"0 0 800 {height}\" font-family=\"sans-serif\" font-size=\"14\">"
+    )
+}
+
+fn push_caption(text: &mut String, sum: u64, section_size: u64) -> Result<(), AllocError> {
+    writeln!(
+        text,
+        "<title>Size by crate</title>\n<rect width=\"800\" height=\"100%\" fill=\"#fff\"/>\n<text x=\"8\" y=\"25\">sum {sum}, text {section_size}: bytes and share of the sum by crate</text>"
+    )
+}
+
+// The rows that are shown of these bars.
+fn push_shown(
+    alloc: Global,
+    text: &mut String,
+    bars: &[Bar<'_>],
+    sum: u64,
+) -> Result<(), AllocError> {
+    if bars.len() <= MOST_BARS {
+        return push_rows(text, bars, sum);
+    }
+    let (first, rest) = bars.split_at(MOST_BARS - 1);
+    push_rows(text, first, sum)?;
+    push_others(alloc, text, rest, sum)
+}
+
+// The row that stands for these bars, below 39 others.
+fn push_others(
+    alloc: Global,
+    text: &mut String,
+    bars: &[Bar<'_>],
+    sum: u64,
+) -> Result<(), AllocError> {
+    let size = size_of_all(bars);
+    let label = others(alloc, bars.len())?;
+    let bar = Bar {
+        name: label.as_str(),
+        size,
+    };
+    push_row(text, 976, bar, length_of(sum, sum - size, size))
+}
+
+// The rows of these bars.
+fn push_rows(text: &mut String, bars: &[Bar<'_>], sum: u64) -> Result<(), AllocError> {
+    let mut before = 0;
+    let mut top = 40u128;
+    for bar in bars {
+        push_row(text, top, *bar, length_of(sum, before, bar.size))?;
+        before += bar.size;
+        top += 24;
+    }
+    Ok(())
+}
+
+// The row of a bar, so far from the top.
+fn push_row(text: &mut String, top: u128, bar: Bar<'_>, length: u64) -> Result<(), AllocError> {
+    push_row_start(text, top)?;
+    push_escaped(text, bar.name)?;
+    push_bar(text, length)?;
+    push_figures(text, length, bar.size)
+}
+
+fn push_row_start(text: &mut String, top: u128) -> Result<(), AllocError> {
+    write!(
+        text,
+        "<svg y=\"{top}\" height=\"24\"><svg width=\"236\"><text x=\"8\" y=\"17\">"
+    )
+}
+
+fn push_bar(text: &mut String, length: u64) -> Result<(), AllocError> {
+    text.push_str(
+        "</text></svg><svg x=\"240\" width=\"360\"><rect y=\"3\" width=\"100%\" height=\"18\" fill=\"#e6e6e6\"/><rect y=\"3\" width=\"",
+    )?;
+    push_percents(text, length)?;
+    write!(text, "%\" height=\"18\" fill=\"#245\"/></svg>")
+}
+
+fn push_figures(text: &mut String, length: u64, size: u64) -> Result<(), AllocError> {
+    text.push_str("<text x=\"672\" y=\"17\" text-anchor=\"end\">")?;
+    push_percents(text, length)?;
+    writeln!(
+        text,
+        "%</text><text x=\"792\" y=\"17\" text-anchor=\"end\">{size}</text></svg>"
+    )
+}
+
+// Hundredths of a per cent, as per cents with two decimals.
+fn push_percents(text: &mut String, length: u64) -> Result<(), AllocError> {
+    write!(text, "{}.{}{}", length / 100, length / 10 % 10, length % 10)
+}
+
+// A name in which every character stands for itself.
+fn push_escaped(text: &mut String, name: &str) -> Result<(), AllocError> {
+    for byte in name.as_bytes() {
+        push_escaped_byte(text, *byte)?;
+    }
+    Ok(())
+}
+
+fn push_escaped_byte(text: &mut String, byte: u8) -> Result<(), AllocError> {
+    match byte {
+        b'<' => text.push_str("&lt;"),
+        b'>' => text.push_str("&gt;"),
+        b'&' => text.push_str("&amp;"),
+        b'"' => text.push_str("&quot;"),
+        32..=126 => text.push(byte as char),
+        _ => {
+            text.push_str("\\x")?;
+            text.push(hex_digit(byte / 16 % 16))?;
+            text.push(hex_digit(byte % 16))
+        }
+    }
+}
+
+// A lower-case hexadecimal digit.
+fn hex_digit(value: u8) -> char {
+    const DIGITS: [u8; 16] = *b"0123456789abcdef";
+    DIGITS[value as usize] as char
+}

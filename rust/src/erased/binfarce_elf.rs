@@ -1,0 +1,10 @@
+// From crates/binfarce_elf/src/lib.rt, by tools/erase.
+
+//! ELF files of both classes and both byte orders (System V gABI).
+
+mod accessors;
+pub mod class;
+pub mod header;
+pub mod parts;
+pub mod sections;
+pub mod symbols;

@@ -1,0 +1,231 @@
+// From crates/binfarce_elf/src/sections.rt, by tools/erase.
+
+//! The sections of a file of either class: their headers, the walk over these, and the names (gABI, "Sections").
+
+use crate::erased::binfarce_elf::class::{Class, Half, Word};
+use crate::erased::binfarce_elf::header::Header;
+use crate::erased::binfarce_bytes::parser::{Stream, UnexpectedEof, parse_null_string, range};
+use crate::erased::binfarce_bytes::{ByteOrder, ParseError};
+use std::marker::PhantomData;
+use std::ops::Range;
+
+/// A section header's values (gABI, "Section Header"), and the section's index. It borrows nothing.
+#[derive(Debug, Clone, Copy)]
+pub struct Section<C> {
+    pub(crate) index: Half,
+    pub(crate) name_offset: Word,
+    pub(crate) kind: Word,
+    pub(crate) address: C,
+    pub(crate) link: Word,
+    pub(crate) offset: C,
+    pub(crate) size: C,
+    pub(crate) entry_size: C,
+}
+
+impl<C: Class> Section<C> {
+    /// The section's bytes as a range of the file (`sh_offset`, `sh_size`), which isn't checked against the file's length.
+    ///
+    /// # Errors
+    ///
+    /// `MalformedInput` where the range's end passes `usize`.
+    pub fn range(&self) -> Result<Range<usize>, ParseError> {
+        range(self.offset.widened() as usize, self.size.widened() as usize)
+    }
+
+    /// How many entries of its entry size (`sh_entsize`) the section has; 0 where that size is 0.
+    pub fn entries(&self) -> C {
+        self.size.entries_of(self.entry_size)
+    }
+
+    /// The section's name, a part of the file that `parent` reads; nothing is copied.
+    ///
+    /// `None` where the section of the section names, which the file header names by `shstrndx`, is truncated or
+    /// lies outside the file, or where no text begins at the name's offset: one that isn't empty, is UTF-8, and
+    /// ends with a NUL (gABI, "String Table").
+    pub fn name<'a, P: HasSections<'a, C>>(&self, parent: &P) -> Option<&'a str> {
+        section_name::<C>(parent.section_table(), *self)
+    }
+}
+
+/// Where a file's section headers begin, as its header says.
+#[derive(Clone, Copy)]
+pub struct Table<'a> {
+    pub(crate) data: &'a [u8],
+    pub(crate) byte_order: ByteOrder,
+    pub(crate) shoff: usize,
+    pub(crate) shnum: Half,
+    pub(crate) shstrndx: Half,
+}
+
+/// A file of this class whose section header table is known: what a section asks for its name.
+pub trait HasSections<'a, C: Class> {
+    /// Where the file's section headers begin.
+    fn section_table(&self) -> Table<'a>;
+}
+
+/// Where the section headers of a file with this header begin.
+pub fn section_table<'a, C: Class>(
+    data: &'a [u8],
+    byte_order: ByteOrder,
+    header: &Header<C>,
+) -> Table<'a> {
+    Table {
+        data,
+        byte_order,
+        shoff: header.shoff.widened() as usize,
+        shnum: header.shnum,
+        shstrndx: header.shstrndx,
+    }
+}
+
+/// The section header at `start`, of the section with this index; refused where it is truncated.
+pub fn section_at<C: Class>(
+    bytes: &[u8],
+    start: usize,
+    byte_order: ByteOrder,
+    index: Half,
+) -> Result<Section<C>, UnexpectedEof> {
+    let mut s = Stream::new_at(bytes, start, byte_order)?;
+    let name_offset = s.read()?;
+    let kind = s.read()?;
+    s.skip_len(C::SIZE)?; // flags
+    let address = s.read()?;
+    let offset = s.read()?;
+    let size = s.read()?;
+    let link = s.read()?;
+    s.skip_len(4 + C::SIZE)?; // info, addralign
+    let entry_size = s.read()?;
+    Ok(Section {
+        index,
+        name_offset,
+        kind,
+        address,
+        link,
+        offset,
+        size,
+        entry_size,
+    })
+}
+
+/// The sections of a file that are left, in file order: what `sections` of a reader gives. It borrows the file's bytes.
+///
+/// A section header is read when it is asked for. `UnexpectedEof` comes in place of a header that is truncated, and
+/// where the section header table doesn't begin in the file; after it nothing comes.
+#[must_use = "iterators are lazy and do nothing unless consumed"]
+pub struct Sections<'a, C: Class> {
+    table: Table<'a>,
+    // The index of the next section; none after a refusal.
+    next: Option<Half>,
+    class: PhantomData<C>,
+}
+
+/// All sections of the table.
+pub fn sections_of<'a, C: Class>(table: Table<'a>) -> Sections<'a, C> {
+    Sections {
+        table,
+        next: Some(0),
+        class: PhantomData,
+    }
+}
+
+impl<'a, C: Class> Iterator for Sections<'a, C> {
+    type Item = Result<Section<C>, ParseError>;
+
+    fn next(&mut self) -> Option<Result<Section<C>, ParseError>> {
+        let index = self.next?;
+        match section_left::<C>(self.table, index) {
+            Err(_) => {
+                self.next = None;
+                Some(Err(ParseError::UnexpectedEof))
+            }
+            Ok(None) => None,
+            Ok(Some(section)) => {
+                self.next = Some(index + 1);
+                Some(Ok(section))
+            }
+        }
+    }
+}
+
+// The section of this index, where those before it were whole; `None` where there are no more.
+fn section_left<C: Class>(
+    table: Table<'_>,
+    index: Half,
+) -> Result<Option<Section<C>>, UnexpectedEof> {
+    if table.shoff >= table.data.len() {
+        return Err(UnexpectedEof {});
+    }
+    if index >= table.shnum {
+        return Ok(None);
+    }
+    let start = table.shoff + index as usize * C::SECTION_LENGTH;
+    match section_at(table.data, start, table.byte_order, index) {
+        Err(e) => Err(e),
+        Ok(section) => Ok(Some(section)),
+    }
+}
+
+/// The first section that the callback accepts.
+///
+/// A header is read only when the callback has refused the sections before it.
+pub fn first_section<C: Class, F: Fn(Section<C>) -> bool>(
+    table: Table<'_>,
+    callback: F,
+) -> Result<Option<Section<C>>, UnexpectedEof> {
+    let mut start = table.shoff;
+    if start >= table.data.len() {
+        return Err(UnexpectedEof {});
+    }
+    for index in 0..table.shnum {
+        let section = section_at(table.data, start, table.byte_order, index)?;
+        if callback(section) {
+            return Ok(Some(section));
+        }
+        start += C::SECTION_LENGTH;
+    }
+    Ok(None)
+}
+
+/// The first section with this name. The section names are looked up once.
+pub fn section_with_name<C: Class>(
+    table: Table<'_>,
+    name: &str,
+) -> Result<Option<Section<C>>, UnexpectedEof> {
+    let names = names_bytes::<C>(table);
+    first_section::<C, _>(table, |section| {
+        is_named(name_at(names, section.name_offset), name)
+    })
+}
+
+pub(crate) fn is_named(found: Option<&str>, name: &str) -> bool {
+    match found {
+        None => false,
+        Some(found) => found == name,
+    }
+}
+
+/// A section's name, a part of the file.
+pub(crate) fn section_name<'a, C: Class>(table: Table<'a>, section: Section<C>) -> Option<&'a str> {
+    name_at(names_bytes::<C>(table), section.name_offset)
+}
+
+pub(crate) fn name_at(names: Option<&[u8]>, offset: Word) -> Option<&str> {
+    parse_null_string(names?, offset as usize)
+}
+
+// The bytes of the section of the section names.
+fn names_bytes<'a, C: Class>(table: Table<'a>) -> Option<&'a [u8]> {
+    section_data(table.data, names_section::<C>(table)?).ok()
+}
+
+// The section of the section names, which isn't checked against the count.
+fn names_section<C: Class>(table: Table<'_>) -> Option<Section<C>> {
+    let before = C::SECTION_LENGTH.checked_mul(table.shstrndx as usize)?;
+    let start = table.shoff.checked_add(before)?;
+    section_at(table.data, start, table.byte_order, table.shstrndx).ok()
+}
+
+/// The section's bytes, a part of the file; `MalformedInput` and `UnexpectedEof` where they end past `usize` and past the file.
+pub fn section_data<C: Class>(data: &[u8], section: Section<C>) -> Result<&[u8], ParseError> {
+    data.get(section.range()?).ok_or(ParseError::UnexpectedEof)
+}

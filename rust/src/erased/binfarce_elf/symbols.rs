@@ -1,0 +1,186 @@
+// From crates/binfarce_elf/src/symbols.rt, by tools/erase.
+
+//! The function symbols of one section.
+
+use crate::erased::binfarce_elf::class::{Class, Half, SymbolRow, Word};
+use crate::erased::binfarce_elf::sections::{
+    Section, Table, first_section, section_data, section_with_name,
+};
+use crate::erased::binfarce_bytes::parser::{UnexpectedEof, parse_null_string};
+use crate::erased::binfarce_bytes::{ByteOrder, ParseError};
+use crate::erased::binfarce_symbols::functions::{FunctionSymbol, found_with};
+use std::marker::PhantomData;
+
+/// `SHT_SYMTAB`.
+const SYMBOL_TABLE: Word = 2;
+
+/// `SHT_STRTAB`.
+const STRING_TABLE: Word = 3;
+
+// Where the symbols of a section are in the file.
+#[derive(Clone, Copy)]
+struct Located<'a, C> {
+    section: Section<C>,
+    strings: &'a [u8],
+    rows: &'a [u8],
+}
+
+/// The function symbols of the section with this name, and the section's size.
+pub fn section_functions<'a, C: Class>(
+    table: Table<'a>,
+    section_name: &str,
+) -> Result<(Functions<'a, C>, u64), ParseError> {
+    let Located {
+        section,
+        strings,
+        rows,
+    } = locate::<C>(table, section_name)?;
+    let functions = Functions::new(rows, strings, table.byte_order, section.index);
+    Ok((functions, section.size.widened()))
+}
+
+// The section with this name, and the rows and the strings of the symbol table.
+fn locate<'a, C: Class>(table: Table<'a>, section_name: &str) -> Result<Located<'a, C>, ParseError> {
+    let section = named_section::<C>(table, section_name)?;
+    let symbols = symbol_table::<C>(table)?;
+    let linked = linked_section::<C>(table, symbols.link)?;
+    let string_table = string_table(linked)?;
+    let strings = section_data(table.data, string_table)?;
+    let rows = section_data(table.data, symbols)?;
+    let rows = whole_rows::<C>(rows)?;
+    Ok(Located {
+        section,
+        strings,
+        rows,
+    })
+}
+
+fn named_section<C: Class>(table: Table<'_>, name: &str) -> Result<Section<C>, ParseError> {
+    section_with_name::<C>(table, name)?.ok_or(ParseError::SymbolsSectionIsMissing)
+}
+
+pub(crate) fn symbol_table<C: Class>(table: Table<'_>) -> Result<Section<C>, ParseError> {
+    section_of_kind::<C>(table, SYMBOL_TABLE)?.ok_or(ParseError::SectionIsMissing(".symtab"))
+}
+
+fn section_of_kind<C: Class>(
+    table: Table<'_>,
+    kind: Word,
+) -> Result<Option<Section<C>>, UnexpectedEof> {
+    first_section::<C, _>(table, |section| section.kind == kind)
+}
+
+pub(crate) fn linked_section<C: Class>(
+    table: Table<'_>,
+    link: Word,
+) -> Result<Section<C>, ParseError> {
+    section_of_index::<C>(table, link)?.ok_or(ParseError::SectionIsMissing(".strtab"))
+}
+
+fn section_of_index<C: Class>(
+    table: Table<'_>,
+    index: Word,
+) -> Result<Option<Section<C>>, UnexpectedEof> {
+    first_section::<C, _>(table, |section| u32::from(section.index) == index)
+}
+
+pub(crate) fn string_table<C: Class>(section: Section<C>) -> Result<Section<C>, ParseError> {
+    if section.kind == STRING_TABLE {
+        Ok(section)
+    } else {
+        Err(ParseError::UnexpectedSectionType {
+            expected: STRING_TABLE,
+            actual: section.kind,
+        })
+    }
+}
+
+/// The rows of a symbol table, of which none is truncated.
+pub fn whole_rows<C: Class>(rows: &[u8]) -> Result<&[u8], ParseError> {
+    if rows.len() % C::SYMBOL_LENGTH == 0 {
+        Ok(rows)
+    } else {
+        Err(ParseError::UnexpectedEof)
+    }
+}
+
+/// The function symbols of a section that are left, in the order of the symbol table.
+///
+/// Rows are read as they are asked for, and names stay in the file: nothing is allocated or copied.
+#[must_use = "iterators are lazy and do nothing unless consumed"]
+pub struct Functions<'a, C> {
+    rows: &'a [u8],
+    strings: &'a [u8],
+    byte_order: ByteOrder,
+    index: Half,
+    next: usize,
+    class: PhantomData<C>,
+}
+
+impl<'a, C: Class> Functions<'a, C> {
+    /// Of the function symbols that are left the one that an address is shown by: of those whose range holds it the one of
+    /// greatest address, and of these the first. `None` where none holds it.
+    ///
+    /// A range begins at the symbol's address (`st_value`) and has its size in bytes. Each row that is left is read once;
+    /// nothing is allocated or copied.
+    pub fn symbol_at(self, address: u64) -> Option<FunctionSymbol<'a>> {
+        let mut found = None;
+        for function in self {
+            found = found_with(found, function, address);
+        }
+        found
+    }
+
+    // The functions of the section `index` in whole rows.
+    pub(crate) fn new(rows: &'a [u8], strings: &'a [u8], byte_order: ByteOrder, index: Half) -> Self {
+        Functions {
+            rows,
+            strings,
+            byte_order,
+            index,
+            next: 0,
+            class: PhantomData,
+        }
+    }
+
+    // The first function that is left, and the number of the row after it.
+    #[cfg_attr(not(debug_assertions), inline(always))]
+    fn first_left(&self) -> Option<(FunctionSymbol<'a>, usize)> {
+        for k in self.next..self.rows.len() / C::SYMBOL_LENGTH {
+            let row = C::symbol(self.rows, k * C::SYMBOL_LENGTH, self.byte_order).unwrap();
+            match function_name(self.strings, self.index, row) {
+                None => continue,
+                Some(name) => {
+                    let function = FunctionSymbol {
+                        name,
+                        address: row.value,
+                        size: row.size,
+                    };
+                    return Some((function, k + 1));
+                }
+            }
+        }
+        None
+    }
+}
+
+impl<'a, C: Class> Iterator for Functions<'a, C> {
+    type Item = FunctionSymbol<'a>;
+
+    #[cfg_attr(not(debug_assertions), inline(always))]
+    fn next(&mut self) -> Option<FunctionSymbol<'a>> {
+        let (function, next) = self.first_left()?;
+        self.next = next;
+        Some(function)
+    }
+}
+
+// The name of a function of the section `index`, with a size and a name offset.
+fn function_name(strings: &[u8], index: Half, row: SymbolRow) -> Option<&str> {
+    const STT_FUNC: u8 = 2;
+    if row.section == index && row.size != 0 && row.name != 0 && row.info & 0xf == STT_FUNC {
+        parse_null_string(strings, row.name as usize)
+    } else {
+        None
+    }
+}

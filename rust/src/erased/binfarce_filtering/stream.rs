@@ -1,0 +1,154 @@
+// From crates/binfarce_filtering/src/stream.rt, by tools/erase.
+
+//! Filters a text as it comes.
+
+use crate::shim::Vec;
+use crate::erased::binfarce_filtering::filter::TextFilter;
+use crate::shim::alloc::{AllocError, Global};
+use std::error::Error;
+use std::fmt;
+use crate::shim::io::{ErrorKind, Read, Write};
+
+// How many bytes are asked for at once.
+const CHUNK: usize = 1 << 16;
+
+/// Why a text was not filtered to its end.
+#[derive(Debug, Clone, Copy, PartialEq)]
+pub enum StreamError {
+    /// The reader failed.
+    Read,
+    /// The writer failed.
+    Write,
+    /// An allocation failed.
+    OutOfMemory,
+}
+
+impl fmt::Display for StreamError {
+    fn fmt(&self, f: &mut fmt::Formatter<'_>) -> fmt::Result {
+        match self {
+            StreamError::Read => write!(f, "read failed"),
+            StreamError::Write => write!(f, "write failed"),
+            StreamError::OutOfMemory => write!(f, "out of memory"),
+        }
+    }
+}
+
+impl Error for StreamError {}
+
+impl From<AllocError> for StreamError {
+    fn from(_: AllocError) -> Self {
+        StreamError::OutOfMemory
+    }
+}
+
+/// Filters what the reader gives: `filter` of all of it is written, and what is shown of each part before the next is
+/// read. `full` as in `filter`.
+///
+/// Memory goes by the longest run that may be a name, and by the longest text of a name. A read that was interrupted is
+/// tried again.
+///
+/// # Errors
+///
+/// `Read` where the reader failed: what came before is filtered, as if it ended there. `Write` where the writer failed, and
+/// `OutOfMemory` where an allocation did: a beginning was written.
+pub fn filter_stream<R: Read, W: Write>(
+    alloc: Global,
+    full: bool,
+    input: &mut R,
+    output: &mut W,
+) -> Result<(), StreamError> {
+    let mut filter = TextFilter::new(alloc, full);
+    let mut out = Vec::new(alloc);
+    let ended = pass_all(alloc, &mut filter, &mut out, input, output)?;
+    pass_rest(alloc, &mut filter, &mut out, output)?;
+    if ended {
+        Ok(())
+    } else {
+        Err(StreamError::Read)
+    }
+}
+
+// Passes what the reader gives. `false` where the reader failed.
+fn pass_all<R: Read, W: Write>(
+    alloc: Global,
+    filter: &mut TextFilter,
+    out: &mut Vec<u8>,
+    input: &mut R,
+    output: &mut W,
+) -> Result<bool, StreamError> {
+    let mut chunk = new_chunk(alloc)?;
+    pass_chunks(alloc, filter, out, chunk.as_mut_slice(), input, output)
+}
+
+// Room for the bytes of a read.
+fn new_chunk(alloc: Global) -> Result<Vec<u8>, AllocError> {
+    Vec::filled(alloc, 0, CHUNK)
+}
+
+// The same, with room for the bytes of a read.
+fn pass_chunks<R: Read, W: Write>(
+    alloc: Global,
+    filter: &mut TextFilter,
+    out: &mut Vec<u8>,
+    chunk: &mut [u8],
+    input: &mut R,
+    output: &mut W,
+) -> Result<bool, StreamError> {
+    for _ in 0..u64::MAX {
+        match input.read(chunk) {
+            Ok(0) => return Ok(true),
+            Ok(n) => pass(alloc, filter, out, &chunk[..n], output)?,
+            Err(e) => {
+                if e.kind() != ErrorKind::Interrupted {
+                    return Ok(false);
+                }
+            }
+        }
+    }
+    Ok(false)
+}
+
+// Passes the next part of the text.
+fn pass<W: Write>(
+    alloc: Global,
+    filter: &mut TextFilter,
+    out: &mut Vec<u8>,
+    part: &[u8],
+    output: &mut W,
+) -> Result<(), StreamError> {
+    out.clear();
+    filter.push(alloc, part, out)?;
+    write_whole(output, out.as_slice())
+}
+
+// Passes what is left at the text's end.
+fn pass_rest<W: Write>(
+    alloc: Global,
+    filter: &mut TextFilter,
+    out: &mut Vec<u8>,
+    output: &mut W,
+) -> Result<(), StreamError> {
+    out.clear();
+    filter.finish(alloc, out)?;
+    write_whole(output, out.as_slice())
+}
+
+// Writes the bytes in as many calls as the writer needs.
+fn write_whole<W: Write>(output: &mut W, bytes: &[u8]) -> Result<(), StreamError> {
+    let mut at = 0;
+    for _ in 0..u64::MAX {
+        if at == bytes.len() {
+            return output.flush().map_err(|_| StreamError::Write);
+        }
+        match output.write(&bytes[at..]) {
+            Ok(0) => return Err(StreamError::Write),
+            Ok(n) => at += n,
+            Err(e) => {
+                if e.kind() != ErrorKind::Interrupted {
+                    return Err(StreamError::Write);
+                }
+            }
+        }
+    }
+    Err(StreamError::Write)
+}

@@ -1,0 +1,8 @@
+// From crates/binfarce_legacy/src/lib.rt, by tools/erase.
+
+//! Legacy names of Rust symbols: reading them, and printing what they mean.
+
+mod elements;
+mod escapes;
+pub mod legacy;
+mod runs;

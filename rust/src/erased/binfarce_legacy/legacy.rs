@@ -1,0 +1,172 @@
+// From crates/binfarce_legacy/src/legacy.rt, by tools/erase.
+
+//! The legacy mangling: `_ZN`, elements that are each counted, and `E`.
+
+use crate::shim::String;
+use crate::erased::binfarce_legacy::elements::{element, elements_end};
+use crate::erased::binfarce_legacy::escapes::escape;
+use crate::erased::binfarce_legacy::runs::{has_mark, plain_end};
+use crate::erased::binfarce_text::prefixes::after_prefix;
+use crate::erased::binfarce_text::suffixes::is_allowed_rest;
+use crate::shim::alloc::{AllocError, Global};
+
+// What stands after the prefix of a legacy mangling.
+fn part_after_prefix(text: &str) -> Option<&str> {
+    after_prefix(text, "_ZN", "ZN", "__ZN")
+}
+
+/// The mangling that `text` is, without its prefix and with what may follow its `E`. None where `text` is no legacy
+/// mangling. Nothing is copied.
+pub fn mangling(text: &str) -> Option<&str> {
+    let part = part_after_prefix(text)?;
+    let bytes = part.as_bytes();
+    let end = elements_end(bytes)?;
+    if !is_allowed_rest(&bytes[end..]) {
+        return None;
+    }
+    if !bytes.is_ascii() {
+        return None;
+    }
+    Some(part)
+}
+
+// How long the mark is that is dropped at the front of `name`: `_` before a `$`.
+fn mark_len(name: &[u8]) -> usize {
+    if name.starts_with(b"_$") { 1 } else { 0 }
+}
+
+// Writes the piece that `name` begins with, and returns the piece's length.
+fn push_piece(text: &mut String, name: &str) -> Result<usize, AllocError> {
+    let bytes = name.as_bytes();
+    if bytes.starts_with(b"..") {
+        text.push_str("::")?;
+        return Ok(2);
+    }
+    if bytes[0] == b'.' {
+        text.push('.')?;
+        return Ok(1);
+    }
+    match escape(bytes) {
+        Some((c, len)) => {
+            text.push(c)?;
+            Ok(len)
+        }
+        None => {
+            text.push_str(name)?;
+            Ok(name.len())
+        }
+    }
+}
+
+// Writes bytes that stand for themselves. Where there are none, as between two escapes, nothing is called.
+#[cfg_attr(not(debug_assertions), inline(always))]
+fn push_run(text: &mut String, run: &str) -> Result<(), AllocError> {
+    if run.is_empty() {
+        return Ok(());
+    }
+    text.push_str(run)
+}
+
+// Writes an element's name in readable form. `wide` begins with the name.
+fn push_name(text: &mut String, name: &str, wide: &[u8]) -> Result<(), AllocError> {
+    let bytes = name.as_bytes();
+    let mut at = mark_len(bytes);
+    while at < name.len() {
+        let special = plain_end(bytes, wide, at);
+        push_run(text, &name[at..special])?;
+        if special == name.len() {
+            return Ok(());
+        }
+        at = special + push_piece(text, &name[special..])?;
+    }
+    Ok(())
+}
+
+// Whether an element's name is the last part of a path, as it stands: where the name ends at `end`, the elements end, and it
+// has no mark.
+#[cfg_attr(not(debug_assertions), inline(always))]
+fn is_last_part(part: &[u8], name: &[u8], end: usize) -> bool {
+    end < part.len() && part[end] == b'E' && !has_mark(name)
+}
+
+// Writes the path of a mangling, of which `part` stands after the prefix, after the text. Where it is to be `trimmed`, its
+// last part is left out if that is the last element's name as it stands, and not the first: whether it was left out.
+fn push_path(text: &mut String, part: &str, trimmed: bool) -> Result<bool, AllocError> {
+    let bytes = part.as_bytes();
+    let mut at = 0;
+    while let Some((start, end)) = element(bytes, at) {
+        let name = &part[start..end];
+        if at > 0 {
+            if trimmed && is_last_part(bytes, name.as_bytes(), end) {
+                return Ok(true);
+            }
+            text.push_str("::")?;
+        }
+        push_name(text, name, &bytes[start..])?;
+        at = end;
+    }
+    Ok(false)
+}
+
+/// The readable text of a mangling, of which `part` stands after the prefix. The only refusal is that an allocation was
+/// refused.
+pub fn complete(alloc: Global, part: &str) -> Result<String, AllocError> {
+    let mut text = String::with_capacity(alloc, part.len())?;
+    let _ = push_path(&mut text, part, false)?;
+    Ok(text)
+}
+
+/// Writes what the readable text of a mangling begins with after the text: its first element's name in readable form, and
+/// where another element follows, `::`; of a name that begins with an escaped `<` no more than that `<`. `part` is what
+/// stands after the prefix. The only refusal is that an allocation was refused.
+pub fn push_front(text: &mut String, part: &str) -> Result<(), AllocError> {
+    let bytes = part.as_bytes();
+    let Some((start, end)) = element(bytes, 0) else {
+        return Ok(());
+    };
+    let first = &part[start..end];
+    if first.as_bytes().starts_with(b"_$LT$") {
+        return text.push_str("<");
+    }
+    push_name(text, first, &bytes[start..])?;
+    let Some(_) = element(bytes, end) else {
+        return Ok(());
+    };
+    text.push_str("::")
+}
+
+/// Writes the readable text of a mangling without its last part after the text. The only refusal is that an allocation
+/// was refused; the text is then as it was.
+pub fn push_trimmed(text: &mut String, part: &str) -> Result<(), AllocError> {
+    let start = text.as_str().len();
+    match push_path(text, part, true) {
+        Ok(true) => Ok(()),
+        Ok(false) => {
+            let kept = without_last_part(&text.as_str()[start..]).len();
+            text.truncate(start + kept);
+            Ok(())
+        }
+        Err(refused) => {
+            text.truncate(start);
+            Err(refused)
+        }
+    }
+}
+
+// `complete` without its last part, whether that is a hash or not: up to the character before its last `:`, and all of it
+// where it has no `:`. Nothing is copied.
+fn without_last_part(complete: &str) -> &str {
+    match complete.rfind(':') {
+        None => complete,
+        Some(colon) => {
+            let mut front = complete[..colon].chars();
+            let _ = front.next_back();
+            front.as_str()
+        }
+    }
+}
+
+/// A copy of `complete` without its last part. The only refusal is that an allocation failed.
+pub fn trimmed(alloc: Global, complete: &str) -> Result<String, AllocError> {
+    String::from_str(alloc, without_last_part(complete))
+}

@@ -1,0 +1,89 @@
+// From crates/binfarce_legacy/src/runs.rt, by tools/erase.
+
+//! Runs of a name's bytes that stand for themselves: bytes that are compared side by side, 16 together.
+
+use crate::shim::simd::prelude::*;
+
+// How many bytes of a name are looked at together.
+const STRIDE: usize = 16;
+
+// Whether a byte stands for itself.
+#[cfg_attr(not(debug_assertions), inline(always))]
+fn is_plain(b: u8) -> bool {
+    b != b'.' && b != b'$'
+}
+
+// How many of 16 bytes stand for themselves before one that doesn't.
+#[cfg_attr(not(debug_assertions), inline(always))]
+fn plain_run(bytes: &[u8]) -> usize {
+    let v = u8x16::from_slice(bytes);
+    let special = (v.simd_eq(u8x16::splat(b'.')) | v.simd_eq(u8x16::splat(b'$'))).to_bitmask();
+    if special == 0 {
+        STRIDE
+    } else {
+        special.trailing_zeros() as usize
+    }
+}
+
+// Where the bytes from `at` on end that stand for themselves. `wide` begins with the name: what it has after the name is
+// looked at too, so that the last bytes of a name needn't be taken one by one, and is no part of the answer.
+#[cfg_attr(not(debug_assertions), inline(always))]
+pub(crate) fn plain_end(name: &[u8], wide: &[u8], at: usize) -> usize {
+    let mut end = at;
+    while end < name.len() && wide.len() - end >= STRIDE {
+        let run = plain_run(&wide[end..end + STRIDE]);
+        if run < STRIDE {
+            return (end + run).min(name.len());
+        }
+        end += STRIDE;
+    }
+    plain_end_slowly(name, end.min(name.len()))
+}
+
+// The same, a byte at a time.
+fn plain_end_slowly(name: &[u8], at: usize) -> usize {
+    let mut end = at;
+    while end < name.len() && is_plain(name[end]) {
+        end += 1;
+    }
+    end
+}
+
+// Whether a byte begins an escape, or is a `:`.
+#[cfg_attr(not(debug_assertions), inline(always))]
+fn is_mark(b: u8) -> bool {
+    b == b'.' || b == b'$' || b == b':'
+}
+
+// Whether one of 16 bytes is such.
+#[cfg_attr(not(debug_assertions), inline(always))]
+fn has_mark_among(bytes: &[u8]) -> bool {
+    let v = u8x16::from_slice(bytes);
+    let marks = v.simd_eq(u8x16::splat(b'.'))
+        | v.simd_eq(u8x16::splat(b'$'))
+        | v.simd_eq(u8x16::splat(b':'));
+    marks.to_bitmask() != 0
+}
+
+// Whether a byte of a name is such.
+#[cfg_attr(not(debug_assertions), inline(always))]
+pub(crate) fn has_mark(name: &[u8]) -> bool {
+    let mut at = 0;
+    while name.len() - at >= STRIDE {
+        if has_mark_among(&name[at..at + STRIDE]) {
+            return true;
+        }
+        at += STRIDE;
+    }
+    has_mark_slowly(&name[at..])
+}
+
+// The same of fewer bytes.
+#[cfg_attr(not(debug_assertions), inline(always))]
+fn has_mark_slowly(bytes: &[u8]) -> bool {
+    let mut found = false;
+    for b in bytes {
+        found |= is_mark(*b);
+    }
+    found
+}

@@ -1,0 +1,121 @@
+// From crates/binfarce_list/src/program.rt, by tools/erase.
+
+//! What the program does, over any reader and any writer.
+
+use crate::shim::String;
+use crate::erased::binfarce_program::{Failure, file_and_section, is_read_at_offsets, read_whole};
+use crate::erased::binfarce_source::Source;
+use crate::erased::binfarce_tables::ReadError;
+use crate::erased::binfarce_tools::list::{ListError, Out, list, list_tables};
+use crate::erased::binfarce_tools::tables::read;
+use crate::shim::alloc::Global;
+use crate::shim::io::{Read, Write};
+
+/// Why the program did not list a file. Its text is the line that is printed.
+#[derive(Debug)]
+pub enum Fault {
+    /// The arguments aren't a file and perhaps a section.
+    Usage,
+    /// The file can't be opened or read.
+    File,
+    /// The file was not listed.
+    List(ListError),
+}
+
+impl std::fmt::Display for Fault {
+    fn fmt(&self, f: &mut std::fmt::Formatter<'_>) -> std::fmt::Result {
+        match self {
+            Fault::Usage => write!(f, "usage: binfarce-list FILE [SECTION]"),
+            Fault::File => write!(f, "binfarce-list: cannot read file"),
+            Fault::List(e) => write!(f, "binfarce-list: {e}"),
+        }
+    }
+}
+
+impl std::error::Error for Fault {}
+
+impl From<Failure> for Fault {
+    fn from(e: Failure) -> Self {
+        match e {
+            Failure::Usage => Fault::Usage,
+            Failure::File => Fault::File,
+            Failure::OutOfMemory => Fault::List(ListError::OutOfMemory),
+            Failure::Write => Fault::List(ListError::Write),
+        }
+    }
+}
+
+impl From<ReadError> for Fault {
+    /// A file that isn't read is one that can't be read, and a refusal is that of the file.
+    fn from(e: ReadError) -> Self {
+        match e {
+            ReadError::Refused(e) => Fault::List(ListError::Parse(e)),
+            ReadError::Unreadable => Fault::from(Failure::File),
+            ReadError::OutOfMemory => Fault::from(Failure::OutOfMemory),
+        }
+    }
+}
+
+impl crate::erased::binfarce_program::Fault for Fault {
+    fn status(&self) -> u8 {
+        status(self)
+    }
+}
+
+/// The file and the section that the arguments after the program's own name give. The section is by default `.text`.
+///
+/// `Usage` for none, and for more than two.
+pub fn words(arguments: &[String]) -> Result<(&str, &str), Fault> {
+    Ok(file_and_section(arguments)?)
+}
+
+/// Reads the file to its end, and lists the function symbols of its section.
+///
+/// `File` where the reader fails; `List` where an allocation fails while it is read, and as `list` refuses.
+pub fn run<R: Read, W: Write>(
+    alloc: Global,
+    file: &mut R,
+    section: &str,
+    out: &mut Out<W>,
+) -> Result<(), Fault> {
+    let bytes = read_whole(alloc, file)?;
+    list(alloc, bytes.as_slice(), section, out).map_err(Fault::List)
+}
+
+/// Does the same of a source, of which it reads the headers, the symbol table and the names alone.
+///
+/// `File` where the source can't be read at offsets, or a read of it fails; `List` as `run`.
+pub fn run_at<S: Source, W: Write>(
+    alloc: Global,
+    source: &S,
+    section: &str,
+    out: &mut Out<W>,
+) -> Result<(), Fault> {
+    let tables = read(alloc, source, section)?;
+    match list_tables(alloc, &tables, out) {
+        Ok(()) => Ok(()),
+        Err(e) => Err(Fault::List(e)),
+    }
+}
+
+/// Does what `run_at` does where the file can be read at offsets, and else what `run` does.
+pub fn run_file<F: Read + Source, W: Write>(
+    alloc: Global,
+    file: &mut F,
+    section: &str,
+    out: &mut Out<W>,
+) -> Result<(), Fault> {
+    if is_read_at_offsets(file) {
+        run_at(alloc, file, section, out)
+    } else {
+        run(alloc, file, section, out)
+    }
+}
+
+/// The status that the program ends with: 2 for the usage, and 1 for any other fault.
+pub fn status(fault: &Fault) -> u8 {
+    match fault {
+        Fault::Usage => 2,
+        _ => 1,
+    }
+}

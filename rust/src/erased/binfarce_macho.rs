@@ -1,0 +1,10 @@
+// From crates/binfarce_macho/src/lib.rt, by tools/erase.
+
+//! 64-bit Mach-O files (Apple's `<mach-o/loader.h>` and `<mach-o/nlist.h>`).
+
+mod accessors;
+mod commands;
+pub mod header;
+pub mod parts;
+pub mod sections;
+pub mod symbols;

@@ -1,0 +1,36 @@
+// From crates/binfarce_macho/src/header.rt, by tools/erase.
+
+//! The file header (Apple's `<mach-o/loader.h>`).
+
+use crate::erased::binfarce_bytes::ByteOrder;
+use crate::erased::binfarce_bytes::parser::{UnexpectedEof, number_at};
+
+// How many bytes the header has, after which the load commands stand.
+pub(crate) const HEADER_LENGTH: usize = 32;
+
+/// The file header (`mach_header_64`), without its magic number.
+#[derive(Debug, Clone, Copy)]
+pub struct MachoHeader {
+    cputype: u32,
+    cpusubtype: u32,
+    /// The type of the file: an object, a program, a library.
+    filetype: u32,
+    /// How many load commands there are.
+    pub(crate) ncmds: u32,
+    /// How many bytes they have together.
+    pub(crate) sizeofcmds: u32,
+    flags: u32,
+}
+
+/// The header of a file, without a look at the magic number; refused for fewer than 28 bytes.
+pub fn parse_header(data: &[u8]) -> Result<MachoHeader, UnexpectedEof> {
+    let order = ByteOrder::LittleEndian;
+    Ok(MachoHeader {
+        cputype: number_at(data, 4, order)?,
+        cpusubtype: number_at(data, 8, order)?,
+        filetype: number_at(data, 12, order)?,
+        ncmds: number_at(data, 16, order)?,
+        sizeofcmds: number_at(data, 20, order)?,
+        flags: number_at(data, 24, order)?,
+    })
+}

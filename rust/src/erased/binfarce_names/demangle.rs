@@ -1,0 +1,289 @@
+// From crates/binfarce_names/src/demangle.rt, by tools/erase.
+
+//! What a symbol's name means.
+
+use crate::shim::String;
+use crate::erased::binfarce_legacy::legacy;
+use crate::erased::binfarce_text::suffixes::without_llvm;
+use crate::erased::binfarce_v0::mangling as v0;
+use crate::erased::binfarce_v0::mangling::Texts;
+pub use crate::erased::binfarce_v0_grammar::limits::{MAX_LEVELS, MAX_STEPS};
+use crate::erased::binfarce_v0_state::memory::Memory;
+use crate::erased::binfarce_v0_state::state::Printer;
+use crate::shim::alloc::{AllocError, Global};
+
+/// How a name is mangled.
+#[derive(Clone, Copy, PartialEq, Eq, Hash, Debug)]
+pub enum Kind {
+    /// Not at all, in a form that isn't read, or beyond the limits: the name stands unchanged.
+    Unknown,
+    /// As `rustc` did at first: `_ZN`, the elements of a path, each after its length, and `E`.
+    Legacy,
+    /// As RFC 2603 says: `_R` and a path.
+    V0,
+}
+
+/// A function symbol of a file.
+pub struct SymbolData {
+    /// The symbol's name: readable where it is mangled, and else as the file stores it.
+    pub name: SymbolName,
+    /// The symbol's address as the file stores it. In PE it is no address: it is an offset in bytes within the symbol's
+    /// section.
+    pub address: u64,
+    /// The symbol's size in bytes.
+    pub size: u64,
+}
+
+/// A symbol's name in readable form.
+pub struct SymbolName {
+    /// Of a legacy name its whole path, and of a v0 name its path with the disambiguators of crates. An Unknown name as
+    /// it was given.
+    pub complete: String,
+    /// Of a legacy name its path without the last part, whether that is a hash or not, and of a v0 name its path without
+    /// the disambiguators of crates. An Unknown name as it was given.
+    pub trimmed: String,
+    /// Of a v0 name the name of the first crate root in reading order that stands in no back reference: it may stand in
+    /// the path of an impl, which isn't shown, and may be empty. None where there is no such root, and of other names.
+    pub crate_name: Option<String>,
+    /// How the name is mangled.
+    pub kind: Kind,
+}
+
+/// A mangled name, of which a part of the text that was given is kept: nothing is copied.
+#[must_use]
+pub struct Demangled<'a> {
+    kind: Kind,
+    part: &'a str,
+}
+
+impl<'a> Demangled<'a> {
+    /// How the name is mangled. It was decided by `demangle`, so nothing is read here.
+    ///
+    /// `V0` says that the name is a v0 mangling. One whose text would pass the limits is `V0` here, and `Unknown` for
+    /// `SymbolName::demangle`, which has to print it to know that.
+    pub fn kind(&self) -> Kind {
+        self.kind
+    }
+
+    /// The part of the name that was kept: what stands after the mangling's prefix, without the `.llvm.` suffix; all of a
+    /// name that isn't mangled. It borrows the text that was given to `demangle`, and is still mangled.
+    pub fn part(&self) -> &'a str {
+        self.part
+    }
+}
+
+impl SymbolName {
+    /// The readable form of `name`. A name that isn't mangled stands unchanged in both texts, with kind `Unknown`; so
+    /// does a v0 name that nests deeper than `MAX_LEVELS` levels or takes more than `MAX_STEPS` steps.
+    ///
+    /// The texts are copies in memory of `alloc`.
+    ///
+    /// # Errors
+    ///
+    /// `AllocError` where an allocation failed.
+    pub fn demangle(alloc: Global, name: &str) -> Result<SymbolName, AllocError> {
+        Demangler::new(alloc).demangle(name)
+    }
+}
+
+/// Makes names readable, one after the other, in memory that it keeps for the next one.
+///
+/// What it gives of a name depends on that name alone, whatever came before: it is what `SymbolName::demangle`,
+/// `push_trimmed` and `crate_of` give. What is kept is at most 1 MiB, and less than a name took that was demangled.
+pub struct Demangler {
+    memory: Memory,
+}
+
+impl Demangler {
+    /// A demangler, which keeps no memory yet. Nothing is allocated.
+    pub fn new(alloc: Global) -> Demangler {
+        Demangler {
+            memory: Memory::new(alloc),
+        }
+    }
+
+    /// What `SymbolName::demangle` gives.
+    ///
+    /// # Errors
+    ///
+    /// `AllocError` where an allocation failed.
+    pub fn demangle(&mut self, name: &str) -> Result<SymbolName, AllocError> {
+        let stripped = without_llvm(name);
+        if let Some(part) = legacy::mangling(stripped) {
+            return legacy_name(self.memory.alloc, part);
+        }
+        match v0::both_texts(&mut self.memory, stripped)? {
+            Some(texts) => {
+                let Texts {
+                    complete,
+                    trimmed,
+                    crate_name,
+                } = texts;
+                Ok(SymbolName {
+                    complete,
+                    trimmed,
+                    crate_name,
+                    kind: Kind::V0,
+                })
+            }
+            None => unknown(self.memory.alloc, name),
+        }
+    }
+
+    /// Writes the trimmed text of `name` after `text`, as `push_trimmed` does.
+    ///
+    /// # Errors
+    ///
+    /// `AllocError` where an allocation failed. `text` is then as it was.
+    pub fn push_trimmed(&mut self, text: &mut String, name: &str) -> Result<(), AllocError> {
+        let stripped = without_llvm(name);
+        if let Some(part) = legacy::mangling(stripped) {
+            return legacy::push_trimmed(text, part);
+        }
+        let Some(part) = v0::candidate(stripped) else {
+            return text.push_str(name);
+        };
+        self.push_candidate(text, name, part)
+    }
+
+    // The same of a name that is no legacy mangling and may be a v0 one. A printing is a large value, to which zeros are
+    // written where a function begins: other names don't come here.
+    #[inline(never)]
+    fn push_candidate(
+        &mut self,
+        text: &mut String,
+        name: &str,
+        part: &str,
+    ) -> Result<(), AllocError> {
+        let mut printer = Printer::new(self.memory.take(), part, false, false);
+        if !v0::print_mangling(&mut printer)? {
+            self.memory.put_back(printer.into_buffers());
+            return text.push_str(name);
+        }
+        let pushed = text.push_str(printer.trimmed_text());
+        self.memory.put_back(printer.into_buffers());
+        pushed
+    }
+
+    /// The crate that `name` tells, as `crate_of` gives it.
+    ///
+    /// # Errors
+    ///
+    /// `AllocError` where an allocation failed.
+    pub fn crate_of(&mut self, name: &str) -> Result<Option<String>, AllocError> {
+        crate_of(self.memory.alloc, name)
+    }
+}
+
+/// Writes the trimmed text of `name`, the one that `SymbolName::demangle` gives, after `text`.
+///
+/// # Errors
+///
+/// `AllocError` where an allocation failed. `text` is then as it was.
+pub fn push_trimmed(alloc: Global, text: &mut String, name: &str) -> Result<(), AllocError> {
+    Demangler::new(alloc).push_trimmed(text, name)
+}
+
+/// The crate that `name` tells: of a v0 name its `crate_name`, and of a legacy name the first part of its path, unless
+/// that begins with `<`. None where no crate is told, and of other names.
+///
+/// # Errors
+///
+/// `AllocError` where an allocation failed.
+pub fn crate_of(alloc: Global, name: &str) -> Result<Option<String>, AllocError> {
+    let mut text = String::new(alloc);
+    if push_crate(alloc, &mut text, name)? {
+        Ok(Some(text))
+    } else {
+        Ok(None)
+    }
+}
+
+/// Writes the crate that `crate_of` gives after `text`: true where `name` tells one, and else false, and nothing is written.
+/// Where many names tell few crates, one text that is cleared before each name takes the memory of the longest alone.
+///
+/// # Errors
+///
+/// `AllocError` where an allocation failed. `text` is then as it was.
+pub fn push_crate(alloc: Global, text: &mut String, name: &str) -> Result<bool, AllocError> {
+    let stripped = without_llvm(name);
+    match legacy::mangling(stripped) {
+        Some(part) => push_path_crate(text, part),
+        None => v0::push_crate_name(alloc, text, stripped),
+    }
+}
+
+// Writes the crate that the path of a legacy mangling begins with after the text: whether there is one. What stands behind
+// the path's first element, or the `::` after it, isn't looked at: the crate is told before it. An allocation that was
+// refused leaves the text as it was.
+fn push_path_crate(text: &mut String, part: &str) -> Result<bool, AllocError> {
+    let start = text.as_str().len();
+    match legacy::push_front(text, part) {
+        Ok(()) => {
+            let front = &text.as_str()[start..];
+            if front.starts_with("<") {
+                text.truncate(start);
+                return Ok(false);
+            }
+            let kept = first_part(front).len();
+            text.truncate(start + kept);
+            Ok(true)
+        }
+        Err(refused) => {
+            text.truncate(start);
+            Err(refused)
+        }
+    }
+}
+
+// A path up to its first `::`, or all of it.
+fn first_part(path: &str) -> &str {
+    match path.split_once("::") {
+        Some((first, _)) => first,
+        None => path,
+    }
+}
+
+// The name of a legacy mangling, of which `part` stands after the prefix.
+fn legacy_name(alloc: Global, part: &str) -> Result<SymbolName, AllocError> {
+    let complete = legacy::complete(alloc, part)?;
+    let trimmed = legacy::trimmed(alloc, complete.as_str())?;
+    Ok(SymbolName {
+        complete,
+        trimmed,
+        crate_name: None,
+        kind: Kind::Legacy,
+    })
+}
+
+// A name that stands unchanged.
+fn unknown(alloc: Global, name: &str) -> Result<SymbolName, AllocError> {
+    Ok(SymbolName {
+        complete: String::from_str(alloc, name)?,
+        trimmed: String::from_str(alloc, name)?,
+        crate_name: None,
+        kind: Kind::Unknown,
+    })
+}
+
+/// How `name` is mangled, decided without memory. What is kept of `name` is the part after the mangling's prefix, without
+/// the `.llvm.` suffix that LLVM may have added; of a name that isn't mangled, all of it.
+pub fn demangle(name: &str) -> Demangled<'_> {
+    let text = without_llvm(name);
+    if let Some(part) = legacy::mangling(text) {
+        return Demangled {
+            kind: Kind::Legacy,
+            part,
+        };
+    }
+    match v0::mangled_part(text) {
+        Some(part) => Demangled {
+            kind: Kind::V0,
+            part,
+        },
+        None => Demangled {
+            kind: Kind::Unknown,
+            part: name,
+        },
+    }
+}

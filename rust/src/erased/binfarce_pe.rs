@@ -1,0 +1,9 @@
+// From crates/binfarce_pe/src/lib.rt, by tools/erase.
+
+//! PE files with COFF symbols (Microsoft PE Format).
+
+mod accessors;
+pub mod header;
+pub mod parts;
+pub mod sections;
+pub mod symbols;

@@ -1,0 +1,41 @@
+// From crates/binfarce_pe/src/header.rt, by tools/erase.
+
+//! The file header (Microsoft PE Format, "COFF File Header").
+
+use crate::erased::binfarce_pe::parts::SIGNATURE_POINTER;
+use crate::erased::binfarce_bytes::ByteOrder;
+use crate::erased::binfarce_bytes::parser::{Stream, UnexpectedEof, number_at};
+
+/// The COFF file header ("COFF File Header").
+#[derive(Debug, Clone, Copy)]
+pub struct PeHeader {
+    machine: u16,
+    pub(crate) number_of_sections: u16,
+    time_date_stamp: u32,
+    pub(crate) pointer_to_symbol_table: u32,
+    pub(crate) number_of_symbols: u32,
+    pub(crate) size_of_optional_header: u16,
+    characteristics: u16,
+}
+
+/// The signature's offset, and the file header.
+pub fn parse_header(data: &[u8]) -> Result<(u32, PeHeader), UnexpectedEof> {
+    let pe_pointer: u32 = number_at(data, SIGNATURE_POINTER, ByteOrder::LittleEndian)?;
+    let header = header_after(data, pe_pointer as usize)?;
+    Ok((pe_pointer, header))
+}
+
+// The file header after the signature at this offset.
+pub(crate) fn header_after(data: &[u8], signature: usize) -> Result<PeHeader, UnexpectedEof> {
+    let mut s = Stream::new_at(data, signature, ByteOrder::LittleEndian)?;
+    s.skip::<u32>()?; // signature
+    Ok(PeHeader {
+        machine: s.read()?,
+        number_of_sections: s.read()?,
+        time_date_stamp: s.read()?,
+        pointer_to_symbol_table: s.read()?,
+        number_of_symbols: s.read()?,
+        size_of_optional_header: s.read()?,
+        characteristics: s.read()?,
+    })
+}

@@ -1,0 +1,89 @@
+// From crates/binfarce_pe/src/parts.rt, by tools/erase.
+
+//! What the symbols of a file need, found in the file header and in the section headers alone.
+
+use crate::shim::Vec;
+use crate::erased::binfarce_pe::header::{PeHeader, header_after};
+use crate::erased::binfarce_pe::sections::Table;
+use crate::erased::binfarce_pe::symbols::{SYMBOL_LENGTH, SymbolTable, functions_of, text_among};
+use crate::erased::binfarce_bytes::parser::number_at;
+use crate::erased::binfarce_bytes::{ByteOrder, ParseError};
+use crate::erased::binfarce_symbols::functions::FunctionSymbol;
+use crate::shim::alloc::{AllocError, Global};
+
+/// Where the offset of the signature stands in the MS-DOS stub.
+pub const SIGNATURE_POINTER: usize = 0x3c;
+
+/// How many bytes the signature and the file header have.
+pub const HEADERS_LENGTH: usize = 24;
+
+/// How many bytes a section header has.
+pub const SECTION_LENGTH: usize = 40;
+
+/// Where the tables of a file are, in bytes from its beginning.
+#[derive(Clone, Copy)]
+pub struct Places {
+    /// Where the section table begins.
+    pub sections: usize,
+    /// How many section headers it has.
+    pub section_count: u16,
+    /// Where the symbol table begins.
+    pub symbols: usize,
+    /// How many bytes its records have.
+    pub symbols_size: usize,
+}
+
+/// The index of the section `.text`, counted from 0, and how many bytes it has in the file.
+#[derive(Clone, Copy)]
+pub struct Text {
+    pub index: u16,
+    pub size: u32,
+}
+
+/// The offset of the signature, which the first 4 bytes are. Refused where there are fewer.
+pub fn signature_in(pointer: &[u8]) -> Result<u32, ParseError> {
+    Ok(number_at(pointer, 0, ByteOrder::LittleEndian)?)
+}
+
+/// The places that a file header states: `headers` begins with the signature, which stands at this offset of the file.
+/// Refused where the file header is truncated.
+pub fn places_in(headers: &[u8], signature: u32) -> Result<Places, ParseError> {
+    let header = header_after(headers, 0)?;
+    Ok(places_after(signature, header))
+}
+
+/// The places that this file header states, where the signature stands at this offset of the file.
+pub fn places_after(signature: u32, header: PeHeader) -> Places {
+    let optional_header = signature as usize + HEADERS_LENGTH;
+    Places {
+        sections: optional_header + header.size_of_optional_header as usize,
+        section_count: header.number_of_sections,
+        symbols: header.pointer_to_symbol_table as usize,
+        symbols_size: header.number_of_symbols as usize * SYMBOL_LENGTH,
+    }
+}
+
+/// The first section `.text`, found in `count` section headers. Refused as `functions` of a reader is, up to there.
+pub fn text_in(headers: &[u8], count: u16) -> Result<Text, ParseError> {
+    let table = Table {
+        bytes: headers,
+        offset: 0,
+        count,
+    };
+    let text = text_among(table)?;
+    Ok(Text {
+        index: text.index,
+        size: text.size_of_raw_data,
+    })
+}
+
+/// The function symbols of this section in these records, whose long names are in these strings. `OutOfMemory` comes only
+/// in place of a list that isn't empty.
+pub fn functions_in<'a>(
+    alloc: Global,
+    rows: &'a [u8],
+    strings: &'a [u8],
+    text: Text,
+) -> Result<Vec<FunctionSymbol<'a>>, AllocError> {
+    functions_of(alloc, SymbolTable { rows, strings }, text.index, text.size)
+}

@@ -1,0 +1,193 @@
+// From crates/binfarce_pe/src/sections.rt, by tools/erase.
+
+//! The sections of a file (Microsoft PE Format, "Section Table").
+
+use crate::erased::binfarce_pe::parts::{Places, SECTION_LENGTH};
+use crate::erased::binfarce_bytes::parser::{Stream, UnexpectedEof, range, up_to_nul, utf8_text};
+use crate::erased::binfarce_bytes::{ByteOrder, ParseError};
+use std::ops::Range;
+
+/// A section header's values ("Section Table"), and the section's index, counted from 0.
+///
+/// The name is a part of the file, which the section borrows and not its reader.
+#[derive(Debug, Clone, Copy)]
+pub struct Section<'a> {
+    pub(crate) name: &'a str,
+    pub(crate) virtual_size: u32,
+    pub(crate) virtual_address: u32,
+    pub(crate) size_of_raw_data: u32,
+    pub(crate) pointer_to_raw_data: u32,
+    pub(crate) index: u16,
+}
+
+impl Section<'_> {
+    /// The bytes of the file that the section has, from its raw pointer on and as many as its raw size.
+    ///
+    /// The range isn't checked against the file's length.
+    ///
+    /// # Errors
+    ///
+    /// None: the range always fits a `usize`.
+    pub fn range(&self) -> Result<Range<usize>, ParseError> {
+        range(
+            self.pointer_to_raw_data as usize,
+            self.size_of_raw_data as usize,
+        )
+    }
+}
+
+/// The bytes that the section has in the file, a part of them; `UnexpectedEof` where they end past the file.
+pub fn section_data<'a>(file: &'a [u8], section: &Section<'_>) -> Result<&'a [u8], ParseError> {
+    file.get(section.range()?).ok_or(ParseError::UnexpectedEof)
+}
+
+/// The sections of a file that are left, in file order: what `Pe::sections` gives. It borrows the file's bytes.
+///
+/// A section header is read when it is asked for. `UnexpectedEof` comes in place of a header that is truncated, and
+/// where the section table doesn't begin in the file; after it nothing comes.
+#[must_use = "iterators are lazy and do nothing unless consumed"]
+pub struct Sections<'a> {
+    table: Table<'a>,
+    // The index of the next section header; none after a refusal.
+    next: Option<u16>,
+}
+
+// Section headers: the bytes that they lie in, where they begin there, and how many there are.
+#[derive(Clone, Copy)]
+pub(crate) struct Table<'a> {
+    pub(crate) bytes: &'a [u8],
+    pub(crate) offset: usize,
+    pub(crate) count: u16,
+}
+
+/// All sections of the file, whose places these are.
+pub fn sections_of<'a>(file: &'a [u8], places: Places) -> Sections<'a> {
+    Sections {
+        table: section_table(file, places),
+        next: Some(0),
+    }
+}
+
+/// The section headers of a file.
+pub(crate) fn section_table<'a>(file: &'a [u8], places: Places) -> Table<'a> {
+    Table {
+        bytes: file,
+        offset: places.sections,
+        count: places.section_count,
+    }
+}
+
+impl<'a> Iterator for Sections<'a> {
+    type Item = Result<Section<'a>, ParseError>;
+
+    fn next(&mut self) -> Option<Result<Section<'a>, ParseError>> {
+        let index = self.next?;
+        match section_left(self.table, index) {
+            Err(_) => {
+                self.next = None;
+                Some(Err(ParseError::UnexpectedEof))
+            }
+            Ok(None) => None,
+            Ok(Some((section, next))) => {
+                self.next = Some(next);
+                Some(Ok(section))
+            }
+        }
+    }
+}
+
+// The first section from this index on, where the headers before it were whole, and the index after its own; `None` where
+// there are no more.
+fn section_left(table: Table<'_>, from: u16) -> Result<Option<(Section<'_>, u16)>, UnexpectedEof> {
+    if table.offset >= table.bytes.len() {
+        return Err(UnexpectedEof {});
+    }
+    for index in from..table.count {
+        let start = table.offset + index as usize * SECTION_LENGTH;
+        match section_at(table.bytes, start, index) {
+            Err(e) => return Err(e),
+            Ok(None) => {}
+            Ok(Some(section)) => return Ok(Some((section, index + 1))),
+        }
+    }
+    Ok(None)
+}
+
+/// The first section of the file that the callback accepts.
+pub fn first_of_file<'a, F: Fn(Section<'a>) -> bool>(
+    file: &'a [u8],
+    places: Places,
+    callback: F,
+) -> Result<Option<Section<'a>>, UnexpectedEof> {
+    first_section(section_table(file, places), callback)
+}
+
+// The first section of the table that the callback accepts.
+fn first_section<'a, F: Fn(Section<'a>) -> bool>(
+    table: Table<'a>,
+    callback: F,
+) -> Result<Option<Section<'a>>, UnexpectedEof> {
+    let mut start = table.offset;
+    if start >= table.bytes.len() {
+        return Err(UnexpectedEof {});
+    }
+    for index in 0..table.count {
+        let found = section_at(table.bytes, start, index)?;
+        start += SECTION_LENGTH;
+        let section = match found {
+            None => continue,
+            Some(section) => section,
+        };
+        if is_accepted(&callback, section) {
+            return Ok(Some(section));
+        }
+    }
+    Ok(None)
+}
+
+/// The first section with this name.
+pub fn section_with_name<'a>(
+    file: &'a [u8],
+    places: Places,
+    name: &str,
+) -> Result<Option<Section<'a>>, UnexpectedEof> {
+    section_named(section_table(file, places), name)
+}
+
+// The first section of a table with this name. The error holds no text, so that the closure may borrow the name.
+pub(crate) fn section_named<'a>(
+    table: Table<'a>,
+    name: &str,
+) -> Result<Option<Section<'a>>, UnexpectedEof> {
+    first_section(table, |section| section.name == name)
+}
+
+fn is_accepted<'a, F: Fn(Section<'a>) -> bool>(callback: &F, section: Section<'a>) -> bool {
+    callback(section)
+}
+
+// The section whose header begins at `start`, where its name is UTF-8; refused where a field is truncated.
+fn section_at(data: &[u8], start: usize, index: u16) -> Result<Option<Section<'_>>, UnexpectedEof> {
+    let mut s = Stream::new_at(data, start, ByteOrder::LittleEndian)?;
+    let name = s.read_bytes(8)?;
+    let virtual_size = s.read()?;
+    let virtual_address = s.read()?;
+    let size_of_raw_data = s.read()?;
+    let pointer_to_raw_data = s.read()?;
+    match short_name(name) {
+        None => Ok(None),
+        Some(name) => Ok(Some(Section {
+            name,
+            virtual_size,
+            virtual_address,
+            size_of_raw_data,
+            pointer_to_raw_data,
+            index,
+        })),
+    }
+}
+
+// The bytes up to the first NUL, or all where there is none, as UTF-8.
+pub(crate) fn short_name(bytes: &[u8]) -> Option<&str> {
+    utf8_text(up_to_nul(bytes))
+}

@@ -1,0 +1,101 @@
+// From crates/binfarce_ranges/src/address.rt, by tools/erase.
+
+//! Addresses as words.
+
+/// The address that a word writes: 1 to 16 hexadecimal digits, in upper or lower case, before which `0x` may stand. `None`
+/// for any other word.
+pub fn parse_address(word: &[u8]) -> Option<u64> {
+    if word.starts_with(b"0x") {
+        hex_number(&word[2..])
+    } else {
+        hex_number(word)
+    }
+}
+
+/// The address that the first line of the bytes writes, and how many bytes the line has, where these are 1 to 16 digits and
+/// nothing else. `None` doesn't say that the line writes no address: it may have `0x` before its digits.
+pub fn hex_line(bytes: &[u8]) -> Option<(u64, usize)> {
+    if let Some(address) = full_line(bytes) {
+        return Some((address, 16));
+    }
+    let mut number = 0;
+    for (len, byte) in bytes.iter().enumerate() {
+        match hex_digit(*byte) {
+            Some(value) => {
+                if len == 16 {
+                    return None;
+                }
+                number = 16 * number + value;
+            }
+            None => {
+                return if *byte == b'\n' && len > 0 {
+                    Some((number, len))
+                } else {
+                    None
+                };
+            }
+        }
+    }
+    None
+}
+
+// The address that the first 16 bytes write, where all are digits and a line feed follows: read without a branch on each.
+fn full_line(bytes: &[u8]) -> Option<u64> {
+    if bytes.len() <= 16 || bytes[16] != b'\n' {
+        return None;
+    }
+    let mut number = 0;
+    let mut greatest = 0;
+    for digit in &bytes[..16] {
+        let value = value_of(*digit);
+        greatest = value.max(greatest);
+        number = u64::wrapping_mul(number, 16).wrapping_add(value as u64);
+    }
+    if greatest > 15 {
+        return None;
+    }
+    Some(number)
+}
+
+// The number that 1 to 16 digits write.
+fn hex_number(digits: &[u8]) -> Option<u64> {
+    if digits.is_empty() || digits.len() > 16 {
+        return None;
+    }
+    let mut number = 0;
+    for digit in digits {
+        number = 16 * number + hex_digit(*digit)?;
+    }
+    Some(number)
+}
+
+// What each byte is worth as a digit; 16 where it is none.
+const VALUES: [u8; 256] = [
+    16, 16, 16, 16, 16, 16, 16, 16, 16, 16, 16, 16, 16, 16, 16, 16, 16, 16, 16, 16, 16, 16, 16, 16,
+    16, 16, 16, 16, 16, 16, 16, 16, 16, 16, 16, 16, 16, 16, 16, 16, 16, 16, 16, 16, 16, 16, 16, 16,
+    0, 1, 2, 3, 4, 5, 6, 7, 8, 9, 16, 16, 16, 16, 16, 16, 16, 10, 11, 12, 13, 14, 15, 16, 16, 16,
+    16, 16, 16, 16, 16, 16, 16, 16, 16, 16, 16, 16, 16, 16, 16, 16, 16, 16, 16, 16, 16, 16, 16, 10,
+    11, 12, 13, 14, 15, 16, 16, 16, 16, 16, 16, 16, 16, 16, 16, 16, 16, 16, 16, 16, 16, 16, 16, 16,
+    16, 16, 16, 16, 16, 16, 16, 16, 16, 16, 16, 16, 16, 16, 16, 16, 16, 16, 16, 16, 16, 16, 16, 16,
+    16, 16, 16, 16, 16, 16, 16, 16, 16, 16, 16, 16, 16, 16, 16, 16, 16, 16, 16, 16, 16, 16, 16, 16,
+    16, 16, 16, 16, 16, 16, 16, 16, 16, 16, 16, 16, 16, 16, 16, 16, 16, 16, 16, 16, 16, 16, 16, 16,
+    16, 16, 16, 16, 16, 16, 16, 16, 16, 16, 16, 16, 16, 16, 16, 16, 16, 16, 16, 16, 16, 16, 16, 16,
+    16, 16, 16, 16, 16, 16, 16, 16, 16, 16, 16, 16, 16, 16, 16, 16, 16, 16, 16, 16, 16, 16, 16, 16,
+    16, 16, 16, 16, 16, 16, 16, 16, 16, 16, 16, 16, 16, 16,
+];
+
+// What a digit is worth: one look, since branches on digits are guessed wrong.
+#[cfg_attr(not(debug_assertions), inline(always))]
+fn hex_digit(digit: u8) -> Option<u64> {
+    let value = VALUES[digit as usize];
+    if value > 15 {
+        return None;
+    }
+    Some(value as u64)
+}
+
+// The same, and more than 15 where it is none.
+#[cfg_attr(not(debug_assertions), inline(always))]
+fn value_of(digit: u8) -> u8 {
+    VALUES[digit as usize]
+}

@@ -1,0 +1,33 @@
+// From crates/binfarce_reading/src/elf64.rt, by tools/erase.
+
+//! 64-bit ELF files of either byte order, read where their tables are (System V gABI).
+
+use crate::erased::binfarce_reading::elf;
+use crate::erased::binfarce_bytes::ByteOrder;
+use crate::erased::binfarce_source::Source;
+pub use crate::erased::binfarce_tables::elf64::{SectionParts, read_sections};
+use crate::erased::binfarce_tables::{ReadError, elf64};
+use crate::shim::alloc::Global;
+
+/// The parts of a 64-bit file that the function symbols of a section are read from, in memory.
+pub type Parts = elf::Parts<u64>;
+
+/// Reads the parts of a file that the function symbols of the section with this name are read from, numbers in the
+/// given order, without a look at the magic number: the file header of 64 bytes, the header of the section names' own
+/// section, the section names, all section headers, the symbol table and its strings. Each is read once, into memory of
+/// its size, which is never more than what the file holds of it. No other byte is read.
+///
+/// # Errors
+///
+/// `Refused` with what `parse` and `functions` of a reader of the whole file refuse; `Unreadable` where the source can't
+/// be read at offsets, or a read of it fails, and never of a source that can't fail, as bytes in memory are;
+/// `OutOfMemory` where an allocation fails.
+pub fn read<S: Source>(
+    alloc: Global,
+    source: &S,
+    byte_order: ByteOrder,
+    section_name: &str,
+) -> Result<Parts, ReadError> {
+    let tables = elf64::read(alloc, source, byte_order, section_name)?;
+    Ok(elf::of_tables(tables))
+}

@@ -1,0 +1,122 @@
+// From crates/binfarce_sections/src/bytes.rt, by tools/erase.
+
+//! The bytes of the first section of a name.
+
+use crate::erased::binfarce_sections::error::SectionError;
+use crate::erased::binfarce_sections::sections::{Section, Sections, sections_of};
+use crate::erased::binfarce_sections::tables::read_named;
+use crate::erased::binfarce::ParseError;
+use crate::erased::binfarce_source::Source;
+use crate::erased::binfarce_tools::list::Sink;
+use crate::erased::binfarce_tools::writing::write_whole;
+use crate::shim::alloc::Global;
+
+/// The bytes of the first section of this name, a part of the file; nothing is copied or allocated.
+///
+/// The format is the one that the file's first bytes name. In a Mach-O file the name is `SEGMENT,SECTION`, as
+/// `__TEXT,__text`, or a section's name alone, which is then the first of that name in any segment. In a PE file a name of
+/// more than 8 bytes stands in the string table, and the section's own name is as `/4`.
+///
+/// # Errors
+///
+/// `Unknown` where the format isn't one that is read; `Parse` where the reader refuses the file before the section is
+/// found; `NoSection` where no section has the name; `NoBytes` where the section has no bytes in the file (`SHT_NOBITS`,
+/// in Mach-O an offset of 0, in PE no raw data); `PastEnd` where its bytes end past the file.
+pub fn section_bytes<'a>(data: &'a [u8], name: &str) -> Result<&'a [u8], SectionError> {
+    match first_section(data, name)? {
+        Some(section) => bytes_of(data, section),
+        None => Err(SectionError::NoSection),
+    }
+}
+
+/// Writes the bytes of the first section of this name to the sink, as `section_bytes` gives them; none is copied on the way.
+///
+/// # Errors
+///
+/// As `section_bytes`, before anything is written; `Write` where a write failed, which alone can leave a beginning of the
+/// bytes written.
+pub fn write_section<S: Sink>(data: &[u8], name: &str, out: &mut S) -> Result<(), SectionError> {
+    let bytes = section_bytes(data, name)?;
+    write_all(bytes, out)
+}
+
+// Writes all of the bytes.
+fn write_all<S: Sink>(bytes: &[u8], out: &mut S) -> Result<(), SectionError> {
+    write_whole(out, bytes).map_err(|_| SectionError::Write)
+}
+
+/// The same of the bytes of a source, of which only these are read: the first 8 bytes, what `read_sections` of
+/// `binfarce_tables` reads of a file of their format, and the section's bytes, in memory of its size.
+///
+/// # Errors
+///
+/// As `write_section`, and before anything is written `Unreadable` where the source can't be read at offsets, or a read of it
+/// fails, and `OutOfMemory` where an allocation fails.
+pub fn write_section_of<F: Source, S: Sink>(
+    alloc: Global,
+    source: &F,
+    name: &str,
+    out: &mut S,
+) -> Result<(), SectionError> {
+    let bytes = read_named(alloc, source, name)?;
+    write_all(bytes.as_slice(), out)
+}
+
+// The first section of this name.
+fn first_section<'a>(data: &'a [u8], name: &str) -> Result<Option<Section<'a>>, SectionError> {
+    let sections = sections_of(data)?;
+    Ok(first_in(sections, name)?)
+}
+
+// The first of the sections that are left that has this name.
+pub(crate) fn first_in<'a>(
+    sections: Sections<'a>,
+    name: &str,
+) -> Result<Option<Section<'a>>, ParseError> {
+    for section in sections {
+        let section = section?;
+        if is_named(&section, name) {
+            return Ok(Some(section));
+        }
+    }
+    Ok(None)
+}
+
+// The bytes of a section, a part of the file.
+fn bytes_of<'a>(data: &'a [u8], section: Section<'_>) -> Result<&'a [u8], SectionError> {
+    if !section.has_bytes {
+        return Err(SectionError::NoBytes);
+    }
+    let start = section.offset as usize;
+    let end = start
+        .checked_add(section.size as usize)
+        .ok_or(SectionError::PastEnd)?;
+    data.get(start..end).ok_or(SectionError::PastEnd)
+}
+
+// Whether the word names the section.
+fn is_named(section: &Section<'_>, word: &str) -> bool {
+    match section.name {
+        None => false,
+        Some(name) => match section.segment {
+            None => word == name,
+            Some(segment) => word == name || is_full_name(word, segment, name),
+        },
+    }
+}
+
+// Whether the word is a segment's name, a comma and a section's name.
+fn is_full_name(word: &str, segment: &str, name: &str) -> bool {
+    match word.as_bytes().strip_prefix(segment.as_bytes()) {
+        Some(rest) => is_after_comma(rest, name.as_bytes()),
+        None => false,
+    }
+}
+
+// Whether the bytes are a comma and the name.
+fn is_after_comma(bytes: &[u8], name: &[u8]) -> bool {
+    match bytes {
+        [b',', rest @ ..] => *rest == *name,
+        _ => false,
+    }
+}

@@ -1,0 +1,70 @@
+// From crates/binfarce_sections/src/error.rt, by tools/erase.
+
+//! Why no sections or no bytes of one are given.
+
+use crate::erased::binfarce::ParseError;
+use crate::erased::binfarce_tables::ReadError;
+use crate::shim::alloc::AllocError;
+use std::error::Error;
+use std::fmt;
+
+/// Why the sections of a file were not listed, or the bytes of one not given.
+#[derive(Debug, PartialEq)]
+pub enum SectionError {
+    /// The file's first bytes name no format that is read.
+    Unknown,
+    /// The reader of the file's format refused it before the section was found, or before the last one was listed.
+    Parse(ParseError),
+    /// The file has no section of this name.
+    NoSection,
+    /// The section has no bytes in the file.
+    NoBytes,
+    /// The section's bytes end past the file.
+    PastEnd,
+    /// An allocation failed.
+    OutOfMemory,
+    /// A write of the sink failed. What it took before is a beginning of what was due.
+    Write,
+    /// The source can't be read at offsets, or a read of it failed, as where it became shorter. Bytes in memory never are it.
+    Unreadable,
+}
+
+impl fmt::Display for SectionError {
+    fn fmt(&self, f: &mut fmt::Formatter<'_>) -> fmt::Result {
+        match self {
+            SectionError::Unknown => write!(f, "unknown file format"),
+            SectionError::Parse(e) => write!(f, "{e}"),
+            SectionError::NoSection => write!(f, "no section of this name"),
+            SectionError::NoBytes => write!(f, "section has no bytes in the file"),
+            SectionError::PastEnd => write!(f, "section reaches past the end of the file"),
+            SectionError::OutOfMemory => write!(f, "out of memory"),
+            SectionError::Write => write!(f, "write failed"),
+            SectionError::Unreadable => write!(f, "cannot read file"),
+        }
+    }
+}
+
+impl Error for SectionError {}
+
+impl From<ParseError> for SectionError {
+    fn from(e: ParseError) -> Self {
+        SectionError::Parse(e)
+    }
+}
+
+impl From<AllocError> for SectionError {
+    fn from(_: AllocError) -> Self {
+        SectionError::OutOfMemory
+    }
+}
+
+impl From<ReadError> for SectionError {
+    /// A refusal is that of the file.
+    fn from(e: ReadError) -> Self {
+        match e {
+            ReadError::Refused(e) => SectionError::Parse(e),
+            ReadError::Unreadable => SectionError::Unreadable,
+            ReadError::OutOfMemory => SectionError::OutOfMemory,
+        }
+    }
+}

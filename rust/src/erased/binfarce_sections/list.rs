@@ -1,0 +1,104 @@
+// From crates/binfarce_sections/src/list.rt, by tools/erase.
+
+//! Lists the sections of an executable, a line each.
+
+use crate::shim::String;
+use crate::erased::binfarce_sections::error::SectionError;
+use crate::erased::binfarce_sections::sections::{Section, Sections, sections_of};
+use crate::erased::binfarce_sections::tables::read;
+use crate::erased::binfarce::ParseError;
+use crate::erased::binfarce_source::Source;
+use crate::erased::binfarce_tools::list::Sink;
+use crate::erased::binfarce_tools::writing::write_whole;
+use crate::shim::alloc::{AllocError, Global};
+
+/// Lists the sections of a file in file order, a line each, as far as they can be read.
+///
+/// The format is the one that the file's first bytes name. A line is `{address:016x} {offset:>10} {size:>10} {name}`, with
+/// the offset in the file and the size in bytes; in a Mach-O file the name is `SEGMENT,SECTION`. Names are written as they
+/// are stored, whatever characters they hold. All lines are made before the first byte is written.
+///
+/// # Errors
+///
+/// `Unknown` where the format isn't one that is read, and `OutOfMemory` where an allocation failed: nothing is written then.
+/// `Parse` where the reader refuses to go on: the lines of the sections before are written. `Write` where a write failed,
+/// which can leave a beginning of the lines written.
+pub fn list_sections<S: Sink>(alloc: Global, data: &[u8], out: &mut S) -> Result<(), SectionError> {
+    let sections = match sections_of(data) {
+        Ok(sections) => sections,
+        Err(e) => return Err(e),
+    };
+    write_lines(alloc, sections, out)
+}
+
+/// The same of the bytes of a source, of which only these are read: the first 8 bytes, and what `read_sections` of
+/// `binfarce_tables` reads of a file of their format.
+///
+/// # Errors
+///
+/// As `list_sections`, and `Unreadable` where the source can't be read at offsets, or a read of it fails: nothing is written
+/// then.
+pub fn list_source<F: Source, S: Sink>(
+    alloc: Global,
+    source: &F,
+    out: &mut S,
+) -> Result<(), SectionError> {
+    let tables = read(alloc, source)?;
+    let sections = tables.sections()?;
+    write_lines(alloc, sections, out)
+}
+
+// Writes the lines of all sections that are left.
+fn write_lines<S: Sink>(
+    alloc: Global,
+    sections: Sections<'_>,
+    out: &mut S,
+) -> Result<(), SectionError> {
+    let (text, refusal) = lines_of(alloc, sections)?;
+    write_whole(out, text.as_bytes()).map_err(|_| SectionError::Write)?;
+    match refusal {
+        Some(e) => Err(SectionError::Parse(e)),
+        None => Ok(()),
+    }
+}
+
+// The lines of all sections that are left, and the refusal that ends them.
+fn lines_of(
+    alloc: Global,
+    sections: Sections<'_>,
+) -> Result<(String, Option<ParseError>), AllocError> {
+    let mut text = String::new(alloc);
+    for section in sections {
+        match section {
+            Ok(section) => push_line(&mut text, section)?,
+            Err(e) => return Ok((text, Some(e))),
+        }
+    }
+    Ok((text, None))
+}
+
+// Writes the line of a section after the text.
+fn push_line(text: &mut String, section: Section<'_>) -> Result<(), AllocError> {
+    push_head(text, section.address, section.offset, section.size)?;
+    push_name(text, section.segment, section.name)?;
+    text.push_str("\n")
+}
+
+// Writes what stands before a section's name.
+fn push_head(text: &mut String, address: u64, offset: u64, size: u64) -> Result<(), AllocError> {
+    write!(text, "{address:016x} {offset:>10} {size:>10} ")
+}
+
+// Writes a section's name, in Mach-O behind its segment's.
+fn push_name(text: &mut String, segment: Option<&str>, name: Option<&str>) -> Result<(), AllocError> {
+    match name {
+        None => Ok(()),
+        Some(name) => {
+            if let Some(segment) = segment {
+                text.push_str(segment)?;
+                text.push_str(",")?;
+            }
+            text.push_str(name)
+        }
+    }
+}

@@ -1,0 +1,239 @@
+// From crates/binfarce_sections/src/sections.rt, by tools/erase.
+
+//! The sections of a file of any format, one after the other.
+
+use crate::erased::binfarce_sections::error::SectionError;
+use crate::erased::binfarce::{
+    ByteOrder, Format, ParseError, detect_format, elf32, elf64, macho, pe,
+};
+
+/// A section of a file of any format. Its names are parts of the file; nothing is copied.
+#[derive(Debug, Clone, Copy)]
+pub struct Section<'a> {
+    /// In a Mach-O file the name of its segment (`segname`), as `__TEXT`; elsewhere `None`.
+    pub segment: Option<&'a str>,
+    /// Its name as it is stored; `None` for an ELF section without one.
+    pub name: Option<&'a str>,
+    /// The address of its first byte in memory (`sh_addr`, `addr`); in a PE file counted from the image base
+    /// (`VirtualAddress`).
+    pub address: u64,
+    /// Where its bytes begin in the file (`sh_offset`, `offset`, `PointerToRawData`), as the file states it.
+    pub offset: u64,
+    /// Its size in bytes (`sh_size`, `size`), as the file states it; of `VirtualSize` and `SizeOfRawData` of a PE file the
+    /// one that isn't 0, and else the smaller one.
+    pub size: u64,
+    /// Whether it has bytes in the file: not in ELF where its type is `SHT_NOBITS`, not in Mach-O where its offset is 0,
+    /// and not in PE where `PointerToRawData` or `SizeOfRawData` is 0.
+    pub has_bytes: bool,
+}
+
+/// The sections of a file that are left, in file order. It borrows the file's bytes.
+///
+/// A section is read when it is asked for. A refusal comes in the place of one that can't be read, and after it nothing.
+#[must_use = "iterators are lazy and do nothing unless consumed"]
+pub enum Sections<'a> {
+    Elf32(Elf32Sections<'a>),
+    Elf64(Elf64Sections<'a>),
+    Macho(macho::Sections<'a>),
+    Pe(pe::Sections<'a>),
+}
+
+/// The sections of a 32-bit ELF file that are left, and what has their names.
+pub struct Elf32Sections<'a> {
+    names: Elf32Names<'a>,
+    left: elf32::Sections<'a>,
+}
+
+// What has the names of the sections of a 32-bit ELF file: the whole file, or what was read of it.
+enum Elf32Names<'a> {
+    File(elf32::Elf32<'a>),
+    Parts(&'a crate::erased::binfarce_tables::elf32::SectionParts),
+}
+
+/// The sections of a 64-bit ELF file that are left, and what has their names.
+pub struct Elf64Sections<'a> {
+    names: Elf64Names<'a>,
+    left: elf64::Sections<'a>,
+}
+
+// What has the names of the sections of a 64-bit ELF file: the whole file, or what was read of it.
+enum Elf64Names<'a> {
+    File(elf64::Elf64<'a>),
+    Parts(&'a crate::erased::binfarce_tables::elf64::SectionParts),
+}
+
+impl<'a> Iterator for Sections<'a> {
+    type Item = Result<Section<'a>, ParseError>;
+
+    fn next(&mut self) -> Option<Result<Section<'a>, ParseError>> {
+        match self {
+            Sections::Elf32(sections) => sections.next(),
+            Sections::Elf64(sections) => sections.next(),
+            Sections::Macho(left) => next_macho(left),
+            Sections::Pe(left) => next_pe(left),
+        }
+    }
+}
+
+/// The sections of a file, whose format is the one that its first bytes name. Nothing is allocated.
+///
+/// # Errors
+///
+/// `Unknown` where the format isn't one that is read; `Parse` where the file is too short for its header.
+pub fn sections_of(data: &[u8]) -> Result<Sections<'_>, SectionError> {
+    match detect_format(data) {
+        Format::Elf32 { byte_order } => Ok(open_elf32(data, byte_order)?),
+        Format::Elf64 { byte_order } => Ok(open_elf64(data, byte_order)?),
+        Format::Macho => Ok(open_macho(data)?),
+        Format::PE => Ok(open_pe(data)?),
+        Format::Unknown => Err(SectionError::Unknown),
+    }
+}
+
+fn open_elf32(data: &[u8], byte_order: ByteOrder) -> Result<Sections<'_>, ParseError> {
+    let file = elf32::parse(data, byte_order)?;
+    let left = file.sections();
+    let names = Elf32Names::File(file);
+    Ok(Sections::Elf32(Elf32Sections { names, left }))
+}
+
+// The sections of a file, by what was read of it.
+pub(crate) fn elf32_sections(parts: &crate::erased::binfarce_tables::elf32::SectionParts) -> Sections<'_> {
+    let left = parts.sections();
+    let names = Elf32Names::Parts(parts);
+    Sections::Elf32(Elf32Sections { names, left })
+}
+
+fn open_elf64(data: &[u8], byte_order: ByteOrder) -> Result<Sections<'_>, ParseError> {
+    let file = elf64::parse(data, byte_order)?;
+    let left = file.sections();
+    let names = Elf64Names::File(file);
+    Ok(Sections::Elf64(Elf64Sections { names, left }))
+}
+
+// The sections of a file, by what was read of it.
+pub(crate) fn elf64_sections(parts: &crate::erased::binfarce_tables::elf64::SectionParts) -> Sections<'_> {
+    let left = parts.sections();
+    let names = Elf64Names::Parts(parts);
+    Sections::Elf64(Elf64Sections { names, left })
+}
+
+pub(crate) fn open_macho(data: &[u8]) -> Result<Sections<'_>, ParseError> {
+    let file = macho::parse(data)?;
+    Ok(Sections::Macho(file.sections()))
+}
+
+pub(crate) fn open_pe(data: &[u8]) -> Result<Sections<'_>, ParseError> {
+    let file = pe::parse(data)?;
+    Ok(Sections::Pe(file.sections()))
+}
+
+impl<'a> Elf32Sections<'a> {
+    // The first section that is left, or why it can't be read.
+    fn next(&mut self) -> Option<Result<Section<'a>, ParseError>> {
+        match self.left.next() {
+            Some(Ok(section)) => Some(Ok(elf32_section(&self.names, section))),
+            Some(Err(e)) => Some(Err(e)),
+            None => None,
+        }
+    }
+}
+
+impl<'a> Elf64Sections<'a> {
+    // The first section that is left, or why it can't be read.
+    fn next(&mut self) -> Option<Result<Section<'a>, ParseError>> {
+        match self.left.next() {
+            Some(Ok(section)) => Some(Ok(elf64_section(&self.names, section))),
+            Some(Err(e)) => Some(Err(e)),
+            None => None,
+        }
+    }
+}
+
+fn next_macho<'a>(left: &mut macho::Sections<'a>) -> Option<Result<Section<'a>, ParseError>> {
+    match left.next() {
+        Some(Ok(section)) => Some(Ok(macho_section(section))),
+        Some(Err(e)) => Some(Err(e)),
+        None => None,
+    }
+}
+
+fn next_pe<'a>(left: &mut pe::Sections<'a>) -> Option<Result<Section<'a>, ParseError>> {
+    match left.next() {
+        Some(Ok(section)) => Some(Ok(pe_section(section))),
+        Some(Err(e)) => Some(Err(e)),
+        None => None,
+    }
+}
+
+fn elf32_section<'a>(names: &Elf32Names<'a>, section: elf32::Section) -> Section<'a> {
+    Section {
+        segment: None,
+        name: elf32_name(names, &section),
+        address: u64::from(section.address()),
+        offset: u64::from(section.offset()),
+        size: u64::from(section.size()),
+        has_bytes: section.section_type() != SHT_NOBITS,
+    }
+}
+
+fn elf32_name<'a>(names: &Elf32Names<'a>, section: &elf32::Section) -> Option<&'a str> {
+    match names {
+        Elf32Names::File(file) => section.name(file),
+        Elf32Names::Parts(parts) => parts.name(section),
+    }
+}
+
+fn elf64_section<'a>(names: &Elf64Names<'a>, section: elf64::Section) -> Section<'a> {
+    Section {
+        segment: None,
+        name: elf64_name(names, &section),
+        address: section.address(),
+        offset: section.offset(),
+        size: section.size(),
+        has_bytes: section.section_type() != SHT_NOBITS,
+    }
+}
+
+fn elf64_name<'a>(names: &Elf64Names<'a>, section: &elf64::Section) -> Option<&'a str> {
+    match names {
+        Elf64Names::File(file) => section.name(file),
+        Elf64Names::Parts(parts) => parts.name(section),
+    }
+}
+
+fn macho_section(section: macho::Section<'_>) -> Section<'_> {
+    Section {
+        segment: Some(section.segment_name()),
+        name: Some(section.name()),
+        address: section.address(),
+        offset: u64::from(section.offset()),
+        size: section.size(),
+        has_bytes: section.offset() != 0,
+    }
+}
+
+fn pe_section(section: pe::Section<'_>) -> Section<'_> {
+    Section {
+        segment: None,
+        name: Some(section.name()),
+        address: u64::from(section.address()),
+        offset: u64::from(section.offset()),
+        size: u64::from(pe_size(section.virtual_size(), section.size())),
+        has_bytes: section.offset() != 0 && section.size() != 0,
+    }
+}
+
+// Of `VirtualSize` and `SizeOfRawData` the one that isn't 0, and else the smaller one.
+fn pe_size(virtual_size: u32, raw_size: u32) -> u32 {
+    if virtual_size == 0 {
+        raw_size
+    } else if raw_size == 0 {
+        virtual_size
+    } else {
+        virtual_size.min(raw_size)
+    }
+}
+
+// A section of this type has no bytes in the file (gABI, "Sections").
+const SHT_NOBITS: u32 = 8;

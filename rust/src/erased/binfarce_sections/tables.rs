@@ -1,0 +1,113 @@
+// From crates/binfarce_sections/src/tables.rt, by tools/erase.
+
+//! What is read of a file for its sections.
+
+use crate::shim::Vec;
+use crate::erased::binfarce_sections::bytes::first_in;
+use crate::erased::binfarce_sections::error::SectionError;
+use crate::erased::binfarce_sections::sections::{
+    Section, Sections, elf32_sections, elf64_sections, open_macho, open_pe,
+};
+use crate::erased::binfarce::Format;
+use crate::erased::binfarce_source::Source;
+use crate::erased::binfarce_tables::{Beginning, ReadError, elf32, elf64, macho, part, pe};
+use crate::erased::binfarce_tools::tables::read_format;
+use crate::shim::alloc::Global;
+
+// What was read of a file for its sections.
+pub(crate) enum Tables {
+    Elf32(elf32::SectionParts),
+    Elf64(elf64::SectionParts),
+    Macho(Beginning),
+    Pe(Beginning),
+    Unknown,
+}
+
+impl Tables {
+    // The sections of the file.
+    pub(crate) fn sections(&self) -> Result<Sections<'_>, SectionError> {
+        match self {
+            Tables::Elf32(parts) => Ok(elf32_sections(parts)),
+            Tables::Elf64(parts) => Ok(elf64_sections(parts)),
+            Tables::Macho(begun) => Ok(open_macho(begun.bytes())?),
+            Tables::Pe(begun) => Ok(open_pe(begun.bytes())?),
+            Tables::Unknown => Err(SectionError::Unknown),
+        }
+    }
+
+    // How many bytes the file had.
+    pub(crate) fn file_length(&self) -> u64 {
+        match self {
+            Tables::Elf32(parts) => parts.file_length(),
+            Tables::Elf64(parts) => parts.file_length(),
+            Tables::Macho(begun) => begun.file_length(),
+            Tables::Pe(begun) => begun.file_length(),
+            Tables::Unknown => 0,
+        }
+    }
+}
+
+// Reads of a file its first bytes, which name its format, and what `binfarce_tables` reads for the sections of a file of
+// that format. Refused where the file is too short for its header.
+pub(crate) fn read<S: Source>(alloc: Global, source: &S) -> Result<Tables, ReadError> {
+    let len = source.length()? as usize;
+    match read_format(alloc, source, len)? {
+        Format::Elf32 { byte_order } => {
+            let parts = elf32::read_sections(alloc, source, byte_order)?;
+            Ok(Tables::Elf32(parts))
+        }
+        Format::Elf64 { byte_order } => {
+            let parts = elf64::read_sections(alloc, source, byte_order)?;
+            Ok(Tables::Elf64(parts))
+        }
+        Format::Macho => {
+            let begun = macho::read_sections(alloc, source)?;
+            Ok(Tables::Macho(begun))
+        }
+        Format::PE => {
+            let begun = pe::read_sections(alloc, source)?;
+            Ok(Tables::Pe(begun))
+        }
+        Format::Unknown => Ok(Tables::Unknown),
+    }
+}
+
+// The bytes of the first section of this name, read from the source.
+pub(crate) fn read_named<F: Source>(
+    alloc: Global,
+    source: &F,
+    name: &str,
+) -> Result<Vec<u8>, SectionError> {
+    let tables = read(alloc, source)?;
+    let sections = tables.sections()?;
+    let found = first_in(sections, name)?;
+    match found {
+        Some(section) => read_bytes(alloc, source, tables.file_length(), section),
+        None => Err(SectionError::NoSection),
+    }
+}
+
+// The bytes of a section, read from a source of this length.
+fn read_bytes<F: Source>(
+    alloc: Global,
+    source: &F,
+    len: u64,
+    section: Section<'_>,
+) -> Result<Vec<u8>, SectionError> {
+    if !section.has_bytes {
+        return Err(SectionError::NoBytes);
+    }
+    let end = section
+        .offset
+        .checked_add(section.size)
+        .ok_or(SectionError::PastEnd)?;
+    if end > len {
+        return Err(SectionError::PastEnd);
+    }
+    Ok(part(
+        alloc,
+        source,
+        section.offset as usize,
+        section.size as usize,
+    )?)
+}

@@ -1,0 +1,16 @@
+// From crates/binfarce_tables/src/lib.rt, by tools/erase.
+
+//! Files that are read where their tables are: each part once, into memory of its size. Names stay as they are stored.
+
+mod beginning;
+pub mod elf;
+pub mod elf32;
+pub mod elf64;
+mod error;
+pub mod macho;
+pub mod pe;
+mod sections;
+
+pub use crate::erased::binfarce_tables::beginning::Beginning;
+pub use crate::erased::binfarce_tables::elf::part;
+pub use crate::erased::binfarce_tables::error::ReadError;

@@ -1,0 +1,23 @@
+// From crates/binfarce_tables/src/beginning.rt, by tools/erase.
+
+//! The beginning of a Mach-O or PE file, of which its sections are read.
+
+use crate::shim::Vec;
+
+/// A file's first bytes, in memory, whose sections are those of the file, and the file's length.
+pub struct Beginning {
+    pub(crate) bytes: Vec<u8>,
+    pub(crate) file_length: u64,
+}
+
+impl Beginning {
+    /// The file's first bytes.
+    pub fn bytes(&self) -> &[u8] {
+        self.bytes.as_slice()
+    }
+
+    /// How many bytes the file had when they were read.
+    pub fn file_length(&self) -> u64 {
+        self.file_length
+    }
+}

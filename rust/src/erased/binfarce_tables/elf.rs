@@ -1,0 +1,195 @@
+// From crates/binfarce_tables/src/elf.rt, by tools/erase.
+
+//! The parts of an ELF file of either class that the function symbols of a section are read from.
+
+use crate::shim::Vec;
+use crate::erased::binfarce_tables::error::ReadError;
+use crate::erased::binfarce_bytes::{ByteOrder, ParseError};
+use crate::erased::binfarce_elf::class::{Class, Half};
+use crate::erased::binfarce_elf::header::{Header, parse_header};
+use crate::erased::binfarce_elf::parts::{Needed, functions_in, needed_sections};
+use crate::erased::binfarce_elf::sections::{Section, section_at};
+use crate::erased::binfarce_elf::symbols::{Functions, whole_rows};
+use crate::erased::binfarce_source::{Source, read_part};
+use crate::shim::alloc::Global;
+
+/// The parts of a file that the function symbols of a section are read from.
+pub struct Parts<C> {
+    rows: Vec<u8>,
+    strings: Vec<u8>,
+    byte_order: ByteOrder,
+    section: Section<C>,
+}
+
+impl<C: Class> Parts<C> {
+    /// The function symbols of the section as the file stores them, in the order of the symbol table, and the section's
+    /// size in bytes. Nothing is read or allocated: names are parts of what was read.
+    pub fn functions(&self) -> (Functions<'_, C>, u64) {
+        functions_in::<C>(&self.rows, &self.strings, self.byte_order, self.section)
+    }
+}
+
+// Where the section headers of a file are, as its header says, and the order of its numbers' bytes.
+#[derive(Clone, Copy)]
+pub(crate) struct Place {
+    pub(crate) byte_order: ByteOrder,
+    pub(crate) shoff: usize,
+    pub(crate) shnum: Half,
+    pub(crate) shstrndx: Half,
+}
+
+/// The parts of the section with this name. Refused as `functions` of a reader is.
+pub(crate) fn read_parts<C: Class, S: Source>(
+    alloc: Global,
+    source: &S,
+    byte_order: ByteOrder,
+    section_name: &str,
+) -> Result<Parts<C>, ReadError> {
+    let len = source.length()? as usize;
+    let place = read_place::<C, S>(alloc, source, len, byte_order)?;
+    let needed = read_needed::<C, S>(alloc, source, len, place, section_name)?;
+    let strings = read_section::<C, S>(alloc, source, len, needed.strings)?;
+    let rows = read_section::<C, S>(alloc, source, len, needed.symbols)?;
+    let _ = whole_rows::<C>(&rows)?;
+    Ok(Parts {
+        rows,
+        strings,
+        byte_order: place.byte_order,
+        section: needed.section,
+    })
+}
+
+pub(crate) fn read_place<C: Class, S: Source>(
+    alloc: Global,
+    source: &S,
+    len: usize,
+    byte_order: ByteOrder,
+) -> Result<Place, ReadError> {
+    let size = 40 + 3 * C::SIZE;
+    if len < size {
+        return Err(ReadError::Refused(ParseError::UnexpectedEof));
+    }
+    let bytes = part(alloc, source, 0, size)?;
+    let header = header_in::<C>(&bytes, byte_order)?;
+    Ok(Place {
+        byte_order,
+        shoff: header.shoff.widened() as usize,
+        shnum: header.shnum,
+        shstrndx: header.shstrndx,
+    })
+}
+
+// The file header in a file's first bytes; refused where it is truncated.
+fn header_in<C: Class>(bytes: &[u8], byte_order: ByteOrder) -> Result<Header<C>, ParseError> {
+    Ok(parse_header(bytes, byte_order)?)
+}
+
+fn read_needed<C: Class, S: Source>(
+    alloc: Global,
+    source: &S,
+    len: usize,
+    place: Place,
+    section_name: &str,
+) -> Result<Needed<C>, ReadError> {
+    if place.shoff >= len {
+        return Err(ReadError::Refused(ParseError::UnexpectedEof));
+    }
+    if place.shnum == 0 {
+        return Err(ReadError::Refused(ParseError::SymbolsSectionIsMissing));
+    }
+    let names = read_names::<C, S>(alloc, source, len, place)?;
+    let headers = read_headers::<C, S>(alloc, source, len, place)?;
+    Ok(needed_in::<C>(&headers, &names, place, section_name)?)
+}
+
+// The sections that are needed, among these section headers and section names.
+fn needed_in<C: Class>(
+    headers: &[u8],
+    names: &Option<Vec<u8>>,
+    place: Place,
+    section_name: &str,
+) -> Result<Needed<C>, ParseError> {
+    let names = slice_of(names);
+    needed_sections::<C>(headers, place.byte_order, place.shnum, names, section_name)
+}
+
+pub(crate) fn slice_of(bytes: &Option<Vec<u8>>) -> Option<&[u8]> {
+    match bytes {
+        None => None,
+        Some(bytes) => Some(bytes.as_slice()),
+    }
+}
+
+// The section headers that are whole, up to the count.
+pub(crate) fn read_headers<C: Class, S: Source>(
+    alloc: Global,
+    source: &S,
+    len: usize,
+    place: Place,
+) -> Result<Vec<u8>, ReadError> {
+    let whole = len.saturating_sub(place.shoff) / C::SECTION_LENGTH;
+    let count = whole.min(place.shnum as usize);
+    part(alloc, source, place.shoff, count * C::SECTION_LENGTH)
+}
+
+// The section names, where the file has them.
+pub(crate) fn read_names<C: Class, S: Source>(
+    alloc: Global,
+    source: &S,
+    len: usize,
+    place: Place,
+) -> Result<Option<Vec<u8>>, ReadError> {
+    let whole = len.saturating_sub(place.shoff) / C::SECTION_LENGTH;
+    if place.shstrndx as usize >= whole {
+        return Ok(None);
+    }
+    let start = place.shoff + place.shstrndx as usize * C::SECTION_LENGTH;
+    let header = part(alloc, source, start, C::SECTION_LENGTH)?;
+    match section_at::<C>(&header, 0, place.byte_order, place.shstrndx) {
+        Ok(section) => read_contents::<C, S>(alloc, source, len, section),
+        Err(_) => Ok(None),
+    }
+}
+
+// The section's bytes, where they lie in the file.
+fn read_contents<C: Class, S: Source>(
+    alloc: Global,
+    source: &S,
+    len: usize,
+    section: Section<C>,
+) -> Result<Option<Vec<u8>>, ReadError> {
+    match read_section::<C, S>(alloc, source, len, section) {
+        Ok(bytes) => Ok(Some(bytes)),
+        Err(ReadError::Refused(_)) => Ok(None),
+        Err(e) => Err(e),
+    }
+}
+
+// The section's bytes; refused as those of a file in memory.
+fn read_section<C: Class, S: Source>(
+    alloc: Global,
+    source: &S,
+    len: usize,
+    section: Section<C>,
+) -> Result<Vec<u8>, ReadError> {
+    let range = section.range()?;
+    if range.end > len {
+        return Err(ReadError::Refused(ParseError::UnexpectedEof));
+    }
+    part(alloc, source, range.start, range.end - range.start)
+}
+
+/// The `size` bytes of a file from the offset on, in memory of that size.
+///
+/// # Errors
+///
+/// `Unreadable` where a read of the source fails, as where it ends before `offset + size` (an opened file doesn't fail where
+/// `size` is 0), and `OutOfMemory` where the allocation fails.
+pub fn part<S: Source>(
+    alloc: Global,
+    source: &S,
+    offset: usize,
+    size: usize,
+) -> Result<Vec<u8>, ReadError> {
+    Ok(read_part(alloc, source, offset as u64, size)?)
+}

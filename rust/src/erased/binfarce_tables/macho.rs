@@ -1,0 +1,182 @@
+// From crates/binfarce_tables/src/macho.rt, by tools/erase.
+
+//! 64-bit Mach-O files, read where their tables are (Apple's `<mach-o/loader.h>` and `<mach-o/nlist.h>`).
+
+use crate::shim::Vec;
+use crate::erased::binfarce_tables::beginning::Beginning;
+use crate::erased::binfarce_tables::elf::part;
+use crate::erased::binfarce_tables::error::ReadError;
+use crate::erased::binfarce_bytes::ParseError;
+use crate::erased::binfarce_macho::header::{MachoHeader, parse_header};
+use crate::erased::binfarce_macho::parts::{self, Located, Needed, SYMBOL_LENGTH, SymbolTable};
+use crate::erased::binfarce_macho::sections::Section;
+use crate::erased::binfarce_source::Source;
+use crate::erased::binfarce_symbols::functions::FunctionSymbol;
+use crate::shim::alloc::Global;
+
+// The header's bytes that are read.
+const HEADER: usize = 28;
+
+/// The parts of a file that its function symbols are read from, in memory.
+pub struct Parts {
+    tables: Option<Tables>,
+}
+
+// Where the text ends, how long it is, the string table and the symbol table.
+struct Tables {
+    text_end: u64,
+    text_size: u64,
+    strings: Vec<u8>,
+    rows: Vec<u8>,
+}
+
+impl Parts {
+    /// The function symbols that `functions` of a reader of the whole file gives, in its order, and the text's size in
+    /// bytes. Nothing is read: names are parts of what was read.
+    ///
+    /// # Errors
+    ///
+    /// `MalformedInput` where a row that would be kept lies past the text's end with no address above it. `OutOfMemory`
+    /// comes only where the table has a value that isn't 0, and may stand in place of that refusal.
+    pub fn functions(&self, alloc: Global) -> Result<(Vec<FunctionSymbol<'_>>, u64), ParseError> {
+        match &self.tables {
+            None => Ok((Vec::new(alloc), 0)),
+            Some(tables) => listed(alloc, tables),
+        }
+    }
+}
+
+fn listed(alloc: Global, tables: &Tables) -> Result<(Vec<FunctionSymbol<'_>>, u64), ParseError> {
+    let found = Located {
+        text_end: tables.text_end,
+        text_size: tables.text_size,
+        strings: &tables.strings,
+        rows: &tables.rows,
+    };
+    parts::functions_of(alloc, found)
+}
+
+/// Reads the parts of a file that its function symbols are read from, without a look at the magic number: the header of
+/// 28 bytes, the file's first bytes up to where the load commands end as the header says (`sizeofcmds`), the string table
+/// and the symbol table. Each is read into memory of its size, which is never more than what the file holds of it. No other
+/// byte is read, unless the commands, or the sections of a segment command, go on past that end: then the whole file is
+/// read for them.
+///
+/// # Errors
+///
+/// `Refused` with what `parse` and `functions` of a reader of the whole file refuse before they look at the symbol table's
+/// rows; `Unreadable` where the source can't be read at offsets, or a read of it fails, and never of a source that can't
+/// fail, as bytes in memory are; `OutOfMemory` where an allocation fails.
+pub fn read<S: Source>(alloc: Global, source: &S) -> Result<Parts, ReadError> {
+    let len = source.length()? as usize;
+    if len < HEADER {
+        return Err(ReadError::Refused(ParseError::UnexpectedEof));
+    }
+    let commands = read_commands(alloc, source, len)?;
+    let needed = needed_in(&commands)?;
+    read_tables(alloc, source, len, needed)
+}
+
+/// Reads the file's first bytes that its sections are read from, without a look at the magic number: the header of 28 bytes,
+/// and the bytes up to where the load commands end as the header says (`sizeofcmds`), or where the commands, or the sections
+/// of a segment command, go on past that end, all bytes. They take no more memory than what the file holds of them.
+///
+/// # Errors
+///
+/// `Refused` with `UnexpectedEof` for fewer than 28 bytes; `Unreadable` where the source can't be read at offsets, or a
+/// read of it fails, and never of a source that can't fail, as bytes in memory are; `OutOfMemory` where an allocation fails.
+pub fn read_sections<S: Source>(alloc: Global, source: &S) -> Result<Beginning, ReadError> {
+    let file_length = source.length()?;
+    let len = file_length as usize;
+    if HEADER > len {
+        return Err(ReadError::Refused(ParseError::UnexpectedEof));
+    }
+    let bytes = read_commands(alloc, source, len)?;
+    Ok(Beginning { bytes, file_length })
+}
+
+// The bytes that the load commands are in, from the file's first on.
+fn read_commands<S: Source>(alloc: Global, source: &S, len: usize) -> Result<Vec<u8>, ReadError> {
+    let end = read_end(alloc, source, len)?;
+    let commands = part(alloc, source, 0, end)?;
+    if end == len || are_held(&commands) {
+        Ok(commands)
+    } else {
+        part(alloc, source, 0, len)
+    }
+}
+
+// Where the load commands end, as the header says, in the file.
+fn read_end<S: Source>(alloc: Global, source: &S, len: usize) -> Result<usize, ReadError> {
+    let bytes = part(alloc, source, 0, HEADER)?;
+    let header = header_in(&bytes)?;
+    Ok(parts::commands_end(header).min(len))
+}
+
+// The header in a file's first bytes; refused where it is truncated.
+fn header_in(bytes: &[u8]) -> Result<MachoHeader, ParseError> {
+    Ok(parse_header(bytes)?)
+}
+
+fn are_held(commands: &[u8]) -> bool {
+    match parse_header(commands) {
+        Ok(header) => parts::holds_commands(commands, header),
+        Err(_) => false,
+    }
+}
+
+fn needed_in(commands: &[u8]) -> Result<Needed<'_>, ParseError> {
+    let header = parse_header(commands)?;
+    parts::needed_tables(commands, header)
+}
+
+fn read_tables<S: Source>(
+    alloc: Global,
+    source: &S,
+    len: usize,
+    needed: Needed<'_>,
+) -> Result<Parts, ReadError> {
+    match needed.table {
+        None => Ok(Parts { tables: None }),
+        Some(table) => {
+            let tables = read_located(alloc, source, len, needed.text, table)?;
+            Ok(Parts {
+                tables: Some(tables),
+            })
+        }
+    }
+}
+
+fn read_located<S: Source>(
+    alloc: Global,
+    source: &S,
+    len: usize,
+    text: Section<'_>,
+    table: SymbolTable,
+) -> Result<Tables, ReadError> {
+    let strings_at = table.strings_offset as usize;
+    let strings = read_table(alloc, source, len, strings_at, table.strings_size as usize)?;
+    let rows_size = SYMBOL_LENGTH * table.row_count as usize;
+    let rows = read_table(alloc, source, len, table.symbol_offset as usize, rows_size)?;
+    let text_end = parts::text_end(text)?;
+    Ok(Tables {
+        text_end,
+        text_size: text.size(),
+        strings,
+        rows,
+    })
+}
+
+// The bytes of a table; refused where they don't lie in the file.
+fn read_table<S: Source>(
+    alloc: Global,
+    source: &S,
+    len: usize,
+    offset: usize,
+    size: usize,
+) -> Result<Vec<u8>, ReadError> {
+    if offset > len || size > len - offset {
+        return Err(ReadError::Refused(ParseError::UnexpectedEof));
+    }
+    part(alloc, source, offset, size)
+}

@@ -1,0 +1,138 @@
+// From crates/binfarce_tables/src/pe.rt, by tools/erase.
+
+//! PE files, read where their tables are (Microsoft PE Format).
+
+use crate::shim::Vec;
+use crate::erased::binfarce_tables::beginning::Beginning;
+use crate::erased::binfarce_tables::elf::part;
+use crate::erased::binfarce_tables::error::ReadError;
+use crate::erased::binfarce_bytes::ParseError;
+use crate::erased::binfarce_pe::parts::{
+    HEADERS_LENGTH, Places, SECTION_LENGTH, SIGNATURE_POINTER, Text, functions_in, places_in,
+    signature_in, text_in,
+};
+use crate::erased::binfarce_source::Source;
+use crate::erased::binfarce_symbols::functions::FunctionSymbol;
+use crate::shim::alloc::Global;
+
+// How many bytes the MS-DOS stub has.
+const STUB_LENGTH: usize = 64;
+
+/// The parts of a file that the function symbols of `.text` are read from, in memory.
+pub struct Parts {
+    rows: Vec<u8>,
+    strings: Vec<u8>,
+    text: Text,
+}
+
+impl Parts {
+    /// The function symbols of the section `.text`, by address and at equal addresses in table order, and the size in
+    /// bytes that the section has in the file: what `functions` of a reader of the whole file gives. Nothing is read:
+    /// names are parts of what was read.
+    ///
+    /// # Errors
+    ///
+    /// `OutOfMemory`, only in place of a list that isn't empty.
+    pub fn functions(&self, alloc: Global) -> Result<(Vec<FunctionSymbol<'_>>, u64), ParseError> {
+        let functions = functions_in(alloc, &self.rows, &self.strings, self.text)?;
+        Ok((functions, u64::from(self.text.size)))
+    }
+}
+
+/// Reads the parts of a file that the function symbols of the section `.text` are read from, without a look at the
+/// signature: the offset of the signature, the signature and the file header, which are 24 bytes, the section headers,
+/// the symbol table, and the strings, which are what follows it. Each is read once, into memory of its size, which is never
+/// more than what the file holds of it. No other byte is read.
+///
+/// # Errors
+///
+/// `Refused` with what `parse` and `functions` of a reader of the whole file refuse; `Unreadable` where the source can't
+/// be read at offsets, or a read of it fails, and never of a source that can't fail, as bytes in memory are;
+/// `OutOfMemory` where an allocation fails.
+pub fn read<S: Source>(alloc: Global, source: &S) -> Result<Parts, ReadError> {
+    let len = source.length()? as usize;
+    let places = read_places(alloc, source, len)?;
+    let text = read_text(alloc, source, len, places)?;
+    read_symbols(alloc, source, len, places, text)
+}
+
+/// Reads the file's first bytes that its sections are read from, without a look at the signature: those up to the end of the
+/// section headers, or of the first byte after the file header where there are none. They take no more memory than what the
+/// file holds of them.
+///
+/// # Errors
+///
+/// `Refused` with `UnexpectedEof` where the file is too short for its file header; `Unreadable` where the source can't be
+/// read at offsets, or a read of it fails, and never of a source that can't fail, as bytes in memory are; `OutOfMemory`
+/// where an allocation fails.
+pub fn read_sections<S: Source>(alloc: Global, source: &S) -> Result<Beginning, ReadError> {
+    let file_length = source.length()?;
+    let len = file_length as usize;
+    let places = read_places(alloc, source, len)?;
+    let headers = places.section_count as usize * SECTION_LENGTH;
+    let end = places
+        .sections
+        .saturating_add(headers.max(1))
+        .max(STUB_LENGTH);
+    let bytes = part(alloc, source, 0, end.min(len))?;
+    Ok(Beginning { bytes, file_length })
+}
+
+fn read_places<S: Source>(alloc: Global, source: &S, len: usize) -> Result<Places, ReadError> {
+    let signature = read_signature(alloc, source, len)?;
+    let offset = signature as usize;
+    if len < offset + HEADERS_LENGTH {
+        return Err(ReadError::Refused(ParseError::UnexpectedEof));
+    }
+    let headers = part(alloc, source, offset, HEADERS_LENGTH)?;
+    Ok(places_in(&headers, signature)?)
+}
+
+fn read_signature<S: Source>(alloc: Global, source: &S, len: usize) -> Result<u32, ReadError> {
+    if len < SIGNATURE_POINTER + 4 {
+        return Err(ReadError::Refused(ParseError::UnexpectedEof));
+    }
+    let pointer = part(alloc, source, SIGNATURE_POINTER, 4)?;
+    Ok(signature_in(&pointer)?)
+}
+
+// The text, found in the bytes that the section headers have in the file.
+fn read_text<S: Source>(
+    alloc: Global,
+    source: &S,
+    len: usize,
+    places: Places,
+) -> Result<Text, ReadError> {
+    let offset = places.sections;
+    if offset >= len {
+        return Err(ReadError::Refused(ParseError::UnexpectedEof));
+    }
+    if places.section_count == 0 {
+        return Err(ReadError::Refused(ParseError::SymbolsSectionIsMissing));
+    }
+    let size = places.section_count as usize * SECTION_LENGTH;
+    let headers = part(alloc, source, offset, size.min(len - offset))?;
+    Ok(text_in(&headers, places.section_count)?)
+}
+
+// The symbol table and its strings, beside the text.
+fn read_symbols<S: Source>(
+    alloc: Global,
+    source: &S,
+    len: usize,
+    places: Places,
+    text: Text,
+) -> Result<Parts, ReadError> {
+    let offset = places.symbols;
+    if offset >= len || places.symbols_size > len - offset {
+        return Err(ReadError::Refused(ParseError::UnexpectedEof));
+    }
+    let end = offset + places.symbols_size;
+    let rows = part(alloc, source, offset, places.symbols_size)?;
+    let strings = part(alloc, source, end, len - end)?;
+    Ok(Parts {
+        rows,
+        strings,
+        text,
+    })
+}

@@ -1,0 +1,19 @@
+// From crates/binfarce_text/src/prefixes.rt, by tools/erase.
+
+//! What stands before a mangled name.
+
+// What stands after a prefix.
+fn after<'a>(text: &'a str, prefix: &str) -> Option<&'a str> {
+    text.strip_prefix(prefix)
+}
+
+/// What stands after the first of three prefixes that `text` begins with. Nothing is copied.
+pub fn after_prefix<'a>(text: &'a str, first: &str, second: &str, third: &str) -> Option<&'a str> {
+    if let Some(part) = after(text, first) {
+        return Some(part);
+    }
+    if let Some(part) = after(text, second) {
+        return Some(part);
+    }
+    after(text, third)
+}

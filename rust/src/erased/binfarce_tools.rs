@@ -1,0 +1,10 @@
+// From crates/binfarce_tools/src/lib.rt, by tools/erase.
+
+//! What the programs are made of: listings of the function symbols of executables, and reports of their sizes by crate.
+
+pub mod functions;
+mod head;
+pub mod list;
+pub mod report;
+pub mod tables;
+pub mod writing;

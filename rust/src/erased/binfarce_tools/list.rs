@@ -1,0 +1,163 @@
+// From crates/binfarce_tools/src/list.rt, by tools/erase.
+
+//! Lists the function symbols of an executable, a line each.
+
+use crate::shim::String;
+use crate::erased::binfarce_tools::functions::{Functions, functions_of_file};
+use crate::erased::binfarce_tools::head::push_head;
+use crate::erased::binfarce_tools::tables::Tables;
+use crate::erased::binfarce_tools::writing::write_whole;
+use crate::erased::binfarce_bytes::ParseError;
+use crate::erased::binfarce_names::demangle::Demangler;
+use crate::erased::binfarce_symbols::functions::FunctionSymbol;
+use crate::shim::alloc::{AllocError, Global};
+use std::error::Error;
+use std::fmt;
+use crate::shim::io::Write;
+
+/// What bytes are written to.
+pub trait Sink {
+    /// Takes some of the bytes, of which there is at least one.
+    ///
+    /// `Some(n)`: the first `n` were taken, `n` being from 1 to their number. `None`: none was taken, and from here
+    /// on `failed` is true.
+    fn write(&mut self, bytes: &[u8]) -> Option<usize>;
+
+    /// Whether a write has failed.
+    fn failed(&self) -> bool;
+}
+
+/// A sink over a writer.
+pub struct Out<W> {
+    writer: W,
+    failed: bool,
+}
+
+impl<W: Write> Out<W> {
+    /// A sink over this writer, in which no write has failed.
+    pub fn new(writer: W) -> Out<W> {
+        Out {
+            writer,
+            failed: false,
+        }
+    }
+
+    /// The writer.
+    pub fn into_inner(self) -> W {
+        self.writer
+    }
+}
+
+impl<W: Write> Sink for Out<W> {
+    /// `None` is the writer's error, of any kind, or its 0.
+    fn write(&mut self, bytes: &[u8]) -> Option<usize> {
+        match self.writer.write(bytes) {
+            Ok(n) if n > 0 => Some(n),
+            _ => {
+                self.failed = true;
+                None
+            }
+        }
+    }
+
+    fn failed(&self) -> bool {
+        self.failed
+    }
+}
+
+/// Why a file was not listed.
+#[derive(Debug, PartialEq)]
+pub enum ListError {
+    /// The file's first bytes name no format that is read.
+    Unknown,
+    /// The reader of the file's format refused it.
+    Parse(ParseError),
+    /// An allocation failed.
+    OutOfMemory,
+    /// A write of the sink failed. What it took before is a beginning of the listing.
+    Write,
+}
+
+impl fmt::Display for ListError {
+    fn fmt(&self, f: &mut fmt::Formatter<'_>) -> fmt::Result {
+        match self {
+            ListError::Unknown => write!(f, "unknown file format"),
+            ListError::Parse(e) => write!(f, "{e}"),
+            ListError::OutOfMemory => write!(f, "out of memory"),
+            ListError::Write => write!(f, "write failed"),
+        }
+    }
+}
+
+impl Error for ListError {}
+
+impl From<AllocError> for ListError {
+    fn from(_: AllocError) -> Self {
+        ListError::OutOfMemory
+    }
+}
+
+impl From<ParseError> for ListError {
+    /// A failed allocation is reported as such, whichever call it comes from.
+    fn from(e: ParseError) -> Self {
+        match e {
+            ParseError::OutOfMemory => ListError::OutOfMemory,
+            _ => ListError::Parse(e),
+        }
+    }
+}
+
+/// Lists the function symbols of a file's section: a line for each, and then the section's size.
+///
+/// The format is the one that the file's first bytes name; the section is that of an ELF file, and of a Mach-O or PE file
+/// it is the text. A line is `{address:016x} {size:>10} {trimmed}`, the last one `text {size}`. The listing is made before
+/// its first byte is written.
+///
+/// # Errors
+///
+/// `Unknown` where the format isn't one that is read; `Parse` where its reader refuses, other than for memory;
+/// `OutOfMemory` where an allocation failed; `Write` where a write failed, which alone can leave a beginning of the listing
+/// written.
+pub fn list<S: Sink>(
+    alloc: Global,
+    data: &[u8],
+    section: &str,
+    out: &mut S,
+) -> Result<(), ListError> {
+    let (functions, size) = functions_of_file(alloc, data, section)?;
+    let text = listing(alloc, functions, size)?;
+    write_whole(out, text.as_bytes())
+}
+
+/// Lists what `list` does, of a file's tables: for the section that they were read for.
+///
+/// # Errors
+///
+/// As `list`.
+pub fn list_tables<S: Sink>(alloc: Global, tables: &Tables, out: &mut S) -> Result<(), ListError> {
+    let (functions, size) = tables.functions(alloc)?;
+    let text = listing(alloc, functions, size)?;
+    write_whole(out, text.as_bytes())
+}
+
+// The whole listing.
+fn listing(alloc: Global, functions: Functions<'_>, size: u64) -> Result<String, AllocError> {
+    let mut text = String::new(alloc);
+    let mut demangler = Demangler::new(alloc);
+    for function in functions {
+        push_line(&mut demangler, &mut text, function)?;
+    }
+    writeln!(text, "text {size}")?;
+    Ok(text)
+}
+
+// Writes the line of a function after the text.
+fn push_line(
+    demangler: &mut Demangler,
+    text: &mut String,
+    function: FunctionSymbol<'_>,
+) -> Result<(), AllocError> {
+    push_head(text, function.address, function.size)?;
+    demangler.push_trimmed(text, function.name)?;
+    text.push_str("\n")
+}

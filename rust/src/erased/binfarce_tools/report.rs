@@ -1,0 +1,214 @@
+// From crates/binfarce_tools/src/report.rt, by tools/erase.
+
+//! Reports how much of an executable's code each crate takes.
+
+use crate::shim::String;
+use crate::erased::binfarce_tools::functions::{Functions, functions_of_file};
+use crate::erased::binfarce_tools::list::{ListError, Sink};
+use crate::erased::binfarce_tools::tables::Tables;
+use crate::erased::binfarce_tools::writing::write_whole;
+use crate::erased::binfarce_bytes::ParseError;
+use crate::erased::binfarce_names::demangle::push_crate;
+use crate::erased::binfarce_symbols::functions::FunctionSymbol;
+use crate::shim::alloc::{AllocError, Global};
+use crate::shim::collections::BTreeMap;
+use std::error::Error;
+use std::fmt;
+
+// What stands in a report for a crate that no name tells.
+const UNKNOWN_CRATE: &str = "[unknown]";
+
+/// Why a report was not made.
+#[derive(Debug, PartialEq)]
+pub enum ReportError {
+    /// The file's first bytes name no format that is read.
+    Unknown,
+    /// The reader of the file's format refused it.
+    Parse(ParseError),
+    /// An allocation failed.
+    OutOfMemory,
+    /// The sum of all sizes is 2^64 or more.
+    TooLarge,
+    /// A write of the sink failed. What it took before is a beginning of the report.
+    Write,
+}
+
+impl fmt::Display for ReportError {
+    /// What `list` reports too has its words.
+    fn fmt(&self, f: &mut fmt::Formatter<'_>) -> fmt::Result {
+        match self {
+            ReportError::Unknown => write!(f, "{}", ListError::Unknown),
+            ReportError::Parse(e) => write!(f, "{}", ListError::Parse(*e)),
+            ReportError::OutOfMemory => write!(f, "{}", ListError::OutOfMemory),
+            ReportError::TooLarge => write!(f, "sizes are too large"),
+            ReportError::Write => write!(f, "{}", ListError::Write),
+        }
+    }
+}
+
+impl Error for ReportError {}
+
+impl From<AllocError> for ReportError {
+    fn from(_: AllocError) -> Self {
+        ReportError::OutOfMemory
+    }
+}
+
+impl From<ListError> for ReportError {
+    /// What keeps a file from being listed keeps it from being reported.
+    fn from(e: ListError) -> Self {
+        match e {
+            ListError::Unknown => ReportError::Unknown,
+            ListError::Parse(e) => ReportError::Parse(e),
+            ListError::OutOfMemory => ReportError::OutOfMemory,
+            ListError::Write => ReportError::Write,
+        }
+    }
+}
+
+/// Reports how many bytes the function symbols of a file's section take: a line for each crate, in the order of the
+/// crates' bytes, and two lines for the whole.
+///
+/// The symbols are those that `list` lists. The line of a crate is `{sum:>10} {name}`, with the sum of the sizes of its
+/// symbols; after these come `sum {total}`, with the sum of all sizes, and `text {size}`, with that of the section. The
+/// crate of a symbol is the one that its name tells, and for a legacy name the first part of its path, unless that
+/// begins with `<`; all other symbols are counted for `[unknown]`. The report is made before its first byte is written.
+///
+/// # Errors
+///
+/// As `list`; `TooLarge` where the sum of all sizes is 2^64 or more. Only `Write` can leave a beginning of the report
+/// written.
+pub fn report<S: Sink>(
+    alloc: Global,
+    data: &[u8],
+    section: &str,
+    out: &mut S,
+) -> Result<(), ReportError> {
+    let sums = sums_of_file(alloc, data, section)?;
+    let text = report_text(alloc, &sums)?;
+    write_whole(out, text.as_bytes())?;
+    Ok(())
+}
+
+/// Reports what `report` does, of a file's tables: for the section that they were read for.
+///
+/// # Errors
+///
+/// As `report`.
+pub fn report_tables<S: Sink>(
+    alloc: Global,
+    tables: &Tables,
+    out: &mut S,
+) -> Result<(), ReportError> {
+    let sums = sums_of_tables(alloc, tables)?;
+    let text = report_text(alloc, &sums)?;
+    write_whole(out, text.as_bytes())?;
+    Ok(())
+}
+
+/// How many bytes the function symbols of a file's section take, by crate.
+pub struct CrateSums {
+    /// The sum of the sizes of each crate's symbols, by the crate's name.
+    pub crates: BTreeMap<String, u64>,
+    /// The sum of all sizes.
+    pub total: u64,
+    /// The section's size.
+    pub section_size: u64,
+}
+
+/// The sums that `report` shows.
+///
+/// # Errors
+///
+/// As `report`, but for `Write`.
+pub fn sums_of_file(alloc: Global, data: &[u8], section: &str) -> Result<CrateSums, ReportError> {
+    let (functions, size) = functions_of_file(alloc, data, section)?;
+    crate_sums(alloc, functions, size)
+}
+
+/// The sums that `report_tables` shows.
+///
+/// # Errors
+///
+/// As `report_tables`, but for `Write`.
+pub fn sums_of_tables(alloc: Global, tables: &Tables) -> Result<CrateSums, ReportError> {
+    let (functions, size) = tables.functions(alloc)?;
+    crate_sums(alloc, functions, size)
+}
+
+// The sums of the functions, beside the section's size. `TooLarge` where the sum of all doesn't fit.
+fn crate_sums(
+    alloc: Global,
+    functions: Functions<'_>,
+    section_size: u64,
+) -> Result<CrateSums, ReportError> {
+    let mut crates = BTreeMap::new(alloc);
+    let mut total = 0u64;
+    let mut text = String::new(alloc);
+    for function in functions {
+        total = total
+            .checked_add(function.size)
+            .ok_or(ReportError::TooLarge)?;
+        add_function(alloc, &mut crates, &mut text, function)?;
+    }
+    Ok(CrateSums {
+        crates,
+        total,
+        section_size,
+    })
+}
+
+// Adds a function's size to the sum of its crate, whose name is written in place of the text: it is kept from one function
+// to the next, so that no memory is taken for a name that the sums have.
+fn add_function(
+    alloc: Global,
+    crates: &mut BTreeMap<String, u64>,
+    text: &mut String,
+    function: FunctionSymbol<'_>,
+) -> Result<(), AllocError> {
+    put_crate(alloc, text, function.name)?;
+    add_size(alloc, crates, text.as_str(), function.size)
+}
+
+// Adds a size to the sum of a crate. Its name is copied where there is no sum yet.
+fn add_size(
+    alloc: Global,
+    crates: &mut BTreeMap<String, u64>,
+    name: &str,
+    size: u64,
+) -> Result<(), AllocError> {
+    match crates.get_mut(name) {
+        Some(sum) => *sum += size,
+        None => {
+            let _ = crates.insert(String::from_str(alloc, name)?, size)?;
+        }
+    }
+    Ok(())
+}
+
+// Writes the crate that a function of this name is counted for in place of the text.
+fn put_crate(alloc: Global, text: &mut String, name: &str) -> Result<(), AllocError> {
+    text.clear();
+    if push_crate(alloc, text, name)? {
+        Ok(())
+    } else {
+        text.push_str(UNKNOWN_CRATE)
+    }
+}
+
+// The whole report.
+fn report_text(alloc: Global, sums: &CrateSums) -> Result<String, AllocError> {
+    let mut text = String::new(alloc);
+    for (name, sum) in sums.crates.iter() {
+        push_crate_line(&mut text, name.as_str(), *sum)?;
+    }
+    writeln!(text, "sum {}", sums.total)?;
+    writeln!(text, "text {}", sums.section_size)?;
+    Ok(text)
+}
+
+// `{sum:>10} {name}` and a line feed, after the text.
+fn push_crate_line(text: &mut String, name: &str, sum: u64) -> Result<(), AllocError> {
+    writeln!(text, "{sum:>10} {name}")?;
+    Ok(())
+}

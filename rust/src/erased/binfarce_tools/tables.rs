@@ -1,0 +1,104 @@
+// From crates/binfarce_tools/src/tables.rt, by tools/erase.
+
+//! What is read of a file to list its function symbols.
+
+use crate::shim::Vec;
+use crate::erased::binfarce_tools::functions::{Functions, all_of};
+use crate::erased::binfarce_tools::list::ListError;
+use crate::erased::binfarce_format::{Format, detect_format};
+use crate::erased::binfarce_source::{Source, read_part};
+use crate::erased::binfarce_tables::{ReadError, elf32, elf64, macho, pe};
+use crate::shim::alloc::Global;
+
+// How many of a file's first bytes name its format.
+const MAGIC_LENGTH: usize = 8;
+
+/// What was read of a file to list the function symbols of a section.
+pub enum Tables {
+    /// The parts of an ELF file of 32 bits.
+    Elf32(elf32::Parts),
+    /// The parts of an ELF file of 64 bits.
+    Elf64(elf64::Parts),
+    /// The parts of a Mach-O file.
+    Macho(macho::Parts),
+    /// The parts of a PE file.
+    Pe(pe::Parts),
+    /// Nothing of a file whose first bytes name no format that is read.
+    Unknown,
+}
+
+impl Tables {
+    /// What `functions_of_file` gives of the file, for the section that the tables were read for.
+    ///
+    /// # Errors
+    ///
+    /// As `functions_of_file`.
+    pub fn functions(&self, alloc: Global) -> Result<(Functions<'_>, u64), ListError> {
+        match self {
+            Tables::Elf32(parts) => {
+                let (functions, size) = parts.functions();
+                Ok((Functions::Elf32(functions), size))
+            }
+            Tables::Elf64(parts) => {
+                let (functions, size) = parts.functions();
+                Ok((Functions::Elf64(functions), size))
+            }
+            Tables::Macho(parts) => {
+                let listed = parts.functions(alloc)?;
+                Ok(all_of(listed))
+            }
+            Tables::Pe(parts) => {
+                let listed = parts.functions(alloc)?;
+                Ok(all_of(listed))
+            }
+            Tables::Unknown => Err(ListError::Unknown),
+        }
+    }
+}
+
+/// Reads of a file what its function symbols in a section are made of: its first 8 bytes, which name its format, and the
+/// parts that `binfarce_tables` reads of a file of that format. Of a file of an unknown format no other byte is read.
+/// Each part that is kept takes no more memory than what the file holds of it.
+///
+/// # Errors
+///
+/// `Refused` with what the reader of the file's format refuses; `Unreadable` where the source can't be read at offsets,
+/// or a read of it fails, and never of a source that can't fail, as bytes in memory are; `OutOfMemory` where an
+/// allocation fails.
+pub fn read<S: Source>(alloc: Global, source: &S, section: &str) -> Result<Tables, ReadError> {
+    let len = source.length()? as usize;
+    match read_format(alloc, source, len)? {
+        Format::Elf32 { byte_order } => {
+            let parts = elf32::read(alloc, source, byte_order, section)?;
+            Ok(Tables::Elf32(parts))
+        }
+        Format::Elf64 { byte_order } => {
+            let parts = elf64::read(alloc, source, byte_order, section)?;
+            Ok(Tables::Elf64(parts))
+        }
+        Format::Macho => {
+            let parts = macho::read(alloc, source)?;
+            Ok(Tables::Macho(parts))
+        }
+        Format::PE => {
+            let parts = pe::read(alloc, source)?;
+            Ok(Tables::Pe(parts))
+        }
+        Format::Unknown => Ok(Tables::Unknown),
+    }
+}
+
+/// The format that the first 8 bytes of a source of this length name. Of a shorter one all bytes are read.
+///
+/// # Errors
+///
+/// `Unreadable` where a read fails, and `OutOfMemory` where an allocation fails.
+pub fn read_format<S: Source>(alloc: Global, source: &S, len: usize) -> Result<Format, ReadError> {
+    let magic = read_magic(alloc, source, len)?;
+    Ok(detect_format(&magic))
+}
+
+// The file's first bytes, which name its format.
+fn read_magic<S: Source>(alloc: Global, source: &S, len: usize) -> Result<Vec<u8>, ReadError> {
+    Ok(read_part(alloc, source, 0, len.min(MAGIC_LENGTH))?)
+}

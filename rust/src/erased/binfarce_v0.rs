@@ -1,0 +1,5 @@
+// From crates/binfarce_v0/src/lib.rt, by tools/erase.
+
+//! Rust's v0 manglings (RFC 2603): a name is read by the grammar, and what it means is printed.
+
+pub mod mangling;

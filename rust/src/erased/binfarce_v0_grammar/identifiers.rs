@@ -1,0 +1,111 @@
+// From crates/binfarce_v0_grammar/src/identifiers.rt, by tools/erase.
+
+//! Identifiers of a v0 name (RFC 2603, "Identifiers" and "Punycode identifiers").
+
+use crate::erased::binfarce_v0_grammar::numbers::{
+    byte_at, length_at, optional_base_62_number, past, skip_optional_base_62_number,
+};
+
+/// `<undisambiguated-identifier>`: its ASCII part, and its Punycode part. Both are slices of the name: nothing is copied.
+#[derive(Clone, Copy)]
+pub struct UndisambiguatedIdentifier<'a> {
+    /// The characters before the last `_` of a Punycode identifier, and all of any other.
+    pub ascii: &'a str,
+    /// What stands after that `_`, empty where the identifier isn't Punycode.
+    pub punycode: &'a str,
+}
+
+/// `<identifier>`: an undisambiguated identifier with its disambiguator.
+#[derive(Clone, Copy)]
+pub struct Identifier<'a> {
+    /// 0 where none is written.
+    pub disambiguator: u64,
+    pub name: UndisambiguatedIdentifier<'a>,
+}
+
+// Where the Punycode of an identifier begins: after its last `_`.
+fn punycode_start(bytes: &[u8]) -> usize {
+    let mut start = bytes.len();
+    while start > 0 && bytes[start - 1] != b'_' {
+        start -= 1;
+    }
+    start
+}
+
+/// The slice of an ASCII text between two positions.
+#[cfg_attr(not(debug_assertions), inline(always))]
+pub fn ascii_slice(text: &str, start: usize, end: usize) -> &str {
+    &text[start..end]
+}
+
+// The bytes of an identifier.
+#[cfg_attr(not(debug_assertions), inline(always))]
+fn identifier_of<'a>(is_punycode: bool, text: &'a str) -> Option<UndisambiguatedIdentifier<'a>> {
+    if !is_punycode {
+        return Some(UndisambiguatedIdentifier {
+            ascii: text,
+            punycode: "",
+        });
+    }
+    let start = punycode_start(text.as_bytes());
+    if start == text.len() {
+        return None;
+    }
+    let ascii = ascii_slice(text, 0, start.saturating_sub(1));
+    let punycode = ascii_slice(text, start, text.len());
+    Some(UndisambiguatedIdentifier { ascii, punycode })
+}
+
+// As many bytes as an identifier's length says.
+#[cfg_attr(not(debug_assertions), inline(always))]
+fn identifier_bytes<'a>(
+    part: &'a str,
+    is_punycode: bool,
+    start: usize,
+    size: u64,
+) -> Option<(UndisambiguatedIdentifier<'a>, usize)> {
+    let end = start.checked_add(size as usize)?;
+    if end > part.len() {
+        return None;
+    }
+    let parts = identifier_of(is_punycode, ascii_slice(part, start, end))?;
+    Some((parts, end))
+}
+
+/// `<undisambiguated-identifier> = ["u"] <decimal-number> ["_"] <bytes>` at a position, and the position after it.
+///
+/// None where no number stands there, where the part ends before as many bytes as it says, and where a Punycode identifier
+/// has no Punycode.
+#[cfg_attr(not(debug_assertions), inline(always))]
+pub fn undisambiguated_at<'a>(
+    part: &'a str,
+    at: usize,
+) -> Option<(UndisambiguatedIdentifier<'a>, usize)> {
+    let bytes = part.as_bytes();
+    let is_punycode = byte_at(bytes, at) == b'u';
+    let (size, after) = length_at(bytes, past(bytes, b'u', at))?;
+    identifier_bytes(part, is_punycode, past(bytes, b'_', after), size)
+}
+
+/// `<identifier> = [<disambiguator>] <undisambiguated-identifier>` at a position, and the position after it. None where
+/// either is invalid.
+pub fn identifier_at<'a>(part: &'a str, at: usize) -> Option<(Identifier<'a>, usize)> {
+    let (disambiguator, start) = optional_base_62_number(part.as_bytes(), b's', at)?;
+    let (undisambiguated, after) = undisambiguated_at(part, start)?;
+    let identifier = Identifier {
+        disambiguator,
+        name: undisambiguated,
+    };
+    Some((identifier, after))
+}
+
+/// The undisambiguated identifier of the `<identifier>` at a position, and the position after it: the disambiguator is
+/// checked and not kept. None where either is invalid.
+#[cfg_attr(not(debug_assertions), inline(always))]
+pub fn identifier_name_at<'a>(
+    part: &'a str,
+    at: usize,
+) -> Option<(UndisambiguatedIdentifier<'a>, usize)> {
+    let start = skip_optional_base_62_number(part.as_bytes(), b's', at)?;
+    undisambiguated_at(part, start)
+}

@@ -1,0 +1,9 @@
+// From crates/binfarce_v0_state/src/lib.rt, by tools/erase.
+
+//! The state of the printing of a v0 name of a Rust symbol (RFC 2603): where it reads, what it has counted and written, and
+//! what it may write again.
+
+pub mod fragments;
+pub mod memory;
+pub mod state;
+pub mod targets;

@@ -1,0 +1,184 @@
+// From crates/binfarce_v0_state/src/targets.rt, by tools/erase.
+
+//! Which positions of a name its back references may mean.
+
+use crate::shim::Vec;
+use crate::erased::binfarce_v0_grammar::numbers::{back_reference, byte_at};
+use crate::shim::alloc::{AllocError, Global};
+use crate::shim::simd::prelude::*;
+
+// How many bytes of a name are looked at together.
+const STRIDE: usize = 16;
+
+/// The positions that the back references of a name may mean, where a `B` and a number stand, whether or not a back
+/// reference is read there. A printing keeps what it prints there and nothing else. That changes no text, so that nothing
+/// here says which they are: what isn't kept is printed anew.
+pub struct Targets {
+    // A bit for the positions of each remainder by 64: most positions that are no target are told apart by these.
+    any: u64,
+    // A bit for each of the first 256 positions.
+    near: [u64; 4],
+    // A bit for each of the others. Empty where none of them is a target.
+    far: Vec<u64>,
+}
+
+impl Targets {
+    /// No target.
+    pub fn none(alloc: Global) -> Targets {
+        Targets {
+            any: 0,
+            near: [0; 4],
+            far: Vec::new(alloc),
+        }
+    }
+
+    /// Forgets all targets.
+    #[cfg_attr(not(debug_assertions), inline(always))]
+    pub fn clear(&mut self) {
+        self.any = 0;
+        self.near = [0; 4];
+        self.far.clear();
+    }
+
+    // How many bytes they have room for beside a name's first 256 positions.
+    pub(crate) fn bytes(&self) -> usize {
+        self.far.capacity().saturating_mul(8)
+    }
+
+    /// Looks for the targets of a name, where none was added yet. Nothing is allocated but for those from position 256 on.
+    #[inline(never)]
+    pub fn look_for(&mut self, part: &[u8]) -> Result<(), AllocError> {
+        let strides = part.len() / STRIDE;
+        for stride in 0..strides {
+            let start = STRIDE * stride;
+            self.add_flagged(part, start, b_flags(&part[start..start + STRIDE]))?;
+        }
+        self.look_at_the_last(part)
+    }
+
+    // Adds the targets of what stands behind the last whole stride.
+    #[cfg_attr(not(debug_assertions), inline(always))]
+    fn look_at_the_last(&mut self, part: &[u8]) -> Result<(), AllocError> {
+        let last = part.len() % STRIDE;
+        if last == 0 {
+            return Ok(());
+        }
+        if part.len() >= STRIDE {
+            let start = part.len() - STRIDE;
+            let flags = b_flags(&part[start..start + STRIDE]) & (u64::MAX << (STRIDE - last));
+            return self.add_flagged(part, start, flags);
+        }
+        for at in 0..part.len() {
+            self.add_target(part, at)?;
+        }
+        Ok(())
+    }
+
+    // Adds the targets of the flagged ones of a stride.
+    #[cfg_attr(not(debug_assertions), inline(always))]
+    fn add_flagged(&mut self, part: &[u8], start: usize, flags: u64) -> Result<(), AllocError> {
+        let mut left = flags;
+        for _turn in 0..STRIDE {
+            if left == 0 {
+                break;
+            }
+            let at = start + left.trailing_zeros() as usize % STRIDE;
+            if !leads_to_a_root(part, at) {
+                self.add_target(part, at)?;
+            }
+            left &= left - 1;
+        }
+        Ok(())
+    }
+
+    // Adds the target of a back reference, where one may stand.
+    #[inline(never)]
+    fn add_target(&mut self, part: &[u8], at: usize) -> Result<(), AllocError> {
+        if at >= part.len() || part[at] != b'B' {
+            return Ok(());
+        }
+        match back_reference(part, at) {
+            Some((target, _)) if !is_read_again(part, target) => self.add(target, part.len()),
+            _ => Ok(()),
+        }
+    }
+
+    // Adds a position of a name of so many bytes.
+    fn add(&mut self, at: usize, len: usize) -> Result<(), AllocError> {
+        let bit = 1u64 << (at % 64);
+        let word = at / 64;
+        self.any |= bit;
+        if word < 4 {
+            self.near[word] |= bit;
+            return Ok(());
+        }
+        if self.far.is_empty() {
+            self.far.resize(len / 64, 0)?;
+        }
+        if let Some(bits) = self.far.get_mut(word - 4) {
+            *bits |= bit;
+        }
+        Ok(())
+    }
+
+    /// Whether a position may be a target.
+    #[cfg_attr(not(debug_assertions), inline(always))]
+    pub fn may_have(&self, at: usize) -> bool {
+        (self.any >> (at % 64)) & 1 == 1
+    }
+
+    /// Whether a position is a target.
+    pub fn has(&self, at: usize) -> bool {
+        let word = at / 64;
+        let bits = if word < 4 {
+            self.near[word]
+        } else {
+            self.far.get(word - 4).copied().unwrap_or(0)
+        };
+        (bits >> (at % 64)) & 1 == 1
+    }
+}
+
+// The length of a name up to which what is short is read again. A longer one may have a long name in Punycode there, which
+// takes longer to decode than to copy.
+const SHORT_NAME: usize = 512;
+
+// Whether what begins at a position is read again: a crate's name, alone or before one or two names, costs no more to read
+// than to keep and to copy.
+#[cfg_attr(not(debug_assertions), inline(always))]
+fn is_read_again(part: &[u8], at: usize) -> bool {
+    if part.len() > SHORT_NAME {
+        return false;
+    }
+    let Some(path) = part.get(at..) else {
+        return false;
+    };
+    matches!(
+        path,
+        [b'C', ..] | [b'N', _, b'C', ..] | [b'N', _, b'N', _, b'C', ..]
+    )
+}
+
+// Whether a back reference of one digit leads to a crate root, which is read again: that is told without reading the number.
+#[cfg_attr(not(debug_assertions), inline(always))]
+fn leads_to_a_root(part: &[u8], at: usize) -> bool {
+    if part.len() > SHORT_NAME || byte_at(part, at + 1) == 0 || byte_at(part, at + 2) != b'_' {
+        return false;
+    }
+    let digit = byte_at(part, at + 1);
+    let target = match digit {
+        b'0'..=b'9' => digit - b'0' + 1,
+        b'a'..=b'z' => digit - b'a' + 11,
+        b'A'..=b'Z' => digit - b'A' + 37,
+        _ => return false,
+    };
+    byte_at(part, target as usize) == b'C'
+}
+
+// Of 16 bytes, a bit for each that is `B`.
+#[cfg_attr(not(debug_assertions), inline(always))]
+fn b_flags(bytes: &[u8]) -> u64 {
+    u8x16::from_slice(bytes)
+        .simd_eq(u8x16::splat(b'B'))
+        .to_bitmask()
+}

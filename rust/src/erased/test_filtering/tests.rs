@@ -1,0 +1,4 @@
+// From crates/test_filtering/src/tests.rt, by tools/erase.
+
+mod streams;
+mod texts;

@@ -1,0 +1,50 @@
+// From crates/test_memory/src/addresses.rt, by tools/erase.
+
+//! What stands at addresses: all lines, or `OutOfMemory` and nothing or a beginning of them written.
+
+use crate::erased::test_memory::expected::Expected;
+use crate::erased::test_memory::tally::{Row, Tally};
+use crate::erased::binfarce_addresses::at::{Places, at};
+use crate::erased::binfarce_addresses::stream::{LinesError, answer_lines};
+use crate::erased::binfarce_tools::list::{ListError, Out};
+use crate::shim::alloc::{AllocError, Global};
+use crate::erased::test_samples::elf::ELF64_LITTLE;
+use crate::erased::test_streams::Source;
+
+const LINES: &str = "0000000000001000 foo+0x0\n000000000000100f foo+0xf\n0000000000001010 ??\n";
+
+fn is_told(alloc: Global) -> Row {
+    let mut out = Out::new(Expected::new(LINES));
+    let addresses = [0x1000, 0x100f, 0x1010];
+    let result = at(alloc, &ELF64_LITTLE, ".text", 0, &addresses, &mut out);
+    let written = out.into_inner();
+    match result {
+        Ok(()) => Ok(written.is_whole()),
+        Err(ListError::OutOfMemory) if written.is_empty => Err(AllocError),
+        Err(_) => Ok(false),
+    }
+}
+
+fn is_answered(alloc: Global, text: &[u8]) -> Row {
+    let mut places = match Places::of_file(alloc, &ELF64_LITTLE, ".text") {
+        Ok(places) => places,
+        Err(ListError::OutOfMemory) => return Err(AllocError),
+        Err(_) => return Ok(false),
+    };
+    places.keep_names(alloc)?;
+    let mut input = Source::of(text);
+    let mut out = Out::new(Expected::new(LINES));
+    let result = answer_lines(alloc, &places, 0, &mut input, &mut out);
+    let written = out.into_inner();
+    match result {
+        Ok(()) => Ok(written.is_whole()),
+        Err(LinesError::OutOfMemory) if written.is_beginning() => Err(AllocError),
+        Err(_) => Ok(false),
+    }
+}
+
+pub(crate) fn add_addresses(alloc: Global, tally: &mut Tally) {
+    tally.add("addresses", is_told(alloc));
+    tally.add("lines", is_answered(alloc, b"1000\n100f\n1010\n"));
+    tally.add("a last line", is_answered(alloc, b"1000\n100f\n1010"));
+}

@@ -1,0 +1,136 @@
+// From crates/test_memory/src/listings.rt, by tools/erase.
+
+//! Listings, reports and pictures: the whole text, or `OutOfMemory` and nothing written.
+
+use crate::erased::test_memory::expected::Expected;
+use crate::erased::test_memory::readers::{FILES, File, bytes_of, magic_of};
+use crate::erased::test_memory::tally::{Row, Tally};
+use crate::erased::binfarce::ParseError;
+use crate::erased::binfarce_image::image::ImageError;
+use crate::erased::binfarce_mapping::map;
+use crate::erased::binfarce_tools::list::{ListError, Out, list};
+use crate::erased::binfarce_tools::report::{ReportError, report};
+use crate::shim::alloc::{AllocError, Global};
+use crate::erased::test_image_samples::file_beside;
+use crate::erased::test_samples::macho::MACHO;
+use crate::erased::test_samples::{Patch, elf, macho, patched, pe};
+
+fn is_listed(alloc: Global, file: File, text: &str) -> Row {
+    let bytes = patched(alloc, bytes_of(file), &[magic_of(file)])?;
+    let mut out = Out::new(Expected::new(text));
+    let result = list(alloc, &bytes, ".text", &mut out);
+    let written = out.into_inner();
+    match result {
+        Ok(()) => Ok(written.is_whole()),
+        Err(ListError::OutOfMemory) if written.is_empty => Err(AllocError),
+        Err(_) => Ok(false),
+    }
+}
+
+// What is listed of a sample, and what is reported.
+fn texts_of(file: File) -> (&'static str, &'static str) {
+    match file {
+        File::Elf(_) => (elf::LISTING, "        16 foo\nsum 16\ntext 32\n"),
+        File::Macho => (macho::LISTING, "       320 [unknown]\nsum 320\ntext 256\n"),
+        File::Pe => (pe::LISTING, "       448 [unknown]\nsum 448\ntext 256\n"),
+    }
+}
+
+// The one refusal in whose place `OutOfMemory` may come.
+fn is_past_the_text(alloc: Global) -> Row {
+    let past_the_text: Patch<'_> = (264, &[0, 0x12]);
+    let file = patched(alloc, &MACHO, &[macho::MAGIC, past_the_text])?;
+    let mut out = Out::new(Expected::new(""));
+    let result = list(alloc, &file, ".text", &mut out);
+    let is_empty = out.into_inner().is_empty;
+    match result {
+        Err(ListError::OutOfMemory) if is_empty => Err(AllocError),
+        other => Ok(other == Err(ListError::Parse(ParseError::MalformedInput)) && is_empty),
+    }
+}
+
+pub(crate) fn add_listings(alloc: Global, tally: &mut Tally) {
+    for (name, file) in &FILES {
+        let (listing, _) = texts_of(*file);
+        tally.add(name, is_listed(alloc, *file, listing));
+    }
+    tally.add("a symbol past the text", is_past_the_text(alloc));
+}
+
+// The text of a report or of its picture, or the refusal of both.
+#[derive(Clone, Copy)]
+enum Reported {
+    Text(&'static str),
+    Picture(&'static str),
+    TooLarge,
+}
+
+fn is_reported(alloc: Global, file: &[u8], expected: Reported) -> Row {
+    let text = match expected {
+        Reported::Text(text) => text,
+        Reported::Picture(text) => text,
+        Reported::TooLarge => "",
+    };
+    let mut out = Out::new(Expected::new(text));
+    let result = match expected {
+        Reported::Picture(_) => map(alloc, file, ".text", &mut out),
+        _ => report(alloc, file, ".text", &mut out),
+    };
+    let written = out.into_inner();
+    match (result, expected) {
+        (Ok(()), Reported::Text(_)) => Ok(written.is_whole()),
+        (Ok(()), Reported::Picture(_)) => Ok(written.is_whole()),
+        (Err(ReportError::TooLarge), Reported::TooLarge) => Ok(written.is_empty),
+        (Err(ReportError::OutOfMemory), _) if written.is_empty => Err(AllocError),
+        _ => Ok(false),
+    }
+}
+
+fn is_reported_of(alloc: Global, file: File) -> Row {
+    let bytes = patched(alloc, bytes_of(file), &[magic_of(file)])?;
+    let (_, text) = texts_of(file);
+    is_reported(alloc, &bytes, Reported::Text(text))
+}
+
+// The picture of two crates.
+const PICTURE: &str =
+    "<svg xmlns=\"http://www.w3.org/2000/svg\" width=\"800\" height=\"96\" viewBox=\"0 0 800 96\" font-family=\"sans-serif\" font-size=\"14\">\n<title>Size by crate</title>\n<rect width=\"800\" height=\"100%\" fill=\"#fff\"/>\n<text x=\"8\" y=\"25\">sum 32, text 32: bytes and share of the sum by crate</text>\n<svg y=\"40\" height=\"24\"><svg width=\"236\"><text x=\"8\" y=\"17\">123foo</text></svg><svg x=\"240\" width=\"360\"><rect y=\"3\" width=\"100%\" height=\"18\" fill=\"#e6e6e6\"/><rect y=\"3\" width=\"50.00%\" height=\"18\" fill=\"#245\"/></svg><text x=\"672\" y=\"17\" text-anchor=\"end\">50.00%</text><text x=\"792\" y=\"17\" text-anchor=\"end\">16</text></svg>\n<svg y=\"64\" height=\"24\"><svg width=\"236\"><text x=\"8\" y=\"17\">foo</text></svg><svg x=\"240\" width=\"360\"><rect y=\"3\" width=\"100%\" height=\"18\" fill=\"#e6e6e6\"/><rect y=\"3\" width=\"50.00%\" height=\"18\" fill=\"#245\"/></svg><text x=\"672\" y=\"17\" text-anchor=\"end\">50.00%</text><text x=\"792\" y=\"17\" text-anchor=\"end\">16</text></svg>\n</svg>\n";
+
+// The name of a function that stands before `foo::bar`, and the report of both or its picture; `TooLarge` where the first
+// function's size, which stands at 112, is 2^64 - 1.
+const REPORTS: [(&str, Reported); 4] = [
+    ("_RNvC6_123foo3bar", Reported::Picture(PICTURE)),
+    (
+        "_RNvC6_123foo3bar",
+        Reported::Text("        16 123foo\n        16 foo\nsum 32\ntext 32\n"),
+    ),
+    (
+        "_ZN11_$LT$a$GT$bE",
+        Reported::Text("        16 [unknown]\n        16 foo\nsum 32\ntext 32\n"),
+    ),
+    ("a", Reported::TooLarge),
+];
+
+fn is_reported_beside(alloc: Global, name: &str, expected: Reported) -> Row {
+    let file = match file_beside(alloc, name) {
+        Ok(file) => file,
+        Err(ImageError::OutOfMemory) => return Err(AllocError),
+        Err(_) => return Ok(false),
+    };
+    match expected {
+        Reported::TooLarge => {
+            let file = patched(alloc, &file, &[(112, &[0xFF; 8])])?;
+            is_reported(alloc, &file, expected)
+        }
+        _ => is_reported(alloc, &file, expected),
+    }
+}
+
+pub(crate) fn add_reports(alloc: Global, tally: &mut Tally) {
+    for (name, file) in &FILES {
+        tally.add(name, is_reported_of(alloc, *file));
+    }
+    for (name, expected) in &REPORTS {
+        tally.add(name, is_reported_beside(alloc, name, *expected));
+    }
+}

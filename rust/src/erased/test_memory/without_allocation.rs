@@ -1,0 +1,171 @@
+// From crates/test_memory/src/without_allocation.rt, by tools/erase.
+
+//! Calls that don't allocate: these rows make no allocation at all.
+
+use crate::erased::test_memory::expected::{Expected, is_shown};
+use crate::erased::test_memory::names::NAMES;
+use crate::erased::test_memory::tally::Tally;
+use crate::erased::test_memory::{streams, words};
+use crate::erased::binfarce::demangle::demangle;
+use crate::erased::binfarce::{
+    ByteOrder, Format, ParseError, detect_format, elf32, elf64, macho, pe,
+};
+use crate::erased::binfarce_tools::list::{Out, Sink};
+use crate::shim::io;
+use crate::erased::test_samples::elf::Layout;
+use crate::erased::test_samples::macho::MACHO;
+use crate::erased::test_samples::pe::PE;
+
+fn has_header_32(header: elf32::Elf32Header) -> bool {
+    header.elf_type == 1
+        && header.machine == 0
+        && header.version == 1
+        && header.entry == 0
+        && header.phoff == 0
+        && header.shoff == 215
+        && header.flags == 0
+        && header.ehsize == 52
+        && header.phentsize == 0
+        && header.phnum == 0
+        && header.shentsize == 40
+        && header.shnum == 5
+        && header.shstrndx == 4
+}
+
+fn has_header_64(header: elf64::Elf64Header) -> bool {
+    header.elf_type == 1
+        && header.machine == 0
+        && header.version == 1
+        && header.entry == 0
+        && header.phoff == 0
+        && header.shoff == 267
+        && header.flags == 0
+        && header.ehsize == 64
+        && header.phentsize == 0
+        && header.phnum == 0
+        && header.shentsize == 64
+        && header.shnum == 5
+        && header.shstrndx == 4
+}
+
+fn is_elf32(file: &[u8], byte_order: ByteOrder) -> Result<bool, ParseError> {
+    let elf = elf32::parse(file, byte_order)?;
+    let (mut functions, size) = elf.functions(".text")?;
+    let has_function = match functions.next() {
+        None => false,
+        Some(f) => f.name == "_ZN3foo3barE" && f.address == 4096 && f.size == 16,
+    };
+    let has_table = match elf.find_section(|s| s.entries() > 0)? {
+        None => false,
+        Some(table) => table.name(&elf) == Some(".symtab") && table.range()? == (84..164),
+    };
+    let is_missing = elf.section_with_name("nope")?.is_none();
+    let is_format = detect_format(file) == Format::Elf32 { byte_order };
+    Ok(
+        has_function
+            && functions.next().is_none()
+            && size == 32
+            && has_table
+            && is_missing
+            && is_format
+            && has_header_32(elf.header()),
+    )
+}
+
+fn is_elf64(file: &[u8], byte_order: ByteOrder) -> Result<bool, ParseError> {
+    let elf = elf64::parse(file, byte_order)?;
+    let (mut functions, size) = elf.functions(".text")?;
+    let has_function = match functions.next() {
+        None => false,
+        Some(f) => f.name == "_ZN3foo3barE" && f.address == 4096 && f.size == 16,
+    };
+    let has_table = match elf.find_section(|s| s.entries() > 0)? {
+        None => false,
+        Some(table) => table.name(&elf) == Some(".symtab") && table.range()? == (96..216),
+    };
+    let is_missing = elf.section_with_name("nope")?.is_none();
+    let is_format = detect_format(file) == Format::Elf64 { byte_order };
+    Ok(
+        has_function
+            && functions.next().is_none()
+            && size == 32
+            && has_table
+            && is_missing
+            && is_format
+            && has_header_64(elf.header()),
+    )
+}
+
+// The fields of the headers of Mach-O and PE can't be read, but shown.
+fn is_macho(file: &[u8]) -> Result<bool, ParseError> {
+    const HEADER: &str =
+        "MachoHeader { cputype: 0, cpusubtype: 0, filetype: 0, ncmds: 2, sizeofcmds: 0, flags: 0 }";
+    let macho = macho::parse(file)?;
+    let is_text = match macho.section_with_name("__TEXT", "__text")? {
+        None => false,
+        Some(section) => section.range()? == (0..256),
+    };
+    let is_found = macho.find_section(|_| true)?.is_some();
+    Ok(is_text && is_found && is_shown(&macho.header(), HEADER))
+}
+
+fn is_pe(file: &[u8]) -> Result<bool, ParseError> {
+    const HEADER: &str = "PeHeader { machine: 0, number_of_sections: 1, time_date_stamp: 0, \
+        pointer_to_symbol_table: 128, number_of_symbols: 5, size_of_optional_header: 0, characteristics: 0 }";
+    let pe = pe::parse(file)?;
+    let is_text = match pe.section_with_name(".text")? {
+        None => false,
+        Some(section) => section.range()? == (0..256),
+    };
+    let is_found = pe.find_section(|_| true)?.is_some();
+    Ok(is_text && is_found && is_shown(&pe.header(), HEADER))
+}
+
+fn add_readers(tally: &mut Tally) {
+    let elf32_little = is_elf32(Layout::Elf32Little.bytes(), ByteOrder::LittleEndian);
+    tally.add("ELF32, little endian", Ok(elf32_little == Ok(true)));
+    let elf32_big = is_elf32(Layout::Elf32Big.bytes(), ByteOrder::BigEndian);
+    tally.add("ELF32, big endian", Ok(elf32_big == Ok(true)));
+    let elf64_little = is_elf64(Layout::Elf64Little.bytes(), ByteOrder::LittleEndian);
+    tally.add("ELF64, little endian", Ok(elf64_little == Ok(true)));
+    let elf64_big = is_elf64(Layout::Elf64Big.bytes(), ByteOrder::BigEndian);
+    tally.add("ELF64, big endian", Ok(elf64_big == Ok(true)));
+    tally.add("Mach-O", Ok(is_macho(&MACHO) == Ok(true)));
+    tally.add("PE", Ok(is_pe(&PE) == Ok(true)));
+}
+
+// A writer that takes nothing.
+struct Full;
+
+impl io::Write for Full {
+    fn write(&mut self, _bytes: &[u8]) -> io::Result<usize> {
+        Ok(0)
+    }
+
+    fn flush(&mut self) -> io::Result<()> {
+        Ok(())
+    }
+}
+
+fn is_taken() -> bool {
+    let mut out = Out::new(Expected::new("ab"));
+    let is_taken = !out.failed() && out.write(b"ab") == Some(2) && !out.failed();
+    is_taken && out.into_inner().is_whole()
+}
+
+fn has_failed() -> bool {
+    let mut out = Out::new(Full);
+    !out.failed() && out.write(b"ab").is_none() && out.failed()
+}
+
+pub(crate) fn add_calls(tally: &mut Tally) {
+    // Nothing of what this call gives can be seen from here. It is no row, but its allocations would be counted.
+    for row in &NAMES {
+        let _ = demangle(row.name);
+    }
+    add_readers(tally);
+    tally.add("a sink that takes bytes", Ok(is_taken()));
+    tally.add("a sink that takes none", Ok(has_failed()));
+    words::add_errors(tally);
+    streams::add_streams(tally);
+}

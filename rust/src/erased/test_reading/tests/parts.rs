@@ -1,0 +1,45 @@
+// From crates/test_reading/src/tests/parts.rt, by tools/erase.
+
+//! A part of bytes in memory.
+
+use crate::shim::HostRuntime;
+use crate::erased::binfarce_source::read_part;
+use crate::shim::io::ErrorKind;
+use crate::shim::test::Fail;
+
+const BYTES: &[u8] = &[1, 2, 3, 4];
+
+// An offset, a size, and the bytes.
+const INSIDE: [(u64, usize, &[u8]); 5] = [
+    (0, 4, &[1, 2, 3, 4]),
+    (1, 2, &[2, 3]),
+    (3, 1, &[4]),
+    (0, 0, &[]),
+    (4, 0, &[]),
+];
+
+#[test]
+fn that_lie_inside() -> Result<(), Fail> {
+    let rt = HostRuntime::new();
+    for (offset, size, bytes) in &INSIDE {
+        let part = read_part(rt.alloc(), &BYTES, *offset, *size)?;
+        assert_eq!(part.as_slice(), *bytes);
+    }
+    Ok(())
+}
+
+const PAST_THE_END: [(u64, usize); 5] = [(0, 5), (3, 2), (4, 1), (5, 0), (u64::MAX, 1)];
+
+#[test]
+fn that_end_past_the_end() -> Result<(), Fail> {
+    let rt = HostRuntime::new();
+    for (offset, size) in PAST_THE_END {
+        let refused = read_part(rt.alloc(), &BYTES, offset, size).err();
+        let kind = refused.map(|e| e.kind());
+        assert!(
+            kind == Some(ErrorKind::UnexpectedEof),
+            "{offset}, {size}: {kind:?}"
+        );
+    }
+    Ok(())
+}

@@ -1,0 +1,47 @@
+//! Memory whose requests can fail.
+
+use std::fmt;
+
+/// The memory that every value is made in: that of the process.
+#[derive(Debug, Clone, Copy)]
+pub struct Global;
+
+/// An allocation failed.
+#[derive(Debug, Clone, Copy, PartialEq, Eq)]
+pub struct AllocError;
+
+impl fmt::Display for AllocError {
+    fn fmt(&self, f: &mut fmt::Formatter<'_>) -> fmt::Result {
+        f.write_str("memory allocation failed")
+    }
+}
+
+impl std::error::Error for AllocError {}
+
+impl From<AllocError> for std::io::Error {
+    fn from(_: AllocError) -> Self {
+        std::io::ErrorKind::OutOfMemory.into()
+    }
+}
+
+/// Makes room for `more` items. Here and in `reserve_text` alone this crate asks for memory.
+#[inline(always)]
+pub(super) fn reserve<T>(items: &mut Vec<T>, more: usize) -> Result<(), AllocError> {
+    if items.capacity() - items.len() >= more {
+        return Ok(());
+    }
+    #[cfg(test)]
+    super::test::count_allocation()?;
+    items.try_reserve(more).map_err(|_| AllocError)
+}
+
+/// The same of a text.
+#[inline(always)]
+pub(super) fn reserve_text(text: &mut String, more: usize) -> Result<(), AllocError> {
+    if text.capacity() - text.len() >= more {
+        return Ok(());
+    }
+    #[cfg(test)]
+    super::test::count_allocation()?;
+    text.try_reserve(more).map_err(|_| AllocError)
+}

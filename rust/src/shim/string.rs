@@ -1,0 +1,137 @@
+//! `String`, whose every growth can fail.
+
+use super::alloc::{AllocError, Global, reserve_text};
+use super::vec::Vec;
+use std::fmt::{self, Write};
+use std::ops::{Deref, DerefMut};
+use std::string;
+
+/// A text in memory of its own. What doesn't grow is as in std's `String`.
+#[derive(PartialEq, Eq, PartialOrd, Ord, Hash)]
+pub struct String(string::String);
+
+impl String {
+    /// An empty text, and no memory.
+    #[inline]
+    pub fn new(_: Global) -> String {
+        String(string::String::new())
+    }
+
+    /// An empty text, and room for this many bytes.
+    #[inline]
+    pub fn with_capacity(alloc: Global, capacity: usize) -> Result<String, AllocError> {
+        let mut text = String::new(alloc);
+        text.reserve(capacity)?;
+        Ok(text)
+    }
+
+    /// A copy of the text.
+    #[inline]
+    #[allow(clippy::should_implement_trait)]
+    pub fn from_str(alloc: Global, text: &str) -> Result<String, AllocError> {
+        let mut copy = String::new(alloc);
+        copy.push_str(text)?;
+        Ok(copy)
+    }
+
+    /// The text that these bytes are, in their memory.
+    #[inline]
+    pub fn from_utf8(bytes: Vec<u8>) -> Result<String, string::FromUtf8Error> {
+        string::String::from_utf8(bytes.into_std()).map(String)
+    }
+
+    /// What `format!` makes.
+    pub fn formatted(alloc: Global, arguments: fmt::Arguments<'_>) -> Result<String, AllocError> {
+        let mut text = String::new(alloc);
+        text.write_fmt(arguments)?;
+        Ok(text)
+    }
+
+    /// Adds what `write!` writes. A value whose own `fmt` fails is refused as if memory was.
+    pub fn write_fmt(&mut self, arguments: fmt::Arguments<'_>) -> Result<(), AllocError> {
+        Ends(self).write_fmt(arguments).map_err(|_| AllocError)
+    }
+
+    /// Makes room for `more` bytes behind those that there are.
+    #[inline]
+    pub fn reserve(&mut self, more: usize) -> Result<(), AllocError> {
+        reserve_text(&mut self.0, more)
+    }
+
+    /// Adds a character at the end.
+    #[inline]
+    pub fn push(&mut self, c: char) -> Result<(), AllocError> {
+        self.reserve(c.len_utf8())?;
+        self.0.push(c);
+        Ok(())
+    }
+
+    /// Adds a text at the end.
+    #[inline]
+    pub fn push_str(&mut self, text: &str) -> Result<(), AllocError> {
+        self.reserve(text.len())?;
+        self.0.push_str(text);
+        Ok(())
+    }
+
+    #[inline]
+    pub fn as_str(&self) -> &str {
+        &self.0
+    }
+
+    /// The text as std has it.
+    #[inline]
+    pub fn into_std(self) -> string::String {
+        self.0
+    }
+}
+
+// The end of a text, as `write!` writes to it.
+struct Ends<'a>(&'a mut String);
+
+impl Write for Ends<'_> {
+    fn write_str(&mut self, text: &str) -> fmt::Result {
+        self.0.push_str(text).map_err(|_| fmt::Error)
+    }
+}
+
+impl From<string::String> for String {
+    fn from(text: string::String) -> String {
+        String(text)
+    }
+}
+
+impl Deref for String {
+    type Target = string::String;
+
+    #[inline]
+    fn deref(&self) -> &string::String {
+        &self.0
+    }
+}
+
+impl DerefMut for String {
+    #[inline]
+    fn deref_mut(&mut self) -> &mut string::String {
+        &mut self.0
+    }
+}
+
+impl std::borrow::Borrow<str> for String {
+    #[inline]
+    fn borrow(&self) -> &str {
+        &self.0
+    }
+}
+
+impl fmt::Debug for String {
+    fn fmt(&self, f: &mut fmt::Formatter<'_>) -> fmt::Result {
+        self.0.fmt(f)
+    }
+}
+
+impl fmt::Display for String {
+    fn fmt(&self, f: &mut fmt::Formatter<'_>) -> fmt::Result {
+        self.0.fmt(f)
+    }
+}

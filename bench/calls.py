@@ -51,9 +51,9 @@ def through_c(work, archive):
     run("gcc", "-std=c11", "-O2", f"-I{TOP}/include", f"{TOP}/bench/calls.c", archive, "-o", f"{work}/through-c")
 
 
-def through_cargo(work, archive):
-    env = dict(os.environ, CARGO_TARGET_DIR=f"{work}/target", BINFARCE_LIB=os.path.dirname(archive))
-    run("cargo", "build", "--offline", "--quiet", "--release", "--example", "calls", cwd=f"{TOP}/bindings/rust", env=env)
+def through_cargo(work):
+    env = dict(os.environ, CARGO_TARGET_DIR=f"{work}/target")
+    run("cargo", "build", "--offline", "--quiet", "--release", "--example", "calls", cwd=f"{TOP}/rust", env=env)
     shutil.copy(f"{work}/target/release/examples/calls", f"{work}/through-cargo")
 
 
@@ -82,10 +82,10 @@ def clients(work, original, rattle):
     if os.path.exists(f"{work}/through-c"):
         yield "`binfarce_demangle` from C", [f"{work}/through-c"], ["all"]
     if has("cargo"):
-        through_cargo(work, archive)
-        yield "`SymbolName::demangle` of `bindings/rust`", [f"{work}/through-cargo"], []
+        through_cargo(work)
+        yield "`SymbolName::demangle` of `rust`", [f"{work}/through-cargo"], []
     if original:
-        by_rustc(f"{TOP}/bindings/rust/examples/calls.rs", f"{work}/original", "--extern", f"binfarce={original}")
+        by_rustc(f"{TOP}/rust/examples/calls.rs", f"{work}/original", "--extern", f"binfarce={original}")
         yield "`SymbolName::demangle` of the original", [f"{work}/original"], []
 
 

@@ -1,24 +1,14 @@
 #!/bin/sh
-# Makes bindings/lib/libbinfarce.a: the proved library for C with the kit's few functions that ask the C library for memory.
-# tools/build-program proves and builds what isn't there, and keeps it; an archive of that library is kept too. Prints the
-# archive's path.
+# Makes bindings/lib/libbinfarce.a by the Rattle kit: the library for C, proved down to its exports, and the kit's functions
+# that call malloc, realloc and free. Prints the archive's path. Without the kit, `cargo build --release` makes such an archive.
 set -eu
 cd "$(dirname "$0")/.."
-library=crates/binfarce_c/out/run/libbinfarce_c.a
-archive=bindings/lib/libbinfarce.a
-tools/build-program binfarce_c >&2
-if [ "$archive" -nt "$library" ]; then
-    echo "$archive"
-    exit
-fi
 for needed in rt ar; do
     command -v "$needed" >/dev/null || { echo "bindings/archive.sh: $needed is missing" >&2; exit 1; }
 done
-kit=$(readlink -f "$(command -v rt)")
-kit=${kit%/bin/rt}
-[ -e "$kit/KIT-ID" ] || kit=$(dirname "$(rt doc)")
+(cd crates/binfarce_c && rt lib) >&2
+archive=bindings/lib/libbinfarce.a
 mkdir -p bindings/lib
-rm -f "$archive" "$archive.part"
-printf 'create %s\naddlib %s\naddlib %s\nsave\nend\n' "$archive.part" "$library" "$kit/c/liblibc_c.a" | ar -M
-mv "$archive.part" "$archive"
+rm -f "$archive"
+printf 'create %s\naddlib %s\naddlib %s\nsave\nend\n' "$archive" crates/binfarce_c/out/libbinfarce_c.a "$(dirname "$(rt doc)")/c/liblibc_c.a" | ar -M
 echo "$archive"

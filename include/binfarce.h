@@ -1,40 +1,42 @@
 /*
  * binfarce: readable names of Rust symbols, and the function symbols of ELF, Mach-O and PE files.
  *
- * The library behind this header is proved: for every name and every file, what a call gives is what the written
- * definitions say. What a caller owes is assumed by the proof and checked by nothing:
+ * `cargo build --release` makes libbinfarce.a and libbinfarce.so from plain Rust, erased from proved sources;
+ * bindings/archive.sh makes a libbinfarce.a by the Rattle kit, proved down to these functions: for every name and every file a
+ * call returns what the written definitions say. Both assume, and don't check, that the caller keeps these rules:
  *
- * - Pointers. Each pointer goes to as many readable (where it isn't const: writable) bytes as the length after it says,
- *   for the whole call. None may be NULL, also where its length is 0: any other address will do then (`""`, or the
+ * - Pointers. Each pointer points to as many readable (where it isn't const: writable) bytes as the length after it says,
+ *   for the whole call. None may be NULL, even where its length is 0: any other address will do then (`""`, or the
  *   address of a variable). No length is above PTRDIFF_MAX.
- * - Overlap. What a call writes to overlaps nothing else that the call is given.
+ * - Overlap. What a call writes to overlaps nothing else that is passed to the call.
  * - Alignment. A pointer to a struct is aligned as C aligns it; bytes need no alignment.
- * - Enough stack. A call nests as deep as a name does, at most 500 levels; the deepest names tried took less than 256 KiB,
- *   and no proof says more of it.
+ * - Stack. A call nests as deep as a name does, at most 500 levels; the deepest names tried took less than 256 KiB with the
+ *   kit's archive and less than 512 KiB with cargo's. No proof bounds it.
  *
  * Ownership. The library keeps nothing between calls, and no pointer after a call: there is nothing to be freed. What is
  * written is the caller's buffer. A `struct binfarce_function` and a `struct binfarce_section` point into the caller's own
  * file, and a `struct binfarce_mangling` into the caller's own name.
  *
- * Texts are UTF-8, without a NUL at the end: their length is returned. A name may hold any character, also line feeds.
+ * Texts are UTF-8, without a NUL at the end: their length is returned. A name may contain any character, also line feeds.
  *
- * Lengths. A call that gives a text writes as much of it as the buffer has room for, and leaves what is behind it as
- * it was. It always returns the whole length: where that is more than the buffer's, the caller grows the buffer and calls
- * again. A text may be cut within a character. A call that gives no text (status isn't BINFARCE_OK) leaves the buffer as
- * it was, and its lengths are 0. Arrays of functions follow the same rule; of sections those before a refusal are given
+ * Lengths. A call that gives a text writes as much of it as the buffer has room for, and leaves the rest of the buffer
+ * unchanged. It always returns the whole length: where that is more than the buffer's, the caller grows the buffer and calls
+ * again. A text may be cut within a character. A call that gives no text (status isn't BINFARCE_OK) leaves the buffer
+ * unchanged, and its lengths are 0. Arrays of functions follow the same rule; of sections those before a refusal are given
  * with it.
  *
- * Memory. The calls that say so allocate by malloc and realloc while they run, and free all of it before
- * they return. Where malloc fails they return BINFARCE_OUT_OF_MEMORY. malloc has to align blocks as the C library's does.
+ * Memory. The calls that say so allocate by malloc and realloc while they run (on Windows by HeapAlloc), and free all of it
+ * before they return. Where an allocation fails they return BINFARCE_OUT_OF_MEMORY. With the kit's archive malloc has to align
+ * blocks as the C library's does.
  *
  * Threads. There is no global state: calls may run on any threads at once, as long as no buffer is shared. They don't lock
  * and don't block. A call that allocates may not come from a signal handler, nor from a child forked of a process with
  * threads.
  *
- * Not there: the header fields of Mach-O and PE files, which the readers show only as debug text.
+ * Missing: the header fields of Mach-O and PE files, which the readers show only as debug text.
  *
- * A 64-bit x86 machine (x86-64-v2) with the System V calling convention. Link libbinfarce.a; where it is installed,
- * `pkg-config --cflags --libs binfarce` tells how.
+ * Machines. cargo's libraries are for every 64-bit target of Rust; the kit's archive is for x86-64-v2 with the System V
+ * calling convention. Where the library is installed, `pkg-config --cflags --libs binfarce` prints how to link it.
  */
 #ifndef BINFARCE_H
 #define BINFARCE_H
@@ -50,7 +52,7 @@ extern "C" {
 /* How a call ended. binfarce_status_text has the words. */
 enum binfarce_status {
     BINFARCE_OK = 0,
-    BINFARCE_NONE = 1,           /* what was asked for isn't there: the name tells no crate, the file has no such section */
+    BINFARCE_NONE = 1,           /* what was asked for isn't there: the name has no crate, the file has no such section */
     BINFARCE_NOT_UTF8 = 2,       /* a name that was passed isn't UTF-8 */
     BINFARCE_OUT_OF_MEMORY = 3,  /* an allocation failed */
     BINFARCE_UNKNOWN_FORMAT = 4, /* the file's first bytes name no format that is read */
@@ -109,14 +111,14 @@ struct binfarce_name binfarce_demangle(const uint8_t *name, size_t name_length,
 struct binfarce_text binfarce_trimmed(const uint8_t *name, size_t name_length, uint8_t *out, size_t out_length);
 
 /*
- * The crate that a name tells: of a v0 name as binfarce_demangle gives it, and of a legacy name the first part of its path,
+ * The crate of a name: of a v0 name as binfarce_demangle gives it, and of a legacy name the first part of its path,
  * unless that begins with `<`. BINFARCE_NONE where there is none; BINFARCE_NOT_UTF8, BINFARCE_OUT_OF_MEMORY. Allocates.
  */
 struct binfarce_text binfarce_crate_of(const uint8_t *name, size_t name_length, uint8_t *out, size_t out_length);
 
 /* How a name is mangled, and the part of it that is kept. */
 struct binfarce_mangling {
-    const uint8_t *part; /* what stands after the mangling's prefix, in the caller's name, without the `.llvm.` suffix; all of a
+    const uint8_t *part; /* the part after the mangling's prefix, in the caller's name, without the `.llvm.` suffix; all of a
                             name that isn't mangled. NULL where it is empty */
     size_t part_length;  /* in bytes */
     uint32_t kind;       /* enum binfarce_kind */
@@ -266,7 +268,7 @@ uint32_t binfarce_pe_section_at(const uint8_t *file, size_t file_length, size_t 
 
 /* What a call that gives all sections returns. */
 struct binfarce_sections {
-    uint32_t status; /* BINFARCE_OK, or the refusal of what stands behind the last of them */
+    uint32_t status; /* BINFARCE_OK, or why what follows the last of them can't be read */
     size_t count;    /* how many there are, however many of them the array has room for */
 };
 

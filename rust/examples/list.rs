@@ -1,15 +1,13 @@
 //! Lists the function symbols of FILE, or without one those of a small file of the repository:
 //! `cargo run --release --example list -- [FILE]`
 
-use binfarce::erased::binfarce_tools::list::{Out, list};
-use binfarce::shim::HostRuntime;
 use std::error::Error;
-use std::{env, fs, io};
+use std::{env, fs};
 
 const SMALL: &str = concat!(env!("CARGO_MANIFEST_DIR"), "/../crates/binfarce_list/data/e-elf64-little.bin");
 
 fn main() -> Result<(), Box<dyn Error>> {
     let file = fs::read(env::args_os().nth(1).unwrap_or(SMALL.into()))?;
-    list(HostRuntime::new().alloc(), &file, ".text", &mut Out::new(io::stdout()))?;
+    print!("{}", binfarce::list(&file, ".text")?);
     Ok(())
 }

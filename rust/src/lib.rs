@@ -1,9 +1,77 @@
-//! Reads ELF, Mach-O and PE files and demangles Rust names.
+//! A small reader of executables: function symbols, sections and headers of ELF, Mach-O and PE files, and readable names of
+//! Rust symbols.
+//!
+//! The public paths and signatures of the Rust crate `binfarce` are here, and more. The code below them, in the module
+//! `erased`, is plain Rust made from the proved sources in `crates/` by erasing their contracts: those sources are proved for
+//! every byte string, and this crate is safe Rust without dependencies.
+//!
+//! # Examples
+//!
+//! The functions of a program, whatever its format:
+//!
+//! ```
+//! # fn main() -> Result<(), Box<dyn std::error::Error>> {
+//! # let path = concat!(env!("CARGO_MANIFEST_DIR"), "/../crates/binfarce_list/data/e-elf64-little.bin");
+//! let file = std::fs::read(path)?;
+//! let (functions, text_size) = binfarce::functions(&file, ".text")?;
+//! for function in functions {
+//!     let name = binfarce::demangle::trimmed(function.name)?;
+//!     println!("{:016x} {:>10} {name}", function.address, function.size);
+//! }
+//! println!("text {text_size}");
+//! # Ok(())
+//! # }
+//! ```
+
+#![warn(missing_docs)]
 
 #[cfg(not(target_pointer_width = "64"))]
-compile_error!("binfarce needs a target of 64 bits");
+compile_error!("binfarce reads files on 64-bit machines only");
 
+/// Implements `Debug` for iterators over parts of a file, by their names alone.
+macro_rules! debug_by_name {
+    ($($Iterator:ident),*) => {$(
+        impl std::fmt::Debug for $Iterator<'_> {
+            fn fmt(&self, f: &mut std::fmt::Formatter<'_>) -> std::fmt::Result {
+                f.debug_struct(stringify!($Iterator)).finish_non_exhaustive()
+            }
+        }
+    )*};
+}
+
+mod any;
+pub mod demangle;
+mod elf;
+pub mod elf32;
+pub mod elf64;
 #[doc(hidden)]
+#[allow(clippy::all, rustdoc::private_intra_doc_links)]
 pub mod erased;
+mod error;
+mod filter;
+pub mod macho;
+pub mod pe;
 #[doc(hidden)]
 pub mod shim;
+#[cfg(test)]
+mod tests;
+
+pub use any::{Functions, Sections, functions, list, report, section_bytes, sections};
+pub use erased::binfarce_bytes::ByteOrder;
+pub use erased::binfarce_format::{Format, detect_format};
+pub use erased::binfarce_sections::sections::Section;
+pub use erased::binfarce_symbols::functions::{FunctionSymbol, symbol_at};
+pub use error::{Error, OutOfMemory, ParseError, UnexpectedEof};
+pub use filter::{Form, filter, filter_stream};
+
+use demangle::SymbolData;
+
+/// The answer of an erased reader, with std's types.
+fn symbols_of((symbols, size): (shim::Vec<erased::binfarce_names::demangle::SymbolData>, u64)) -> (Vec<SymbolData>, u64) {
+    (symbols.into_iter().map(SymbolData::from).collect(), size)
+}
+
+/// A text that is UTF-8, since it is made of UTF-8 texts.
+fn string_of(bytes: shim::Vec<u8>) -> String {
+    String::from_utf8(bytes.into_std()).unwrap_or_else(|e| String::from_utf8_lossy(e.as_bytes()).into_owned())
+}

@@ -1,6 +1,6 @@
 //! sections FILE: lists the sections of an ELF file that `find_section` asks about, `{number} {name} {offset:x} {size:x}`.
 
-use binfarce::{detect_format, elf32, elf64, Format, ParseError};
+use binfarce::{Format, ParseError, detect_format, elf32, elf64};
 use std::{cell::Cell, env, fs, io, ops::Range, process::ExitCode};
 
 fn list(data: &[u8]) -> Result<(), ParseError> {

@@ -1,6 +1,6 @@
 //! symbols FILE: lists the function symbols of an ELF, Mach-O or PE file by this crate, as binfarce-list does.
 
-use binfarce::{demangle::SymbolData, detect_format, elf32, elf64, macho, pe, Format, ParseError};
+use binfarce::{Format, ParseError, demangle::SymbolData, detect_format, elf32, elf64, macho, pe};
 use std::io::{self, BufWriter, Write};
 use std::{env, fs, process::ExitCode};
 

@@ -1,0 +1,98 @@
+/*
+ * pointers FILE: holds each pointer that the library gives against the offset at which the file itself has the name: the names
+ * of the sections and of the function symbols of a 64-bit little-endian ELF file, as <elf.h> lays it out, and the part that is
+ * kept of some names. Prints how many pointers were compared.
+ */
+#include "read.h"
+
+#include <elf.h>
+
+static size_t compared;
+
+/* Whether a pointer goes to this offset; says so where it doesn't. */
+static bool goes_to(const uint8_t *base, size_t offset, const uint8_t *given, const char *what) {
+    compared++;
+    if (given != base + offset)
+        fprintf(stderr, "%s: not at offset %zu\n", what, offset);
+    return given == base + offset;
+}
+
+/* The section header of this number. */
+static Elf64_Shdr header(const uint8_t *file, const Elf64_Ehdr *elf, size_t number) {
+    Elf64_Shdr found;
+    memcpy(&found, file + elf->e_shoff + number * sizeof found, sizeof found);
+    return found;
+}
+
+static bool section_names(const uint8_t *file, size_t length, const Elf64_Ehdr *elf) {
+    struct binfarce_section *all = calloc(elf->e_shnum + 1u, sizeof *all);
+    Elf64_Shdr names = header(file, elf, elf->e_shstrndx);
+    bool right = all && binfarce_elf64_sections(file, length, false, all, elf->e_shnum).count == elf->e_shnum;
+    for (size_t i = 0; right && i < elf->e_shnum; i++) {
+        const char *text = (const char *)file + names.sh_offset + header(file, elf, i).sh_name;
+        right = *text == 0 ? all[i].name == NULL : goes_to(file, (size_t)(text - (const char *)file), all[i].name, "a section's name");
+    }
+    free(all);
+    return right;
+}
+
+/* The function symbols of this section: those with a size and a name. */
+static bool function_names(const uint8_t *file, size_t length, const Elf64_Ehdr *elf, const char *section) {
+    struct binfarce_function *all;
+    struct binfarce_functions given;
+    Elf64_Shdr names = header(file, elf, elf->e_shstrndx), rows = {0}, strings;
+    size_t number = 0, next = 0;
+    bool right;
+    for (size_t i = elf->e_shnum; i-- > 0;) {
+        Elf64_Shdr here = header(file, elf, i);
+        if (here.sh_type == SHT_SYMTAB)
+            rows = here;
+        if (strcmp((const char *)file + names.sh_offset + here.sh_name, section) == 0)
+            number = i;
+    }
+    strings = header(file, elf, rows.sh_link);
+    all = calloc(rows.sh_size / sizeof(Elf64_Sym) + 1, sizeof *all);
+    given = binfarce_elf64_functions(file, length, false, (const uint8_t *)section, strlen(section), all, rows.sh_size / sizeof(Elf64_Sym));
+    right = all && given.status == BINFARCE_OK;
+    for (size_t at = 0; right && at + sizeof(Elf64_Sym) <= rows.sh_size; at += sizeof(Elf64_Sym)) {
+        Elf64_Sym row;
+        memcpy(&row, file + rows.sh_offset + at, sizeof row);
+        if (row.st_shndx == number && ELF64_ST_TYPE(row.st_info) == STT_FUNC && row.st_size != 0 && row.st_name != 0)
+            right = next < given.count && goes_to(file, strings.sh_offset + row.st_name, all[next++].name, "a function's name");
+    }
+    free(all);
+    return right && next == given.count && next > 0;
+}
+
+/* The kept part begins behind the prefix of its mangling, and is all of a name that isn't mangled. */
+static bool kept_parts(void) {
+    static const struct {
+        const char *name;
+        size_t prefix;
+    } names[] = {{"_ZN3foo3barE", 3}, {"_RNvC6_123foo3bar", 2}, {"main", 0}};
+    for (size_t i = 0; i < sizeof names / sizeof *names; i++) {
+        const uint8_t *name = (const uint8_t *)names[i].name;
+        struct binfarce_mangling mangling;
+        if (binfarce_mangling(name, strlen(names[i].name), &mangling) != BINFARCE_OK || !goes_to(name, names[i].prefix, mangling.part, names[i].name))
+            return false;
+    }
+    return true;
+}
+
+int main(int argc, char **argv) {
+    size_t length;
+    uint8_t *file;
+    Elf64_Ehdr elf;
+    bool right;
+    if (argc != 2 || !(file = read_file(argv[1], &length)))
+        return fprintf(stderr, "usage: pointers FILE\n"), 2;
+    if (binfarce_detect_format(file, length) != BINFARCE_FORMAT_ELF64_LITTLE)
+        return refuse(BINFARCE_UNKNOWN_FORMAT, 0);
+    memcpy(&elf, file, sizeof elf);
+    right = section_names(file, length, &elf) && function_names(file, length, &elf, ".text") && kept_parts();
+    free(file);
+    if (!right)
+        return fprintf(stderr, "pointers: wrong\n"), 1;
+    printf("%zu pointers\n", compared);
+    return 0;
+}

@@ -1,0 +1,194 @@
+//! Files of any format that is read: the file's first bytes name the format.
+
+use crate::erased::binfarce_sections::bytes as bytes_of;
+use crate::erased::binfarce_sections::error::SectionError;
+use crate::erased::binfarce_sections::sections as sections_of;
+use crate::erased::binfarce_tools::functions as functions_of;
+use crate::erased::binfarce_tools::list::{self as listing, ListError, Sink};
+use crate::erased::binfarce_tools::report::{self as reporting, ReportError};
+use crate::error::{Error, ParseError};
+use crate::shim::{self, alloc::Global};
+use crate::{FunctionSymbol, Section, string_of};
+
+/// Returns an iterator over the function symbols of a file, and the size of their section in bytes.
+///
+/// The section is the one with the name `section` of an ELF file, usually `.text`; of a Mach-O or PE file it is always the
+/// text section. The names are parts of the file, still mangled.
+///
+/// # Errors
+///
+/// [`Error::UnknownFormat`]; [`Error::Parse`] where the reader of the file's format refuses it; [`Error::OutOfMemory`] where
+/// an allocation failed.
+pub fn functions<'a>(file: &'a [u8], section: &str) -> Result<(Functions<'a>, u64), Error> {
+    let (functions, size) = functions_of::functions_of_file(Global, file, section)?;
+    Ok((Functions(functions), size))
+}
+
+/// An iterator over the function symbols of a file: the answer of [`functions`].
+#[must_use = "iterators are lazy and do nothing unless consumed"]
+pub struct Functions<'a>(functions_of::Functions<'a>);
+
+impl<'a> Iterator for Functions<'a> {
+    type Item = FunctionSymbol<'a>;
+
+    fn next(&mut self) -> Option<Self::Item> {
+        self.0.next()
+    }
+}
+
+/// Returns an iterator over the sections of a file, in file order. A section header is read when the iterator reaches it.
+///
+/// # Errors
+///
+/// [`Error::UnknownFormat`]; [`Error::Parse`] where the file header is truncated.
+pub fn sections(file: &[u8]) -> Result<Sections<'_>, Error> {
+    Ok(Sections(sections_of::sections_of(file)?))
+}
+
+/// An iterator over the sections of a file: the answer of [`sections`]. After an error it ends.
+#[must_use = "iterators are lazy and do nothing unless consumed"]
+pub struct Sections<'a>(sections_of::Sections<'a>);
+
+impl<'a> Iterator for Sections<'a> {
+    type Item = Result<Section<'a>, ParseError>;
+
+    fn next(&mut self) -> Option<Self::Item> {
+        Some(self.0.next()?.map_err(ParseError::from))
+    }
+}
+
+debug_by_name!(Functions, Sections);
+
+/// Returns the bytes of the first section with this name, a part of the file.
+///
+/// In a Mach-O file the name is `SEGMENT,SECTION`, as `__TEXT,__text`, or that of a section in any segment. In a PE file a
+/// name of more than 8 bytes is looked up in the string table, and the bytes end at the section's size in memory.
+///
+/// # Errors
+///
+/// [`Error::UnknownFormat`]; [`Error::Parse`] where the reader refuses the file before the section is found;
+/// [`Error::NoSection`]; [`Error::NoBytes`] where the section has no bytes in the file, as `.bss`; [`Error::PastEnd`] where
+/// they end past the file.
+///
+/// # Examples
+///
+/// ```
+/// # let path = concat!(env!("CARGO_MANIFEST_DIR"), "/../crates/binfarce_list/data/e-elf64-little.bin");
+/// let file = std::fs::read(path)?;
+/// assert_eq!(binfarce::section_bytes(&file, ".text")?.len(), 32);
+/// assert_eq!(binfarce::section_bytes(&file, ".dep-v0"), Err(binfarce::Error::NoSection));
+/// # Ok::<(), Box<dyn std::error::Error>>(())
+/// ```
+pub fn section_bytes<'a>(file: &'a [u8], name: &str) -> Result<&'a [u8], Error> {
+    Ok(bytes_of::section_bytes(file, name)?)
+}
+
+/// Returns the listing of a file's function symbols: a line `{address:016x} {size:>10} {trimmed name}` for each, and last
+/// `text {size of the section}`. The section is as in [`functions`].
+///
+/// # Errors
+///
+/// Those of [`functions`].
+///
+/// # Examples
+///
+/// ```
+/// # let path = concat!(env!("CARGO_MANIFEST_DIR"), "/../crates/binfarce_list/data/e-elf64-little.bin");
+/// let file = std::fs::read(path)?;
+/// assert_eq!(binfarce::list(&file, ".text")?, "0000000000001000         16 foo\ntext 32\n");
+/// # Ok::<(), Box<dyn std::error::Error>>(())
+/// ```
+pub fn list(file: &[u8], section: &str) -> Result<String, Error> {
+    let mut text = Text::new();
+    listing::list(Global, file, section, &mut text)?;
+    Ok(text.into_string())
+}
+
+/// Returns the report of how many bytes each crate takes in a file: a line `{sum of sizes:>10} {crate}` for each, in the
+/// order of their bytes, then `sum {of all sizes}` and `text {size of the section}`. The section is as in [`functions`].
+/// Symbols whose name has no crate are counted for `[unknown]`.
+///
+/// # Errors
+///
+/// Those of [`functions`]; [`Error::TooLarge`] where the sum of all sizes is 2^64 or more.
+///
+/// # Examples
+///
+/// ```
+/// # let path = concat!(env!("CARGO_MANIFEST_DIR"), "/../crates/binfarce_list/data/e-elf64-little.bin");
+/// let file = std::fs::read(path)?;
+/// assert_eq!(binfarce::report(&file, ".text")?, "        16 foo\nsum 16\ntext 32\n");
+/// # Ok::<(), Box<dyn std::error::Error>>(())
+/// ```
+pub fn report(file: &[u8], section: &str) -> Result<String, Error> {
+    let mut text = Text::new();
+    reporting::report(Global, file, section, &mut text)?;
+    Ok(text.into_string())
+}
+
+/// Takes a text. It fails where there is no memory for it.
+struct Text {
+    bytes: shim::Vec<u8>,
+    failed: bool,
+}
+
+impl Text {
+    fn new() -> Self {
+        Text { bytes: shim::Vec::new(Global), failed: false }
+    }
+
+    fn into_string(self) -> String {
+        string_of(self.bytes)
+    }
+}
+
+impl Sink for Text {
+    fn write(&mut self, bytes: &[u8]) -> Option<usize> {
+        self.failed = self.bytes.extend_from_slice(bytes).is_err();
+        if self.failed { None } else { Some(bytes.len()) }
+    }
+
+    fn failed(&self) -> bool {
+        self.failed
+    }
+}
+
+#[doc(hidden)]
+impl From<ListError> for Error {
+    fn from(e: ListError) -> Self {
+        match e {
+            ListError::Unknown => Error::UnknownFormat,
+            ListError::Parse(e) => Error::from(e),
+            // A text fails where there is no memory for it.
+            ListError::OutOfMemory | ListError::Write => Error::OutOfMemory,
+        }
+    }
+}
+
+#[doc(hidden)]
+impl From<ReportError> for Error {
+    fn from(e: ReportError) -> Self {
+        match e {
+            ReportError::Unknown => Error::UnknownFormat,
+            ReportError::Parse(e) => Error::from(e),
+            ReportError::TooLarge => Error::TooLarge,
+            ReportError::OutOfMemory | ReportError::Write => Error::OutOfMemory,
+        }
+    }
+}
+
+#[doc(hidden)]
+impl From<SectionError> for Error {
+    fn from(e: SectionError) -> Self {
+        match e {
+            SectionError::Unknown => Error::UnknownFormat,
+            SectionError::Parse(e) => Error::from(e),
+            SectionError::NoSection => Error::NoSection,
+            SectionError::NoBytes => Error::NoBytes,
+            SectionError::PastEnd => Error::PastEnd,
+            SectionError::OutOfMemory => Error::OutOfMemory,
+            // Not of bytes in memory.
+            SectionError::Write | SectionError::Unreadable => Error::Parse(ParseError::UnexpectedEof),
+        }
+    }
+}

@@ -1,0 +1,213 @@
+//! Readable names of symbols.
+//!
+//! A name is mangled in the legacy form (`_ZN..E`) or in v0 (`_R..`, RFC 2603). A v0 name that nests deeper than
+//! [`MAX_LEVELS`] levels or takes more than [`MAX_STEPS`] steps to print has no readable form: its kind is
+//! [`Kind::Unknown`]. So no name uses up the stack or runs for long.
+//!
+//! # Examples
+//!
+//! ```
+//! use binfarce::demangle::{Kind, SymbolName};
+//!
+//! let name = SymbolName::demangle("_ZN3foo3bar17h05af221e174051e9E");
+//! assert_eq!(name.complete, "foo::bar::h05af221e174051e9");
+//! assert_eq!(name.trimmed, "foo::bar");
+//! assert_eq!(name.crate_name, None);
+//! assert!(name.kind == Kind::Legacy);
+//! ```
+
+use crate::erased::binfarce_names::demangle as erased;
+use crate::error::{OutOfMemory, out_of_memory};
+use crate::shim::{self, alloc::Global};
+use std::fmt;
+
+pub use erased::{Kind, MAX_LEVELS, MAX_STEPS};
+
+/// A function symbol of a file, with its readable name.
+#[derive(Debug, Clone, PartialEq, Eq, Hash)]
+pub struct SymbolData {
+    /// The name.
+    pub name: SymbolName,
+    /// The address as the file stores it. In a PE file it is the offset in bytes within the symbol's section.
+    pub address: u64,
+    /// The size in bytes.
+    pub size: u64,
+}
+
+#[doc(hidden)]
+impl From<erased::SymbolData> for SymbolData {
+    fn from(symbol: erased::SymbolData) -> Self {
+        SymbolData { name: symbol.name.into(), address: symbol.address, size: symbol.size }
+    }
+}
+
+/// A symbol's name in readable form.
+#[derive(Debug, Clone, PartialEq, Eq, Hash)]
+pub struct SymbolName {
+    /// The path with the hash of a legacy name, or with the disambiguators of the crates of a v0 name.
+    pub complete: String,
+    /// The path without the last part of a legacy name, or without the disambiguators of a v0 name.
+    pub trimmed: String,
+    /// The crate of a v0 name: its first crate root outside a back reference. It may be empty. `None` where the name has
+    /// none, and for other names.
+    pub crate_name: Option<String>,
+    /// How the name is mangled. Where it is [`Kind::Unknown`], both texts are the name unchanged.
+    pub kind: Kind,
+}
+
+impl SymbolName {
+    /// Returns the readable form of `name`.
+    ///
+    /// Where an allocation fails, the program ends as it does where a `String` can't grow; [`SymbolName::try_demangle`]
+    /// returns an error there.
+    pub fn demangle(name: &str) -> Self {
+        SymbolName::try_demangle(name).unwrap_or_else(|_| out_of_memory())
+    }
+
+    /// Returns the readable form of `name`, as [`SymbolName::demangle`] does.
+    ///
+    /// # Errors
+    ///
+    /// [`OutOfMemory`] where an allocation failed.
+    pub fn try_demangle(name: &str) -> Result<Self, OutOfMemory> {
+        Demangler::new().demangle(name)
+    }
+}
+
+#[doc(hidden)]
+impl From<erased::SymbolName> for SymbolName {
+    fn from(name: erased::SymbolName) -> Self {
+        SymbolName {
+            complete: name.complete.into_std(),
+            trimmed: name.trimmed.into_std(),
+            crate_name: name.crate_name.map(shim::String::into_std),
+            kind: name.kind,
+        }
+    }
+}
+
+/// A demangler that reuses its memory from name to name. It keeps at most 1 MiB.
+///
+/// # Examples
+///
+/// ```
+/// use binfarce::demangle::Demangler;
+///
+/// # fn main() -> Result<(), binfarce::OutOfMemory> {
+/// let mut demangler = Demangler::new();
+/// assert_eq!(demangler.demangle("_RNvC1a1b")?.crate_name.as_deref(), Some("a"));
+/// assert_eq!(demangler.crate_of("_ZN3foo3bar17h05af221e174051e9E")?.as_deref(), Some("foo"));
+///
+/// let mut text = String::from("at ");
+/// demangler.push_trimmed(&mut text, "_RNvC1a1b")?;
+/// assert_eq!(text, "at a::b");
+/// # Ok(())
+/// # }
+/// ```
+pub struct Demangler(erased::Demangler);
+
+impl Demangler {
+    /// Returns a demangler that holds no memory yet.
+    pub fn new() -> Self {
+        Demangler(erased::Demangler::new(Global))
+    }
+
+    /// Returns the readable form of `name`, as [`SymbolName::demangle`] does.
+    ///
+    /// # Errors
+    ///
+    /// [`OutOfMemory`] where an allocation failed.
+    pub fn demangle(&mut self, name: &str) -> Result<SymbolName, OutOfMemory> {
+        Ok(self.0.demangle(name)?.into())
+    }
+
+    /// Appends the trimmed text of `name` to `text`.
+    ///
+    /// # Errors
+    ///
+    /// [`OutOfMemory`] where an allocation failed. `text` is unchanged then.
+    pub fn push_trimmed(&mut self, text: &mut String, name: &str) -> Result<(), OutOfMemory> {
+        let mut grown = std::mem::take(text).into();
+        let pushed = self.0.push_trimmed(&mut grown, name);
+        *text = grown.into_std();
+        Ok(pushed?)
+    }
+
+    /// Returns the crate of `name`: that of a v0 name as [`SymbolName::crate_name`] has it, and of a legacy name the first
+    /// part of its path, unless that begins with `<`.
+    ///
+    /// # Errors
+    ///
+    /// [`OutOfMemory`] where an allocation failed.
+    pub fn crate_of(&mut self, name: &str) -> Result<Option<String>, OutOfMemory> {
+        Ok(self.0.crate_of(name)?.map(shim::String::into_std))
+    }
+}
+
+impl Default for Demangler {
+    fn default() -> Self {
+        Demangler::new()
+    }
+}
+
+impl fmt::Debug for Demangler {
+    fn fmt(&self, f: &mut fmt::Formatter<'_>) -> fmt::Result {
+        f.debug_struct("Demangler").finish_non_exhaustive()
+    }
+}
+
+/// Returns the trimmed text of `name`: the [`SymbolName::trimmed`] of its readable form, and nothing else of it.
+///
+/// # Errors
+///
+/// [`OutOfMemory`] where an allocation failed.
+///
+/// # Examples
+///
+/// ```
+/// use binfarce::demangle::trimmed;
+///
+/// assert_eq!(trimmed("_RNvC6_123foo3bar")?, "123foo::bar");
+/// assert_eq!(trimmed("main")?, "main");
+/// # Ok::<(), binfarce::OutOfMemory>(())
+/// ```
+pub fn trimmed(name: &str) -> Result<String, OutOfMemory> {
+    let mut text = String::new();
+    Demangler::new().push_trimmed(&mut text, name)?;
+    Ok(text)
+}
+
+/// A mangled name that was recognized and not yet printed: the answer of [`demangle`].
+#[derive(Debug, Clone, Copy)]
+pub struct Demangle<'a> {
+    kind: Kind,
+    part: &'a str,
+}
+
+impl<'a> Demangle<'a> {
+    /// Returns how the name is mangled, decided without printing it: a v0 name beyond the limits is [`Kind::V0`] here.
+    pub fn kind(&self) -> Kind {
+        self.kind
+    }
+
+    /// Returns the name without the prefix of its mangling and without a suffix of LLVM (`.llvm.` and digits); all of a
+    /// name that isn't mangled.
+    pub fn part(&self) -> &'a str {
+        self.part
+    }
+}
+
+/// Recognizes how `name` is mangled. Nothing is allocated.
+///
+/// # Examples
+///
+/// ```
+/// use binfarce::demangle::{Kind, demangle};
+///
+/// let name = demangle("_RNvC1a1b.llvm.9D1C9369");
+/// assert_eq!((name.kind(), name.part()), (Kind::V0, "NvC1a1b"));
+/// ```
+pub fn demangle(name: &str) -> Demangle<'_> {
+    let name = erased::demangle(name);
+    Demangle { kind: name.kind(), part: name.part() }
+}

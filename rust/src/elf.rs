@@ -1,0 +1,235 @@
+//! The readers of both classes of ELF files: `elf32` and `elf64` differ in the width of addresses, offsets and sizes.
+
+/// Writes the items of a class: its file, its header, its width, and the length of its header in bytes.
+macro_rules! reader {
+    ($erased:ident, $Elf:ident, $Header:ident, $Width:ident, $least:literal) => {
+        use crate::demangle::SymbolData;
+        use crate::erased::binfarce::$erased as erased;
+        use crate::error::{Error, ParseError};
+        use crate::shim::alloc::Global;
+        use crate::{ByteOrder, FunctionSymbol, symbols_of};
+        use std::fmt;
+        use std::ops::Range;
+
+        /// The file header without its identification.
+        #[derive(Debug, Clone, Copy, PartialEq, Eq, Hash)]
+        pub struct $Header {
+            /// The type of the file (`e_type`): 1 relocatable, 2 executable, 3 shared object, 4 core.
+            pub elf_type: u16,
+            /// The architecture (`e_machine`).
+            pub machine: u16,
+            /// The version of the format (`e_version`).
+            pub version: u32,
+            /// The address where the program begins, or 0 (`e_entry`).
+            pub entry: $Width,
+            /// The offset of the program header table in bytes, or 0 (`e_phoff`).
+            pub phoff: $Width,
+            /// The offset of the section header table in bytes, or 0 (`e_shoff`).
+            pub shoff: $Width,
+            /// Flags of the architecture (`e_flags`).
+            pub flags: u32,
+            /// The size of the file header in bytes, as the file states it (`e_ehsize`).
+            pub ehsize: u16,
+            /// The size of a program header in bytes, as the file states it (`e_phentsize`).
+            pub phentsize: u16,
+            /// The number of program headers (`e_phnum`).
+            pub phnum: u16,
+            /// The size of a section header in bytes, as the file states it (`e_shentsize`).
+            pub shentsize: u16,
+            /// The number of section headers (`e_shnum`).
+            pub shnum: u16,
+            /// The index of the section with the section names (`e_shstrndx`).
+            pub shstrndx: u16,
+        }
+
+        /// A section. It doesn't borrow the file.
+        #[derive(Clone, Copy)]
+        pub struct Section(erased::Section);
+
+        impl Section {
+            /// Returns the section's bytes as a range of the file (`sh_offset`, `sh_size`), which may end past the file.
+            ///
+            /// # Errors
+            ///
+            /// [`ParseError::MalformedInput`] where the range's end passes 64 bits.
+            pub fn range(&self) -> Result<Range<usize>, ParseError> {
+                Ok(self.0.range()?)
+            }
+
+            /// Returns the number of the section's entries (`sh_size` divided by `sh_entsize`); 0 where their size is 0.
+            pub fn entries(&self) -> $Width {
+                self.0.entries()
+            }
+
+            /// Returns the section's name, a part of the file `parent`. `None` where it has no valid one.
+            pub fn name<'a>(&self, parent: &$Elf<'a>) -> Option<&'a str> {
+                self.0.name(&parent.0)
+            }
+
+            /// Returns the type of the section (`sh_type`).
+            pub fn section_type(&self) -> u32 {
+                self.0.section_type()
+            }
+
+            /// Returns the address of the section's first byte in memory, or 0 (`sh_addr`).
+            pub fn address(&self) -> $Width {
+                self.0.address()
+            }
+        }
+
+        impl fmt::Debug for Section {
+            fn fmt(&self, f: &mut fmt::Formatter<'_>) -> fmt::Result {
+                f.debug_struct("Section")
+                    .field("index", &self.0.index)
+                    .field("name_offset", &self.0.name_offset)
+                    .field("kind", &self.0.kind)
+                    .field("link", &self.0.link)
+                    .field("offset", &self.0.offset)
+                    .field("size", &self.0.size)
+                    .field("entry_size", &self.0.entry_size)
+                    .finish()
+            }
+        }
+
+        /// An ELF file. It borrows the file's bytes.
+        pub struct $Elf<'a>(erased::$Elf<'a>);
+
+        impl fmt::Debug for $Elf<'_> {
+            fn fmt(&self, f: &mut fmt::Formatter<'_>) -> fmt::Result {
+                f.debug_struct(stringify!($Elf)).field("header", &self.header()).finish_non_exhaustive()
+            }
+        }
+
+        /// Reads the file header in the given byte order. The magic number isn't checked:
+        /// [`detect_format`](crate::detect_format) does that.
+        ///
+        /// # Errors
+        ///
+        #[doc = concat!("[`ParseError::UnexpectedEof`] for fewer than ", $least, " bytes.")]
+        pub fn parse(data: &[u8], byte_order: ByteOrder) -> Result<$Elf<'_>, ParseError> {
+            Ok($Elf(erased::parse(data, byte_order)?))
+        }
+
+        impl<'a> $Elf<'a> {
+            /// Returns the file header.
+            pub fn header(&self) -> $Header {
+                let header = self.0.header();
+                $Header {
+                    elf_type: header.elf_type,
+                    machine: header.machine,
+                    version: header.version,
+                    entry: header.entry,
+                    phoff: header.phoff,
+                    shoff: header.shoff,
+                    flags: header.flags,
+                    ehsize: header.ehsize,
+                    phentsize: header.phentsize,
+                    phnum: header.phnum,
+                    shentsize: header.shentsize,
+                    shnum: header.shnum,
+                    shstrndx: header.shstrndx,
+                }
+            }
+
+            /// Returns an iterator over the sections in file order. A section header is read when the iterator reaches it.
+            pub fn sections(&self) -> Sections<'a> {
+                Sections(self.0.sections())
+            }
+
+            /// Returns the first section that `callback` accepts, in file order.
+            ///
+            /// # Errors
+            ///
+            /// [`ParseError::UnexpectedEof`] where the section header table doesn't begin in the file, or a header is
+            /// truncated. `callback` gets the sections before it first.
+            pub fn find_section<F: Fn(Section) -> bool>(&self, callback: F) -> Result<Option<Section>, ParseError> {
+                Ok(self.0.find_section(|section| callback(Section(section)))?.map(Section))
+            }
+
+            /// Returns the first section with this name.
+            ///
+            /// # Errors
+            ///
+            /// Those of `find_section`.
+            pub fn section_with_name(&self, name: &str) -> Result<Option<Section>, ParseError> {
+                Ok(self.0.section_with_name(name)?.map(Section))
+            }
+
+            /// Returns the section's bytes, a part of the file. A section of type `SHT_NOBITS` has no bytes in the file:
+            /// for it they have no meaning.
+            ///
+            /// # Errors
+            ///
+            /// [`ParseError::MalformedInput`] where their end passes 64 bits, [`ParseError::UnexpectedEof`] where it
+            /// passes the end of the file.
+            pub fn section_bytes(&self, section: &Section) -> Result<&'a [u8], ParseError> {
+                Ok(self.0.section_bytes(&section.0)?)
+            }
+
+            /// Returns the function symbols of the section with this name with readable names, in the order of the symbol
+            /// table, and the section's size in bytes.
+            ///
+            /// Where an allocation fails, the program ends as it does where a `Vec` can't grow; `try_symbols` returns an
+            /// error there.
+            ///
+            /// # Errors
+            ///
+            /// Those of `functions`.
+            pub fn symbols(&self, section_name: &str) -> Result<(Vec<SymbolData>, u64), ParseError> {
+                Ok(symbols_of(self.0.symbols(Global, section_name)?))
+            }
+
+            /// Returns what `symbols` does.
+            ///
+            /// # Errors
+            ///
+            /// Those of `functions`, and [`Error::OutOfMemory`] where an allocation failed.
+            pub fn try_symbols(&self, section_name: &str) -> Result<(Vec<SymbolData>, u64), Error> {
+                Ok(symbols_of(self.0.symbols(Global, section_name)?))
+            }
+
+            /// Returns an iterator over the function symbols of `symbols` with their names as the file stores them, and
+            /// the section's size in bytes. Nothing is allocated.
+            ///
+            /// # Errors
+            ///
+            /// In this order: those of `find_section`; [`ParseError::SymbolsSectionIsMissing`];
+            /// [`ParseError::SectionIsMissing`] for `.symtab` and then for `.strtab`;
+            /// [`ParseError::UnexpectedSectionType`]; [`ParseError::MalformedInput`] where the end of the string table or
+            /// of the symbol table passes 64 bits; [`ParseError::UnexpectedEof`] where it passes the end of the file, or
+            /// the last symbol is truncated.
+            pub fn functions(&self, section_name: &str) -> Result<(Functions<'a>, u64), ParseError> {
+                let (functions, size) = self.0.functions(section_name)?;
+                Ok((Functions(functions), size))
+            }
+        }
+
+        /// An iterator over the sections of a file. After an error it ends.
+        #[must_use = "iterators are lazy and do nothing unless consumed"]
+        pub struct Sections<'a>(erased::Sections<'a>);
+
+        impl Iterator for Sections<'_> {
+            type Item = Result<Section, ParseError>;
+
+            fn next(&mut self) -> Option<Self::Item> {
+                Some(self.0.next()?.map(Section).map_err(ParseError::from))
+            }
+        }
+
+        /// An iterator over the function symbols of a section.
+        #[must_use = "iterators are lazy and do nothing unless consumed"]
+        pub struct Functions<'a>(erased::Functions<'a>);
+
+        impl<'a> Iterator for Functions<'a> {
+            type Item = FunctionSymbol<'a>;
+
+            fn next(&mut self) -> Option<Self::Item> {
+                self.0.next()
+            }
+        }
+
+        debug_by_name!(Sections, Functions);
+    };
+}
+
+pub(crate) use reader;

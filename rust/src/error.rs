@@ -1,0 +1,181 @@
+//! Errors.
+
+use crate::erased::binfarce_bytes;
+use crate::shim::alloc::AllocError;
+use std::alloc::{Layout, handle_alloc_error};
+use std::{error, fmt, io, num};
+
+/// Why a reader refused a file.
+///
+/// # Examples
+///
+/// ```
+/// use binfarce::{ByteOrder, ParseError, elf64};
+///
+/// let refused = elf64::parse(b"\x7fELF", ByteOrder::LittleEndian).err();
+/// assert_eq!(refused, Some(ParseError::UnexpectedEof));
+/// ```
+#[derive(Debug, Clone, Copy, PartialEq, Eq, Hash)]
+pub enum ParseError {
+    /// No section has the name that was asked for. A Mach-O or PE file has no text section.
+    SymbolsSectionIsMissing,
+    /// An ELF file has no symbol table (`.symtab`), or its symbol table links to no section (`.strtab`).
+    SectionIsMissing(&'static str),
+    /// The section that an ELF symbol table links to is no string table.
+    UnexpectedSectionType {
+        /// The section type of a string table, 3 (`SHT_STRTAB`).
+        expected: u32,
+        /// The section type in the file.
+        actual: u32,
+    },
+    /// A number in the file is invalid.
+    MalformedInput,
+    /// The file ends before the data that it should contain.
+    UnexpectedEof,
+}
+
+impl fmt::Display for ParseError {
+    fn fmt(&self, f: &mut fmt::Formatter<'_>) -> fmt::Result {
+        match self {
+            ParseError::SymbolsSectionIsMissing => write!(f, "symbols section is missing"),
+            ParseError::SectionIsMissing(name) => write!(f, "section {name} is missing"),
+            ParseError::UnexpectedSectionType { expected, actual } => {
+                write!(f, "expected section type {expected} but found {actual}")
+            }
+            ParseError::MalformedInput => write!(f, "malformed input file"),
+            ParseError::UnexpectedEof => write!(f, "unexpected end of file"),
+        }
+    }
+}
+
+impl error::Error for ParseError {}
+
+impl From<num::TryFromIntError> for ParseError {
+    fn from(_: num::TryFromIntError) -> Self {
+        ParseError::MalformedInput
+    }
+}
+
+impl From<UnexpectedEof> for ParseError {
+    fn from(_: UnexpectedEof) -> Self {
+        ParseError::UnexpectedEof
+    }
+}
+
+// For the calls whose signature has no place for a failed allocation: the program ends there, as where a `Vec` can't grow.
+#[doc(hidden)]
+impl From<binfarce_bytes::ParseError> for ParseError {
+    fn from(e: binfarce_bytes::ParseError) -> Self {
+        match Error::from(e) {
+            Error::Parse(e) => e,
+            _ => out_of_memory(),
+        }
+    }
+}
+
+/// Ends the program as a failed allocation of the standard library does.
+pub(crate) fn out_of_memory() -> ! {
+    handle_alloc_error(Layout::new::<u8>())
+}
+
+/// A file ends before the data that it should contain.
+#[derive(Debug, Clone, Copy, PartialEq, Eq, Hash)]
+pub struct UnexpectedEof {}
+
+impl fmt::Display for UnexpectedEof {
+    fn fmt(&self, f: &mut fmt::Formatter<'_>) -> fmt::Result {
+        write!(f, "Unexpected end of file")
+    }
+}
+
+impl error::Error for UnexpectedEof {}
+
+/// Why a call failed that also reports a failed allocation. Each call lists the errors that it returns.
+#[derive(Debug, Clone, Copy, PartialEq, Eq, Hash)]
+#[non_exhaustive]
+pub enum Error {
+    /// The file's first bytes name no format that is read.
+    UnknownFormat,
+    /// The reader of the file's format refused it.
+    Parse(ParseError),
+    /// The file has no section of this name.
+    NoSection,
+    /// The section has no bytes in the file.
+    NoBytes,
+    /// The section's bytes end past the file's end.
+    PastEnd,
+    /// The sum of all sizes is 2^64 or more.
+    TooLarge,
+    /// An allocation failed.
+    OutOfMemory,
+}
+
+impl fmt::Display for Error {
+    fn fmt(&self, f: &mut fmt::Formatter<'_>) -> fmt::Result {
+        match self {
+            Error::UnknownFormat => write!(f, "unknown file format"),
+            Error::Parse(e) => write!(f, "{e}"),
+            Error::NoSection => write!(f, "no section of this name"),
+            Error::NoBytes => write!(f, "section has no bytes in the file"),
+            Error::PastEnd => write!(f, "section reaches past the end of the file"),
+            Error::TooLarge => write!(f, "sizes are too large"),
+            Error::OutOfMemory => write!(f, "out of memory"),
+        }
+    }
+}
+
+impl error::Error for Error {}
+
+impl From<ParseError> for Error {
+    fn from(e: ParseError) -> Self {
+        Error::Parse(e)
+    }
+}
+
+impl From<OutOfMemory> for Error {
+    fn from(_: OutOfMemory) -> Self {
+        Error::OutOfMemory
+    }
+}
+
+#[doc(hidden)]
+impl From<binfarce_bytes::ParseError> for Error {
+    fn from(e: binfarce_bytes::ParseError) -> Self {
+        use binfarce_bytes::ParseError as Refusal;
+        Error::Parse(match e {
+            Refusal::SymbolsSectionIsMissing => ParseError::SymbolsSectionIsMissing,
+            Refusal::SectionIsMissing(name) => ParseError::SectionIsMissing(name),
+            Refusal::UnexpectedSectionType { expected, actual } => {
+                ParseError::UnexpectedSectionType { expected, actual }
+            }
+            Refusal::MalformedInput => ParseError::MalformedInput,
+            Refusal::UnexpectedEof => ParseError::UnexpectedEof,
+            Refusal::OutOfMemory => return Error::OutOfMemory,
+        })
+    }
+}
+
+/// An allocation failed.
+#[derive(Debug, Clone, Copy, PartialEq, Eq, Hash)]
+pub struct OutOfMemory;
+
+impl fmt::Display for OutOfMemory {
+    fn fmt(&self, f: &mut fmt::Formatter<'_>) -> fmt::Result {
+        write!(f, "out of memory")
+    }
+}
+
+impl error::Error for OutOfMemory {}
+
+#[doc(hidden)]
+impl From<AllocError> for OutOfMemory {
+    fn from(_: AllocError) -> Self {
+        OutOfMemory
+    }
+}
+
+impl From<OutOfMemory> for io::Error {
+    fn from(_: OutOfMemory) -> Self {
+        io::Error::from(io::ErrorKind::OutOfMemory)
+    }
+}

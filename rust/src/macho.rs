@@ -1,0 +1,168 @@
+//! 64-bit Mach-O files, which are little endian.
+//!
+//! # Examples
+//!
+//! ```
+//! use binfarce::{ParseError, macho};
+//!
+//! /// Where the code of a program is in its file.
+//! fn code(file: &[u8]) -> Result<Option<std::ops::Range<usize>>, ParseError> {
+//!     let section = macho::parse(file)?.section_with_name("__TEXT", "__text")?;
+//!     section.map(|section| section.range()).transpose()
+//! }
+//! # assert!(matches!(code(b""), Err(ParseError::UnexpectedEof)));
+//! ```
+
+use crate::demangle::SymbolData;
+use crate::erased::binfarce::macho as erased;
+use crate::error::{Error, ParseError};
+use crate::shim::alloc::Global;
+use crate::{FunctionSymbol, symbols_of};
+use std::fmt;
+use std::ops::Range;
+
+pub use erased::MachoHeader;
+
+/// A section. Its names are parts of the file.
+#[derive(Clone, Copy)]
+pub struct Section<'a>(erased::Section<'a>);
+
+impl<'a> Section<'a> {
+    /// Returns the section's bytes as a range of the file, which may end past the file.
+    ///
+    /// # Errors
+    ///
+    /// [`ParseError::MalformedInput`] where the range's end passes 64 bits.
+    pub fn range(&self) -> Result<Range<usize>, ParseError> {
+        Ok(self.0.range()?)
+    }
+
+    /// Returns the section's name (`sectname`).
+    pub fn name(&self) -> &'a str {
+        self.0.name()
+    }
+
+    /// Returns the name of the section's segment (`segname`).
+    pub fn segment_name(&self) -> &'a str {
+        self.0.segment_name()
+    }
+
+    /// Returns the address of the section's first byte in memory (`addr`).
+    pub fn address(&self) -> u64 {
+        self.0.address()
+    }
+}
+
+impl fmt::Debug for Section<'_> {
+    fn fmt(&self, f: &mut fmt::Formatter<'_>) -> fmt::Result {
+        self.0.fmt(f)
+    }
+}
+
+/// A Mach-O file. It borrows the file's bytes.
+#[derive(Clone)]
+pub struct Macho<'a>(erased::Macho<'a>);
+
+impl fmt::Debug for Macho<'_> {
+    fn fmt(&self, f: &mut fmt::Formatter<'_>) -> fmt::Result {
+        self.0.fmt(f)
+    }
+}
+
+/// Reads the file header. The magic number isn't checked: [`detect_format`](crate::detect_format) does that.
+///
+/// # Errors
+///
+/// [`ParseError::UnexpectedEof`] for fewer than 28 bytes.
+pub fn parse(data: &[u8]) -> Result<Macho<'_>, ParseError> {
+    Ok(Macho(erased::parse(data)?))
+}
+
+impl<'a> Macho<'a> {
+    /// Returns the file header, of which nothing but its `Debug` output can be read.
+    pub fn header(&self) -> MachoHeader {
+        self.0.header()
+    }
+
+    /// Returns an iterator over the sections in file order. A section is read when the iterator reaches it. Sections
+    /// whose names are empty or not UTF-8 are skipped.
+    pub fn sections(&self) -> Sections<'a> {
+        Sections(self.0.sections())
+    }
+
+    /// Returns the first section that `callback` accepts, in file order.
+    ///
+    /// # Errors
+    ///
+    /// [`ParseError::UnexpectedEof`] where a segment command or a section is truncated, [`ParseError::MalformedInput`]
+    /// where the size of a load command is below 8. `callback` gets the sections before it first.
+    pub fn find_section<F: Fn(Section<'_>) -> bool>(&self, callback: F) -> Result<Option<Section<'a>>, ParseError> {
+        Ok(self.0.find_section(|section| callback(Section(section)))?.map(Section))
+    }
+
+    /// Returns the first section with these names.
+    ///
+    /// # Errors
+    ///
+    /// Those of [`Macho::find_section`].
+    pub fn section_with_name(&self, segment_name: &str, section_name: &str) -> Result<Option<Section<'a>>, ParseError> {
+        Ok(self.0.section_with_name(segment_name, section_name)?.map(Section))
+    }
+
+    /// Returns the section's bytes, a part of the file.
+    ///
+    /// # Errors
+    ///
+    /// [`ParseError::MalformedInput`] where their end passes 64 bits, [`ParseError::UnexpectedEof`] where it passes the
+    /// end of the file.
+    pub fn section_bytes(&self, section: &Section<'_>) -> Result<&'a [u8], ParseError> {
+        Ok(self.0.section_bytes(&section.0)?)
+    }
+
+    /// Returns the function symbols of the text section with readable names, by address, and the section's size in bytes.
+    ///
+    /// A symbol's size is the distance to the next greater address, or to the end of the section. Where an allocation
+    /// fails, the program ends as it does where a `Vec` can't grow; [`Macho::try_symbols`] returns an error there.
+    ///
+    /// # Errors
+    ///
+    /// Those of [`Macho::find_section`]; [`ParseError::SymbolsSectionIsMissing`] without a section `__text` of `__TEXT`;
+    /// [`ParseError::MalformedInput`] where that is empty, or its end passes 64 bits or lies before a symbol;
+    /// [`ParseError::UnexpectedEof`] where the symbol table is truncated.
+    pub fn symbols(&self) -> Result<(Vec<SymbolData>, u64), ParseError> {
+        Ok(symbols_of(self.0.symbols(Global)?))
+    }
+
+    /// Returns what [`Macho::symbols`] does.
+    ///
+    /// # Errors
+    ///
+    /// Those of [`Macho::symbols`], and [`Error::OutOfMemory`] where an allocation failed.
+    pub fn try_symbols(&self) -> Result<(Vec<SymbolData>, u64), Error> {
+        Ok(symbols_of(self.0.symbols(Global)?))
+    }
+
+    /// Returns the function symbols of [`Macho::symbols`] with their names as the file stores them.
+    ///
+    /// # Errors
+    ///
+    /// Those of [`Macho::try_symbols`].
+    pub fn functions(&self) -> Result<(Vec<FunctionSymbol<'a>>, u64), Error> {
+        let (functions, size) = self.0.functions(Global)?;
+        Ok((functions.into_std(), size))
+    }
+}
+
+/// An iterator over the sections of a file: the answer of [`Macho::sections`]. After an error it ends.
+#[must_use = "iterators are lazy and do nothing unless consumed"]
+pub struct Sections<'a>(erased::Sections<'a>);
+
+impl<'a> Iterator for Sections<'a> {
+    type Item = Result<Section<'a>, ParseError>;
+
+    fn next(&mut self) -> Option<Self::Item> {
+        Some(self.0.next()?.map(Section).map_err(ParseError::from))
+    }
+}
+
+debug_by_name!(Sections);

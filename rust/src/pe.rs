@@ -1,0 +1,174 @@
+//! PE files with a COFF symbol table, which are little endian.
+//!
+//! # Examples
+//!
+//! ```
+//! use binfarce::{ParseError, pe};
+//!
+//! /// The first 8 bytes of each section's name.
+//! fn names(file: &[u8]) -> Result<Vec<&str>, ParseError> {
+//!     pe::parse(file)?.sections().map(|section| Ok(section?.name())).collect()
+//! }
+//! # assert!(matches!(names(b""), Err(ParseError::UnexpectedEof)));
+//! ```
+
+use crate::demangle::SymbolData;
+use crate::erased::binfarce::pe as erased;
+use crate::error::{Error, ParseError};
+use crate::shim::alloc::Global;
+use crate::{FunctionSymbol, symbols_of};
+use std::fmt;
+use std::ops::Range;
+
+pub use erased::PeHeader;
+
+/// A section. Its name is a part of the file.
+#[derive(Clone, Copy)]
+pub struct Section<'a>(erased::Section<'a>);
+
+impl<'a> Section<'a> {
+    /// Returns the section's bytes as a range of the file (`PointerToRawData`, `SizeOfRawData`), which may end past the
+    /// file.
+    ///
+    /// # Errors
+    ///
+    /// None: the range always fits 64 bits.
+    pub fn range(&self) -> Result<Range<usize>, ParseError> {
+        Ok(self.0.range()?)
+    }
+
+    /// Returns the name in the section's header: `/` and an offset in the string table for a name of more than 8 bytes.
+    pub fn name(&self) -> &'a str {
+        self.0.name()
+    }
+
+    /// Returns the address of the section's first byte in memory, counted from the image base (`VirtualAddress`).
+    pub fn address(&self) -> u32 {
+        self.0.address()
+    }
+
+    /// Returns the section's size in memory in bytes (`VirtualSize`).
+    pub fn virtual_size(&self) -> u32 {
+        self.0.virtual_size()
+    }
+}
+
+impl fmt::Debug for Section<'_> {
+    fn fmt(&self, f: &mut fmt::Formatter<'_>) -> fmt::Result {
+        f.debug_struct("Section")
+            .field("name", &self.0.name)
+            .field("virtual_size", &self.0.virtual_size)
+            .field("size_of_raw_data", &self.0.size_of_raw_data)
+            .field("pointer_to_raw_data", &self.0.pointer_to_raw_data)
+            .field("index", &self.0.index)
+            .finish()
+    }
+}
+
+/// A PE file. It borrows the file's bytes.
+#[derive(Clone)]
+pub struct Pe<'a>(erased::Pe<'a>);
+
+impl fmt::Debug for Pe<'_> {
+    fn fmt(&self, f: &mut fmt::Formatter<'_>) -> fmt::Result {
+        self.0.fmt(f)
+    }
+}
+
+/// Reads the file header. Its signature isn't checked: [`detect_format`](crate::detect_format) checks the file's first
+/// bytes.
+///
+/// # Errors
+///
+/// [`ParseError::UnexpectedEof`] for fewer than 64 bytes, and where the file header is truncated.
+pub fn parse(data: &[u8]) -> Result<Pe<'_>, ParseError> {
+    Ok(Pe(erased::parse(data)?))
+}
+
+impl<'a> Pe<'a> {
+    /// Returns the file header, of which nothing but its `Debug` output can be read.
+    pub fn header(&self) -> PeHeader {
+        self.0.header()
+    }
+
+    /// Returns an iterator over the sections in file order. A section header is read when the iterator reaches it.
+    /// Sections whose names aren't UTF-8 are skipped.
+    pub fn sections(&self) -> Sections<'a> {
+        Sections(self.0.sections())
+    }
+
+    /// Returns the first section that `callback` accepts, in file order.
+    ///
+    /// # Errors
+    ///
+    /// [`ParseError::UnexpectedEof`] where the section table doesn't begin in the file, or a header is truncated.
+    /// `callback` gets the sections before it first.
+    pub fn find_section<F: Fn(Section<'_>) -> bool>(&self, callback: F) -> Result<Option<Section<'a>>, ParseError> {
+        Ok(self.0.find_section(|section| callback(Section(section)))?.map(Section))
+    }
+
+    /// Returns the first section with this name.
+    ///
+    /// # Errors
+    ///
+    /// Those of [`Pe::find_section`].
+    pub fn section_with_name(&self, name: &str) -> Result<Option<Section<'a>>, ParseError> {
+        Ok(self.0.section_with_name(name)?.map(Section))
+    }
+
+    /// Returns the section's bytes, a part of the file.
+    ///
+    /// # Errors
+    ///
+    /// [`ParseError::UnexpectedEof`] where they end past the file.
+    pub fn section_bytes(&self, section: &Section<'_>) -> Result<&'a [u8], ParseError> {
+        Ok(self.0.section_bytes(&section.0)?)
+    }
+
+    /// Returns the function symbols of the section `.text` with readable names, by address, and the section's size in
+    /// bytes.
+    ///
+    /// A symbol's size is the distance to the next greater address, or to the end of the section. Where an allocation
+    /// fails, the program ends as it does where a `Vec` can't grow; [`Pe::try_symbols`] returns an error there.
+    ///
+    /// # Errors
+    ///
+    /// Those of [`Pe::find_section`]; [`ParseError::SymbolsSectionIsMissing`] without a section `.text`;
+    /// [`ParseError::UnexpectedEof`] where the symbol table doesn't begin in the file or passes its end.
+    pub fn symbols(&self) -> Result<(Vec<SymbolData>, u64), ParseError> {
+        Ok(symbols_of(self.0.symbols(Global)?))
+    }
+
+    /// Returns what [`Pe::symbols`] does.
+    ///
+    /// # Errors
+    ///
+    /// Those of [`Pe::symbols`], and [`Error::OutOfMemory`] where an allocation failed.
+    pub fn try_symbols(&self) -> Result<(Vec<SymbolData>, u64), Error> {
+        Ok(symbols_of(self.0.symbols(Global)?))
+    }
+
+    /// Returns the function symbols of [`Pe::symbols`] with their names as the file stores them.
+    ///
+    /// # Errors
+    ///
+    /// Those of [`Pe::try_symbols`].
+    pub fn functions(&self) -> Result<(Vec<FunctionSymbol<'a>>, u64), Error> {
+        let (functions, size) = self.0.functions(Global)?;
+        Ok((functions.into_std(), size))
+    }
+}
+
+/// An iterator over the sections of a file: the answer of [`Pe::sections`]. After an error it ends.
+#[must_use = "iterators are lazy and do nothing unless consumed"]
+pub struct Sections<'a>(erased::Sections<'a>);
+
+impl<'a> Iterator for Sections<'a> {
+    type Item = Result<Section<'a>, ParseError>;
+
+    fn next(&mut self) -> Option<Self::Item> {
+        Some(self.0.next()?.map(Section).map_err(ParseError::from))
+    }
+}
+
+debug_by_name!(Sections);

@@ -1,0 +1,203 @@
+//! Tests of the public items: the signatures and the `Debug` output of the original, errors, and failed allocations. The
+//! files are those of the repository's tests, and the `Debug` output is what the original prints of them.
+
+use crate::demangle::{Demangler, SymbolData, SymbolName, trimmed};
+use crate::erased::test_samples::{elf, macho as macho_file, pe as pe_file};
+use crate::shim::test::refusing;
+use crate::*;
+use std::io::{self, ErrorKind, Read, Write};
+
+fn with_magic(file: &[u8], magic: &[u8]) -> Vec<u8> {
+    [magic, &file[magic.len()..]].concat()
+}
+
+/// A file of each format, and its listing.
+fn files() -> [(Vec<u8>, &'static str); 6] {
+    [
+        (elf::ELF32_LITTLE.to_vec(), elf::LISTING),
+        (elf::ELF32_BIG.to_vec(), elf::LISTING),
+        (elf::ELF64_LITTLE.to_vec(), elf::LISTING),
+        (elf::ELF64_BIG.to_vec(), elf::LISTING),
+        (with_magic(&macho_file::MACHO, macho_file::MAGIC.1), macho_file::LISTING),
+        (with_magic(&pe_file::PE, pe_file::MAGIC.1), pe_file::LISTING),
+    ]
+}
+
+/// A file's symbols as code written for the original asks for them.
+fn symbols(file: &[u8]) -> Result<(Vec<SymbolData>, u64), ParseError> {
+    match detect_format(file) {
+        Format::Elf32 { byte_order } => elf32::parse(file, byte_order)?.symbols(".text"),
+        Format::Elf64 { byte_order } => elf64::parse(file, byte_order)?.symbols(".text"),
+        Format::Macho => macho::parse(file)?.symbols(),
+        Format::PE => pe::parse(file)?.symbols(),
+        Format::Unknown => Ok((Vec::new(), 0)),
+    }
+}
+
+fn lines(symbols: &[SymbolData], size: u64) -> String {
+    let line = |s: &SymbolData| format!("{:016x} {:>10} {}\n", s.address, s.size, s.name.trimmed);
+    symbols.iter().map(line).collect::<String>() + &format!("text {size}\n")
+}
+
+#[test]
+fn symbols_of_each_format() {
+    for (file, listing) in files() {
+        let (found, size) = symbols(&file).unwrap();
+        assert_eq!(lines(&found, size), listing);
+        assert_eq!(list(&file, ".text").unwrap(), listing);
+        let (stored, size) = functions(&file, ".text").unwrap();
+        let named =
+            |f: FunctionSymbol<'_>| SymbolData { name: SymbolName::demangle(f.name), address: f.address, size: f.size };
+        assert_eq!(lines(&stored.map(named).collect::<Vec<_>>(), size), listing);
+    }
+}
+
+#[test]
+fn sections_of_each_format() {
+    for (file, _) in files() {
+        let text = sections(&file).unwrap().map(Result::unwrap).find(|s| matches!(s.name, Some(".text" | "__text")));
+        assert!(text.is_some_and(|s| s.size == 32 || s.size == 256));
+    }
+}
+
+#[test]
+fn debug_output_is_that_of_the_original() {
+    let file = elf64::parse(&elf::ELF64_LITTLE, ByteOrder::LittleEndian).unwrap();
+    assert_eq!(
+        format!("{:?}", file.header()),
+        "Elf64Header { elf_type: 1, machine: 0, version: 1, entry: 0, phoff: 0, shoff: 267, flags: 0, ehsize: 64, \
+         phentsize: 0, phnum: 0, shentsize: 64, shnum: 5, shstrndx: 4 }"
+    );
+    assert_eq!(
+        format!("{:?}", file.section_with_name(".symtab").unwrap().unwrap()),
+        "Section { index: 2, name_offset: 7, kind: 2, link: 3, offset: 96, size: 120, entry_size: 24 }"
+    );
+    let file = elf32::parse(&elf::ELF32_BIG, ByteOrder::BigEndian).unwrap();
+    assert_eq!(
+        format!("{:?}", file.section_with_name(".symtab").unwrap().unwrap()),
+        "Section { index: 2, name_offset: 7, kind: 2, link: 3, offset: 84, size: 80, entry_size: 16 }"
+    );
+    let file = macho::parse(&macho_file::MACHO).unwrap();
+    assert_eq!(
+        format!("{:?}", file.header()),
+        "MachoHeader { cputype: 0, cpusubtype: 0, filetype: 0, ncmds: 2, sizeofcmds: 0, flags: 0 }"
+    );
+    assert_eq!(
+        format!("{:?}", file.section_with_name("__TEXT", "__text").unwrap().unwrap()),
+        "Section { segment_name: \"__TEXT\", section_name: \"__text\", address: 4096, offset: 0, size: 256 }"
+    );
+    let file = pe::parse(&pe_file::PE).unwrap();
+    assert_eq!(
+        format!("{:?}", file.header()),
+        "PeHeader { machine: 0, number_of_sections: 1, time_date_stamp: 0, pointer_to_symbol_table: 128, \
+         number_of_symbols: 5, size_of_optional_header: 0, characteristics: 0 }"
+    );
+    assert_eq!(
+        format!("{:?}", file.find_section(|_| true).unwrap().unwrap()),
+        "Section { name: \".text\", virtual_size: 0, size_of_raw_data: 256, pointer_to_raw_data: 0, index: 0 }"
+    );
+}
+
+/// Code written for the original matches its five errors without a wildcard.
+#[test]
+fn errors_are_those_of_the_original() {
+    let words = |e| match e {
+        ParseError::SymbolsSectionIsMissing => String::from("none"),
+        ParseError::SectionIsMissing(name) => name.into(),
+        ParseError::UnexpectedSectionType { expected, actual } => format!("{expected} {actual}"),
+        ParseError::MalformedInput => "malformed".into(),
+        ParseError::UnexpectedEof => "eof".into(),
+    };
+    let mut file = elf::ELF64_LITTLE;
+    assert_eq!(words(elf64::parse(&file, ByteOrder::LittleEndian).unwrap().symbols(".bss").err().unwrap()), "none");
+    // The type of `.symtab`, in the third section header.
+    file[267 + 2 * 64 + 4] = 1;
+    assert_eq!(words(symbols(&file).err().unwrap()), ".symtab");
+    assert_eq!(functions(&file, ".text").unwrap_err(), Error::Parse(ParseError::SectionIsMissing(".symtab")));
+    assert_eq!(functions(b"#!/bin/sh", ".text").unwrap_err(), Error::UnknownFormat);
+    assert_eq!(ParseError::from(UnexpectedEof {}).to_string(), "unexpected end of file");
+}
+
+/// Asks with each allocation refused in turn, until none is. Whether one is refused, that is what the call says.
+fn refuses_each<T>(call: impl Fn() -> Result<T, Error>) {
+    for number in 1.. {
+        let (answer, refused) = refusing(number, &call);
+        match answer {
+            Ok(_) if !refused => return assert!(number > 1, "nothing was allocated"),
+            Ok(_) => (),
+            Err(e) => assert!(refused && e == Error::OutOfMemory, "{e}, allocation {number}"),
+        }
+    }
+}
+
+#[test]
+fn a_failed_allocation_is_an_error() {
+    const NAME: &str = "_RNvC6_123foo3bar";
+    refuses_each(|| Ok(SymbolName::try_demangle(NAME)?));
+    refuses_each(|| Ok(Demangler::new().crate_of(NAME)?));
+    refuses_each(|| Ok(trimmed(NAME)?));
+    refuses_each(|| Ok(filter(NAME, Form::Trimmed)?));
+    for (file, _) in files() {
+        refuses_each(|| list(&file, ".text"));
+        refuses_each(|| report(&file, ".text"));
+    }
+    refuses_each(|| elf64::parse(&elf::ELF64_LITTLE, ByteOrder::LittleEndian)?.try_symbols(".text"));
+    refuses_each(|| macho::parse(&macho_file::MACHO)?.functions());
+    refuses_each(|| macho::parse(&macho_file::MACHO)?.try_symbols());
+    refuses_each(|| pe::parse(&pe_file::PE)?.functions());
+    refuses_each(|| pe::parse(&pe_file::PE)?.try_symbols());
+}
+
+#[test]
+fn a_text_stays_where_an_allocation_fails() {
+    let mut text = String::from("at ");
+    let (pushed, refused) = refusing(1, || Demangler::new().push_trimmed(&mut text, "_RNvC6_123foo3bar"));
+    assert_eq!((pushed, refused, text.as_str()), (Err(OutOfMemory), true, "at "));
+}
+
+/// A stream that is interrupted, and then gives or takes its bytes and fails.
+struct Broken {
+    calls: usize,
+}
+
+impl Broken {
+    fn call(&mut self) -> io::Result<usize> {
+        self.calls += 1;
+        match self.calls {
+            1 => Err(ErrorKind::Interrupted.into()),
+            2 => Ok(1),
+            _ => Err(io::Error::other("cable pulled")),
+        }
+    }
+}
+
+impl Read for Broken {
+    fn read(&mut self, buffer: &mut [u8]) -> io::Result<usize> {
+        buffer[0] = b'x';
+        self.call()
+    }
+}
+
+impl Write for Broken {
+    fn write(&mut self, _: &[u8]) -> io::Result<usize> {
+        self.call()
+    }
+
+    fn flush(&mut self) -> io::Result<()> {
+        Ok(())
+    }
+}
+
+#[test]
+fn a_filtered_stream_ends_with_the_error_of_its_stream() {
+    let mut output = Vec::new();
+    let ended = filter_stream(Broken { calls: 0 }, &mut output, Form::Trimmed);
+    assert_eq!(ended.unwrap_err().to_string(), "cable pulled");
+    assert_eq!(output, b"x");
+    let ended = filter_stream(&b"two bytes"[..], Broken { calls: 0 }, Form::Trimmed);
+    assert_eq!(ended.unwrap_err().to_string(), "cable pulled");
+    let ended = filter_stream(&b"two bytes"[..], &mut [0; 1][..], Form::Trimmed);
+    assert_eq!(ended.unwrap_err().kind(), ErrorKind::WriteZero);
+    let (ended, _) = refusing(1, || filter_stream(&b"two bytes"[..], io::sink(), Form::Trimmed));
+    assert_eq!(ended.unwrap_err().kind(), ErrorKind::OutOfMemory);
+}

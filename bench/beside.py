@@ -1,0 +1,36 @@
+#!/usr/bin/env python3
+"""Measures commands beside each other: beside.py RUNS [--stdin FILE] COMMAND [-- COMMAND ..]
+
+Each command is run RUNS times, in turn with the others, with its output thrown away. A line tells its least processor time (user
+and system), its least wall time, its peak memory, and its processor time in parts of the first one's.
+"""
+import os
+import subprocess
+import sys
+import time
+
+words = sys.argv[1:]
+if not words or not words[0].isdigit():
+    sys.exit(__doc__)
+runs, words = int(words[0]), words[1:]
+given = os.devnull
+if words[:1] == ["--stdin"]:
+    given, words = words[1], words[2:]
+commands = [[]]
+for word in words:
+    if word == "--":
+        commands.append([])
+    else:
+        commands[-1].append(word)
+least = [(float("inf"), float("inf"), 0)] * len(commands)
+for _ in range(runs):
+    for at, command in enumerate(commands):
+        with open(given, "rb") as stdin:
+            start = time.monotonic()
+            run = subprocess.Popen(command, stdin=stdin, stdout=subprocess.DEVNULL)
+            _, _, used = os.wait4(run.pid, 0)
+            wall = time.monotonic() - start
+        cpu, old_wall, peak = least[at]
+        least[at] = min(cpu, used.ru_utime + used.ru_stime), min(old_wall, wall), max(peak, used.ru_maxrss)
+for command, (cpu, wall, peak) in zip(commands, least):
+    print(f"{cpu * 1000:8.1f} ms {wall * 1000:8.1f} ms wall {peak / 1024:6.1f} MiB {cpu / least[0][0]:6.2f}  {' '.join(command)}")

@@ -19,7 +19,7 @@ case $* in
 esac
 
 missing=
-for tool in rt python3 cargo gcc g++ readelf valgrind tar pgrep; do
+for tool in rt python3 cargo gcc g++ nm readelf valgrind pkg-config tar pgrep; do
     command -v "$tool" >/dev/null || missing="$missing $tool"
 done
 [ -z "$missing" ] || { echo "test.sh: these tools are missing:$missing"; exit 1; }

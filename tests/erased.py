@@ -17,8 +17,7 @@ ON_FILES = ["list", "size", "map", "at", "section"]
 
 
 def program(folder, name):
-    for path in (f"binfarce_{name}", f"binfarce-{name}", f"binfarce_{name}/out/run/binfarce_{name}",
-                 f"binfarce_{name}/out/binfarce_{name}"):
+    for path in (f"binfarce_{name}", f"binfarce-{name}"):
         if (pathlib.Path(folder) / path).is_file():
             return str((pathlib.Path(folder) / path).resolve())
     sys.exit(f"tests/erased.sh: {folder} has no binfarce_{name}")

@@ -303,8 +303,8 @@ fn streams() {
 #[test]
 fn deep_names_in_a_thread() {
     use crate::erased::binfarce_names::demangle::SymbolName;
-    let name = format!("_RMC1a{}u", "R".repeat(497));
-    let text = format!("<{}()>", "&".repeat(497));
+    let name = format!("_RMC1a{}u", "R".repeat(498));
+    let text = format!("<{}()>", "&".repeat(498));
     let thread = std::thread::Builder::new().stack_size(2 << 20);
     let read = thread.spawn(move || SymbolName::demangle(Global, &name).unwrap().trimmed.into_std());
     assert_eq!(read.unwrap().join().unwrap(), text);

@@ -6,6 +6,7 @@ use Rattle.std.specs.String.{string_cmp}
 use Rattle.binfarce.specs.Symbol.{Listed}
 use Rattle.binfarce_chart.specs.Chart as chart
 use Rattle.binfarce_chart.specs.Chart.{Row}
+use Rattle.binfarce_chart.specs.Svg.{IsChartOf}
 use Rattle.binfarce_tools.proofs.CrateLines.{HaveSums, are_crates, have_sums, texts_of}
 use Rattle.binfarce_tools.specs.declared.report.CrateSums.{CrateSums}
 use Rattle.binfarce_tools.specs.Report.{Share, AreCratesOf}
@@ -40,3 +41,9 @@ of_listed listed sums text are is =
     let shares = are.1 in
     let P : ℕ → Type 0 = λ n. IsMapOfShares shares.0 n text in
     (shares.0, shares.1, subst P are.0 (is shares.0 shares.2))
+
+-- the picture of the rows of all crates
+pub of_chart : (shares : List Share) (sums : CrateSums) (rows : List Row) (text : List ℕ) → (names : List (List ℕ)) × AreCratesOf shares names × (rows ≡ crate_rows shares names) → IsChartOf rows sums.section_size text → IsMapOfShares shares sums.section_size text
+of_chart shares sums rows text seen drawn =
+    let P : List Row → Type 0 = λ rs. IsChartOf rs sums.section_size text in
+    (seen.0, seen.1, subst P seen.2 drawn)

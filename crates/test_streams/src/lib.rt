@@ -1,7 +1,7 @@
 //! What programs are tested with: readers and writers that are short or fail, and how a program's work has to end.
 #![tactic(auto)]
 
-pub mod interrupted;
+pub mod interruptions;
 
 use binfarce_program::Fault;
 use std::alloc::{AllocError, Global};

@@ -8,7 +8,7 @@ use std::cell::Cell;
 use std::io::ErrorKind;
 use std::test::Fail;
 use test_samples::elf::ELF64_LITTLE;
-use test_streams::interrupted::InterruptedSource;
+use test_streams::interruptions::InterruptedSource;
 use test_streams::{Source, Target};
 
 const TEXT: &[u8] = b"401000\n0x40100F\n401010\n400fff\n100f\n3fffff\n40100a";

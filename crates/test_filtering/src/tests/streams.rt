@@ -5,7 +5,7 @@ use binfarce_filtering::stream::{StreamError, filter_stream};
 use std::alloc::{AllocError, Global};
 use std::cell::Cell;
 use std::io::ErrorKind;
-use test_streams::interrupted::{InterruptedSource, InterruptedTarget};
+use test_streams::interruptions::{InterruptedSource, InterruptedTarget};
 use test_streams::{Source, Target};
 
 const TEXT: &[u8] = b"in _RNvC1a1b. at x_1 <_ZN3foo17h0123456789abcdefE+0x1f> _RNvC1c1d";

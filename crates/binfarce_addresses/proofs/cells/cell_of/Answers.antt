@@ -8,4 +8,4 @@ returns c =
     let start : c.in_ok-ok-2.field-0 ≡ get_or c.args.bounds.now c.in_ok-span.span.place 0 = search rules in
     let len : c.in_ok-ok-3.field-0 ≡ get_or c.args.bounds.now (c.in_ok-span.span.place + 1) 0 - get_or c.args.bounds.now c.in_ok-span.span.place 0 = search rules in
     let rise : get_or c.args.bounds.now c.in_ok-span.span.place 0 ≤ get_or c.args.bounds.now (c.in_ok-span.span.place + 1) 0 = search rules in
-    made_cell c.args.ranges.now c.args.bounds.now c.in_ok-span.span _ c.in_ok-span.ensures (omega arith) refl (omega (arith, size)) c.offset_of.ensures start (omega (arith, start, len, rise))
+    made_cell c.args.ranges.now c.args.bounds.now c.in_ok-span.span _ c.in_ok-span.ensures.span (omega arith) refl (omega (arith, size)) c.offset_of.ensures start (omega (arith, start, len, rise))

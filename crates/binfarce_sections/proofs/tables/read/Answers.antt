@@ -42,14 +42,14 @@ returns-in_ok-begun-in-Macho g c = λ file known.
     let told : Known (g.S.Source.bytes c.args.source.now) c.in_ok-len.len file = (known, length_told _ file c.in_ok-len.len known c.in_ok-len.ensures.length) in
     let format : format_of file ≡ Macho = sym (taken (c.in_ok-byte_order.ensures file told)) ∙ c.in-Macho.is in
     let read = c.in_ok-begun-in-Macho.ensures file known in
-    (macho_has file c.in_ok-begun-in-Macho.begun.bytes.items (of_macho file format) read.1.0, read.1.1)
+    (macho_has file c.in_ok-begun-in-Macho.begun.bytes.items (of_macho file format) read.1, read.2)
 
 pub returns-in_ok-begun-in-PE : goal.returns-in_ok-begun-in-PE
 returns-in_ok-begun-in-PE g c = λ file known.
     let told : Known (g.S.Source.bytes c.args.source.now) c.in_ok-len.len file = (known, length_told _ file c.in_ok-len.len known c.in_ok-len.ensures.length) in
     let format : format_of file ≡ PE = sym (taken (c.in_ok-byte_order.ensures file told)) ∙ c.in-PE.is in
     let read = c.in_ok-begun-in-PE.ensures file known in
-    (pe_has file c.in_ok-begun-in-PE.begun.bytes.items (of_pe file format) read.1.0, read.1.1)
+    (pe_has file c.in_ok-begun-in-PE.begun.bytes.items (of_pe file format) read.1, read.2)
 
 pub returns-in_err-begun-in-Macho : goal.returns-in_err-begun-in-Macho
 returns-in_err-begun-in-Macho g c = λ file known.

@@ -2,7 +2,7 @@
 
 //! What programs are tested with: readers and writers that are short or fail, and how a program's work has to end.
 
-pub mod interrupted;
+pub mod interruptions;
 
 use crate::shim::{String, Vec};
 use crate::erased::binfarce_program::Fault;

@@ -11,7 +11,7 @@ use std::cell::Cell;
 use crate::shim::io::ErrorKind;
 use crate::shim::test::Fail;
 use crate::erased::test_samples::elf::ELF64_LITTLE;
-use crate::erased::test_streams::interrupted::InterruptedSource;
+use crate::erased::test_streams::interruptions::InterruptedSource;
 use crate::erased::test_streams::{Source, Target};
 
 const TEXT: &[u8] = b"401000\n0x40100F\n401010\n400fff\n100f\n3fffff\n40100a";

@@ -8,7 +8,7 @@ use crate::erased::binfarce_filtering::stream::{StreamError, filter_stream};
 use crate::shim::alloc::{AllocError, Global};
 use std::cell::Cell;
 use crate::shim::io::ErrorKind;
-use crate::erased::test_streams::interrupted::{InterruptedSource, InterruptedTarget};
+use crate::erased::test_streams::interruptions::{InterruptedSource, InterruptedTarget};
 use crate::erased::test_streams::{Source, Target};
 
 const TEXT: &[u8] = b"in _RNvC1a1b. at x_1 <_ZN3foo17h0123456789abcdefE+0x1f> _RNvC1c1d";

@@ -1,4 +1,4 @@
-// From crates/test_streams/src/interrupted.rt, by tools/erase.
+// From crates/test_streams/src/interruptions.rt, by tools/erase.
 
 //! A reader and a writer of which every other call is interrupted, and which know how many bytes are not flushed.
 

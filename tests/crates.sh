@@ -30,7 +30,7 @@ for root in $(tested); do
 done
 echo "all_tests: $(tr ' ' '\n' <"$scratch/below" | sort -u | tr '\n' ' ')" >>"$copy/crates.txt"
 
-(cd "$made" && exec rt try --test --steps 1 --seconds 300) >"$scratch/ended" 2>&1 &
+(cd "$made" && exec rt try --test --steps 1 --seconds 1200) >"$scratch/ended" 2>&1 &
 trying=$!
 status=0
 wait "$trying" || status=$?

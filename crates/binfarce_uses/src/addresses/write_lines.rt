@@ -1,4 +1,4 @@
-ghost use Rattle.std.specs.Prelude.{List, ℕ, codes};
+ghost use Rattle.std.specs.Prelude.{List, ℕ};
 ghost use Rattle.binfarce.specs.Format.{format_of};
 ghost use Rattle.binfarce_addresses.specs.Lines.{AreLinesAt};
 ghost use Rattle.binfarce_tools.specs.Answer.{symbols_answer};
@@ -11,15 +11,15 @@ use binfarce_tools::list::{ListError, Sink};
 use binfarce_tools::tables::Tables;
 use std::alloc::Global;
 
-/// Writes what stands at addresses in the tables that were read for `.text`.
+/// Symbolizes addresses by the tables that were read of a file.
 pub fn write_lines<S: Sink>(
     alloc: Global,
     tables: &Tables,
     frames: &[u64],
     out: &mut S,
 ) -> Result<(), ListError>
-    ensures { (file : List ℕ) → AreTablesOf file (codes ".text") tables.now
-        → Takes (AreLinesAt 0x555555554000 frames.now) (symbols_answer (format_of file) file (codes ".text")) (S.taken out.old) (S.taken out.new) (outcome_of result) }
+    ensures { (file section : List ℕ) → AreTablesOf file section tables.now
+        → Takes (AreLinesAt 0x555555554000 frames.now) (symbols_answer (format_of file) file section) (S.taken out.old) (S.taken out.new) (outcome_of result) }
 {
     at_tables(alloc, tables, 0x5555_5555_4000, frames, out)
 }

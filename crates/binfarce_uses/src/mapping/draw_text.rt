@@ -1,4 +1,4 @@
-ghost use Rattle.std.specs.Prelude.{List, ℕ, codes};
+ghost use Rattle.std.specs.Prelude.{List, ℕ};
 ghost use Rattle.binfarce.specs.Format.{format_of};
 ghost use Rattle.binfarce_mapping.specs.Map.{IsMapOf};
 ghost use Rattle.binfarce_tools.specs.Answer.{symbols_answer};
@@ -12,10 +12,10 @@ use binfarce_tools::report::ReportError;
 use binfarce_tools::tables::Tables;
 use std::alloc::Global;
 
-/// Draws the tables that were read for `.text`.
+/// Draws the tables that were read of a file.
 pub fn draw_text<S: Sink>(alloc: Global, tables: &Tables, out: &mut S) -> Result<(), ReportError>
-    ensures { (file : List ℕ) → AreTablesOf file (codes ".text") tables.now
-        → Takes IsMapOf (symbols_answer (format_of file) file (codes ".text")) (S.taken out.old) (S.taken out.new) (outcome_of result) }
+    ensures { (file section : List ℕ) → AreTablesOf file section tables.now
+        → Takes IsMapOf (symbols_answer (format_of file) file section) (S.taken out.old) (S.taken out.new) (outcome_of result) }
 {
     map_tables(alloc, tables, out)
 }

@@ -10,8 +10,8 @@ use std::alloc::{AllocError, Global};
 pub fn two_sizes(alloc: Global, code: u32, constants: u32) -> Result<String, AllocError>
     ensures { IfOk result (λ text. IsChartOf (record { name = codes "code"; size = code } ∷ record { name = codes "constants"; size = constants } ∷ []) (code + constants) (string_bytes text)) }
 {
-    let code = u64::from(code);
-    let constants = u64::from(constants);
+    let code = code as u64;
+    let constants = constants as u64;
     let bars = [
         Bar {
             name: "code",

@@ -10,7 +10,7 @@ folder=$(cd "$1" && pwd)
 cd "$(dirname "$0")/.."
 scratch=$(mktemp -d)
 holder=
-trap 'kill $holder 2>/dev/null; rm -rf "$scratch"' EXIT
+trap '[ -z "$holder" ] || kill "$holder" 2>/dev/null || true; rm -rf "$scratch"' EXIT
 trap 'exit 130' HUP INT TERM
 
 sample=crates/binfarce_list/data/e-elf64-little.bin

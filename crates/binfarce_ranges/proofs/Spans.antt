@@ -82,8 +82,8 @@ in_order ranges rows are = record {
 
 -- and a row's span is that of its place
 pub span_at : (ranges : List AddressRange) (rows : List Row) → AreRowsOf ranges rows → (k : ℕ) → k < length rows → (here : Row) → here ≡ row_at rows k → (behind end until : ℕ) → (k + 1 < length rows → behind ≡ (row_at rows (k + 1)).address) → (length rows ≤ k + 1 → behind ≡ 2 ^ 64 - 1)
-    → end ≡ min behind (min (here.last + 1) (2 ^ 64 - 1)) → IsSpanAt ranges k (record { place = here.place.0; address = here.address; end = end; until = until })
-span_at ranges rows are k inside here is behind end until next last ends =
+    → end ≡ min behind (min (here.last + 1) (2 ^ 64 - 1)) → end ≤ until → IsSpanAt ranges k (record { place = here.place.0; address = here.address; end = end; until = until })
+span_at ranges rows are k inside here is behind end until next last ends free =
     let count = length-map rows (λ (r : Row). r.place.0) in
     let row = are.row_is k inside in
     let place : (row_at rows k).place.0 ≡ here.place.0 = ap (λ (r : Row). r.place.0) (sym is) in
@@ -96,4 +96,5 @@ span_at ranges rows are k inside here is behind end until next last ends =
       place = place_at rows k inside ∙ place;
       last = λ d none. omega (arith, ends, reach d, last (omega (arith, count)));
       next = λ d more. omega (arith, ends, reach d, next (omega (arith, count)), address_at ranges rows are (k + 1) (omega (arith, count)) d);
+      free = free;
     }

@@ -48,7 +48,7 @@ pub record IsOrderOf (ranges : List AddressRange) (places : List ℕ) : Type 0 w
 abbrev pub end_of : AddressRange → ℕ
 end_of range = min (range.address + max range.size 1) (2 ^ 64 - 1)
 
--- the span is that of the range with this place in the order: it ends where that range ends, or where the next one begins
+-- the span is that of the range with this place in the order: it ends where that range ends, or where the next one begins; `until` is not below that end
 pub record IsSpanAt (ranges : List AddressRange) (row : ℕ) (span : Span) : Type 0 where
   pub places : List ℕ
   pub order : IsOrderOf ranges places
@@ -56,3 +56,4 @@ pub record IsSpanAt (ranges : List AddressRange) (row : ℕ) (span : Span) : Typ
   pub place : slice_index places row ≡ span.place
   pub last : (d : AddressRange) → row + 1 ≡ length places → span.end ≡ end_of (slice_index_or ranges span.place d)
   pub next : (d : AddressRange) → row + 1 < length places → span.end ≡ min (slice_index_or ranges (slice_index places (row + 1)) d).address (end_of (slice_index_or ranges span.place d))
+  pub free : span.end ≤ span.until

@@ -1,6 +1,6 @@
 -- The steps of a reading.
-use Rattle.std.proofs.Common.{◌≡◌, ◌⊎◌, ◌+◌, ◌≤◌, ◌<◌, ℕ, Bool, true, false, arith, List, length, Option, Some, None, Result, Ok, Err, sym, subst, ap, ◌∙◌, inl, inr}
-use Rattle.std.specs.Prelude.{IfSome}
+use Rattle.std.proofs.Common.{◌≡◌, ◌⊎◌, ◌+◌, ◌≤◌, ◌<◌, ℕ, Bool, true, false, arith, List, length, Option, Some, None, Result, Ok, Err, refl, sym, subst, ap, ◌∙◌, inl, inr}
+use Rattle.std.specs.Prelude.{IfSome, IfErr}
 use Rattle.std.specs.Result.{IsErr, IsErrAnd}
 use Rattle.binfarce_bytes.specs.Number.{bytes_at}
 use Rattle.std.specs.declared.io.ErrorKind.{ErrorKind}
@@ -38,6 +38,16 @@ pub failed : {X Y : Type 0} (fails : Bool) (view : X → Y) (answer : Result Y R
     → fails ≡ true → (IsErr r × IsErrAnd r (λ e. e ≡ read_error kind)) → Reads fails view answer r
 failed fails view answer kind (Ok x) may is = let never : false ≡ true = is.0 in absurd cc
 failed fails view answer kind (Err e) may is = subst (λ (error : ReadError). Reads fails view answer (Err error)) (sym is.1) (by_kind fails view answer kind may)
+
+not_refused : (kind : ErrorKind) → (read_error kind ≡ Unreadable) ⊎ (read_error kind ≡ OutOfMemory)
+not_refused kinds.OutOfMemory = inr refl
+not_refused kind = inl refl
+
+-- an error of a source, as `?` converts it, is no refusal
+pub no_refusal : {X : Type 0} (kind : ErrorKind) (r : Result X ReadError)
+    → (IsErr r × IsErrAnd r (λ e. e ≡ read_error kind)) → IfErr r (λ e. (e ≡ Unreadable) ⊎ (e ≡ OutOfMemory))
+no_refusal kind (Ok x) is = tt
+no_refusal kind (Err e) is = subst (λ (error : ReadError). (error ≡ Unreadable) ⊎ (error ≡ OutOfMemory)) (sym is.1) (not_refused kind)
 
 -- a failed allocation, as `?` converts it
 no_memory : {X Y : Type 0} (fails : Bool) (view : X → Y) (answer : Result Y Refusal) (kind : ErrorKind) (r : Result X ReadError)

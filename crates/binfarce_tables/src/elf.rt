@@ -1,6 +1,6 @@
 //! The parts of an ELF file of either class that the function symbols of a section are read from.
 
-ghost use Rattle.std.specs.Prelude.{◌≡◌, ◌+◌, ◌<◌, ◌≤◌, List, ℕ, Ok, Some, length, MatchResult};
+ghost use Rattle.std.specs.Prelude.{◌≡◌, ◌⊎◌, ◌+◌, ◌<◌, ◌≤◌, List, ℕ, Ok, Some, length, MatchResult, IfErr};
 ghost use Rattle.std.specs.Result.{IsErr};
 ghost use Rattle.std.specs.Option.{option_map};
 ghost use Rattle.binfarce_bytes.specs.Number.{bytes_at};
@@ -10,6 +10,7 @@ ghost use Rattle.binfarce_elf.specs.ElfParts.{headers_alone, needed, needed_view
 ghost use Rattle.binfarce_elf.specs.ElfSymbols.{section_data};
 ghost use Rattle.binfarce_elf.specs.ElfViews.{header_view, section_view, functions_view};
 ghost use Rattle.binfarce_tables.specs.Reading.{Reads, Known, file_answer, parts_view};
+ghost use Rattle.binfarce_tables.specs.declared.error.ReadError.TheVariants.{Unreadable, OutOfMemory};
 ghost use Rattle.binfarce_tables.specs.machine.Places.{table_at, table_step, headers_of};
 
 use crate::error::ReadError;
@@ -229,6 +230,7 @@ pub fn part<S: Source>(
 ) -> Result<Vec<u8>, ReadError>
     ensures part { (file : List ℕ) → S.bytes source.now ≡ Some file → offset + size ≤ length file → Reads (S.may_fail source.now) (λ v. v.items) (Ok (bytes_at file offset size)) result }
     ensures past_end { (file : List ℕ) → S.bytes source.now ≡ Some file → length file < offset + size → IsErr result }
+    ensures failed { IfErr result (λ e. (e ≡ Unreadable) ⊎ (e ≡ OutOfMemory)) }
 {
     Ok(read_part(alloc, source, offset as u64, size)?)
 }

@@ -1,5 +1,5 @@
 use Rattle.std.specs.IoError.{error_kind}
-use Rattle.binfarce_tables.proofs.Readings.{part_read, none_past, unread}
+use Rattle.binfarce_tables.proofs.Readings.{part_read, none_past, unread, no_refusal}
 use Rattle.binfarce_tables.proofs.elf.part.Goals as goal
 
 pub returns-clause-part : goal.returns-clause-part
@@ -11,3 +11,6 @@ returns-clause-past_end g c = λ file known past. absurd (none_past _ file _ _ _
 pub returns-in_err-read_part-clause-part : goal.returns-in_err-read_part-clause-part
 returns-in_err-read_part-clause-part g c = λ file known inside.
     unread (g.S.Source.may_fail c.args.source.now) _ _ (g.S.Source.bytes c.args.source.now) file c.args.offset c.args.size (error_kind c.in_err-read_part.field-0.0) c.from_residual.result known inside c.in_err-read_part.ensures.failed c.from_residual.ensures
+
+pub returns-in_err-read_part-clause-failed : goal.returns-in_err-read_part-clause-failed
+returns-in_err-read_part-clause-failed g c = no_refusal (error_kind c.in_err-read_part.field-0.0) c.from_residual.result c.from_residual.ensures

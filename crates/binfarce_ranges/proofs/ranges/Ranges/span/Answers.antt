@@ -1,4 +1,4 @@
-use Rattle.std.proofs.Common.{◌≡◌, ◌+◌, ◌-◌, ◌^◌, ◌<◌, ◌≤◌, ◌∙◌, ◌⊎◌, ℕ, List, length, subst, arith}
+use Rattle.std.proofs.Common.{◌≡◌, ◌+◌, ◌-◌, ◌^◌, ◌<◌, ◌≤◌, ◌∙◌, ◌⊎◌, inl, inr, ℕ, List, length, subst, arith}
 use Rattle.std.proofs.lemmas.List.{get_or_default}
 use Rattle.binfarce_ranges.specs.Range.{IsSpanAt, IsSpanOf}
 use Rattle.binfarce_ranges.specs.declared.ranges.AddressRange.{AddressRange}
@@ -30,6 +30,7 @@ returns-clause-at c =
     let here : c.index-here.result.now ≡ row_at rows k = c.index-here.ensures ∙ get_or_default rows k c.index-here.result.now no_row inside in
     let B : List Row → Type 0 = λ rs. (k + 1 < length rs → c.address_behind-behind.result ≡ (row_at rs (k + 1)).address) × (length rs ≤ k + 1 → c.address_behind-behind.result ≡ 2 ^ 64 - 1) in
     let behind : B rows = subst B c.deref.ensures.value (c.address_behind-behind.ensures.next, c.address_behind-behind.ensures.last) in
+    let free : c.min-end.result ≤ c.free_until-until.result = elim c.free_until-until.ensures [ inl cut ↦ omega (arith, cut) | inr free ↦ omega (arith, free.1, c.min-end.ensures) ] in
     let P : List AddressRange → Type 0 = λ rs. IsSpanAt rs k (record { place = c.index-here.result.now.place.0; address = c.index-here.result.now.address; end = c.min-end.result; until = c.free_until-until.result }) in
     subst P c.self.view_is
-    (span_at c.self.inside.ranges.items rows c.self.invariant.rows_are k inside c.index-here.result.now here c.address_behind-behind.result c.min-end.result c.free_until-until.result behind.0 behind.1 (omega (arith, c.min-end.ensures, c.saturating_add.ensures)))
+    (span_at c.self.inside.ranges.items rows c.self.invariant.rows_are k inside c.index-here.result.now here c.address_behind-behind.result c.min-end.result c.free_until-until.result behind.0 behind.1 (omega (arith, c.min-end.ensures, c.saturating_add.ensures)) free)

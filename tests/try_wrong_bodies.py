@@ -79,9 +79,14 @@ class Prover:
                 with open(f"{room}/{path}", "w", encoding="utf-8") as file:
                     file.write(text)
             words = [f"{self.kit}/bin/rattle", "check", *self.words(crate), *(word for it in only for word in ("--only", it))]
-            how = {"stdin": subprocess.DEVNULL, "stdout": subprocess.PIPE, "stderr": subprocess.STDOUT, "errors": "replace"}
-            ended = subprocess.run(words, cwd=room, **how)
-        return ended.returncode, ended.stdout.rstrip("\n").split("\n")
+            with open(f"{room}/printed", "w+", encoding="utf-8", errors="replace") as printed:
+                running = subprocess.Popen(words, cwd=room, stdin=subprocess.DEVNULL, stdout=printed, stderr=subprocess.STDOUT)
+                _, status, used = os.wait4(running.pid, 0)
+                printed.seek(0)
+                lines = printed.read().rstrip("\n").split("\n")
+        with printing:
+            print(f"{crate}: a check of {len(only)} functions, {used.ru_utime + used.ru_stime:.0f} processor seconds", flush=True)
+        return os.waitstatus_to_exitcode(status), lines
 
     def goals(self, crate, texts, only=()):
         """The first goal that a check finds open in each function, or why there is no verdict."""

@@ -3,26 +3,20 @@
 #
 # Usage: ./test.sh [--whole]
 #
-# First what takes seconds: the tools, the sizes of crates, definitions that no clause reaches, the documents, the lines of the
-# wrong bodies, the erased sources. Then the gate (`rt ci`), and beside it the tests of crates, of scripts and of the erased
-# crate, the programs that must not compile, and each allocation failing in turn; as soon as the libraries are proved, the
-# wrong bodies that are always tried. Last the programs, proved and erased.
+# First what takes seconds. Then the gate (`rt ci`), and beside it all that needs no proof; as soon as the libraries are proved,
+# the wrong bodies that are always tried. Last the programs, proved and erased.
 #
 # The gate runs in a copy without must-fail folders, since it would try each edit in a check of its own, and without tests, since
 # tests/crates.sh runs them with the checks that their proofs would make needless. With --whole the copy has the tests, and all
 # edits are tried.
 set -eu
 cd "$(dirname "$0")"
-case $* in
-    "" | --whole) whole=$* ;;
-    *) echo "usage: ./test.sh [--whole]" >&2 && exit 2 ;;
-esac
+whole=$*
+[ -z "$whole" ] || [ "$whole" = --whole ] || { echo "usage: ./test.sh [--whole]" >&2; exit 2; }
 
-missing=
-for tool in rt python3 cargo gcc g++ nm readelf valgrind pkg-config tar pgrep; do
-    command -v "$tool" >/dev/null || missing="$missing $tool"
-done
-[ -z "$missing" ] || { echo "test.sh: these tools are missing:$missing"; exit 1; }
+tools="rt python3 cargo gcc g++ nm readelf valgrind pkg-config tar pgrep"
+missing=$(for tool in $tools; do command -v "$tool" >/dev/null || echo "$tool"; done)
+[ -z "$missing" ] || { echo "test.sh: these tools are missing:" $missing; exit 1; }
 
 scratch=$(mktemp -d)
 mkdir "$scratch/logs"
@@ -31,14 +25,11 @@ built="${CARGO_TARGET_DIR:-target}/release"
 running=
 # Ends a process and all that it has started.
 end() {
-    set -- "$1" $(pgrep -P "$1")
+    started=$(pgrep -P "$1") || true
     kill "$1" 2>/dev/null || true
-    shift
-    for it in "$@"; do
-        end "$it"
-    done
+    for it in $started; do end "$it"; done
 }
-trap 'for it in $running; do end "$it"; done; rm -rf "$scratch"' EXIT
+trap 'for it in $running; do end "${it#*:}"; done; rm -rf "$scratch"' EXIT
 trap 'exit 130' HUP INT TERM
 
 # part COMMAND..: runs a part of the tests, and says if it fails.
@@ -49,21 +40,13 @@ part() {
 start() {
     name=$1
     shift
-    part "$@" >"$scratch/logs/$name" 2>&1 &
-    running="$running $!"
+    "$@" >"$scratch/logs/$name" 2>&1 &
+    running="$running $name:$!"
 }
-# ends NAME PROCESS: prints what it printed. All parts are waited for before a failure ends the tests.
-ends() {
-    wait "$2" || failed=$1
-    cat "$scratch/logs/$1"
-}
-
 beside_the_gate() {
     part tests/crates.sh
     part tests/must_not_compile.sh
     part crates/test_memory/refused.sh
-    part crates/test_memory/refused.sh test_sections
-    part crates/test_memory/refused.sh test_reading
     part tests/install.sh
 }
 # The erased crate, with overflow checks as a build for tests has them, and the programs and libraries as users get them.
@@ -92,19 +75,17 @@ part python3 tests/compare_erased.py
 copy
 : >"$scratch/gate.log"
 start beside beside_the_gate
-beside=$!
 start erased erased
-erased=$!
-start edits tests/try_wrong_bodies.py $whole "$gate/crates" "$scratch/gate.log"
-edits=$!
+start edits part tests/try_wrong_bodies.py $whole "$gate/crates" "$scratch/gate.log"
 { cd "$gate" && rt ci || true; } 2>&1 | tee "$scratch/gate.log" | sed '$d'
 last=$(tail -n 1 "$scratch/gate.log")
 echo ended >>"$scratch/gate.log"
 failed=
 case $last in *" passed, 0 failed") ;; *) failed="rt ci" ;; esac
-ends beside "$beside"
-ends erased "$erased"
-ends edits "$edits"
+for it in $running; do
+    wait "${it#*:}" || failed=${it%:*}
+    cat "$scratch/logs/${it%:*}"
+done
 running=
 [ -z "$failed" ] || { echo "test.sh: failed: $failed; rt ci: $last"; exit 1; }
 

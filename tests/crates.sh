@@ -24,7 +24,7 @@ for root in $(tested); do
     cp -r "crates/$crate/src" "$made/src/$crate"
     rm "$made/src/$crate/$(basename "$root")"
     find "$made/src/$crate" -name '*.rt' -exec sed -i "s/\bcrate::/crate::$crate::/g" {} +
-    sed -n '/^mod /p' "$root" >"$made/src/$crate.rt"
+    sed -n '/^\(pub \)\{0,1\}mod /p' "$root" >"$made/src/$crate.rt"
     echo "mod $crate;" >>"$made/src/lib.rt"
     sed -n "s/^$crate://p" crates.txt >>"$scratch/below"
 done

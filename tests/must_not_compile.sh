@@ -11,53 +11,34 @@ copy="$scratch/copy"
 trap 'rm -rf "$scratch"' EXIT
 trap 'exit 130' HUP INT TERM
 
-# The programs whose first line begins so: crate, module, file.
-programs() {
-    for program in crates/*/must-not-compile/*.txt; do
-        crate=$(echo "$program" | cut -d/ -f2)
-        case $(sed -n 1p "$program") in
-            "$1"*) echo "$crate ${crate}_$(basename "$program" .txt) $program" ;;
-        esac
-    done
+fail() {
+    echo "must_not_compile.sh: $*"
+    exit 1
 }
-
-# Tries a crate of this name, made of the programs whose first line begins so.
+# try CRATE KIND FIRST: compiles a crate of the programs of this kind, of which each must begin so.
 try() {
-    mkdir -p "$copy/crates/$1/src"
-    programs "$2" | while read -r _ module program; do
-        sed 1d "$program" >"$copy/crates/$1/src/$module.rt"
-        echo "mod $module;"
-    done >"$scratch/modules"
-    { echo '#![tactic(auto)]'; cat "$scratch/modules"; printf '\n#[test]\nfn compiles() {}\n'; } >"$copy/crates/$1/src/lib.rt"
-    echo "$1: $(programs "" | cut -d' ' -f1 | sort -u | tr '\n' ' ')" >>"$copy/crates.txt"
+    source="$copy/crates/$1/src"
+    mkdir -p "$source"
+    printf '#![tactic(auto)]\n\n#[test]\nfn compiles() {}\n' >"$source/lib.rt"
+    for program in crates/*/must-not-compile/*_"$2"_*.txt; do
+        module=$(echo "$program" | sed 's|^crates/\(.*\)/must-not-compile/\(.*\).txt|\1_\2|')
+        sed -n 1p "$program" | grep -q "^// $3" || fail "$program must begin with '// $3'"
+        sed -n "1s|^// wants: |$module |p" "$program" >>"$scratch/wanted"
+        sed 1d "$program" >"$source/$module.rt"
+        echo "mod $module;" >>"$source/lib.rt"
+    done
+    echo "$1: $(echo crates/*/must-not-compile | sed 's|crates/||g; s|/must-not-compile||g')" >>"$copy/crates.txt"
     (cd "$copy/crates/$1" && rt try --test) >"$scratch/$1" 2>&1
 }
 
-for program in crates/*/must-not-compile/*.txt; do
-    case $program in
-        *_outlives_*) twin=${program%_outlives_*}_within_${program##*_outlives_} first="// wants: error" ;;
-        *) twin=${program%_within_*}_outlives_${program##*_within_} first="// compiles" ;;
-    esac
-    if [ ! -e "$twin" ] || ! sed -n 1p "$program" | grep -q "^$first"; then
-        echo "$program: must begin with '$first', and have the twin $twin"
-        exit 1
-    fi
-done
+alone=$(ls crates/*/must-not-compile/* | sed 's/_within_/_outlives_/' | sort | uniq -u)
+[ -z "$alone" ] || fail "without a twin:" $alone
 mkdir "$copy"
 tar -c --exclude=.git --exclude=out --exclude=target . | tar -x -C "$copy"
-if ! try accepted "// compiles"; then
-    tail -n 20 "$scratch/accepted"
-    echo "a program must compile, and does not"
-    exit 1
-fi
+try accepted within compiles || { tail -n 20 "$scratch/accepted"; fail "a program must compile, and does not"; }
 status=0
-try refused "// wants: " || status=$?
-programs "// wants: " | while read -r _ module program; do
-    echo "$module $(sed -n '1s|^// wants: ||p' "$program")"
-done | sort >"$scratch/wanted"
+try refused outlives "wants: error" || status=$?
 grep error "$scratch/refused" | sed 's/^src.\([a-z0-9_]*\)[.]rt:[0-9]*:[0-9]*: \(error\[[^]]*\]\).*/\1 \2/' | sort -u >"$scratch/errors"
-if [ "$status" -ne 1 ] || ! diff "$scratch/wanted" "$scratch/errors"; then
-    echo "the programs must be refused with the errors marked by <, and by no others"
-    exit 1
-fi
-sed 's/ /: refused, as it must be, with /' "$scratch/wanted"
+[ "$status" -eq 1 ] && sort "$scratch/wanted" | diff - "$scratch/errors" ||
+    fail "the programs must be refused with the errors marked by <, and by no others"
+sed 's/ /: refused, as it must be, with /' "$scratch/errors"

@@ -4,7 +4,7 @@
 //! Standard input has the name of a group of rows, a space, and the number of their allocation that is to fail. The
 //! toolchain lets the one of the same number fail in every run, `FAILED`; so many others are made before the rows that
 //! it is theirs. As many are made after the rows: if one of those fails, none of the rows' did, and then every row has
-//! to give its whole answer. The number 0 stands for a run in which no allocation fails; there `all` is every group.
+//! to give its whole answer. With the number 0 no allocation fails; there `all` is every group, and the reading of a file.
 #![tactic(auto)]
 
 mod addresses;
@@ -14,7 +14,9 @@ mod files;
 mod listings;
 mod names;
 mod readers;
+mod readings;
 mod refusals;
+mod sections;
 mod streams;
 mod symbols;
 mod tally;
@@ -35,7 +37,7 @@ const NONE_FAILED: u8 = 3;
 // The status where standard input names no rows, or has no number.
 const NO_ROWS: u8 = 2;
 
-const GROUPS: [&str; 15] = [
+const GROUPS: [&str; 17] = [
     "listings",
     "reports",
     "symbols",
@@ -45,6 +47,8 @@ const GROUPS: [&str; 15] = [
     "crates",
     "tuples",
     "addresses",
+    "sections",
+    "readings",
     "files",
     "unfit_images",
     "refusals",
@@ -117,10 +121,13 @@ fn ended_without_failure(rt: &HostRuntime, group: &str) -> ExitCode {
             }
         }
     }
-    if has_rows {
-        ExitCode::SUCCESS
-    } else {
+    if !has_rows {
         ExitCode::from(NO_ROWS)
+    } else if group == "all" && !readings::is_read(rt) {
+        let _ = println!(rt; "a file is read otherwise than its bytes");
+        ExitCode::FAILURE
+    } else {
+        ExitCode::SUCCESS
     }
 }
 
@@ -161,6 +168,8 @@ fn tally_of(alloc: Global, group: &str) -> Option<Tally> {
         "crates" => names::add_crates(alloc, &mut tally),
         "tuples" => names::add_tuples(alloc, &mut tally),
         "addresses" => addresses::add_addresses(alloc, &mut tally),
+        "sections" => sections::add_sections(alloc, &mut tally),
+        "readings" => readings::add_readings(alloc, &mut tally),
         "files" => files::add_files(alloc, &mut tally),
         "unfit_images" => files::add_unfit_images(alloc, &mut tally),
         "refusals" => refusals::add_refusals(alloc, &mut tally),

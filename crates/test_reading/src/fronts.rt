@@ -10,7 +10,7 @@ use std::alloc::Global;
 use test_samples::elf::Layout;
 
 /// The layouts of the samples.
-pub(crate) const LAYOUTS: [Layout; 4] = [
+pub const LAYOUTS: [Layout; 4] = [
     Layout::Elf32Little,
     Layout::Elf32Big,
     Layout::Elf64Little,
@@ -19,7 +19,7 @@ pub(crate) const LAYOUTS: [Layout; 4] = [
 
 /// What a source gives beside the whole file's answer.
 #[derive(Debug, Clone, Copy, PartialEq)]
-pub(crate) enum Given {
+pub enum Given {
     /// The same entries and size, or the same refusal.
     Same,
     /// Another answer.
@@ -52,7 +52,7 @@ fn order_of(layout: Layout) -> ByteOrder {
 }
 
 /// What the source gives of this section, beside what the whole file does.
-pub(crate) fn compared<S: Source>(
+pub fn compared<S: Source>(
     alloc: Global,
     layout: Layout,
     file: &[u8],
@@ -123,6 +123,6 @@ fn are_same<C: Class>(these: Functions<'_, C>, mut those: Functions<'_, C>) -> b
     those.next().is_none()
 }
 
-pub(crate) fn is_same(function: FunctionSymbol<'_>, other: FunctionSymbol<'_>) -> bool {
+pub fn is_same(function: FunctionSymbol<'_>, other: FunctionSymbol<'_>) -> bool {
     function.name == other.name && function.address == other.address && function.size == other.size
 }

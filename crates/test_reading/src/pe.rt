@@ -8,7 +8,7 @@ use binfarce_symbols::functions::FunctionSymbol;
 use std::alloc::Global;
 
 /// What the source gives, beside what the whole file does.
-pub(crate) fn compared<S: Source>(alloc: Global, file: &[u8], source: &S) -> Given {
+pub fn compared<S: Source>(alloc: Global, file: &[u8], source: &S) -> Given {
     let whole = match binfarce::pe::parse(file) {
         Ok(pe) => pe.functions(alloc),
         Err(e) => Err(e),

@@ -13,7 +13,7 @@ use test_samples::{Patch, patched};
 
 /// A sample, or a few bytes.
 #[derive(Clone, Copy)]
-pub(crate) enum File {
+pub enum File {
     Elf(Layout),
     Macho,
     Pe,
@@ -21,7 +21,7 @@ pub(crate) enum File {
 }
 
 impl File {
-    pub(crate) fn bytes(self) -> &'static [u8] {
+    pub fn bytes(self) -> &'static [u8] {
         match self {
             File::Elf(layout) => layout.bytes(),
             File::Macho => &MACHO,
@@ -33,7 +33,7 @@ impl File {
 
 /// A file, what is changed in it, its lines as `readelf -SW` and `llvm-readobj --sections` show such a file's sections, the name
 /// of a section, and its bytes.
-pub(crate) type Row = (
+pub type Row = (
     &'static str,
     File,
     &'static [Patch<'static>],
@@ -63,7 +63,7 @@ const LINES_64: &str = "\
 const STRINGS: &[u8] = b"\0_ZN3foo3barE\0bad\0";
 
 /// The samples. Those of Mach-O and PE have no bytes for their section, until it is given the offset of others.
-pub(crate) const ROWS: [Row; 6] = [
+pub const ROWS: [Row; 6] = [
     (
         "ELF32, little endian",
         File::Elf(Layout::Elf32Little),
@@ -114,32 +114,8 @@ pub(crate) const ROWS: [Row; 6] = [
     ),
 ];
 
-/// What rows gave: how many their whole answer, how many were out of memory, and one that gave neither.
-#[derive(Drop)]
-pub(crate) struct Rows {
-    pub(crate) whole: usize,
-    pub(crate) out_of_memory: usize,
-    pub(crate) wrong: Option<&'static str>,
-}
-
-/// What the samples give.
-pub(crate) fn given_by_samples(alloc: Global) -> Rows {
-    let mut given = Rows {
-        whole: 0,
-        out_of_memory: 0,
-        wrong: None,
-    };
-    for row in &ROWS {
-        match is_right(alloc, row) {
-            Ok(true) => given.whole = given.whole.saturating_add(1),
-            Ok(false) => given.wrong = Some(row.0),
-            Err(_) => given.out_of_memory = given.out_of_memory.saturating_add(1),
-        }
-    }
-    given
-}
-
-fn is_right(alloc: Global, row: &Row) -> Result<bool, AllocError> {
+/// Whether the row gives its whole answer, in all four calls; an error where an allocation failed.
+pub fn is_right(alloc: Global, row: &Row) -> Result<bool, AllocError> {
     let (_, sample, patches, lines, name, bytes) = row;
     let file = patched(alloc, sample.bytes(), patches)?;
     let source = file.as_slice();

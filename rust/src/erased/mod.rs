@@ -69,8 +69,8 @@ pub mod test_map;
 #[cfg(test)]
 pub mod test_addresses;
 #[cfg(test)]
-pub mod test_memory;
-#[cfg(test)]
 pub mod test_sections;
 #[cfg(test)]
 pub mod test_reading;
+#[cfg(test)]
+pub mod test_memory;

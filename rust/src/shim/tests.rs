@@ -310,33 +310,26 @@ fn deep_names_in_a_thread() {
     assert_eq!(read.unwrap().join().unwrap(), text);
 }
 
-// The programs among the erased tests: their stored runs, and runs in which one allocation is refused.
+// The program among the erased tests: its stored run, and runs in which one allocation is refused.
 #[test]
 fn each_allocation_refused() {
-    use crate::erased::{test_memory, test_reading, test_sections};
-    let folder = |name: &str| format!("{}/../crates/{name}", env!("CARGO_MANIFEST_DIR"));
-    std::env::set_current_dir(folder("test_reading/data")).unwrap();
+    use crate::erased::test_memory::main;
+    let folder = format!("{}/../crates/test_memory", env!("CARGO_MANIFEST_DIR"));
+    std::env::set_current_dir(format!("{folder}/data")).unwrap();
     let is = |code: ExitCode, want: u8| format!("{code:?}") == format!("{:?}", ExitCode::from(want));
-    let programs: [(&str, fn(HostRuntime) -> ExitCode); 3] = [
-        ("test_memory", test_memory::main),
-        ("test_reading", test_reading::main),
-        ("test_sections", test_sections::main),
-    ];
-    for (name, main) in programs {
-        let stored = |file| std::fs::read_to_string(format!("{}/{file}", folder(name))).unwrap();
-        let (code, output) = printed(&stored("stdin"), main);
-        assert!(is(code, 0), "{name}");
-        assert_eq!(output, stored("stdout"), "{name}");
-        for group in stored("stdout").lines().filter_map(|line| line.strip_suffix(" whole answers")) {
-            let group = group.split_once(':').unwrap().0;
-            for number in 1..=2000 {
-                let ((code, output), was_refused) = refusing(2000, || printed(&format!("{group} {number}\n"), main));
-                assert!(was_refused, "{group} {number}");
-                if is(code, 3) {
-                    break;
-                }
-                assert!(is(code, 0), "{group} {number}: {code:?} {output}");
+    let stored = |file| std::fs::read_to_string(format!("{folder}/{file}")).unwrap();
+    let (code, output) = printed(&stored("stdin"), main);
+    assert_eq!(output, stored("stdout"));
+    assert!(is(code, 0));
+    for group in stored("stdout").lines().filter_map(|line| line.split_once(':')) {
+        for number in 1..=2000 {
+            let input = format!("{} {number}\n", group.0);
+            let ((code, output), was_refused) = refusing(2000, || printed(&input, main));
+            assert!(was_refused, "{input}");
+            if is(code, 3) {
+                break;
             }
+            assert!(is(code, 0), "{input}: {code:?} {output}");
         }
     }
 }

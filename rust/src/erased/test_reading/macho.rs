@@ -12,12 +12,12 @@ use crate::shim::alloc::Global;
 use crate::erased::test_samples::Patch;
 
 /// The size of the sample's load commands in its header, which has none.
-pub(crate) const SAID: Patch<'static> = (20, &[0xB0]);
+pub const SAID: Patch<'static> = (20, &[0xB0]);
 
 type Answer<'a, E> = Result<(Vec<FunctionSymbol<'a>>, u64), E>;
 
 /// What the source gives, beside what the whole file does.
-pub(crate) fn compared<S: Source>(alloc: Global, file: &[u8], source: &S) -> Given {
+pub fn compared<S: Source>(alloc: Global, file: &[u8], source: &S) -> Given {
     let whole = match crate::erased::binfarce::macho::parse(file) {
         Ok(macho) => macho.functions(alloc),
         Err(e) => Err(e),

@@ -11,7 +11,7 @@ use crate::erased::binfarce_symbols::functions::FunctionSymbol;
 use crate::shim::alloc::Global;
 
 /// What the source gives, beside what the whole file does.
-pub(crate) fn compared<S: Source>(alloc: Global, file: &[u8], source: &S) -> Given {
+pub fn compared<S: Source>(alloc: Global, file: &[u8], source: &S) -> Given {
     let whole = match crate::erased::binfarce::pe::parse(file) {
         Ok(pe) => pe.functions(alloc),
         Err(e) => Err(e),

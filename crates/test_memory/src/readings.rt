@@ -1,0 +1,53 @@
+//! Readings of files' parts, beside the bytes of the whole files.
+
+use crate::tally::{Row, Tally};
+use std::alloc::{AllocError, Global};
+use std::fs::File;
+use test_reading::fronts::{Given, LAYOUTS, compared};
+use test_reading::{macho, pe};
+use test_samples::elf::Layout;
+use test_samples::macho::MACHO;
+use test_samples::patched;
+use test_samples::pe::PE;
+
+// A file that has the bytes of a sample.
+const SAMPLE: &str = "e-elf64-little.bin";
+
+fn row_of(given: Given) -> Row {
+    match given {
+        Given::Same => Ok(true),
+        Given::OutOfMemory => Err(AllocError),
+        Given::Other | Given::Unreadable => Ok(false),
+    }
+}
+
+pub(crate) fn add_readings(alloc: Global, tally: &mut Tally) {
+    for layout in LAYOUTS {
+        let file = layout.bytes();
+        let given = compared(alloc, layout, file, &file, ".text");
+        tally.add("parts of ELF", row_of(given));
+    }
+    let file = PE.as_slice();
+    tally.add("parts of PE", row_of(pe::compared(alloc, file, &file)));
+    // The whole of a file whose header doesn't say how long its load commands are, and the parts of one that does.
+    let file = MACHO.as_slice();
+    tally.add("all of Mach-O", row_of(macho::compared(alloc, file, &file)));
+    tally.add("parts of Mach-O", row_of(given_by_macho(alloc)));
+}
+
+fn given_by_macho(alloc: Global) -> Given {
+    match patched(alloc, &MACHO, &[macho::SAID]) {
+        Ok(file) => macho::compared(alloc, &file, &file.as_slice()),
+        Err(_) => Given::OutOfMemory,
+    }
+}
+
+/// Whether the file gives what the sample does. No clause says what an opened file gives, so this run alone refuses a `fill_at`
+/// of `File` that reads at another offset (`read_exact_at(buf, 0)`, or `offset + 1`), and a `length` below the file's.
+pub(crate) fn is_read(rt: &HostRuntime) -> bool {
+    let layout = Layout::Elf64Little;
+    match File::open(rt, SAMPLE) {
+        Ok(file) => compared(rt.alloc(), layout, layout.bytes(), &file, ".text") == Given::Same,
+        Err(_) => false,
+    }
+}

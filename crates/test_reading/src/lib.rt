@@ -1,0 +1,8 @@
+//! Tests of `binfarce_reading` and `binfarce_source`, and what `test_memory` too asks of both fronts while one allocation fails.
+#![tactic(auto)]
+
+pub mod fronts;
+pub mod macho;
+pub mod pe;
+#[cfg(test)]
+mod tests;

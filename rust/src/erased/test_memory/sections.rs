@@ -1,0 +1,13 @@
+// From crates/test_memory/src/sections.rt, by tools/erase.
+
+//! Lists of sections, and the bytes of one.
+
+use crate::erased::test_memory::tally::Tally;
+use crate::shim::alloc::Global;
+use crate::erased::test_sections::rows::{ROWS, is_right};
+
+pub(crate) fn add_sections(alloc: Global, tally: &mut Tally) {
+    for row in &ROWS {
+        tally.add(row.0, is_right(alloc, row));
+    }
+}

@@ -4,17 +4,17 @@ use Rattle.std.proofs.Common.{length, take, drop, ◌+◌, ◌-◌, Result, Ok, 
 use Rattle.std.proofs.Math.Seq.{take-add}
 use Rattle.std.proofs.lemmas.List.{take-append-drop, take_all}
 use Rattle.std.specs.Io.KnownBytes.{Appends, Consumes, Keeps}
-use Rattle.binfarce_filtering.specs.Filter.{IsFiltered, IsRun, is_run_byte, last_run, run_then}
-use Rattle.binfarce_filtering.specs.Continued.{Continues, is_passed}
+use Rattle.binfarce_filtering.specs.Filter.{IsFiltered, is_run, is_run_byte, is_too_long}
+use Rattle.binfarce_filtering.specs.Continued.{Continues}
 use Rattle.binfarce_filtering.specs.FilterViews.{Goes, Holds, IsDone}
 use Rattle.binfarce_filtering.specs.Stream.{Filters, IsBeginning, Streams}
 use Rattle.binfarce_filtering.specs.declared.stream.StreamError.{StreamError}
 use Rattle.binfarce_filtering.specs.declared.stream.StreamError.TheVariants.{Read, Write, OutOfMemory}
 use Rattle.binfarce_filtering.specs.machine.Passing.{Begins, Breaks, Ends, Passes, Takes, WritesAll}
 use Rattle.binfarce_filtering.specs.declared.filter.TextFilter.{TextFilter}
-use Rattle.binfarce_filtering.proofs.Parts.{both_are_run, goes_both, kept_so_far, passed_is_shown, passed_more, passed_so_far}
-use Rattle.binfarce_filtering.proofs.Scans.{one_byte}
-use Rattle.binfarce_filtering.proofs.Runs.{filtered_same}
+use Rattle.binfarce_filtering.proofs.Parts.{goes_both, kept_so_far, too_long_is_shown, too_long_is_some, too_long_more, too_long_so_far}
+use Rattle.binfarce_filtering.proofs.Scans.{run_grows}
+use Rattle.binfarce_filtering.proofs.Runs.{filtered_same, one_byte, run_alone, run_and_byte}
 
 pub appends_none : (old : Option (List ℕ)) → Appends old old []
 appends_none None = tt
@@ -64,35 +64,37 @@ less_begins full text shown beginning others is begins = (
 pub whole_begins : (full : Bool) (text filtered : List ℕ) → IsFiltered full text filtered → IsBeginning full text filtered
 whole_begins full text filtered is = (text, [], sym (append-nil text), λ others stands. ([], filtered_same full _ _ _ _ refl (sym (append-nil filtered)) is))
 
--- a run that is no name was shown, whatever stands after it
-passed_begins : (full : Bool) (before written run part : List ℕ) → Continues full before written → IsRun run → is_passed run ≡ true → IsBeginning full (before ++ (run ++ part)) (written ++ run)
-passed_begins full before written run [] continues is_run passed =
+-- a run that is too long was shown, whatever comes after it
+passed_begins : (full : Bool) (before written run part : List ℕ) → Continues full before written → is_run run ≡ true → is_too_long run ≡ true → IsBeginning full (before ++ (run ++ part)) (written ++ run)
+passed_begins full before written run [] continues run_is passed =
     let P : List ℕ → Type 0 = λ x. IsBeginning full (before ++ x) (written ++ run) in
-    subst P (sym (append-nil run)) (whole_begins full (before ++ run) (written ++ run) (continues run run (last_run run run is_run (passed_is_shown full run passed))))
-passed_begins full before written run (b ∷ part) continues is_run passed =
-    past full before written run b part continues is_run passed (is_run_byte b) refl
-    (λ longer. passed_begins full before written (run ++ b ∷ []) part continues longer (passed_more run (b ∷ []) passed))
+    subst P (sym (append-nil run)) (whole_begins full (before ++ run) (written ++ run) (continues run run (run_alone full run run run_is (too_long_is_shown full run passed))))
+passed_begins full before written run (b ∷ part) continues run_is passed =
+    past full before written run b part continues run_is passed (is_run_byte b) refl
+    (λ longer. passed_begins full before written (run ++ b ∷ []) part continues longer (too_long_more run (b ∷ []) passed))
   where
-    past : (full : Bool) (before written run : List ℕ) (b : ℕ) (part : List ℕ) → Continues full before written → IsRun run → is_passed run ≡ true → (t : Bool) → is_run_byte b ≡ t
-        → (IsRun (run ++ b ∷ []) → IsBeginning full (before ++ ((run ++ b ∷ []) ++ part)) (written ++ (run ++ b ∷ []))) → IsBeginning full (before ++ (run ++ b ∷ part)) (written ++ run)
-    past full before written run b part continues is_run passed true t again =
+    past : (full : Bool) (before written run : List ℕ) (b : ℕ) (part : List ℕ) → Continues full before written → is_run run ≡ true → is_too_long run ≡ true → (t : Bool) → is_run_byte b ≡ t
+        → (is_run (run ++ b ∷ []) ≡ true → IsBeginning full (before ++ ((run ++ b ∷ []) ++ part)) (written ++ (run ++ b ∷ []))) → IsBeginning full (before ++ (run ++ b ∷ part)) (written ++ run)
+    past full before written run b part continues run_is passed true t again =
         let P : List ℕ → Type 0 = λ x. IsBeginning full (before ++ x) (written ++ run) in
-        subst P (append_assoc run (b ∷ []) part) (less_begins full _ _ (written ++ run) (b ∷ []) (sym (append_assoc written run (b ∷ []))) (again (both_are_run run (b ∷ []) is_run (one_byte b t))))
-    past full before written run b part continues is_run passed false t again = (
+        subst P (append_assoc run (b ∷ []) part)
+        (less_begins full _ _ (written ++ run) (b ∷ []) (sym (append_assoc written run (b ∷ []))) (again (run_grows run (b ∷ []) run_is (too_long_is_some run passed) (one_byte b t))))
+    past full before written run b part continues run_is passed false t again = (
       before ++ (run ++ b ∷ []),
       part,
       ap (λ (x : List ℕ). before ++ x) (sym (append_assoc run (b ∷ []) part)) ∙ sym (append_assoc before (run ++ b ∷ []) part),
       λ filtered is. (
         b ∷ filtered,
-        filtered_same full _ _ _ _ refl (sym (append_assoc written run (b ∷ filtered))) (continues (run ++ b ∷ part) (run ++ b ∷ filtered) (run_then run run b part filtered is_run (passed_is_shown full run passed) t is)),
+        filtered_same full _ _ _ _ refl (sym (append_assoc written run (b ∷ filtered)))
+            (continues (run ++ b ∷ part) (run ++ b ∷ filtered) (run_and_byte full run run b part filtered run_is (too_long_is_shown full run passed) t is)),
       ),
     )
 
-held_by : (full t : Bool) (filter : TextFilter) (text shown part : List ℕ) (holds : Holds full filter text shown) → is_passed holds.run ≡ t → IsBeginning full (text ++ part) shown
+held_by : (full t : Bool) (filter : TextFilter) (text shown part : List ℕ) (holds : Holds full filter text shown) → is_too_long holds.run ≡ t → IsBeginning full (text ++ part) shown
 held_by full true filter text shown part holds passed =
     let has = holds.has_shown in
     let run = holds.run in
-    let written : has.written ++ run ≡ shown = ap (λ (x : List ℕ). has.written ++ x) (sym (passed_so_far run passed)) ∙ sym has.shown_is in
+    let written : has.written ++ run ≡ shown = ap (λ (x : List ℕ). has.written ++ x) (sym (too_long_so_far run passed)) ∙ sym has.shown_is in
     let whole : has.before ++ (run ++ part) ≡ text ++ part = sym (append_assoc has.before run part) ∙ ap (λ (x : List ℕ). x ++ part) (sym has.text_is) in
     let P : List ℕ → Type 0 = λ x. IsBeginning full x shown in
     subst P whole (subst (λ (x : List ℕ). IsBeginning full (has.before ++ (run ++ part)) x) written (passed_begins full has.before has.written run part has.continues has.is_run passed))
@@ -109,7 +111,7 @@ held_by full false filter text shown part holds kept =
 
 -- what a filter has shown is a beginning of what stands in place of its text, and of any part after it
 pub held_begins : (full : Bool) (filter : TextFilter) (text shown part : List ℕ) → Holds full filter text shown → IsBeginning full (text ++ part) shown
-held_begins full filter text shown part holds = held_by full (is_passed holds.run) filter text shown part holds refl
+held_begins full filter text shown part holds = held_by full (is_too_long holds.run) filter text shown part holds refl
 
 -- a write that failed has written a beginning of what the filter showed
 pub begins_new : (old new : TextFilter) (part more beginning others : List ℕ) → Goes old new part more → more ≡ beginning ++ others → Begins old part beginning

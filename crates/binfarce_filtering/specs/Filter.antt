@@ -1,8 +1,10 @@
 -- A text in which mangled names are made readable.
-use Rattle.std.specs.Prelude.{◌≡◌, ℕ, ◌-◌, Bool, true, false, not, ◌&&◌, ◌||◌, ◌==◌, nat_lt, List, [], ◌∷◌, ◌++◌, length, take, drop, if◌then◌else◌}
-use Rattle.std.specs.Char.{is_ascii_alphanumeric, is_control}
-use Rattle.std.specs.List.{list_all, list_any, suffix_len}
+use Rattle.std.specs.Prelude.{◌≡◌, ◌⊎◌, ℕ, ◌+◌, Bool, true, false, not, ◌&&◌, ◌||◌, ◌==◌, nat_eq, nat_lt, List, [], ◌∷◌, ◌++◌, length, take, drop, slice_index, codes, if◌then◌else◌}
+use Rattle.std.specs.Char.{is_ascii_alphanumeric, is_ascii_digit, is_control}
+use Rattle.std.specs.List.{list_all, list_any, prefix_len, starts_with}
 use Rattle.std.specs.Str.{byte, chars}
+use Rattle.binfarce_text.specs.Suffixes.{is_llvm_digit}
+use Rattle.binfarce_legacy.specs.Legacy.{Element, Reads}
 use Rattle.binfarce_names.specs.Name.{Name}
 use Rattle.binfarce_names.specs.Named.{IsNamed}
 use Rattle.binfarce_filtering.specs.declared.filter.TheConstants.{MAX_RUN}
@@ -15,18 +17,60 @@ is_dot b = b == byte "."
 abbrev pub is_run_byte : (b : ℕ) → Bool
 is_run_byte b = is_ascii_alphanumeric b || b == byte "_" || b == byte "$" || is_dot b
 
--- each byte is one of a run
-abbrev pub IsRun : (run : List ℕ) → Type 0
-IsRun run = list_all is_run_byte run ≡ true
+-- a run: a `_`, and bytes of a run after it; or nothing
+abbrev pub is_run : (run : List ℕ) → Bool
+is_run [] = true
+is_run (b ∷ run) = b == byte "_" && list_all is_run_byte run
 
--- a run that is read as a name: it begins with `_`, and is no longer than `MAX_RUN`
-abbrev pub is_name_run : (run : List ℕ) → Bool
-is_name_run [] = false
-is_name_run (b ∷ run) = b == byte "_" && not (nat_lt MAX_RUN (length (b ∷ run)))
+-- a run ends before this text: the text is empty, or begins with a byte that no run has
+abbrev pub ends_run : (text : List ℕ) → Bool
+ends_run [] = true
+ends_run (b ∷ text) = not (is_run_byte b)
 
--- the length of a run without the dots that it ends in
-abbrev pub name_length : (run : List ℕ) → ℕ
-name_length run = length run - suffix_len is_dot run
+-- a legacy name may begin here: `_ZN` and a digit
+abbrev pub begins_legacy : (run : List ℕ) → Bool
+begins_legacy run = starts_with nat_eq run (codes "_ZN") && is_ascii_digit (slice_index run 3)
+
+-- a v0 name may begin here: `_R` and the letter of a path that is more than a crate root
+abbrev pub begins_v0 : (run : List ℕ) → Bool
+begins_v0 run = starts_with nat_eq run (codes "_R") && list_any (λ letter. slice_index run 2 == letter) (codes "NIMXY")
+
+-- a name may begin here
+abbrev pub begins_symbol : (run : List ℕ) → Bool
+begins_symbol run = begins_legacy run || begins_v0 run
+
+-- the same, or first in its run behind the `_` that some platforms put before each symbol
+abbrev pub begins_name : (first : Bool) (run : List ℕ) → Bool
+begins_name first run = begins_symbol run || (first && begins_symbol (drop 1 run))
+
+-- a name ends before this rest of its run: the rest is empty, or begins with `.`
+abbrev pub ends_name : (rest : List ℕ) → Bool
+ends_name [] = true
+ends_name (b ∷ rest) = is_dot b
+
+-- the first n bytes of the run are a legacy mangling, and a name ends there
+abbrev pub IsLegacyUpTo : (run : List ℕ) (n : ℕ) → Type 0
+IsLegacyUpTo run n = (elements : List Element) × Reads (drop 3 run) elements (drop n run) × (ends_name (drop n run) ≡ true)
+
+-- the length of the name with which a run begins. A v0 name ends before the first `.`; a legacy name after its `E`, and where
+-- the run begins with no legacy mangling, all of the run counts as one name
+abbrev pub IsSymbolLength : (is_v0 : Bool) (run : List ℕ) (n : ℕ) → Type 0
+IsSymbolLength true run n = n ≡ prefix_len (λ b. not (is_dot b)) run
+IsSymbolLength false run n = IsLegacyUpTo run n ⊎ ((n ≡ length run) × ((k : ℕ) → ¬ (IsLegacyUpTo run k)))
+
+-- how many `_` a platform has put before the symbol with which a run begins
+abbrev pub added : (run : List ℕ) → ℕ
+added run = if begins_symbol run then 0 else 1
+
+-- the same length, with the `_` that a platform has put before the symbol
+abbrev pub IsNameLength : (run : List ℕ) (n : ℕ) → Type 0
+IsNameLength run n = (len : ℕ) × (n ≡ added run + len) × IsSymbolLength (begins_v0 (drop (added run) run)) (drop (added run) run) len
+
+-- the length of the `.llvm.` and the number that LLVM adds to a name, or 0
+abbrev pub llvm_length : (rest : List ℕ) → ℕ
+llvm_length rest =
+    let n = 6 + prefix_len is_llvm_digit (drop 6 rest) in
+    if starts_with nat_eq rest (codes ".llvm.") && ends_name (drop n rest) then n else 0
 
 -- the text of an answer that is shown: the complete one, or the trimmed one
 abbrev pub text_of : (full : Bool) (answer : Name) → List ℕ
@@ -41,16 +85,27 @@ has_control text = list_any is_control (chars text)
 abbrev pub IsReadable : (full : Bool) (name shown : List ℕ) → Type 0
 IsReadable full name shown = (answer : Name) × IsNamed name answer × (shown ≡ (if has_control (text_of full answer) then name else text_of full answer))
 
--- what is shown of a run that is read as a name, or isn't: what is shown of the name, and the dots after it; or the run
-abbrev pub IsShownIf : (is_name full : Bool) (run shown : List ℕ) → Type 0
-IsShownIf true full run shown = (readable : List ℕ) × IsReadable full (take (name_length run) run) readable × (shown ≡ readable ++ drop (name_length run) run)
-IsShownIf false full run shown = shown ≡ run
+-- shown stands in place of a run, or of its rest, from left to right: each name is replaced, `.llvm.` and a number after it are left out, and each other byte stays
+pub data IsRead (full : Bool) : (first : Bool) (run shown : List ℕ) → Type 0 where
+  no_more : (first : Bool) → IsRead full first [] []
+  byte_then : (first : Bool) (b : ℕ) (run shown : List ℕ) → begins_name first (b ∷ run) ≡ false → IsRead full false run shown → IsRead full first (b ∷ run) (b ∷ shown)
+  name_then : (first : Bool) (run : List ℕ) (n : ℕ) (readable shown : List ℕ) → begins_name first run ≡ true → IsNameLength run n → IsReadable full (take n run) readable
+      → IsRead full false (drop (llvm_length (drop n run)) (drop n run)) shown → IsRead full first run (readable ++ shown)
 
--- shown stands in place of the run
+-- a run of more than `MAX_RUN` bytes
+abbrev pub is_too_long : (run : List ℕ) → Bool
+is_too_long run = nat_lt MAX_RUN (length run)
+
+-- shown stands in place of a run, which stays where it is too long
+abbrev pub IsShownIf : (too_long full : Bool) (run shown : List ℕ) → Type 0
+IsShownIf true full run shown = shown ≡ run
+IsShownIf false full run shown = IsRead full true run shown
+
 abbrev pub IsShown : (full : Bool) (run shown : List ℕ) → Type 0
-IsShown full run shown = IsShownIf (is_name_run run) full run shown
+IsShown full run shown = IsShownIf (is_too_long run) full run shown
 
--- filtered stands in place of the text, which is runs, perhaps empty, with another byte between each and the next
+-- filtered stands in place of the text: each run, from a `_` to the next byte that no run has, is replaced, and each other byte stays
 pub data IsFiltered (full : Bool) : (text filtered : List ℕ) → Type 0 where
-  last_run : (run shown : List ℕ) → IsRun run → IsShown full run shown → IsFiltered full run shown
-  run_then : (run shown : List ℕ) (b : ℕ) (text filtered : List ℕ) → IsRun run → IsShown full run shown → is_run_byte b ≡ false → IsFiltered full text filtered → IsFiltered full (run ++ b ∷ text) (shown ++ b ∷ filtered)
+  nothing : IsFiltered full [] []
+  other_then : (b : ℕ) (text filtered : List ℕ) → (b == byte "_") ≡ false → IsFiltered full text filtered → IsFiltered full (b ∷ text) (b ∷ filtered)
+  run_then : (run shown text filtered : List ℕ) → is_run run ≡ true → IsShown full run shown → ends_run text ≡ true → IsFiltered full text filtered → IsFiltered full (run ++ text) (shown ++ filtered)

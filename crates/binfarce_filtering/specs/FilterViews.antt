@@ -1,36 +1,39 @@
 -- What a `TextFilter` has shown of a text that comes in parts.
 use Rattle.std.specs.Prelude.{◌≡◌, ℕ, Bool, true, false, List, [], ◌++◌, if◌then◌else◌}
-use Rattle.binfarce_filtering.specs.Continued.{Continues, is_passed}
-use Rattle.binfarce_filtering.specs.Filter.{IsFiltered, IsRun, IsShown}
+use Rattle.binfarce_filtering.specs.Continued.{Continues}
+use Rattle.binfarce_filtering.specs.Filter.{IsFiltered, IsShown, is_run, is_too_long}
 use Rattle.binfarce_filtering.specs.declared.filter.TextFilter.{TextFilter}
 
--- what is shown of the run that a text ends in so far: a run that is no name, whatever follows it, as it is
+-- what is shown of the run that a text ends in so far: one that is too long, whatever follows it
 abbrev pub shown_so_far : (run : List ℕ) → List ℕ
-shown_so_far run = if is_passed run then run else []
+shown_so_far run = if is_too_long run then run else []
 
 -- of a text that ends in this run, all before the run has been shown, and of the run what is shown so far
 pub record HasShown (full : Bool) (text run shown : List ℕ) : Type 0 where
   pub before : List ℕ
   pub written : List ℕ
   pub text_is : text ≡ before ++ run
-  pub is_run : IsRun run
+  pub is_run : is_run run ≡ true
   pub continues : Continues full before written
   pub shown_is : shown ≡ written ++ shown_so_far run
 
--- a filter keeps all of the run, unless it passes bytes
-abbrev pub IsKept : (passes : Bool) (kept run : List ℕ) → Type 0
-IsKept true kept run = is_passed run ≡ true
-IsKept false kept run = (is_passed run ≡ false) × (kept ≡ run)
+-- a filter keeps all of the run, unless that is too long
+abbrev pub IsKeptIf : (too_long : Bool) (kept run : List ℕ) → Type 0
+IsKeptIf true kept run = is_too_long run ≡ true
+IsKeptIf false kept run = kept ≡ run
+
+abbrev pub IsKept : (kept run : List ℕ) → Type 0
+IsKept kept run = IsKeptIf (is_too_long kept) kept run
 
 -- a filter that shows this of names, and keeps this of the run, has taken this text, and has shown this of it
-pub record HasTaken (own : Bool) (kept : List ℕ) (passes full : Bool) (text shown : List ℕ) : Type 0 where
+pub record HasTaken (own : Bool) (kept : List ℕ) (full : Bool) (text shown : List ℕ) : Type 0 where
   pub run : List ℕ
   pub full_is : own ≡ full
-  pub is_kept : IsKept passes kept run
+  pub is_kept : IsKept kept run
   pub has_shown : HasShown full text run shown
 
 abbrev pub Holds : (full : Bool) (filter : TextFilter) (text shown : List ℕ) → Type 0
-Holds full filter text shown = HasTaken filter.full filter.run.items filter.passes full text shown
+Holds full filter text shown = HasTaken filter.full filter.run.items full text shown
 
 -- a filter takes the next part of its text, and shows more
 abbrev pub Goes : (old new : TextFilter) (part more : List ℕ) → Type 0
@@ -42,9 +45,9 @@ IsDone filter more = (full : Bool) (text shown : List ℕ) → Holds full filter
 
 -- the text so far ends in no run
 abbrev pub IsBetweenRuns : (filter : TextFilter) → Type 0
-IsBetweenRuns filter = (filter.passes ≡ false) × (filter.run.items ≡ [])
+IsBetweenRuns filter = filter.run.items ≡ []
 
 -- where the run ends with these bytes, and more is shown, all of it has been shown
 abbrev pub Shows : (filter : TextFilter) (bytes more : List ℕ) → Type 0
 Shows filter bytes more =
-    (run : List ℕ) → IsKept filter.passes filter.run.items run → (shown : List ℕ) × IsShown filter.full (run ++ bytes) shown × (shown_so_far run ++ more ≡ shown)
+    (run : List ℕ) → IsKept filter.run.items run → (shown : List ℕ) × IsShown filter.full (run ++ bytes) shown × (shown_so_far run ++ more ≡ shown)

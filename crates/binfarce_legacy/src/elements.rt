@@ -78,8 +78,9 @@ pub(crate) fn element(text: &[u8], at: usize) -> Option<(usize, usize)>
     Some((start, start + number))
 }
 
-// Where the elements that `text` begins with end, after their `E`.
-pub(crate) fn elements_end(text: &[u8]) -> Option<usize>
+/// Where the elements that `text` begins with end, after their `E`. None where it begins with no elements and `E`. `text` is
+/// what follows the prefix of a legacy mangling; what follows the `E` isn't looked at. Nothing is allocated.
+pub fn elements_end(text: &[u8]) -> Option<usize>
     ensures { MatchOption result
         ((elements : List Element) (rest : List ℕ) → ¬ (Reads text.now elements rest))
         (λ end. (end ≤ length text.now) × ((elements : List Element) × Reads text.now elements (drop end text.now))) }

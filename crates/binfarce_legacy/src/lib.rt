@@ -1,7 +1,7 @@
 //! Legacy names of Rust symbols: reading them, and printing what they mean.
 #![tactic(auto)]
 
-mod elements;
+pub mod elements;
 mod escapes;
 pub mod legacy;
 mod runs;

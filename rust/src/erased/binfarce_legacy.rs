@@ -2,7 +2,7 @@
 
 //! Legacy names of Rust symbols: reading them, and printing what they mean.
 
-mod elements;
+pub mod elements;
 mod escapes;
 pub mod legacy;
 mod runs;

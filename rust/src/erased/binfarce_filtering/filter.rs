@@ -3,17 +3,21 @@
 //! Makes the mangled names within a text readable.
 
 use crate::shim::{String, Vec};
+use crate::erased::binfarce_legacy::elements::elements_end;
 use crate::erased::binfarce_names::demangle::{SymbolName, push_trimmed};
 use crate::shim::alloc::{AllocError, Global};
 
-/// The length in bytes of the longest run that may be a name. A longer one stands unchanged.
+/// The length in bytes of the longest run that may hold names. A longer one stays unchanged.
 pub const MAX_RUN: usize = 1 << 20;
 
 /// The text with each mangled name in it made readable: by its trimmed text, or `full` by its complete one.
 ///
-/// A run is a longest stretch of ASCII letters, digits, `_`, `$` and `.`. One that begins with `_` and is mangled, without
-/// the dots that it ends in, is replaced, unless it is longer than `MAX_RUN`, or its text has a control character. All
-/// other bytes stand unchanged; they need not be UTF-8.
+/// A run begins with the first `_` among ASCII letters, digits, `_`, `$` and `.`, and ends before the next other byte. In a
+/// run that is no longer than `MAX_RUN`, names are looked for from left to right. A name begins with `_ZN` and a digit, or
+/// with `_R` and one of `N`, `I`, `M`, `X` and `Y`; at the run's first byte another `_` may come before. It ends where its
+/// mangling does, before a `.` or the run's end. `.llvm.` and a number behind a name are left out. A name whose readable
+/// text has a control character stays unchanged, as all other bytes do; they need not be UTF-8. Behind `_ZN` and a digit that
+/// begin no such name nothing of the run is replaced.
 ///
 /// # Errors
 ///
@@ -28,10 +32,8 @@ pub fn filter(alloc: Global, full: bool, text: &[u8]) -> Result<Vec<u8>, AllocEr
 /// Filters a text that comes in parts.
 pub struct TextFilter {
     full: bool,
-    // The run that the text ends in so far, or where `passes` a beginning of it.
+    // The run that the text ends in so far, or where that is too long, more than `MAX_RUN` bytes of it.
     run: Vec<u8>,
-    // The text so far ends in a run that is no name, whatever follows it: it is shown as it comes.
-    passes: bool,
 }
 
 impl TextFilter {
@@ -40,25 +42,25 @@ impl TextFilter {
         TextFilter {
             full,
             run: Vec::new(alloc),
-            passes: false,
         }
     }
 
     /// Takes the next part of the text, and writes after `out` what is shown of the text so far. What is held back is
-    /// the run that it ends in, where that may be a name.
+    /// the run that it ends in, from its first `_`, unless that is too long.
     ///
     /// # Errors
     ///
     /// `AllocError` where an allocation failed. The filter must not be used any more then.
     pub fn push(&mut self, alloc: Global, part: &[u8], out: &mut Vec<u8>) -> Result<(), AllocError> {
+        if self.run.is_empty() {
+            return self.push_text(alloc, part, out);
+        }
         let len = run_len(part);
         if len == part.len() {
             return self.grow(part, out);
         }
         self.end_run(alloc, &part[..len], part[len], out)?;
-        let rest = &part[len + 1..];
-        let at = push_ended(alloc, self.full, rest, out)?;
-        self.grow(&rest[at..], out)
+        self.push_text(alloc, &part[len + 1..], out)
     }
 
     /// Ends the text, and writes what is left to be shown after `out`. The filter must not be used any more, however that ends.
@@ -70,20 +72,25 @@ impl TextFilter {
         self.show_run(alloc, &[], out)
     }
 
-    // The text goes on with these bytes of a run.
+    // The text goes on with this part between two runs.
+    fn push_text(&mut self, alloc: Global, part: &[u8], out: &mut Vec<u8>) -> Result<(), AllocError> {
+        let at = push_ended(alloc, self.full, part, out)?;
+        self.grow(&part[at..], out)
+    }
+
+    // The run goes on with these bytes.
     fn grow(&mut self, bytes: &[u8], out: &mut Vec<u8>) -> Result<(), AllocError> {
-        if self.passes {
+        if is_too_long(self.run.as_slice()) {
             return out.extend_from_slice(bytes);
         }
         self.run.extend_from_slice(bytes)?;
-        if !is_passed(self.run.as_slice()) {
+        if !is_too_long(self.run.as_slice()) {
             return Ok(());
         }
-        self.passes = true;
         out.extend_from_slice(self.run.as_slice())
     }
 
-    // The text goes on with these bytes of a run, and another byte after them.
+    // The run goes on with these bytes, and another byte comes after it.
     fn end_run(
         &mut self,
         alloc: Global,
@@ -93,14 +100,13 @@ impl TextFilter {
     ) -> Result<(), AllocError> {
         self.show_run(alloc, bytes, out)?;
         self.run.clear();
-        self.passes = false;
         out.push(other)?;
         Ok(())
     }
 
     // Writes what is left to be shown of the run, which ends with these bytes.
     fn show_run(&mut self, alloc: Global, bytes: &[u8], out: &mut Vec<u8>) -> Result<(), AllocError> {
-        if self.passes {
+        if is_too_long(self.run.as_slice()) {
             return out.extend_from_slice(bytes);
         }
         self.run.extend_from_slice(bytes)?;
@@ -131,39 +137,40 @@ fn push_ended(
     }
 }
 
-// The length of a beginning of the text that stands as it is: up to a run that may be a name, or else up to the last run.
+// The length of a beginning of the text that stays as it is: up to a run that may hold a name, or else up to the run that the
+// text ends in.
 fn plain_len(text: &[u8]) -> usize {
-    let at = name_start(text);
-    if at < text.len() {
-        return at;
-    }
-    last_run(text)
+    run_start(text, mark_at(text))
 }
 
-// Where the first run begins that may be a name, or the text's length.
-fn name_start(text: &[u8]) -> usize {
+// Where the first `Z` or `R` is that follows a `_`, or the text's length.
+fn mark_at(text: &[u8]) -> usize {
     let mut at = 0;
-    while at < text.len() && !name_begins(text, at) {
+    while at < text.len() && !is_mark_at(text, at) {
         at += 1;
     }
     at
 }
 
-// Whether a run that may be a name begins here.
-fn name_begins(text: &[u8], at: usize) -> bool {
-    text[at] == b'_' && (at == 0 || !is_run_byte(text[at - 1]))
+// Whether a `Z` or `R` that follows a `_` is here.
+fn is_mark_at(text: &[u8], at: usize) -> bool {
+    (text[at] == b'Z' || text[at] == b'R') && at > 0 && text[at - 1] == b'_'
 }
 
-// Where the run begins that a text ends in.
-fn last_run(text: &[u8]) -> usize {
-    let mut at = text.len();
+// Where the run begins that the text ends in before a position, or the position.
+fn run_start(text: &[u8], end: usize) -> usize {
+    let mut start = end;
+    let mut at = end;
     while at > 0 && is_run_byte(text[at - 1]) {
         at -= 1;
+        if text[at] == b'_' {
+            start = at;
+        }
     }
-    at
+    start
 }
 
-// The length of the run that a text begins with.
+// The length of the run bytes that a text begins with.
 fn run_len(text: &[u8]) -> usize {
     let mut len = 0;
     while len < text.len() && is_run_byte(text[len]) {
@@ -177,31 +184,120 @@ fn is_run_byte(byte: u8) -> bool {
     matches!(byte, b'0'..=b'9' | b'A'..=b'Z' | b'a'..=b'z' | b'_' | b'$' | b'.')
 }
 
-// A run that is no name, whatever follows it.
-fn is_passed(run: &[u8]) -> bool {
-    !run.is_empty() && !is_name_run(run)
-}
-
-// A run that is read as a name.
-fn is_name_run(run: &[u8]) -> bool {
-    !run.is_empty() && run[0] == b'_' && run.len() <= MAX_RUN
+// A run that is too long to hold names.
+fn is_too_long(run: &[u8]) -> bool {
+    run.len() > MAX_RUN
 }
 
 // Writes what is shown of a run.
 fn push_run(alloc: Global, full: bool, run: &[u8], out: &mut Vec<u8>) -> Result<(), AllocError> {
-    if !is_name_run(run) {
+    if is_too_long(run) {
         return out.extend_from_slice(run);
+    }
+    push_names(alloc, full, run, out)
+}
+
+// Writes what is shown of a run that isn't too long.
+fn push_names(alloc: Global, full: bool, run: &[u8], out: &mut Vec<u8>) -> Result<(), AllocError> {
+    let mut at = 0;
+    while at < run.len() {
+        let len = push_next(alloc, full, at == 0, &run[at..], out)?;
+        at += len;
+    }
+    Ok(())
+}
+
+// Writes what is shown of the name or else the byte with which a run or its rest begins, and gives how many bytes that is
+// shown of.
+fn push_next(
+    alloc: Global,
+    full: bool,
+    first: bool,
+    run: &[u8],
+    out: &mut Vec<u8>,
+) -> Result<usize, AllocError> {
+    if !begins_name(first, run) {
+        out.push(run[0])?;
+        return Ok(1);
     }
     let len = name_len(run);
     push_name(alloc, full, &run[..len], out)?;
-    out.extend_from_slice(&run[len..])
+    Ok(len + llvm_len(&run[len..]))
 }
 
-// The length of a run without the dots that it ends in.
+// Whether a name may begin here.
+fn begins_name(first: bool, run: &[u8]) -> bool {
+    begins_symbol(run) || (first && begins_symbol(&run[1..]))
+}
+
+// Whether a symbol of a mangled name may begin here.
+fn begins_symbol(run: &[u8]) -> bool {
+    begins_legacy(run) || begins_v0(run)
+}
+
+// Whether a legacy mangling may begin here.
+fn begins_legacy(run: &[u8]) -> bool {
+    run.starts_with(b"_ZN") && run.len() > 3 && run[3].is_ascii_digit()
+}
+
+// Whether a v0 mangling may begin here.
+fn begins_v0(run: &[u8]) -> bool {
+    run.starts_with(b"_R") && run.len() > 2 && matches!(run[2], b'N' | b'I' | b'M' | b'X' | b'Y')
+}
+
+// The length of the name with which a run begins.
 fn name_len(run: &[u8]) -> usize {
-    let mut len = run.len();
-    while len > 0 && run[len - 1] == b'.' {
-        len -= 1;
+    if begins_symbol(run) {
+        symbol_len(run)
+    } else {
+        1 + symbol_len(&run[1..])
+    }
+}
+
+// The same without a `_` that a platform has put before it.
+fn symbol_len(run: &[u8]) -> usize {
+    if begins_v0(run) {
+        return dot_at(run);
+    }
+    let Some(end) = elements_end(&run[3..]) else {
+        return run.len();
+    };
+    let len = 3 + end;
+    if ends_name(&run[len..]) {
+        len
+    } else {
+        run.len()
+    }
+}
+
+// Where the first `.` is, or the length.
+fn dot_at(run: &[u8]) -> usize {
+    let mut at = 0;
+    while at < run.len() && run[at] != b'.' {
+        at += 1;
+    }
+    at
+}
+
+// Whether a name ends before this rest of its run.
+fn ends_name(rest: &[u8]) -> bool {
+    rest.is_empty() || rest[0] == b'.'
+}
+
+// The length of the `.llvm.` and the number with which the rest behind a name begins, or 0.
+fn llvm_len(rest: &[u8]) -> usize {
+    if !rest.starts_with(b".llvm.") {
+        return 0;
+    }
+    let end = 6 + digits_len(&rest[6..]);
+    if ends_name(&rest[end..]) { end } else { 0 }
+}
+
+// The length of the digits of LLVM with which a text begins.
+fn digits_len(text: &[u8]) -> usize {
+    let mut len = 0;
+    while len < text.len() && matches!(text[len], b'0'..=b'9' | b'A'..=b'F' | b'@') {
+        len += 1;
     }
     len
 }

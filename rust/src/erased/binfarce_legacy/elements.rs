@@ -59,8 +59,9 @@ pub(crate) fn element(text: &[u8], at: usize) -> Option<(usize, usize)> {
     Some((start, start + number))
 }
 
-// Where the elements that `text` begins with end, after their `E`.
-pub(crate) fn elements_end(text: &[u8]) -> Option<usize> {
+/// Where the elements that `text` begins with end, after their `E`. None where it begins with no elements and `E`. `text` is
+/// what follows the prefix of a legacy mangling; what follows the `E` isn't looked at. Nothing is allocated.
+pub fn elements_end(text: &[u8]) -> Option<usize> {
     let mut at = 0;
     while at < text.len() && text[at] != b'E' {
         let (_, end) = element(text, at)?;

@@ -1,6 +1,6 @@
 use Rattle.std.proofs.Common.{◌≡◌, ◌-◌, ◌≤◌, false, true, length, take}
 use Rattle.binfarce_filtering.specs.machine.Scan.{is_plain}
-use Rattle.binfarce_filtering.proofs.filter.name_start.Given as goal
+use Rattle.binfarce_filtering.proofs.filter.mark_at.Given as goal
 
 abbrev pub invariant-loop-at : goal.invariant-loop-at
 invariant-loop-at l = record {

@@ -2,7 +2,7 @@ use Rattle.std.proofs.Common.{ℕ, List, ◌≡◌, ◌<◌, true, false, length
 use Rattle.std.proofs.lemmas.List.{take_more}
 use Rattle.binfarce_filtering.specs.machine.Scan.{is_plain}
 use Rattle.binfarce_filtering.proofs.Scans.{plain_more}
-use Rattle.binfarce_filtering.proofs.filter.name_start.Goals as goal
+use Rattle.binfarce_filtering.proofs.filter.mark_at.Goals as goal
 
 pub loop-at-preserved : goal.loop-at-preserved
 loop-at-preserved c =
@@ -12,5 +12,5 @@ loop-at-preserved c =
     record {
       within = omega (arith, within);
       plain = subst (λ (x : List ℕ). is_plain false x ≡ true) (sym (take_more text at 0 within))
-          (plain_more false (take at text) (get_or text at 0) c.loop-at.invariant.plain (c.name_begins.ensures.goes_on c.if-not-name_begins.true));
+          (plain_more false (take at text) (get_or text at 0) c.loop-at.invariant.plain (c.is_mark_at.ensures.goes_on c.if-not-is_mark_at.true));
     }

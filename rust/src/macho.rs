@@ -17,7 +17,7 @@ use crate::demangle::SymbolData;
 use crate::erased::binfarce::macho as erased;
 use crate::error::{Error, ParseError};
 use crate::shim::alloc::Global;
-use crate::{FunctionSymbol, symbols_of};
+use crate::{FunctionSymbol, SectionFunction, symbols_of};
 use std::fmt;
 use std::ops::Range;
 
@@ -150,6 +150,19 @@ impl<'a> Macho<'a> {
     pub fn functions(&self) -> Result<(Vec<FunctionSymbol<'a>>, u64), Error> {
         let (functions, size) = self.0.functions(Global)?;
         Ok((functions.into_std(), size))
+    }
+
+    /// Returns the function symbols of all sections, each with its section's number: by section, and in each by address and at
+    /// equal addresses in table order. A size ends at the least greater address in the whole table, or with the symbol's own
+    /// section where none is greater. Sections are numbered from 1 on, also those whose names aren't valid.
+    ///
+    /// # Errors
+    ///
+    /// Those of [`Macho::find_section`]; [`ParseError::UnexpectedEof`] where the symbol table's command, the string table or the
+    /// symbol table are truncated; [`ParseError::MalformedInput`] where a symbol lies past its section's end with no address
+    /// above it, or that end passes an address; [`Error::OutOfMemory`] where an allocation failed.
+    pub fn all_functions(&self) -> Result<Vec<SectionFunction<'a>>, Error> {
+        Ok(self.0.all_functions(Global)?.into_std())
     }
 }
 

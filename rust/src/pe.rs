@@ -16,7 +16,7 @@ use crate::demangle::SymbolData;
 use crate::erased::binfarce::pe as erased;
 use crate::error::{Error, ParseError};
 use crate::shim::alloc::Global;
-use crate::{FunctionSymbol, symbols_of};
+use crate::{FunctionSymbol, SectionFunction, symbols_of};
 use std::fmt;
 use std::ops::Range;
 
@@ -156,6 +156,18 @@ impl<'a> Pe<'a> {
     pub fn functions(&self) -> Result<(Vec<FunctionSymbol<'a>>, u64), Error> {
         let (functions, size) = self.0.functions(Global)?;
         Ok((functions.into_std(), size))
+    }
+
+    /// Returns the function symbols of all sections, each with its section's number: by section, and in each by address and at
+    /// equal addresses in table order. Those of a section are what [`Pe::functions`] returns if it is the section `.text`.
+    /// Sections are numbered from 1 on, also those whose name isn't UTF-8.
+    ///
+    /// # Errors
+    ///
+    /// [`ParseError::UnexpectedEof`] where the section table doesn't begin in the file or a header is truncated, and where the
+    /// symbol table doesn't begin in the file or passes its end; [`Error::OutOfMemory`] where an allocation failed.
+    pub fn all_functions(&self) -> Result<Vec<SectionFunction<'a>>, Error> {
+        Ok(self.0.all_functions(Global)?.into_std())
     }
 }
 

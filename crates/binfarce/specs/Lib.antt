@@ -9,6 +9,7 @@ pub use Rattle.binfarce_bytes.specs.Steps
 pub use Rattle.binfarce_bytes.specs.Refusal
 pub use Rattle.binfarce_bytes.specs.Walk
 pub use Rattle.binfarce_naming.specs.Symbol
+pub use Rattle.binfarce_symbols.specs.SectionEntries
 pub use Rattle.binfarce_symbols.specs.SymbolViews
 pub use Rattle.binfarce_symbols.specs.Found
 pub use Rattle.binfarce_symbols.specs.Sizes
@@ -19,8 +20,10 @@ pub use Rattle.binfarce_macho.specs.Macho
 pub use Rattle.binfarce_macho.specs.MachoSymbols
 pub use Rattle.binfarce_macho.specs.MachoViews
 pub use Rattle.binfarce_macho.specs.MachoParts
+pub use Rattle.binfarce_macho.specs.MachoAll
 pub use Rattle.binfarce_pe.specs.Pe
 pub use Rattle.binfarce_pe.specs.PeSymbols
 pub use Rattle.binfarce_pe.specs.PeViews
+pub use Rattle.binfarce_pe.specs.PeAll
 pub use Rattle.binfarce_format.specs.Format
 pub mod PeSizes

@@ -5,13 +5,16 @@ ghost use Rattle.std.specs.Option.{option_map};
 ghost use Rattle.binfarce_bytes.specs.Refusal.{Gives, refusal_of, unexpected_eof};
 ghost use Rattle.binfarce_bytes.specs.Walk.{MayBeAsked, FirstAccepted, first};
 ghost use Rattle.binfarce_macho.specs.Macho.{header_of, section_data, walk, is_named, least_length};
+ghost use Rattle.binfarce_macho.specs.MachoAll.{all_answer, HasSection, AllHasText};
 ghost use Rattle.binfarce_macho.specs.MachoSymbols.{ArrangesRows, SizesEntries, HasAddress, macho_answer};
 ghost use Rattle.binfarce_symbols.specs.Entries.{Answers};
-ghost use Rattle.binfarce_symbols.specs.SymbolViews.{HoldsFunctions};
+ghost use Rattle.binfarce_symbols.specs.SectionEntries.{AnswersAll};
+ghost use Rattle.binfarce_symbols.specs.SymbolViews.{HoldsFunctions, HoldsSectionFunctions};
 ghost use Rattle.binfarce_macho.specs.MachoViews.{header_view, section_view};
 ghost use Rattle.binfarce_naming.specs.Symbol.{HoldsSymbols};
 
 use binfarce_bytes::ParseError;
+use binfarce_macho::all::functions_of_sections;
 pub use binfarce_macho::header::MachoHeader;
 use binfarce_macho::header::parse_header;
 use binfarce_macho::sections;
@@ -19,7 +22,7 @@ pub use binfarce_macho::sections::{Section, Sections};
 use binfarce_macho::symbols::functions_of_file;
 use binfarce_names::demangle::SymbolData;
 use binfarce_naming::symbols::symbols_of;
-use binfarce_symbols::functions::FunctionSymbol;
+use binfarce_symbols::functions::{FunctionSymbol, SectionFunction};
 use std::alloc::Global;
 use std::marker::Model;
 
@@ -163,5 +166,27 @@ impl<'a> Macho<'a> {
         ensures { Answers HoldsFunctions (λ _. HasAddress self.now) (macho_answer self.now) result }
     {
         functions_of_file(alloc, self.data, self.header)
+    }
+
+    /// The function symbols of all sections, each with its section's number: by section, and in each by address and at equal
+    /// addresses in table order. Without a symbol table the list is empty.
+    ///
+    /// Kept are the rows that `functions` keeps of section 1, of each section of the file, by the same rule: a symbol's size is
+    /// the distance to the least greater address in the whole table, or to the end of its own section where there is none.
+    /// Sections are numbered from 1 on, segment by segment, also those whose names aren't valid; a row can state no number
+    /// above 255, and one with the number of no section isn't kept.
+    ///
+    /// # Errors
+    ///
+    /// In this order: as `find_section` with a callback that accepts no section; `UnexpectedEof` where the symbol table's command,
+    /// the string table or the rows are truncated; `MalformedInput` where a section's end passes an address and a row of it
+    /// would be kept, or where a row that would be kept lies past its section's end with no address above it. `OutOfMemory`
+    /// comes only where the file has a section, and may stand in place of a refusal.
+    #[tactic(auto, using(binfarce_macho::proofs::AllLaw::all_has_text))]
+    pub fn all_functions(&self, alloc: Global) -> Result<Vec<SectionFunction<'a>>, ParseError>
+        ensures functions { AnswersAll HoldsSectionFunctions (HasSection self.now) (all_answer self.now) result }
+        ensures text { AllHasText self.now }
+    {
+        functions_of_sections(alloc, self.data, self.header)
     }
 }

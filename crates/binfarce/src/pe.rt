@@ -5,9 +5,11 @@ ghost use Rattle.std.specs.Option.{option_map};
 ghost use Rattle.binfarce_bytes.specs.Refusal.{Gives, refusal_of, unexpected_eof};
 ghost use Rattle.binfarce_bytes.specs.Walk.{MayBeAsked, FirstAccepted, first};
 ghost use Rattle.binfarce_symbols.specs.Entries.{Answers, ListsSome};
-ghost use Rattle.binfarce_symbols.specs.SymbolViews.{HoldsFunctions};
+ghost use Rattle.binfarce_symbols.specs.SectionEntries.{AnswersAll};
+ghost use Rattle.binfarce_symbols.specs.SymbolViews.{HoldsFunctions, HoldsSectionFunctions};
 ghost use Rattle.binfarce_naming.specs.Symbol.{HoldsSymbols};
 ghost use Rattle.binfarce_pe.specs.Pe.{least_length, signature_offset, header_of, section_data, walk, is_named};
+ghost use Rattle.binfarce_pe.specs.PeAll.{all_answer, HasSection, AllHasText};
 ghost use Rattle.binfarce_pe.specs.PeParts.{places_of, places_view};
 ghost use Rattle.binfarce_pe.specs.PeSymbols.{pe_answer, ArrangesRows};
 ghost use Rattle.binfarce_pe.specs.PeViews.{header_view, section_view};
@@ -16,13 +18,14 @@ ghost use Rattle.binfarce.specs.PeSizes.{EqualAddressesEqualSizes};
 use binfarce_bytes::ParseError;
 use binfarce_names::demangle::SymbolData;
 use binfarce_naming::symbols::symbols_of;
+use binfarce_pe::all::functions_of_sections;
 pub use binfarce_pe::header::PeHeader;
 use binfarce_pe::header::parse_header;
 use binfarce_pe::parts::{Places, places_after};
 pub use binfarce_pe::sections::{Section, Sections};
 use binfarce_pe::sections::{self, first_of_file};
 use binfarce_pe::symbols::functions_of_file;
-use binfarce_symbols::functions::FunctionSymbol;
+use binfarce_symbols::functions::{FunctionSymbol, SectionFunction};
 use std::alloc::Global;
 use std::marker::Model;
 
@@ -163,6 +166,27 @@ impl<'a> Pe<'a> {
         let (functions, size) = self.functions(alloc)?;
         let symbols = symbols_of(alloc, functions.into_iter())?;
         Ok((symbols, size))
+    }
+
+    /// The function symbols of all sections, each with its section's number: by section, and in each by address and at equal
+    /// addresses in table order.
+    ///
+    /// The function symbols of a section are those that `functions` would give if it were the section `.text`: addresses are
+    /// offsets in the section, and a size ends at the least greater address in the same section, or with the section's bytes
+    /// in the file. Sections are numbered from 1 on, also those whose name isn't UTF-8. A row without a section, or with the
+    /// number of none, isn't kept.
+    ///
+    /// # Errors
+    ///
+    /// In this order: `UnexpectedEof` as `find_section` has it with a callback that accepts no section, where the section table
+    /// doesn't begin in the file or a header is truncated; `UnexpectedEof` where the symbol table doesn't begin in the file,
+    /// even an empty one, or passes its end. `OutOfMemory` comes only where the file has a section.
+    #[tactic(auto, using(binfarce_pe::proofs::AllLaw::all_has_text))]
+    pub fn all_functions(&self, alloc: Global) -> Result<Vec<SectionFunction<'a>>, ParseError>
+        ensures functions { AnswersAll HoldsSectionFunctions (HasSection self.now) (all_answer self.now) result }
+        ensures text { AllHasText self.now }
+    {
+        functions_of_sections(alloc, self.data, self.places())
     }
 
     // Where the tables are.

@@ -30,7 +30,7 @@ entry_sized found x e is =
         let same : record { name = text; address = x.address; size = size } ≡ e = cc in
         (ap (λ (e : Entry). Ok (Some e.size)) same, ap (λ (e : Entry). e.address) same)
 
-kept_each : {X Y : Type 0} (P : Y → Type 0) (f : X → Result (Option Y) Refusal) (xs : List X) (ys : List Y) → ((x : X) (y : Y) → f x ≡ Ok (Some y) → P y) → kept f xs ≡ Ok ys → All P ys
+pub kept_each : {X Y : Type 0} (P : Y → Type 0) (f : X → Result (Option Y) Refusal) (xs : List X) (ys : List Y) → ((x : X) (y : Y) → f x ≡ Ok (Some y) → P y) → kept f xs ≡ Ok ys → All P ys
 unfolding kept
 kept_each P f [] ys each is = let none : [] ≡ ys = cc in subst (λ (zs : List _). All P zs) none (All-nil P)
 kept_each {X} {Y} P f (x ∷ xs) ys each is = by_parts (f x) (kept f xs) refl refl is (λ zs e. kept_each P f xs zs each e)
@@ -75,7 +75,7 @@ are_sized found entries is =
     }
 
 -- what an answer lists of its table
-kept_of : (file : List ℕ) (found : Located) (listed : Listed) → located file ≡ Ok (Some found) → macho_answer file ≡ Ok listed → kept (entry_of found) (arranged (row_addresses found.rows)) ≡ Ok listed.entries
+pub kept_of : (file : List ℕ) (found : Located) (listed : Listed) → located file ≡ Ok (Some found) → macho_answer file ≡ Ok listed → kept (entry_of found) (arranged (row_addresses found.rows)) ≡ Ok listed.entries
 unfolding macho_answer answer_of
 kept_of file found listed at is = by_parts (kept (entry_of found) (arranged (row_addresses found.rows))) (rw at at is)
   where

@@ -37,7 +37,7 @@ pub segment_sections : (file : List ℕ) (body count n : ℕ) → body + 60 ≤ 
 unfolding segment
 segment_sections file body count n whole is least = rw (le-ltb (length file) (body + 60) whole, ← is, least) refl
 
-segment_refusal : (file : List ℕ) (body count : ℕ) → body + 60 ≤ length file → count ≡ number_in file body (field 56 4) → (segment file body).refusal ≡ cond (nat_le count (whole_headers file body)) None (Some unexpected_eof)
+pub segment_refusal : (file : List ℕ) (body count : ℕ) → body + 60 ≤ length file → count ≡ number_in file body (field 56 4) → (segment file body).refusal ≡ cond (nat_le count (whole_headers file body)) None (Some unexpected_eof)
 unfolding segment
 segment_refusal file body count whole is = rw (le-ltb (length file) (body + 60) whole, ← is) refl
 

@@ -2,6 +2,7 @@
 #![tactic(auto)]
 
 mod accessors;
+pub mod all;
 mod commands;
 pub mod header;
 mod laws;

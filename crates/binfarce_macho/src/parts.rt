@@ -37,7 +37,10 @@ pub fn needed_tables(file: &[u8], header: MachoHeader) -> Result<Needed<'_>, Par
     Ok(Needed { text, table })
 }
 
-fn named_table(bytes: &[u8], command: Option<Command>) -> Result<Option<SymbolTable>, ParseError>
+pub(crate) fn named_table(
+    bytes: &[u8],
+    command: Option<Command>,
+) -> Result<Option<SymbolTable>, ParseError>
     ensures { Gives refusal_of (option_map table_view) (named_table bytes.now (option_map command_view command)) result }
 {
     match command {
@@ -90,7 +93,7 @@ fn holds_body(bytes: &[u8], command: Command) -> bool
 }
 
 // Whether all sections of a segment command lie in the bytes.
-fn holds_sections(bytes: &[u8], body: usize) -> bool
+pub(crate) fn holds_sections(bytes: &[u8], body: usize) -> bool
     requires { body ≤ length bytes.now }
     ensures { result ≡ (nat_le (body + segment_read) (length bytes.now) && nat_le (section_count bytes.now body) (whole_headers bytes.now body)) }
 {

@@ -5,3 +5,5 @@ pub mod Strictly
 pub mod Listing
 pub mod Answered
 pub mod SectionsLeft
+pub mod EachSection
+pub mod AllLaw

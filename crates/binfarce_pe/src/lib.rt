@@ -2,6 +2,7 @@
 #![tactic(auto)]
 
 mod accessors;
+pub mod all;
 pub mod header;
 mod laws;
 pub mod parts;

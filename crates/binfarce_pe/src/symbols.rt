@@ -8,7 +8,7 @@ ghost use Rattle.binfarce_symbols.specs.SymbolViews.{function_view, HoldsFunctio
 ghost use Rattle.binfarce_pe.specs.PeSymbols.{pe_answer, text_section, symbol_table, located, symbol_at, record_count, symbol_of, name_of, function_name, kept_rows, size_members, entries_of};
 ghost use Rattle.binfarce_pe.specs.PeParts.{text_among, places_of, places_view};
 ghost use Rattle.binfarce_pe.specs.PeViews.{section_view};
-ghost use Rattle.binfarce_pe.specs.machine.RawPe.{headers_view, table_view, located_view, symbol_view, HoldsKept, function_at};
+ghost use Rattle.binfarce_pe.specs.machine.RawPe.{headers_view, table_view, located_view, symbol_view, HoldsKept, ListsKept, function_at};
 ghost use Rattle.binfarce_symbols.specs.Sizes.{addresses_of, least_above, least_of};
 ghost use Rattle.binfarce_symbols.specs.RowViews.{rows_view};
 
@@ -44,21 +44,21 @@ pub(crate) struct SymbolTable<'a> {
 
 /// The numbers of a symbol record. A short name has its bytes where the first two are.
 #[derive(Clone, Copy)]
-struct SymbolRow {
+pub(crate) struct SymbolRow {
     zeroes: u32,
     offset: u32,
-    value: u32,
-    section_number: u16,
+    pub(crate) value: u32,
+    pub(crate) section_number: u16,
     kind: u16,
     storage_class: u8,
-    number_of_aux_symbols: u8,
+    pub(crate) number_of_aux_symbols: u8,
 }
 
 /// The rows that are kept, in table order: the address of each and its index among them, and its name.
 #[derive(Drop)]
-struct Kept<'a> {
-    rows: Vec<RowAddress>,
-    names: Vec<&'a str>,
+pub(crate) struct Kept<'a> {
+    pub(crate) rows: Vec<RowAddress>,
+    pub(crate) names: Vec<&'a str>,
 }
 
 /// The function symbols of the file, whose places these are, and the size of its section `.text`: the answer of `functions`
@@ -104,7 +104,10 @@ pub(crate) fn text_among(table: Table<'_>) -> Result<Section<'_>, ParseError>
 }
 
 #[tactic(auto, unfolding(crate::specs::PeSymbols::symbol_table))]
-fn symbol_table<'a>(file: &'a [u8], places: Places) -> Result<SymbolTable<'a>, ParseError>
+pub(crate) fn symbol_table<'a>(
+    file: &'a [u8],
+    places: Places,
+) -> Result<SymbolTable<'a>, ParseError>
     requires { places_view places ≡ places_of file.now }
     ensures { Gives refusal_of table_view (symbol_table file.now) result }
 {
@@ -128,6 +131,19 @@ pub(crate) fn functions_of<'a>(
     ensures memory { OnErr result (entries_of (table_view table.entry) index text_size ≢ []) }
 {
     let kept = kept_rows(alloc, table, index)?;
+    kept_functions(alloc, kept, text_size)
+}
+
+/// The function symbols of the kept rows of a section with this size, in bytes.
+pub(crate) fn kept_functions<'a>(
+    alloc: Global,
+    kept: Kept<'a>,
+    section_size: u32,
+) -> Result<Vec<FunctionSymbol<'a>>, AllocError>
+    requires { All (λ r. r.index < length kept.names.items) kept.rows.items }
+    ensures functions { ListsKept kept.entry section_size result }
+    ensures memory { OnErr result (kept.entry.rows.items ≢ []) }
+{
     if kept.rows.is_empty() {
         return Ok(Vec::new(alloc));
     }
@@ -137,7 +153,7 @@ pub(crate) fn functions_of<'a>(
         &arranged.rows,
         &kept.names,
         &arranged.above,
-        u64::from(text_size),
+        u64::from(section_size),
     )
 }
 
@@ -207,7 +223,7 @@ fn size_up_to(address: u64, above: Option<u64>, text_size: u64) -> u64
 
 // The name of an external function of the section with this index.
 #[tactic(auto, unfolding(crate::specs::PeSymbols::function_name))]
-fn function_name<'a>(
+pub(crate) fn function_name<'a>(
     table: SymbolTable<'a>,
     index: u16,
     number: usize,
@@ -240,7 +256,7 @@ fn name_of<'a>(table: SymbolTable<'a>, number: usize, row: SymbolRow) -> Option<
     }
 }
 
-fn symbol_of(table: SymbolTable<'_>, number: usize) -> SymbolRow
+pub(crate) fn symbol_of(table: SymbolTable<'_>, number: usize) -> SymbolRow
     requires { number < record_count (table_view table) }
     ensures { symbol_view result ≡ symbol_of (table_view table.entry) number }
 {

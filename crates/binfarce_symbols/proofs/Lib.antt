@@ -6,3 +6,5 @@ pub mod Arrangement
 pub mod Above
 pub mod Sweeping
 pub mod Views
+pub mod AllAnswers
+pub mod OfSection

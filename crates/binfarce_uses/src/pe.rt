@@ -1,6 +1,7 @@
 //! PE files.
 
 pub mod bytes_of;
+pub mod count_all;
 pub mod count_functions;
 pub mod first_section;
 pub mod header_of;

@@ -5,7 +5,7 @@
 pub use crate::erased::binfarce_bytes::{ByteOrder, ParseError, UnexpectedEof};
 pub use crate::erased::binfarce_format::{Format, detect_format};
 pub use crate::erased::binfarce_names::demangle;
-pub use crate::erased::binfarce_symbols::functions::{FunctionSymbol, symbol_at};
+pub use crate::erased::binfarce_symbols::functions::{FunctionSymbol, SectionFunction, symbol_at};
 
 mod elf;
 pub mod elf32;

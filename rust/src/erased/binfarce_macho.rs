@@ -3,6 +3,7 @@
 //! 64-bit Mach-O files (Apple's `<mach-o/loader.h>` and `<mach-o/nlist.h>`).
 
 mod accessors;
+pub mod all;
 mod commands;
 pub mod header;
 pub mod parts;

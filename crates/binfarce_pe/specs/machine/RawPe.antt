@@ -1,10 +1,13 @@
 -- Definitions that only private contracts cite: what they see of the values that a PE file is read into.
-use Rattle.std.specs.Prelude.{◌≡◌, ℕ, ◌+◌, ◌-◌, List, [], ◌∷◌, Option, Some, None, min, get_or}
+use Rattle.std.specs.Prelude.{◌≡◌, ℕ, ◌+◌, ◌-◌, ◌<◌, ◌≤◌, List, [], ◌∷◌, length, map, Option, Some, None, Result, IfOk, min, get_or}
+use Rattle.std.specs.Global.{Vec}
+use Rattle.std.specs.declared.alloc.AllocError.{AllocError}
 use Rattle.std.specs.List.{AllZip, range_with_len, filter_map}
 use Rattle.binfarce_bytes.specs.Walk.{Walk, ended}
 use Rattle.binfarce_pe.specs.declared.sections.Table.{Table}
 use Rattle.binfarce_pe.specs.declared.symbols.SymbolRow.{SymbolRow}
 use Rattle.binfarce_pe.specs.declared.symbols.SymbolTable.{SymbolTable}
+use Rattle.binfarce_pe.specs.declared.symbols.Kept.{Kept}
 use Rattle.binfarce_pe.specs.declared.symbols.Located.{Located}
 use Rattle.binfarce_pe.specs.Pe as pe
 use Rattle.binfarce_pe.specs.PeParts.{SectionTable, whole_in, section_in, table_walk}
@@ -12,6 +15,9 @@ use Rattle.binfarce_pe.specs.PeSymbols as symbols
 use Rattle.binfarce_pe.specs.PeViews.{section_view}
 use Rattle.binfarce_symbols.specs.Sizes.{RowAddress, addresses_of}
 use Rattle.binfarce_symbols.specs.Entries.{Entry}
+use Rattle.binfarce_symbols.specs.RowViews.{rows_view}
+use Rattle.binfarce_symbols.specs.SymbolViews.{function_view}
+use Rattle.binfarce_symbols.specs.declared.functions.FunctionSymbol.{FunctionSymbol}
 
 abbrev pub symbol_view : SymbolRow → symbols.SymbolRow ℕ
 symbol_view r = record { zeroes = r.zeroes; offset = r.offset; value = r.value; section_number = r.section_number; kind = r.kind; storage_class = r.storage_class; number_of_aux_symbols = r.number_of_aux_symbols }
@@ -51,6 +57,20 @@ IsNameOf table r name = symbols.name_of table r.row (symbols.symbol_of table r.r
 pub record HoldsKept (table : symbols.SymbolTable) (kept rows : List RowAddress) (names : List (List ℕ)) : Type 0 where
   pub rows_are : rows ≡ numbered 0 (addresses_of kept)
   pub names_are : AllZip (IsNameOf table) kept names
+
+-- the rows that are kept of the section of this index
+abbrev pub HoldsSection : symbols.SymbolTable → ℕ → Kept → Type 0
+HoldsSection table index k = HoldsKept table (symbols.kept_rows table index) (rows_view k.rows.items) (map (λ t. t.now) k.names.items)
+
+-- what lists those of whatever section they are, which has this size
+abbrev pub ListsKept : Kept → ℕ → Result (Vec FunctionSymbol) AllocError → Type 0
+ListsKept kept size result =
+    (table : symbols.SymbolTable) (index : ℕ) → HoldsSection table index kept → IfOk result (λ v. map function_view v.items ≡ symbols.entries_of table index size)
+
+-- so do these, one for each section whose index is below the count, from this index on
+pub record HoldsSections (table : symbols.SymbolTable) (first count : ℕ) (kept : List Kept) : Type 0 where
+  pub long : length kept ≡ count
+  pub each : (index : ℕ) (d : Kept) → first ≤ index → index < count → HoldsSection table index (get_or kept index d)
 
 -- the entry of a row whose name has its number
 abbrev pub function_at : List (List ℕ) → List ℕ → RowAddress → Entry

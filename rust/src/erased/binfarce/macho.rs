@@ -4,6 +4,7 @@
 
 use crate::shim::Vec;
 use crate::erased::binfarce_bytes::ParseError;
+use crate::erased::binfarce_macho::all::functions_of_sections;
 pub use crate::erased::binfarce_macho::header::MachoHeader;
 use crate::erased::binfarce_macho::header::parse_header;
 use crate::erased::binfarce_macho::sections;
@@ -11,7 +12,7 @@ pub use crate::erased::binfarce_macho::sections::{Section, Sections};
 use crate::erased::binfarce_macho::symbols::functions_of_file;
 use crate::erased::binfarce_names::demangle::SymbolData;
 use crate::erased::binfarce_naming::symbols::symbols_of;
-use crate::erased::binfarce_symbols::functions::FunctionSymbol;
+use crate::erased::binfarce_symbols::functions::{FunctionSymbol, SectionFunction};
 use crate::shim::alloc::Global;
 
 /// A Mach-O file. It borrows the file's bytes.
@@ -117,5 +118,23 @@ impl<'a> Macho<'a> {
     /// Those of `symbols`.
     pub fn functions(&self, alloc: Global) -> Result<(Vec<FunctionSymbol<'a>>, u64), ParseError> {
         functions_of_file(alloc, self.data, self.header)
+    }
+
+    /// The function symbols of all sections, each with its section's number: by section, and in each by address and at equal
+    /// addresses in table order. Without a symbol table the list is empty.
+    ///
+    /// Kept are the rows that `functions` keeps of section 1, of each section of the file, by the same rule: a symbol's size is
+    /// the distance to the least greater address in the whole table, or to the end of its own section where there is none.
+    /// Sections are numbered from 1 on, segment by segment, also those whose names aren't valid; a row can state no number
+    /// above 255, and one with the number of no section isn't kept.
+    ///
+    /// # Errors
+    ///
+    /// In this order: as `find_section` with a callback that accepts no section; `UnexpectedEof` where the symbol table's command,
+    /// the string table or the rows are truncated; `MalformedInput` where a section's end passes an address and a row of it
+    /// would be kept, or where a row that would be kept lies past its section's end with no address above it. `OutOfMemory`
+    /// comes only where the file has a section, and may stand in place of a refusal.
+    pub fn all_functions(&self, alloc: Global) -> Result<Vec<SectionFunction<'a>>, ParseError> {
+        functions_of_sections(alloc, self.data, self.header)
     }
 }

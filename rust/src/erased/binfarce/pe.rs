@@ -6,13 +6,14 @@ use crate::shim::Vec;
 use crate::erased::binfarce_bytes::ParseError;
 use crate::erased::binfarce_names::demangle::SymbolData;
 use crate::erased::binfarce_naming::symbols::symbols_of;
+use crate::erased::binfarce_pe::all::functions_of_sections;
 pub use crate::erased::binfarce_pe::header::PeHeader;
 use crate::erased::binfarce_pe::header::parse_header;
 use crate::erased::binfarce_pe::parts::{Places, places_after};
 pub use crate::erased::binfarce_pe::sections::{Section, Sections};
 use crate::erased::binfarce_pe::sections::{self, first_of_file};
 use crate::erased::binfarce_pe::symbols::functions_of_file;
-use crate::erased::binfarce_symbols::functions::FunctionSymbol;
+use crate::erased::binfarce_symbols::functions::{FunctionSymbol, SectionFunction};
 use crate::shim::alloc::Global;
 
 /// A PE file. It borrows the file's bytes.
@@ -117,6 +118,23 @@ impl<'a> Pe<'a> {
         let (functions, size) = self.functions(alloc)?;
         let symbols = symbols_of(alloc, functions.into_iter())?;
         Ok((symbols, size))
+    }
+
+    /// The function symbols of all sections, each with its section's number: by section, and in each by address and at equal
+    /// addresses in table order.
+    ///
+    /// The function symbols of a section are those that `functions` would give if it were the section `.text`: addresses are
+    /// offsets in the section, and a size ends at the least greater address in the same section, or with the section's bytes
+    /// in the file. Sections are numbered from 1 on, also those whose name isn't UTF-8. A row without a section, or with the
+    /// number of none, isn't kept.
+    ///
+    /// # Errors
+    ///
+    /// In this order: `UnexpectedEof` as `find_section` has it with a callback that accepts no section, where the section table
+    /// doesn't begin in the file or a header is truncated; `UnexpectedEof` where the symbol table doesn't begin in the file,
+    /// even an empty one, or passes its end. `OutOfMemory` comes only where the file has a section.
+    pub fn all_functions(&self, alloc: Global) -> Result<Vec<SectionFunction<'a>>, ParseError> {
+        functions_of_sections(alloc, self.data, self.places())
     }
 
     // Where the tables are.

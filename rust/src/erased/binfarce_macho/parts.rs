@@ -33,7 +33,10 @@ pub fn needed_tables(file: &[u8], header: MachoHeader) -> Result<Needed<'_>, Par
     Ok(Needed { text, table })
 }
 
-fn named_table(bytes: &[u8], command: Option<Command>) -> Result<Option<SymbolTable>, ParseError> {
+pub(crate) fn named_table(
+    bytes: &[u8],
+    command: Option<Command>,
+) -> Result<Option<SymbolTable>, ParseError> {
     match command {
         None => Ok(None),
         Some(command) => Ok(Some(symbol_table_at(bytes, command)?)),
@@ -76,7 +79,7 @@ fn holds_body(bytes: &[u8], command: Command) -> bool {
 }
 
 // Whether all sections of a segment command lie in the bytes.
-fn holds_sections(bytes: &[u8], body: usize) -> bool {
+pub(crate) fn holds_sections(bytes: &[u8], body: usize) -> bool {
     match number_at::<u32>(bytes, body + 56, ByteOrder::LittleEndian) {
         Err(_) => false,
         Ok(count) => count as usize

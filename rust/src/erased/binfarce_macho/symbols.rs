@@ -131,15 +131,15 @@ pub fn text_end(text: Section<'_>) -> Result<u64, ParseError> {
 
 /// A symbol table entry's values (`nlist_64`).
 #[derive(Clone, Copy)]
-struct SymbolRow {
-    name: u32,
+pub(crate) struct SymbolRow {
+    pub(crate) name: u32,
     kind: u8,
-    section: u8,
+    pub(crate) section: u8,
     value: u64,
 }
 
 #[inline]
-fn symbol_at(rows: &[u8], start: usize) -> Result<SymbolRow, UnexpectedEof> {
+pub(crate) fn symbol_at(rows: &[u8], start: usize) -> Result<SymbolRow, UnexpectedEof> {
     let mut s = Stream::new_at(rows, start, ByteOrder::LittleEndian)?;
     let name = s.read()?;
     let kind = s.read()?;
@@ -169,7 +169,7 @@ pub fn functions_of<'a>(
 }
 
 // The addresses of the rows that have one.
-fn row_addresses(alloc: Global, rows: &[u8]) -> Result<Vec<RowAddress>, AllocError> {
+pub(crate) fn row_addresses(alloc: Global, rows: &[u8]) -> Result<Vec<RowAddress>, AllocError> {
     let mut addresses = Vec::new(alloc);
     for k in 0..rows.len() / SYMBOL_LENGTH {
         let row = symbol_at(rows, k * SYMBOL_LENGTH).unwrap();
@@ -220,10 +220,19 @@ fn has_address(row: SymbolRow) -> bool {
 }
 
 fn is_candidate(row: SymbolRow) -> bool {
-    row.name != 0 && row.kind & 0x0A != 0 && row.section == 1
+    is_defined(row) && row.section == 1
 }
 
-fn size_up_to(above: Option<u64>, text_end: u64, address: u64) -> Result<Option<u64>, ParseError> {
+// Whether a row may be a function symbol of its section, whichever that is.
+pub(crate) fn is_defined(row: SymbolRow) -> bool {
+    row.name != 0 && row.kind & 0x0A != 0
+}
+
+pub(crate) fn size_up_to(
+    above: Option<u64>,
+    text_end: u64,
+    address: u64,
+) -> Result<Option<u64>, ParseError> {
     match above {
         Some(above) => Ok(Some(above - address)),
         None => {
@@ -238,7 +247,11 @@ fn size_up_to(above: Option<u64>, text_end: u64, address: u64) -> Result<Option<
     }
 }
 
-fn sized_entry(address: u64, size: Option<u64>, name: Option<&str>) -> Option<FunctionSymbol<'_>> {
+pub(crate) fn sized_entry(
+    address: u64,
+    size: Option<u64>,
+    name: Option<&str>,
+) -> Option<FunctionSymbol<'_>> {
     let size = size?;
     let name = name?;
     Some(FunctionSymbol {

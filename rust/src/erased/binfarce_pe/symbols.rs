@@ -37,20 +37,20 @@ pub(crate) struct SymbolTable<'a> {
 
 /// The numbers of a symbol record. A short name has its bytes where the first two are.
 #[derive(Clone, Copy)]
-struct SymbolRow {
+pub(crate) struct SymbolRow {
     zeroes: u32,
     offset: u32,
-    value: u32,
-    section_number: u16,
+    pub(crate) value: u32,
+    pub(crate) section_number: u16,
     kind: u16,
     storage_class: u8,
-    number_of_aux_symbols: u8,
+    pub(crate) number_of_aux_symbols: u8,
 }
 
 /// The rows that are kept, in table order: the address of each and its index among them, and its name.
-struct Kept<'a> {
-    rows: Vec<RowAddress>,
-    names: Vec<&'a str>,
+pub(crate) struct Kept<'a> {
+    pub(crate) rows: Vec<RowAddress>,
+    pub(crate) names: Vec<&'a str>,
 }
 
 /// The function symbols of the file, whose places these are, and the size of its section `.text`: the answer of `functions`
@@ -82,7 +82,10 @@ pub(crate) fn text_among(table: Table<'_>) -> Result<Section<'_>, ParseError> {
     section_named(table, ".text")?.ok_or(ParseError::SymbolsSectionIsMissing)
 }
 
-fn symbol_table<'a>(file: &'a [u8], places: Places) -> Result<SymbolTable<'a>, ParseError> {
+pub(crate) fn symbol_table<'a>(
+    file: &'a [u8],
+    places: Places,
+) -> Result<SymbolTable<'a>, ParseError> {
     let offset = places.symbols;
     if offset >= file.len() {
         return Err(ParseError::UnexpectedEof);
@@ -100,6 +103,15 @@ pub(crate) fn functions_of<'a>(
     text_size: u32,
 ) -> Result<Vec<FunctionSymbol<'a>>, AllocError> {
     let kept = kept_rows(alloc, table, index)?;
+    kept_functions(alloc, kept, text_size)
+}
+
+/// The function symbols of the kept rows of a section with this size, in bytes.
+pub(crate) fn kept_functions<'a>(
+    alloc: Global,
+    kept: Kept<'a>,
+    section_size: u32,
+) -> Result<Vec<FunctionSymbol<'a>>, AllocError> {
     if kept.rows.is_empty() {
         return Ok(Vec::new(alloc));
     }
@@ -109,7 +121,7 @@ pub(crate) fn functions_of<'a>(
         &arranged.rows,
         &kept.names,
         &arranged.above,
-        u64::from(text_size),
+        u64::from(section_size),
     )
 }
 
@@ -167,7 +179,7 @@ fn size_up_to(address: u64, above: Option<u64>, text_size: u64) -> u64 {
 }
 
 // The name of an external function of the section with this index.
-fn function_name<'a>(
+pub(crate) fn function_name<'a>(
     table: SymbolTable<'a>,
     index: u16,
     number: usize,
@@ -193,7 +205,7 @@ fn name_of<'a>(table: SymbolTable<'a>, number: usize, row: SymbolRow) -> Option<
     }
 }
 
-fn symbol_of(table: SymbolTable<'_>, number: usize) -> SymbolRow {
+pub(crate) fn symbol_of(table: SymbolTable<'_>, number: usize) -> SymbolRow {
     symbol_at(table.rows, number * SYMBOL_LENGTH).unwrap()
 }
 

@@ -1,0 +1,124 @@
+-- The function symbols of all sections of a Mach-O file.
+use Rattle.std.specs.Prelude.{◌≡◌, ◌≢◌, ℕ, ◌+◌, ◌-◌, ◌*◌, ◌^◌, Bool, ◌&&◌, List, [], length, map, filter, take, slice_get, bit_and, not, nat_eq, nat_lt, Option, Some, None, Result, Ok, Err, if◌then◌else◌}
+use Rattle.std.specs.Option.{option_map}
+use Rattle.std.specs.List.{range_with_len, flat_map}
+use Rattle.binfarce_bytes.specs.Text.{text_at}
+use Rattle.binfarce_bytes.specs.Refusal.{◌>>=◌, Refusal, malformed_input}
+use Rattle.binfarce_bytes.specs.Field.{number_in}
+use Rattle.binfarce_symbols.specs.Entries.{Entry, Listed}
+use Rattle.binfarce_symbols.specs.SectionEntries.{SectionEntry, of_section, unless}
+use Rattle.binfarce_symbols.specs.Sizes.{RowAddress, arranged, addresses_of}
+use Rattle.binfarce_macho.specs.declared.all.Extent.{Extent}
+use Rattle.binfarce_macho.specs.declared.all.SymbolBytes as code
+use Rattle.binfarce_macho.specs.Macho.{Command, commands, body_of, is_segment, section_count, section_offset, section_fields, walk}
+use Rattle.binfarce_macho.specs.MachoParts.{named_table}
+use Rattle.binfarce_macho.specs.MachoSymbols.{SymbolTable, SymbolRow, symbol_of, symbol_length, symbol_command, slice_at, row_addresses, macho_size, sized_entry, kept, Located, located, macho_answer}
+
+-- MAX_SECT: a row states the number of its section in one byte
+abbrev pub greatest_section : ℕ
+greatest_section = 255
+
+-- the end in memory of the section whose structure begins at start
+unfoldable pub end_at : List ℕ → ℕ → ℕ
+end_at file start = number_in file start section_fields.address + number_in file start section_fields.size
+
+-- the ends of the first sections of a segment command with this body, as many as that
+abbrev pub first_ends : List ℕ → ℕ → ℕ → List ℕ
+first_ends file body count = map (λ i. end_at file (section_offset body i)) (range_with_len 0 count)
+
+-- of all its sections
+abbrev pub ends_in : List ℕ → ℕ → List ℕ
+ends_in file body = first_ends file body (section_count file body)
+
+-- those of the segments among these commands
+abbrev pub ends_among : List ℕ → List Command → List ℕ
+ends_among file commands = flat_map (λ command. if is_segment command then ends_in file (body_of command) else []) commands
+
+-- those of the file, which numbers its sections from 1 on, also a section whose name isn't valid: the first 255. Refused as the walk over the sections is
+unfoldable pub section_ends : List ℕ → Result (List ℕ) Refusal
+section_ends file = unless (walk file).refusal (take greatest_section (ends_among file (commands file).items))
+
+-- the file has a section
+abbrev pub HasSection : List ℕ → Type 0
+HasSection file = ends_among file (commands file).items ≢ []
+
+-- the string table, and the rows of the symbol table
+pub record Symbols : Type 0 where
+  pub strings : List ℕ
+  pub rows : List ℕ
+
+-- what the command of the symbol table names, which lies in the file
+abbrev pub symbols_by : List ℕ → Option (SymbolTable ℕ) → Result (Option Symbols) Refusal
+symbols_by file None = Ok None
+symbols_by file (Some table) = do
+  strings ← slice_at file table.strings_offset table.strings_size
+  rows ← slice_at file table.symbol_offset (symbol_length * table.row_count)
+  Ok (Some (record { strings = strings; rows = rows }))
+
+-- the symbols, or that there is no symbol table
+unfoldable pub symbols_of : List ℕ → Result (Option Symbols) Refusal
+symbols_of file = do
+  command ← symbol_command file
+  table ← named_table file command
+  symbols_by file table
+
+-- the end of the section of this number, where there is one
+abbrev pub end_of : List ℕ → ℕ → Option ℕ
+end_of ends number = if nat_eq number 0 then None else slice_get ends (number - 1)
+
+-- a row with a name offset, whose N_TYPE has one of the bits 0x0A
+abbrev pub is_defined : SymbolRow ℕ → Bool
+is_defined row = not (nat_eq row.name 0) && not (nat_eq (bit_and row.kind 0x0A) 0)
+
+-- a section's end: below 2^64
+abbrev pub checked_end : ℕ → Result ℕ Refusal
+checked_end end = if nat_lt end (2 ^ 64) then Ok end else Err malformed_input
+
+-- this entry, as one of the section of this number
+abbrev pub numbered : ℕ → Option Entry → Option SectionEntry
+numbered number entry = option_map (λ e. record { section = number; entry = e }) entry
+
+-- what such a row gives in its section, by the same rule as in the text
+abbrev pub entry_in : Symbols → RowAddress → SymbolRow ℕ → Option ℕ → Result (Option SectionEntry) Refusal
+entry_in symbols at row None = Ok None
+entry_in symbols at row (Some end) = do
+  section_end ← checked_end end
+  size ← macho_size (addresses_of (row_addresses symbols.rows)) section_end at.address
+  Ok (numbered row.section (sized_entry at.address size (text_at symbols.strings row.name)))
+
+-- what a row with an address gives: nothing, its entry, or the refusal of its section's end or of its size
+unfoldable pub section_entry : List ℕ → Symbols → RowAddress → Result (Option SectionEntry) Refusal
+section_entry ends symbols at =
+    if is_defined (symbol_of symbols.rows at.row) then entry_in symbols at (symbol_of symbols.rows at.row) (end_of ends (symbol_of symbols.rows at.row).section)
+    else Ok None
+
+-- entries by section, in the order of the sections' numbers; in each section they keep their order
+abbrev pub by_section : ℕ → List SectionEntry → List SectionEntry
+by_section count entries = flat_map (λ number. filter (λ e. nat_eq e.section number) entries) (range_with_len 1 count)
+
+-- the entries of all sections with these ends: by section, and in each in the order of (address, row number)
+unfoldable pub all_of : List ℕ → Option Symbols → Result (List SectionEntry) Refusal
+all_of ends None = Ok []
+all_of ends (Some symbols) = do
+  entries ← kept (section_entry ends symbols) (arranged (row_addresses symbols.rows))
+  Ok (by_section (length ends) entries)
+
+-- the refusals in order: that of the sections, the symbol table's, and those of its rows
+unfoldable pub all_answer : List ℕ → Result (List SectionEntry) Refusal
+all_answer file = do
+  ends ← section_ends file
+  symbols ← symbols_of file
+  all_of ends symbols
+
+-- a law of that answer: where the text is the first section, its entries are those of `macho_answer`
+abbrev pub AllHasText : List ℕ → Type 0
+AllHasText file = (ends : List ℕ) (found : Located) (entries : List SectionEntry) (listed : Listed) → section_ends file ≡ Ok ends → located file ≡ Ok (Some found) → end_of ends 1 ≡ Some found.text_end
+    → all_answer file ≡ Ok entries → macho_answer file ≡ Ok listed → of_section 1 entries ≡ listed.entries
+
+-- the end of an `Extent`
+abbrev pub extent_end : Extent → ℕ
+extent_end e = e.address + e.size
+
+-- a `SymbolBytes`
+abbrev pub symbols_view : code.SymbolBytes → Symbols
+symbols_view s = record { strings = s.strings.now; rows = s.rows.now }

@@ -1,0 +1,42 @@
+-- The function symbols of all sections of a PE file.
+use Rattle.std.specs.Prelude.{◌≡◌, ◌≢◌, ℕ, ◌+◌, ◌*◌, List, Result, Ok}
+use Rattle.std.specs.List.{range_with_len, flat_map}
+use Rattle.binfarce_bytes.specs.Refusal.{◌>>=◌, Refusal}
+use Rattle.binfarce_bytes.specs.Field.{number_in}
+use Rattle.binfarce_symbols.specs.Entries.{Listed}
+use Rattle.binfarce_symbols.specs.SectionEntries.{SectionEntry, in_section, of_section, unless}
+use Rattle.binfarce_pe.specs.Pe.{Section, header_of, section_fields, section_length}
+use Rattle.binfarce_pe.specs.PeParts.{SectionTable, section_table, table_walk}
+use Rattle.binfarce_pe.specs.PeSymbols.{SymbolTable, symbol_table, text_section, pe_answer, entries_of}
+
+-- how many bytes the section of this index has in the file
+unfoldable pub size_in : SectionTable → ℕ → ℕ
+size_in sections index = number_in sections.bytes (sections.offset + index * section_length) section_fields.size_of_raw_data
+
+-- the entries of the section of this index, whose number is one more
+abbrev pub section_entries : SectionTable → SymbolTable → ℕ → List SectionEntry
+section_entries sections symbols index = in_section (index + 1) (entries_of symbols index (size_in sections index))
+
+-- the entries of all sections, in the order of their numbers; also of a section whose name isn't UTF-8
+abbrev pub all_entries : SectionTable → SymbolTable → List SectionEntry
+all_entries sections symbols = flat_map (section_entries sections symbols) (range_with_len 0 sections.count)
+
+-- the section headers, of which none is truncated: else refused as the walk over the sections is
+abbrev pub whole_sections : SectionTable → Result SectionTable Refusal
+whole_sections sections = unless (table_walk sections).refusal sections
+
+-- the refusals in order: that of the section headers, and the symbol table's; else the entries of all sections
+unfoldable pub all_answer : List ℕ → Result (List SectionEntry) Refusal
+all_answer file = do
+  sections ← whole_sections (section_table file)
+  symbols ← symbol_table file
+  Ok (all_entries sections symbols)
+
+-- the file has a section
+abbrev pub HasSection : List ℕ → Type 0
+HasSection file = (header_of file).number_of_sections ≢ 0
+
+-- a law of that answer: the entries of the text are those of `pe_answer`
+abbrev pub AllHasText : List ℕ → Type 0
+AllHasText file = (entries : List SectionEntry) (text : Section) (listed : Listed) → all_answer file ≡ Ok entries → text_section file ≡ Ok text → pe_answer file ≡ Ok listed
+    → of_section (text.index + 1) entries ≡ listed.entries

@@ -1,4 +1,5 @@
 pub mod Entries
+pub mod SectionEntries
 pub mod SymbolViews
 pub mod Found
 pub mod Sizes

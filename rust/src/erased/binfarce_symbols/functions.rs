@@ -13,6 +13,16 @@ pub struct FunctionSymbol<'a> {
     pub size: u64,
 }
 
+/// A function symbol, and the section that it is in.
+#[derive(Debug, Clone, Copy)]
+pub struct SectionFunction<'a> {
+    /// The section's number, as the symbol states it: in an ELF file the index of its section header, in Mach-O and PE files
+    /// counted from 1.
+    pub section: u32,
+    /// The function symbol.
+    pub function: FunctionSymbol<'a>,
+}
+
 /// The function symbol of a list that an address is shown by: of those whose range holds it the one of greatest address, and
 /// of these the first. `None` where none holds it.
 ///

@@ -11,7 +11,7 @@ use Rattle.binfarce_tables.specs.declared.error.ReadError.{ReadError}
 use Rattle.binfarce_tables.specs.declared.error.ReadError.TheVariants as reading
 use Rattle.binfarce_tools.specs.declared.list.ListError.TheVariants as errors
 use Rattle.binfarce_at.specs.declared.program.Fault.{Fault}
-use Rattle.binfarce_at.specs.declared.program.Fault.TheVariants.{Usage, File, Lines, Missing, At}
+use Rattle.binfarce_at.specs.declared.program.Fault.TheVariants.{Usage, File, Lines, OneMissing, Missing, At}
 use Rattle.binfarce_addresses.specs.declared.stream.LinesError.{LinesError}
 use Rattle.binfarce_addresses.specs.declared.stream.LinesError.TheVariants as lines
 use Rattle.binfarce_addresses.specs.PlacesViews.{IsMadeOf}
@@ -36,6 +36,7 @@ abbrev pub is_usage : Fault → Bool
 is_usage Usage = true
 is_usage File = false
 is_usage (Lines e) = false
+is_usage OneMissing = true
 is_usage (Missing count) = true
 is_usage (At e) = false
 
@@ -51,12 +52,13 @@ outcome_of (Ok x) = call.outcome_of (Ok x)
 outcome_of (Err Usage) = writing.wrong_usage
 outcome_of (Err File) = writing.unreadable
 outcome_of (Err (Lines e)) = lines_outcome e
+outcome_of (Err OneMissing) = writing.wrong_usage
 outcome_of (Err (Missing count)) = writing.wrong_usage
 outcome_of (Err (At e)) = call.outcome_of (Err e)
 
--- the fault that the answering of lines ended with: some lines write no address, or it ended early
+-- the fault that the answering of lines ended with: so many lines write no address, or it ended early
 abbrev pub lines_end : Result ℕ LinesError → Result (Unit {0}) Fault
-lines_end (Ok count) = if nat_eq count 0 then Ok tt else Err (Missing count)
+lines_end (Ok count) = if nat_eq count 0 then Ok tt else if nat_eq count 1 then Err OneMissing else Err (Missing count)
 lines_end (Err e) = Err (Lines e)
 
 -- nothing of the lines was read, and nothing was written

@@ -37,6 +37,9 @@ pub enum Fault {
     /// The lines of standard input were not answered to its end.
     #[error("binfarce-at: {0}")]
     Lines(LinesError),
+    /// One line of standard input writes no address; all were answered.
+    #[error("binfarce-at: 1 line without an address")]
+    OneMissing,
     /// So many lines of standard input write no address; all were answered.
     #[error("binfarce-at: {0} lines without an address")]
     Missing(u64),
@@ -102,7 +105,7 @@ impl binfarce_program::Fault for Fault {
 
     fn status(&self) -> u8 {
         match self {
-            Fault::Usage | Fault::Missing(_) => 2,
+            Fault::Usage | Fault::OneMissing | Fault::Missing(_) => 2,
             _ => 1,
         }
     }
@@ -263,10 +266,10 @@ fn answer_in_tables<I: Read, W: Write>(
 fn ended(missing: u64) -> Result<(), Fault>
     ensures { result ≡ lines_end (Ok missing) }
 {
-    if missing == 0 {
-        Ok(())
-    } else {
-        Err(Fault::Missing(missing))
+    match missing {
+        0 => Ok(()),
+        1 => Err(Fault::OneMissing),
+        _ => Err(Fault::Missing(missing)),
     }
 }
 

@@ -24,6 +24,8 @@ pub enum Fault {
     File,
     /// The lines of standard input were not answered to its end.
     Lines(LinesError),
+    /// One line of standard input writes no address; all were answered.
+    OneMissing,
     /// So many lines of standard input write no address; all were answered.
     Missing(u64),
     /// The addresses were not symbolized.
@@ -36,6 +38,7 @@ impl std::fmt::Display for Fault {
             Fault::Usage => write!(f, "usage: binfarce-at [--base ADDRESS] FILE [ADDRESS..]"),
             Fault::File => write!(f, "binfarce-at: cannot read file"),
             Fault::Lines(e) => write!(f, "binfarce-at: {e}"),
+            Fault::OneMissing => write!(f, "binfarce-at: 1 line without an address"),
             Fault::Missing(e) => write!(f, "binfarce-at: {e} lines without an address"),
             Fault::At(e) => write!(f, "binfarce-at: {e}"),
         }
@@ -81,7 +84,7 @@ impl From<LinesError> for Fault {
 impl crate::erased::binfarce_program::Fault for Fault {
     fn status(&self) -> u8 {
         match self {
-            Fault::Usage | Fault::Missing(_) => 2,
+            Fault::Usage | Fault::OneMissing | Fault::Missing(_) => 2,
             _ => 1,
         }
     }
@@ -207,10 +210,10 @@ fn answer_in_tables<I: Read, W: Write>(
 
 // How the work ended where all lines were answered, and so many of them write no address.
 fn ended(missing: u64) -> Result<(), Fault> {
-    if missing == 0 {
-        Ok(())
-    } else {
-        Err(Fault::Missing(missing))
+    match missing {
+        0 => Ok(()),
+        1 => Err(Fault::OneMissing),
+        _ => Err(Fault::Missing(missing)),
     }
 }
 

@@ -167,7 +167,8 @@ fn symbolizes_in_any_file(rt: HostRuntime) -> Result<(), AllocError> {
 // Lines of which three write no address: all are answered, and the fault has their number.
 #[test]
 fn reports_lines_without_an_address(rt: HostRuntime) -> Result<(), AllocError> {
-    let file = &samples(rt.alloc())?[0];
+    let files = samples(rt.alloc())?;
+    let file = &files[0];
     let mut out = Out::new(Vec::new(rt.alloc()));
     let mut lines = Source::of(b"\nmain\n1000\r\n10 00");
     let ended = run_lines(rt.alloc(), &mut file.as_slice(), 0, &mut lines, &mut out);

@@ -89,7 +89,8 @@ fn is_answered(alloc: Global, places: &Places<'_>, at: usize) -> Result<bool, Al
     let first = push_lines(alloc, places, 0, TEXT.get(..at).unwrap_or(&[]), &mut text)?;
     let rest = TEXT.get(first.len..).unwrap_or(&[]);
     let second = push_lines(alloc, places, 0, rest, &mut text)?;
-    let whole = second.len == rest.len() && first.missing + second.missing == 2;
+    let missing = first.missing.checked_add(second.missing);
+    let whole = second.len == rest.len() && missing == Some(2);
     Ok(whole && text.as_slice() == ANSWERS.as_bytes())
 }
 

@@ -178,7 +178,8 @@ fn symbolizes_in_any_file() -> Result<(), AllocError> {
 #[test]
 fn reports_lines_without_an_address() -> Result<(), AllocError> {
     let rt = HostRuntime::new();
-    let file = &samples(rt.alloc())?[0];
+    let files = samples(rt.alloc())?;
+    let file = &files[0];
     let mut out = Out::new(Vec::new(rt.alloc()));
     let mut lines = Source::of(b"\nmain\n1000\r\n10 00");
     let ended = run_lines(rt.alloc(), &mut file.as_slice(), 0, &mut lines, &mut out);

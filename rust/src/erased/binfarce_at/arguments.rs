@@ -40,11 +40,10 @@ pub fn read_arguments<'a>(alloc: Global, arguments: &'a [String]) -> Result<Aske
 fn base_and_others(arguments: &[String]) -> Option<(u64, &[String])> {
     match arguments {
         [option, others @ ..] => {
-            let option = option.as_bytes();
-            if option == b"--base" {
+            if option.as_str() == "--base" {
                 base_of(others)
-            } else if option.starts_with(b"--base=") {
-                given_base(&option[7..], others)
+            } else if option.as_bytes().starts_with(b"--base=") {
+                given_base(&option.as_bytes()[7..], others)
             } else {
                 Some((0, arguments))
             }

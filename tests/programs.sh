@@ -156,10 +156,11 @@ ends 2 /dev/null "$usage" binfarce_at --base "$sample" 1000
 for file in "$sample" "$of_proc"; do
     printf '1000\n0x1005\n100f\n1010\n0fff' | ends 0 crates/binfarce_at/stdout "" binfarce_at "$file"
 done
-printf '401000\n401005\n40100f\n401010\n400fff\n' | call binfarce_at --base 400000 "$sample" | sed 's/^000000000040/000000000000/' | cmp crates/binfarce_at/stdout -
+printf '401000\n401005\n40100f\n401010\n400fff\n' | call binfarce_at --base=400000 "$sample" | sed 's/^000000000040/000000000000/' | cmp crates/binfarce_at/stdout -
 head -n 1 crates/binfarce_at/stdout >"$scratch/first"
-printf '1000\nno\n1005\n' | ends 2 "$scratch/first" "binfarce-at: not an address" binfarce_at "$sample"
-head -c 1000 /dev/zero | ends 2 /dev/null "binfarce-at: not an address" binfarce_at "$sample"
+{ cat "$scratch/first"; echo '??'; sed -n 2p crates/binfarce_at/stdout; echo '??'; } >"$scratch/lines"
+printf '1000\r\nno\n  0X1005\n' >"$scratch/asked"
+head -c 100000 /dev/zero | cat "$scratch/asked" - | ends 2 "$scratch/lines" "binfarce-at: 2 lines without an address" binfarce_at "$sample"
 ends 1 /dev/null "binfarce-at: read failed" binfarce_at "$sample" <"$scratch"
 mkfifo "$scratch/in" "$scratch/out"
 call binfarce_at "$sample" <"$scratch/in" >"$scratch/out" &

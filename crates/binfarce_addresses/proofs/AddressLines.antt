@@ -17,6 +17,7 @@ use Rattle.binfarce_tools.specs.ListWords.{Writes, outcome_of}
 use Rattle.binfarce_tools.specs.Writing as writing
 use Rattle.binfarce_addresses.specs.Lines.{in_file, found_at, IsTextOf, address_line, IsLineAt, AreLinesOf, AreLinesAt}
 use Rattle.binfarce_addresses.specs.PlacesViews.{IsMadeOf}
+use Rattle.binfarce_addresses.specs.Stream.{AreAnswersOf, IsAnswerOf}
 
 pub all_zip_push : {A B : Type 0} (R : A → B → Type 0) (xs : List A) (ys : List B) (x : A) (y : B) → AllZip R xs ys → R x y → AllZip R (xs ++ x ∷ []) (ys ++ y ∷ [])
 all_zip_push R [] [] x y all r = (r, tt)
@@ -40,23 +41,29 @@ one_line entries base addresses i line text new lt are is grown =
 pub whole : (entries : List Entry) (base : ℕ) (addresses : List ℕ) (i : ℕ) (text : List ℕ) → length addresses ≤ i → AreLinesOf entries base (take i addresses) text → AreLinesOf entries base addresses text
 whole entries base addresses i text le are = let P : List ℕ → Type 0 = λ xs. AreLinesOf entries base xs text in subst P (take_all i addresses le) are
 
--- the lines of the addresses before a place stand behind a text
-abbrev pub AreBehind : List Entry → ℕ → List ℕ → List ℕ → List ℕ → Type 0
-AreBehind entries base addresses old new = (lines : List ℕ) × AreLinesOf entries base addresses lines × (new ≡ old ++ lines)
+-- the answers of lines stand behind a text
+abbrev pub AreBehind : List Entry → ℕ → List (Option ℕ) → List ℕ → List ℕ → Type 0
+AreBehind entries base addresses old new = (answers : List ℕ) × AreAnswersOf entries base addresses answers × (new ≡ old ++ answers)
 
-pub none_behind : (entries : List Entry) (base : ℕ) (addresses old : List ℕ) → AreBehind entries base (take 0 addresses) old old
+pub none_behind : (entries : List Entry) (base : ℕ) (addresses : List (Option ℕ)) (old : List ℕ) → AreBehind entries base (take 0 addresses) old old
 none_behind entries base addresses old = ([], ([], tt, refl), sym (append-nil old))
 
-pub one_behind : (entries : List Entry) (base : ℕ) (addresses : List ℕ) (i : ℕ) (line old mid new : List ℕ) → i < length addresses → AreBehind entries base (take i addresses) old mid → IsLineAt entries base (get_or addresses i 0) line → new ≡ mid ++ line
-    → AreBehind entries base (take (i + 1) addresses) old new
-one_behind entries base addresses i line old mid new lt are is grown = (
-  are.0 ++ line,
-  one_line entries base addresses i line are.0 (are.0 ++ line) lt are.1 is refl,
-  grown ∙ ap (λ (xs : List ℕ). xs ++ line) are.2 ∙ append_assoc old are.0 line,
-)
+pub one_behind : (entries : List Entry) (base : ℕ) (addresses : List (Option ℕ)) (i : ℕ) (address : Option ℕ) (answer old mid new : List ℕ) → i < length addresses → AreBehind entries base (take i addresses) old mid → address ≡ get_or addresses i None → IsAnswerOf entries base address answer
+    → new ≡ mid ++ answer → AreBehind entries base (take (i + 1) addresses) old new
+one_behind entries base addresses i address answer old mid new lt are here is grown =
+    let so_far = are.1 in
+    subst (λ (xs : List (Option ℕ)). AreBehind entries base xs old new) (sym (take_more addresses i None lt ∙ ap (λ (o : Option ℕ). take i addresses ++ o ∷ []) (sym here))) (
+      are.0 ++ answer,
+      (
+        so_far.0 ++ answer ∷ [],
+        all_zip_push (IsAnswerOf entries base) (take i addresses) so_far.0 address answer so_far.1 is,
+        ap (λ (xs : List ℕ). xs ++ answer) so_far.2 ∙ sym (concat_push so_far.0 answer),
+      ),
+      grown ∙ ap (λ (xs : List ℕ). xs ++ answer) are.2 ∙ append_assoc old are.0 answer,
+    )
 
-pub whole_behind : (entries : List Entry) (base : ℕ) (addresses : List ℕ) (i : ℕ) (old new : List ℕ) → length addresses ≤ i → AreBehind entries base (take i addresses) old new → AreBehind entries base addresses old new
-whole_behind entries base addresses i old new le are = (are.0, whole entries base addresses i are.0 le are.1, are.2)
+pub whole_behind : (entries : List Entry) (base : ℕ) (addresses : List (Option ℕ)) (i : ℕ) (old new : List ℕ) → length addresses ≤ i → AreBehind entries base (take i addresses) old new → AreBehind entries base addresses old new
+whole_behind entries base addresses i old new le are = subst (λ (xs : List (Option ℕ)). AreBehind entries base xs old new) (take_all i addresses le) are
 
 -- the lines of what a file lists were written, or a beginning of them
 pub takes : (memory : Result Listed Refusal → Type 0) (answer : Option (Result Listed Refusal)) (entries : List Entry) (base : ℕ) (addresses text : List ℕ) (old new : Option (List ℕ)) (result : Result (Unit {0}) ListError)

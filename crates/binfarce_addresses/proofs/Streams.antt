@@ -1,19 +1,20 @@
 -- The lines of a text, answered one after the other.
-use Rattle.std.proofs.Common.{◌≡◌, ◌≢◌, inl, inr, ℕ, ◌+◌, ◌-◌, ◌<◌, ◌≤◌, true, false, ltb, add-one, drop-cons, List, [], ◌∷◌, ◌++◌, length, drop, take, get_or, Option, Some, None, refl, sym, ap, subst, ◌∙◌, arith, append-nil, append_assoc, length-append}
+use Rattle.std.proofs.Common.{◌≡◌, ◌≢◌, Bool, true, false, ℕ, ◌+◌, ◌-◌, ◌<◌, ◌≤◌, add-one, drop-cons, List, [], ◌∷◌, ◌++◌, length, drop, take, get_or, Option, Some, None, refl, sym, ap, subst, ◌∙◌, arith, append-nil, append_assoc, length-append}
+use Rattle.std.specs.Prelude.{is_none, is_some, not, cond}
+use Rattle.std.specs.Int.{from_bool}
 use Rattle.std.proofs.Math.Seq.{drop-append-add}
-use Rattle.std.proofs.lemmas.Bool.Decides.{nat_tests}
 use Rattle.std.proofs.lemmas.List.{drop-drop, take_all, length-drop, length-take-le, get_or-take, take-append-drop}
 use Rattle.std.proofs.lemmas.List.Elements.{All-from_get_or}
+use Rattle.std.proofs.lemmas.List.Sums.{sum_by_push}
 use Rattle.binfarce_ranges.specs.Address.{address_of}
-use Rattle.binfarce_addresses.specs.Stream.{with_line_feeds, WritesAddress, Begins, BeginsWrong, HasNoLineFeed}
-use Rattle.binfarce_addresses.specs.machine.Answering.{AreAddressesOf, IsFirst}
+use Rattle.binfarce_addresses.specs.Stream.{missing, with_line_feeds, Begins, HasNoLineFeed, Writes}
+use Rattle.binfarce_addresses.specs.machine.Answering.{IsFirst}
 use Rattle.binfarce_addresses.proofs.AddressLines.{all_zip_push}
+use Rattle.binfarce_addresses.proofs.Trimmed.{word_line, word_part}
 
 -- no line is read yet
-pub begun : (bytes addresses : List ℕ) → addresses ≡ [] → Begins bytes addresses (drop 0 bytes)
-begun bytes addresses none =
-    let P : List ℕ → Type 0 = λ xs. Begins bytes xs bytes in
-    subst P (sym none) (record { lines = []; each = tt; are = refl })
+pub begun : (bytes : List ℕ) → Begins bytes [] (drop 0 bytes)
+begun bytes = record { lines = []; each = tt; are = refl }
 
 feeds_push : (lines : List (List ℕ)) (line : List ℕ) → with_line_feeds (lines ++ line ∷ []) ≡ with_line_feeds lines ++ (line ++ 10 ∷ [])
 feeds_push [] line = append-nil (line ++ 10 ∷ [])
@@ -53,55 +54,60 @@ first_of_digits bytes len address lt feed writes = record {
   line = take len bytes;
   others = drop (len + 1) bytes;
   are = feed_at bytes len lt feed;
-  writes = writes;
-  part = λ none. absurd cc;
+  part = word_part (take len bytes) address writes;
+  writes = word_line (take len bytes) address writes;
   count = omega (arith, length-take-le len bytes (omega arith));
 }
 
--- what was read, where no whole line is left
-pub all_lines : (bytes addresses : List ℕ) (len : ℕ) → len ≤ length bytes → Begins bytes addresses (drop len bytes) → HasNoLineFeed (take (length bytes - len) (drop len bytes)) → AreAddressesOf bytes addresses (record { len = len; wrong = ltb 18 (length bytes - len) })
-all_lines bytes addresses len within begins part = record {
-  within = within;
-  begins = begins;
-  wrong = λ long. inr (subst HasNoLineFeed (left_of bytes len) part, omega (arith, length-drop len bytes, is_long (length bytes - len) long));
-  part = λ short. subst HasNoLineFeed (left_of bytes len) part;
-  short = λ short. omega (arith, length-drop len bytes, is_short (length bytes - len) short);
-}
-  where
-    is_long : (n : ℕ) → ltb 18 n ≡ true → 18 < n
-    is_long n e = grind (arith, nat_tests)
+-- the lines of a text up to a place write these addresses
+pub record ReadTo (bytes : List ℕ) (addresses : List (Option ℕ)) (len count : ℕ) : Type 0 where
+  pub within : len ≤ length bytes
+  pub few : count ≤ len
+  pub begins : Begins bytes addresses (drop len bytes)
+  pub counts : count ≡ missing addresses
 
-    is_short : (n : ℕ) → ltb 18 n ≡ false → n ≤ 18
-    is_short n e = grind (arith, nat_tests)
-
--- one line more
-pub one_more : (bytes addresses new line others : List ℕ) (len address : ℕ) → Begins bytes addresses (drop len bytes) → drop len bytes ≡ line ++ 10 ∷ others → address_of line ≡ Some address → new ≡ addresses ++ address ∷ [] → Begins bytes new (drop (len + (length line + 1)) bytes)
-one_more bytes addresses new line others len address begins is writes grown =
-    let left : drop (len + (length line + 1)) bytes ≡ others = sym (drop-drop (length line + 1) len bytes) ∙ behind_line line others (drop len bytes) is in
-    let P : List ℕ → Type 0 = λ xs. Begins bytes xs (drop (len + (length line + 1)) bytes) in
-    subst P (sym grown) (record {
-      lines = begins.lines ++ line ∷ [];
-      each = all_zip_push WritesAddress begins.lines addresses line address begins.each writes;
-      are = begins.are ∙ ap (λ (xs : List ℕ). with_line_feeds begins.lines ++ xs) is
-          ∙ regroup (with_line_feeds begins.lines) line (10 ∷ []) others
-          ∙ ap (λ (xs : List ℕ). xs ++ others) (sym (feeds_push begins.lines line))
-          ∙ ap (λ (xs : List ℕ). with_line_feeds (begins.lines ++ line ∷ []) ++ xs) (sym left);
-    })
-  where
-    regroup : (a l f o : List ℕ) → a ++ (l ++ (f ++ o)) ≡ (a ++ (l ++ f)) ++ o
-    regroup a l f o = simp append_assoc
+pub nothing_read : (bytes : List ℕ) (addresses : List (Option ℕ)) → addresses ≡ [] → ReadTo bytes addresses 0 0
+nothing_read bytes addresses none = subst (λ (xs : List (Option ℕ)). ReadTo bytes xs 0 0) (sym none) (record { within = omega arith; few = omega arith; begins = begun bytes; counts = refl })
 
 -- a first line that is found ends within the text
 pub first_within : (bytes part : List ℕ) (address : Option ℕ) (len line_len : ℕ) → len ≤ length bytes → part ≡ take (length bytes - len) (drop len bytes) → IsFirst part address line_len → len + line_len ≤ length bytes
 first_within bytes part address len line_len le is first =
     omega (arith, line_within bytes first.line first.others len le (sym (left_of bytes len) ∙ sym is ∙ first.are), first.count)
 
--- where it writes an address, the lines so far and this one write theirs
-pub first_more : (bytes part addresses new : List ℕ) (len line_len address : ℕ) → part ≡ take (length bytes - len) (drop len bytes) → IsFirst part (Some address) line_len → Begins bytes addresses (drop len bytes) → new ≡ addresses ++ address ∷ [] → Begins bytes new (drop (len + line_len) bytes)
-first_more bytes part addresses new len line_len address is first begins grown =
-    let P : ℕ → Type 0 = λ n. Begins bytes new (drop (len + n) bytes) in
-    subst P (sym first.count) (one_more bytes addresses new first.line first.others len address begins (sym (left_of bytes len) ∙ sym is ∙ first.are) first.writes grown)
+-- one line more
+pub one_more : (bytes : List ℕ) (addresses : List (Option ℕ)) (line others : List ℕ) (len : ℕ) (address : Option ℕ) → Begins bytes addresses (drop len bytes) → drop len bytes ≡ line ++ 10 ∷ others → Writes line address → Begins bytes (addresses ++ address ∷ []) (drop (len + (length line + 1)) bytes)
+one_more bytes addresses line others len address begins is writes =
+    let left : drop (len + (length line + 1)) bytes ≡ others = sym (drop-drop (length line + 1) len bytes) ∙ behind_line line others (drop len bytes) is in
+    record {
+      lines = begins.lines ++ line ∷ [];
+      each = all_zip_push Writes begins.lines addresses line address begins.each writes;
+      are = begins.are ∙ ap (λ (xs : List ℕ). with_line_feeds begins.lines ++ xs) is
+          ∙ regroup (with_line_feeds begins.lines) line (10 ∷ []) others
+          ∙ ap (λ (xs : List ℕ). xs ++ others) (sym (feeds_push begins.lines line))
+          ∙ ap (λ (xs : List ℕ). with_line_feeds (begins.lines ++ line ∷ []) ++ xs) (sym left);
+    }
+  where
+    regroup : (a l f o : List ℕ) → a ++ (l ++ (f ++ o)) ≡ (a ++ (l ++ f)) ++ o
+    regroup a l f o = simp append_assoc
 
--- where it writes none, what is left begins with it
-pub first_wrong : (bytes part : List ℕ) (len line_len : ℕ) → part ≡ take (length bytes - len) (drop len bytes) → IsFirst part None line_len → BeginsWrong (drop len bytes)
-first_wrong bytes part len line_len is first = inl (first.line, first.others, sym (left_of bytes len) ∙ sym is ∙ first.are, first.part refl, first.writes)
+-- the first line of what is left is read
+pub line_read : (bytes part : List ℕ) (addresses new : List (Option ℕ)) (len count line_len next : ℕ) (address : Option ℕ) → ReadTo bytes addresses len count → part ≡ take (length bytes - len) (drop len bytes) → IsFirst part address line_len
+    → new ≡ addresses ++ address ∷ [] → next ≡ count + cond (is_none address) 1 0 → ReadTo bytes new (len + line_len) next
+line_read bytes part addresses new len count line_len next address so_far is first grown counted = subst (λ (xs : List (Option ℕ)). ReadTo bytes xs (len + line_len) next) (sym grown) (record {
+  within = first_within bytes part address len line_len so_far.within is first;
+  few = omega (arith, so_far.few, counted, first.count, one (is_none address));
+  begins = subst (λ n. Begins bytes (addresses ++ address ∷ []) (drop (len + n) bytes)) (sym first.count)
+      (one_more bytes addresses first.line first.others len address so_far.begins (sym (left_of bytes len) ∙ sym is ∙ first.are) (first.part, first.writes));
+  counts = counted ∙ ap (λ n. n + cond (is_none address) 1 0) so_far.counts ∙ sym (sum_by_push (λ (x : Option ℕ). cond (is_none x) 1 0) addresses address);
+})
+  where
+    one : (b : Bool) → cond b 1 0 ≤ 1
+    one true = omega arith
+    one false = omega arith
+
+-- an address is missing, or not
+pub is_missing : (address : Option ℕ) (none : Bool) (count : ℕ) → is_some address ≡ not none → count ≡ from_bool none → count ≡ cond (is_none address) 1 0
+is_missing None true count is counted = counted
+is_missing None false count is counted = absurd cc
+is_missing (Some address) true count is counted = absurd cc
+is_missing (Some address) false count is counted = counted

@@ -1,68 +1,91 @@
--- Addresses that come as the lines of a text, and what is written of them.
-use Rattle.std.specs.Prelude.{◌≡◌, ◌≢◌, ◌⊎◌, ℕ, ◌<◌, List, [], ◌∷◌, ◌++◌, All, codes, length, Option, Some, None, Result, Ok, Err}
+-- The lines of a text, the addresses that they write, and what is written of them.
+use Rattle.std.specs.Prelude.{◌≡◌, ◌≢◌, ◌⊎◌, ℕ, ◌-◌, ◌^◌, min, List, [], ◌∷◌, ◌++◌, All, codes, length, take, drop, Option, Some, None, is_none, Result, Ok, Err}
+use Rattle.std.specs.Char.{is_ascii_whitespace}
 use Rattle.std.specs.Io.KnownBytes.{Appends, Consumes, IsAtEnd}
-use Rattle.std.specs.List.{AllZip, flat_map}
+use Rattle.std.specs.List.{AllZip, concat, count_by, flat_map, prefix_len, suffix_len}
 use Rattle.binfarce.specs.Symbol.{Entry}
 use Rattle.binfarce_tools.specs.Writing.{AppendsBeginning}
 use Rattle.binfarce_ranges.specs.Address.{address_of}
-use Rattle.binfarce_addresses.specs.Lines.{AreLinesOf}
+use Rattle.binfarce_addresses.specs.Lines.{IsLineAt}
 use Rattle.binfarce_addresses.specs.declared.stream.LinesError.{LinesError}
-use Rattle.binfarce_addresses.specs.declared.stream.LinesError.TheVariants.{Read, Address, OutOfMemory, Write}
+use Rattle.binfarce_addresses.specs.declared.stream.LinesError.TheVariants.{Read, OutOfMemory, Write}
 
 -- the words of an error
 abbrev pub lines_words : LinesError → List ℕ
 lines_words Read = codes "read failed"
-lines_words Address = codes "not an address"
 lines_words OutOfMemory = codes "out of memory"
 lines_words Write = codes "write failed"
 
--- lines, each with its line feed
-abbrev pub with_line_feeds : List (List ℕ) → List ℕ
-with_line_feeds lines = flat_map (λ line. line ++ 10 ∷ []) lines
+-- a text without the white space that it begins with
+abbrev pub trim_start : List ℕ → List ℕ
+trim_start text = drop (prefix_len is_ascii_whitespace text) text
 
--- the line writes the address
-abbrev pub WritesAddress : List ℕ → ℕ → Type 0
-WritesAddress line address = address_of line ≡ Some address
+-- a text without the white space that it ends with
+abbrev pub trim_end : List ℕ → List ℕ
+trim_end text = take (length text - suffix_len is_ascii_whitespace text) text
 
--- a text is whole lines that write these addresses, and then what is left
-pub record Begins (text : List ℕ) (addresses : List ℕ) (left : List ℕ) : Type 0 where
-  pub lines : List (List ℕ)
-  pub each : AllZip WritesAddress lines addresses
-  pub are : text ≡ with_line_feeds lines ++ left
+-- the address that a line writes, without the white space at both ends: blanks, tabs, and a carriage return before its line feed
+abbrev pub line_address : List ℕ → Option ℕ
+line_address line = address_of (trim_end (trim_start line))
 
 -- a text has no line feed
 abbrev pub HasNoLineFeed : List ℕ → Type 0
 HasNoLineFeed text = All (λ byte. byte ≢ 10) text
 
--- the first line of a text writes no address: it is whole and writes none, or it has more bytes than any that writes one
-abbrev pub BeginsWrong : List ℕ → Type 0
-BeginsWrong text = ((line : List ℕ) × (others : List ℕ) × (text ≡ line ++ 10 ∷ others) × HasNoLineFeed line × (address_of line ≡ None)) ⊎ (HasNoLineFeed text × (18 < length text))
+-- the line writes this address, or none
+abbrev pub Writes : List ℕ → Option ℕ → Type 0
+Writes line address = HasNoLineFeed line × (line_address line ≡ address)
 
--- the last line of a text has no line feed, and writes no address
-abbrev pub IsLastWrong : List ℕ → Type 0
-IsLastWrong text = HasNoLineFeed text × (text ≢ []) × (address_of text ≡ None)
+-- lines, each with its line feed
+abbrev pub with_line_feeds : List (List ℕ) → List ℕ
+with_line_feeds lines = flat_map (λ line. line ++ 10 ∷ []) lines
 
--- the last line of a text has no line feed, and writes an address: these are those of the text
-abbrev pub EndsIn : List ℕ → List ℕ → Type 0
-EndsIn text addresses = (front : List ℕ) × (last : List ℕ) × (address : ℕ) × Begins text front last × WritesAddress last address × (addresses ≡ front ++ address ∷ [])
+-- a text is whole lines that write these addresses, or none, and then what is left
+pub record Begins (text : List ℕ) (addresses : List (Option ℕ)) (left : List ℕ) : Type 0 where
+  pub lines : List (List ℕ)
+  pub each : AllZip Writes lines addresses
+  pub are : text ≡ with_line_feeds lines ++ left
 
--- a text is lines that write these addresses, and then what is left; the last line of the text may have no line feed
-abbrev pub Reads : List ℕ → List ℕ → List ℕ → Type 0
+-- the last line of a text has no line feed: these are the addresses of all
+abbrev pub EndsIn : List ℕ → List (Option ℕ) → Type 0
+EndsIn text addresses =
+    (front : List (Option ℕ)) × (last : List ℕ) × Begins text front last × HasNoLineFeed last × (last ≢ []) × (addresses ≡ front ++ line_address last ∷ [])
+
+-- a text is lines that write these addresses, or none, and then what is left; the last line of the text may have no line feed
+abbrev pub Reads : List ℕ → List (Option ℕ) → List ℕ → Type 0
 Reads text addresses left = Begins text addresses left ⊎ (EndsIn text addresses × (left ≡ []))
 
--- the lines of the addresses were written
-abbrev pub AreTold : List Entry → ℕ → List ℕ → Option (List ℕ) → Option (List ℕ) → Type 0
-AreTold entries base addresses old new = (lines : List ℕ) × AreLinesOf entries base addresses lines × Appends old new lines
+-- what is written of a line: the line of its address, or `??` where it writes none
+abbrev pub IsAnswerOf : List Entry → ℕ → Option ℕ → List ℕ → Type 0
+IsAnswerOf entries base None answer = answer ≡ codes "??\n"
+IsAnswerOf entries base (Some address) answer = IsLineAt entries base address answer
 
--- a beginning of them was written
-abbrev pub BreaksOff : List Entry → ℕ → List ℕ → Option (List ℕ) → Option (List ℕ) → Type 0
-BreaksOff entries base addresses old new = (lines : List ℕ) × AreLinesOf entries base addresses lines × AppendsBeginning old new lines
+-- text is what is written of lines of these addresses, in their order
+abbrev pub AreAnswersOf : List Entry → ℕ → List (Option ℕ) → List ℕ → Type 0
+AreAnswersOf entries base addresses text = (answers : List (List ℕ)) × AllZip (IsAnswerOf entries base) addresses answers × (text ≡ concat answers)
 
--- what was read and written, where the reader had given bytes to give and has left ones, and the sink had old bytes and has new ones, as far as they tell them: all lines were answered; the reader failed, and the lines before were answered; a line writes no address, and those before it were answered; a write or an allocation failed, and a beginning was written
-abbrev pub Streams : List Entry → ℕ → Option (List ℕ) → Option (List ℕ) → Option (List ℕ) → Option (List ℕ) → Result (Unit {0}) LinesError → Type 0
-Streams entries base given left old new (Ok x) = IsAtEnd left × ((came : List ℕ) × (addresses : List ℕ) × Consumes given left came × Reads came addresses [] × AreTold entries base addresses old new)
-Streams entries base given left old new (Err Read) = (came : List ℕ) × (addresses : List ℕ) × (rest : List ℕ) × Consumes given left came × Begins came addresses rest × HasNoLineFeed rest × AreTold entries base addresses old new
-Streams entries base given left old new (Err Address) =
-    (came : List ℕ) × (addresses : List ℕ) × (rest : List ℕ) × Consumes given left came × Begins came addresses rest × (BeginsWrong rest ⊎ (IsAtEnd left × IsLastWrong rest)) × AreTold entries base addresses old new
-Streams entries base given left old new (Err OutOfMemory) = (came : List ℕ) × (addresses : List ℕ) × (rest : List ℕ) × Consumes given left came × Reads came addresses rest × BreaksOff entries base addresses old new
-Streams entries base given left old new (Err Write) = (came : List ℕ) × (addresses : List ℕ) × (rest : List ℕ) × Consumes given left came × Reads came addresses rest × BreaksOff entries base addresses old new
+-- how many lines write no address
+abbrev pub missing : List (Option ℕ) → ℕ
+missing addresses = count_by is_none addresses
+
+-- all lines were answered
+abbrev pub AreAnswered : List Entry → ℕ → List (Option ℕ) → Option (List ℕ) → Option (List ℕ) → Type 0
+AreAnswered entries base addresses old new = (answers : List ℕ) × AreAnswersOf entries base addresses answers × Appends old new answers
+
+-- a beginning of the answers was written
+abbrev pub BreaksOff : List Entry → ℕ → List (Option ℕ) → Option (List ℕ) → Option (List ℕ) → Type 0
+BreaksOff entries base addresses old new = (answers : List ℕ) × AreAnswersOf entries base addresses answers × AppendsBeginning old new answers
+
+-- of some lines of what came a beginning of the answers was written
+abbrev pub StopsWithin : List Entry → ℕ → Option (List ℕ) → Option (List ℕ) → Option (List ℕ) → Option (List ℕ) → Type 0
+StopsWithin entries base given left old new =
+    (came : List ℕ) × (addresses : List (Option ℕ)) × (rest : List ℕ) × Consumes given left came × Reads came addresses rest × BreaksOff entries base addresses old new
+
+-- what was read and written, where the reader had given bytes to give and has left ones, and the sink had old bytes and has new ones, as far as they are known: all lines were answered, and the count is that of those that write no address, or 2^64 - 1 where there are more; the reader failed, and the whole lines before were answered; a write or an allocation failed, and a beginning was written
+abbrev pub Streams : List Entry → ℕ → Option (List ℕ) → Option (List ℕ) → Option (List ℕ) → Option (List ℕ) → Result ℕ LinesError → Type 0
+Streams entries base given left old new (Ok count) =
+    IsAtEnd left × ((came : List ℕ) × (addresses : List (Option ℕ)) × Consumes given left came × Reads came addresses [] × AreAnswered entries base addresses old new × (count ≡ min (missing addresses) (2 ^ 64 - 1)))
+Streams entries base given left old new (Err Read) =
+    (came : List ℕ) × (addresses : List (Option ℕ)) × (rest : List ℕ) × Consumes given left came × Begins came addresses rest × HasNoLineFeed rest × AreAnswered entries base addresses old new
+Streams entries base given left old new (Err OutOfMemory) = StopsWithin entries base given left old new
+Streams entries base given left old new (Err Write) = StopsWithin entries base given left old new

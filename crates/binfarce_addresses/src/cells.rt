@@ -48,29 +48,35 @@ impl Cells {
     }
 
     /// Where the cell of each address stands, once the base is taken off: mostly, so that it has to be looked at. All cells
-    /// are read before the first is used, so that waits for memory overlap.
+    /// are read before the first is used, so that waits for memory overlap. A line without an address has that of 0.
     pub(crate) fn nears(
         &self,
         alloc: Global,
         base: u64,
-        addresses: &[u64],
+        addresses: &[Option<u64>],
     ) -> Result<Vec<usize>, AllocError>
         ensures { IfOk result (λ v. length v.items ≡ length addresses.now) }
     {
         let mut nears = self.marked(alloc, base, addresses)?;
         for k in 0..addresses.len() {
-            nears[k] = self.not_behind(nears[k], addresses[k].saturating_sub(base));
+            let address = addresses[k].unwrap_or(0);
+            nears[k] = self.not_behind(nears[k], address.saturating_sub(base));
         }
         Ok(nears)
     }
 
     // The same as the marks say.
-    fn marked(&self, alloc: Global, base: u64, addresses: &[u64]) -> Result<Vec<usize>, AllocError>
+    fn marked(
+        &self,
+        alloc: Global,
+        base: u64,
+        addresses: &[Option<u64>],
+    ) -> Result<Vec<usize>, AllocError>
         ensures { IfOk result (λ v. length v.items ≡ length addresses.now) }
     {
         let mut nears = Vec::with_capacity(alloc, addresses.len())?;
         for address in addresses {
-            let near = self.marks.near(address.saturating_sub(base));
+            let near = self.marks.near(address.unwrap_or(0).saturating_sub(base));
             nears.push(near)?;
         }
         Ok(nears)

@@ -18,12 +18,18 @@ use Rattle.binfarce_at.specs.Program.{AnswersLines, IsUntouched, lines_end, read
 use Rattle.binfarce_at.specs.declared.program.Fault.{Fault}
 use Rattle.binfarce_at.specs.declared.program.Fault.TheVariants.{Lines}
 
-pub told : (may : Type 0) (memory : Result Listed Refusal → Type 0) (answer : Option (Result Listed Refusal)) (entries : List Entry) (base : ℕ) (given left old new : Option (List ℕ)) (ended : Result (Unit {0}) LinesError) → IsMadeOf memory answer (Ok entries)
+pub told : (may : Type 0) (memory : Result Listed Refusal → Type 0) (answer : Option (Result Listed Refusal)) (entries : List Entry) (base : ℕ) (given left old new : Option (List ℕ)) (ended : Result ℕ LinesError) → IsMadeOf memory answer (Ok entries)
     → Streams entries base given left old new ended → AnswersLines may memory answer base given left old new (lines_end ended)
 told may memory None entries base given left old new ended made streams = absurd made
 told may memory (Some (Err refusal)) entries base given left old new ended made streams = absurd made
 told may memory (Some (Ok listed)) entries base given left old new ended made streams =
     let P : List Entry → Type 0 = λ es. Streams es base given left old new ended in inr (inr (listed, ended, refl, subst P made streams, refl))
+
+-- all lines were answered
+pub told_all : (may : Type 0) (memory : Result Listed Refusal → Type 0) (answer : Option (Result Listed Refusal)) (entries : List Entry) (base : ℕ) (given left old new : Option (List ℕ)) (count : ℕ) (result : Result (Unit {0}) Fault) → IsMadeOf memory answer (Ok entries)
+    → Streams entries base given left old new (Ok count) → result ≡ lines_end (Ok count) → AnswersLines may memory answer base given left old new result
+told_all may memory answer entries base given left old new count result made streams is =
+    subst (λ (r : Result (Unit {0}) Fault). AnswersLines may memory answer base given left old new r) (sym is) (told may memory answer entries base given left old new (Ok count) made streams)
 
 pub told_less : (may : Type 0) (memory : Result Listed Refusal → Type 0) (answer : Option (Result Listed Refusal)) (entries : List Entry) (base : ℕ) (given left old new : Option (List ℕ)) (e : LinesError) (result : Result (Unit {0}) Fault) → IsMadeOf memory answer (Ok entries)
     → Streams entries base given left old new (Err e) → IsErrAnd result (λ x. x ≡ Lines e) → AnswersLines may memory answer base given left old new result

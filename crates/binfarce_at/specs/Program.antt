@@ -1,5 +1,5 @@
 -- What the program's functions answer.
-use Rattle.std.specs.Prelude.{◌≡◌, ◌⊎◌, ℕ, List, [], Bool, true, false, Option, Some, Result, Ok, Err}
+use Rattle.std.specs.Prelude.{◌≡◌, ◌⊎◌, ℕ, List, [], Bool, true, false, nat_eq, if◌then◌else◌, Option, Some, Result, Ok, Err}
 use Rattle.std.specs.Io.KnownBytes.{Appends, Consumes}
 use Rattle.binfarce.specs.Refusal.{Refusal}
 use Rattle.binfarce.specs.Symbol.{Listed}
@@ -11,7 +11,7 @@ use Rattle.binfarce_tables.specs.declared.error.ReadError.{ReadError}
 use Rattle.binfarce_tables.specs.declared.error.ReadError.TheVariants as reading
 use Rattle.binfarce_tools.specs.declared.list.ListError.TheVariants as errors
 use Rattle.binfarce_at.specs.declared.program.Fault.{Fault}
-use Rattle.binfarce_at.specs.declared.program.Fault.TheVariants.{Usage, File, Lines, At}
+use Rattle.binfarce_at.specs.declared.program.Fault.TheVariants.{Usage, File, Lines, OneMissing, Missing, At}
 use Rattle.binfarce_addresses.specs.declared.stream.LinesError.{LinesError}
 use Rattle.binfarce_addresses.specs.declared.stream.LinesError.TheVariants as lines
 use Rattle.binfarce_addresses.specs.PlacesViews.{IsMadeOf}
@@ -31,24 +31,18 @@ read_fault (reading.Refused e) = At (errors.Parse e)
 read_fault reading.Unreadable = File
 read_fault reading.OutOfMemory = At errors.OutOfMemory
 
--- whether it is that a line writes no address
-abbrev pub is_wrong : LinesError → Bool
-is_wrong lines.Read = false
-is_wrong lines.Address = true
-is_wrong lines.OutOfMemory = false
-is_wrong lines.Write = false
-
--- whether a fault is that the arguments are wrong, or a line of standard input
+-- whether a fault is that the arguments are wrong, or lines of standard input
 abbrev pub is_usage : Fault → Bool
 is_usage Usage = true
 is_usage File = false
-is_usage (Lines e) = is_wrong e
+is_usage (Lines e) = false
+is_usage OneMissing = true
+is_usage (Missing count) = true
 is_usage (At e) = false
 
 -- how the lines of standard input ended
 abbrev pub lines_outcome : LinesError → writing.Outcome
 lines_outcome lines.Read = writing.unreadable
-lines_outcome lines.Address = writing.wrong_usage
 lines_outcome lines.OutOfMemory = writing.no_memory
 lines_outcome lines.Write = writing.write_failed
 
@@ -58,11 +52,13 @@ outcome_of (Ok x) = call.outcome_of (Ok x)
 outcome_of (Err Usage) = writing.wrong_usage
 outcome_of (Err File) = writing.unreadable
 outcome_of (Err (Lines e)) = lines_outcome e
+outcome_of (Err OneMissing) = writing.wrong_usage
+outcome_of (Err (Missing count)) = writing.wrong_usage
 outcome_of (Err (At e)) = call.outcome_of (Err e)
 
--- the fault that the answering of lines ended with
-abbrev pub lines_end : Result (Unit {0}) LinesError → Result (Unit {0}) Fault
-lines_end (Ok x) = Ok x
+-- the fault that the answering of lines ended with: so many lines write no address, or it ended early
+abbrev pub lines_end : Result ℕ LinesError → Result (Unit {0}) Fault
+lines_end (Ok count) = if nat_eq count 0 then Ok tt else if nat_eq count 1 then Err OneMissing else Err (Missing count)
 lines_end (Err e) = Err (Lines e)
 
 -- nothing of the lines was read, and nothing was written
@@ -74,4 +70,4 @@ abbrev pub AnswersLines : Type 0 → (Result Listed Refusal → Type 0) → Opti
 AnswersLines MayFail NeedsMemory answer base given left old new result =
     (((MayFail × (result ≡ Err File)) ⊎ (result ≡ Err (At errors.OutOfMemory))) × IsUntouched given left old new)
     ⊎ ((e : ListError) × IsMadeOf NeedsMemory answer (Err e) × (result ≡ Err (At e)) × IsUntouched given left old new)
-    ⊎ ((listed : Listed) × (ended : Result (Unit {0}) LinesError) × (answer ≡ Some (Ok listed)) × Streams listed.entries base given left old new ended × (result ≡ lines_end ended))
+    ⊎ ((listed : Listed) × (ended : Result ℕ LinesError) × (answer ≡ Some (Ok listed)) × Streams listed.entries base given left old new ended × (result ≡ lines_end ended))

@@ -2,7 +2,7 @@
 
 ghost use Rattle.std.specs.Prelude.{◌≡◌, ◌⊎◌, map, Some, None, MatchResult, MatchOption, IfOk};
 ghost use Rattle.std.specs.String.{string_bytes};
-ghost use Rattle.binfarce_at.specs.Arguments.{asked_of, base_and_others, base_of, addresses_of};
+ghost use Rattle.binfarce_at.specs.Arguments.{asked_of, base_and_others, base_of, given_base, addresses_of};
 ghost use Rattle.binfarce_at.specs.AskedViews.{asked_view, AreRead};
 ghost use Rattle.binfarce_program.specs.declared.Failure.TheVariants.{Usage, OutOfMemory};
 
@@ -21,7 +21,7 @@ pub struct Asked<'a> {
     pub addresses: Vec<u64>,
 }
 
-/// What the arguments after the program's own name ask: `[--base ADDRESS] FILE ADDRESS..`.
+/// What the arguments after the program's own name ask: `[--base ADDRESS] FILE ADDRESS..`, or `--base=ADDRESS` as one word.
 ///
 /// `Usage` for any others; `OutOfMemory` where an allocation fails.
 pub fn read_arguments<'a>(alloc: Global, arguments: &'a [String]) -> Result<Asked<'a>, Failure>
@@ -52,6 +52,8 @@ fn base_and_others(arguments: &[String]) -> Option<(u64, &[String])>
         [option, others @ ..] => {
             if option.as_str() == "--base" {
                 base_of(others)
+            } else if option.as_bytes().starts_with(b"--base=") {
+                given_base(&option.as_bytes()[7..], others)
             } else {
                 Some((0, arguments))
             }
@@ -66,12 +68,18 @@ fn base_of(words: &[String]) -> Option<(u64, &[String])>
         (given ≡ None) (λ g. given ≡ Some (g.0, map string_bytes g.1.now)) }
 {
     match words {
-        [word, others @ ..] => {
-            let base = parse_address(word.as_bytes())?;
-            Some((base, others))
-        }
+        [word, others @ ..] => given_base(word.as_bytes(), others),
         [] => None,
     }
+}
+
+// The base that the word writes, and the other words.
+fn given_base<'a>(word: &[u8], others: &'a [String]) -> Option<(u64, &'a [String])>
+    ensures { let given = given_base word.now (map string_bytes others.entry.now) in MatchOption result
+        (given ≡ None) (λ g. given ≡ Some (g.0, map string_bytes g.1.now)) }
+{
+    let base = parse_address(word)?;
+    Some((base, others))
 }
 
 // The addresses that the words write, if each writes one.

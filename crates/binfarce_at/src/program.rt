@@ -1,6 +1,6 @@
 //! What the program does, over any reader and any writer.
 
-ghost use Rattle.std.specs.Prelude.{◌≡◌, ◌⊎◌, ℕ, List, [], true, codes, Some, IfSome};
+ghost use Rattle.std.specs.Prelude.{◌≡◌, ◌⊎◌, ℕ, List, [], true, codes, Some, Ok, IfSome};
 ghost use Rattle.binfarce.specs.Format.{format_of};
 ghost use Rattle.binfarce_tools.specs.Answer.{symbols_answer, NeedsMemory};
 ghost use Rattle.binfarce_tools.specs.Listing.{ListingFits};
@@ -10,7 +10,7 @@ ghost use Rattle.binfarce_tools.specs.declared.SymbolTable.TheVariants.{Symtab};
 ghost use Rattle.binfarce_tools.specs.Writing.{ProgramTells, Takes, Fails, Leaves};
 ghost use Rattle.binfarce_addresses.specs.Lines.{AreLinesAt};
 ghost use Rattle.binfarce_addresses.specs.PlacesViews.{IsMadeOf};
-ghost use Rattle.binfarce_at.specs.Program.{AnswersLines, outcome_of};
+ghost use Rattle.binfarce_at.specs.Program.{AnswersLines, lines_end, outcome_of};
 
 use binfarce_addresses::at::{Places, at, at_tables};
 use binfarce_addresses::stream::{LinesError, answer_lines};
@@ -38,6 +38,12 @@ pub enum Fault {
     /// The lines of standard input were not answered to its end.
     #[error("binfarce-at: {0}")]
     Lines(LinesError),
+    /// One line of standard input writes no address; all were answered.
+    #[error("binfarce-at: 1 line without an address")]
+    OneMissing,
+    /// So many lines of standard input write no address; all were answered.
+    #[error("binfarce-at: {0} lines without an address")]
+    Missing(u64),
     /// The addresses were not symbolized.
     #[error("binfarce-at: {0}")]
     At(ListError),
@@ -100,7 +106,7 @@ impl binfarce_program::Fault for Fault {
 
     fn status(&self) -> u8 {
         match self {
-            Fault::Usage | Fault::Lines(LinesError::Address) => 2,
+            Fault::Usage | Fault::OneMissing | Fault::Missing(_) => 2,
             _ => 1,
         }
     }
@@ -174,7 +180,8 @@ pub fn run_file<F: Read + Source, W: Write>(
 /// Reads the file to its end, and symbolizes the addresses that the lines of `input` write, as `run` does, until it ends:
 /// what came is answered before more is read.
 ///
-/// `File`, and `At` before anything is read of `input`, as `run`; `Lines` where `answer_lines` fails.
+/// `File`, and `At` before anything is read of `input`, as `run`; `Lines` where `answer_lines` fails, and `Missing` where lines
+/// write no address.
 pub fn run_lines<R: Read, I: Read, W: Write>(
     alloc: Global,
     file: &mut R,
@@ -236,8 +243,8 @@ fn answer_in_bytes<I: Read, W: Write>(
         (I.remaining input.old) (I.remaining input.new) (W.contents (writer_of out.old)) (W.contents (writer_of out.new)) result }
 {
     let places = named_places_in_bytes(alloc, file)?;
-    answer_lines(alloc, &places, base, input, out)?;
-    Ok(())
+    let missing = answer_lines(alloc, &places, base, input, out)?;
+    ended(missing)
 }
 
 // The same, of a file's tables.
@@ -252,8 +259,19 @@ fn answer_in_tables<I: Read, W: Write>(
         (I.remaining input.old) (I.remaining input.new) (W.contents (writer_of out.old)) (W.contents (writer_of out.new)) result }
 {
     let places = named_places_in_tables(alloc, tables)?;
-    answer_lines(alloc, &places, base, input, out)?;
-    Ok(())
+    let missing = answer_lines(alloc, &places, base, input, out)?;
+    ended(missing)
+}
+
+// How the work ended where all lines were answered, and so many of them write no address.
+fn ended(missing: u64) -> Result<(), Fault>
+    ensures { result ≡ lines_end (Ok missing) }
+{
+    match missing {
+        0 => Ok(()),
+        1 => Err(Fault::OneMissing),
+        _ => Err(Fault::Missing(missing)),
+    }
 }
 
 // The places of the function symbols of a file's bytes, with their names.

@@ -1,10 +1,9 @@
 -- A line of digits, digit after digit.
-use Rattle.std.proofs.Common.{◌≡◌, ℕ, ◌+◌, ◌*◌, ◌%◌, ◌^◌, ◌<◌, ◌≤◌, Bool, true, false, ◌&&◌, nat_eq, List, [], ◌∷◌, ◌++◌, length, get_or, take, codes, Option, Some, None, refl, sym, ap, subst, ◌∙◌, arith}
-use Rattle.std.specs.List.{starts_with}
+use Rattle.std.proofs.Common.{◌≡◌, ℕ, ◌+◌, ◌*◌, ◌%◌, ◌^◌, ◌<◌, ◌≤◌, ◌⊎◌, inl, inr, Bool, true, false, ◌&&◌, ◌||◌, nat_eq, List, [], ◌∷◌, ◌++◌, length, get_or, take, drop, Option, Some, None, if◌then◌else◌, refl, sym, ap, subst, ◌∙◌, arith}
 use Rattle.std.specs.Option.{option_and_then}
 use Rattle.std.proofs.lemmas.Bool.Decides.{nat_tests}
 use Rattle.std.proofs.lemmas.List.{take_more, length-take-le}
-use Rattle.binfarce_ranges.specs.Address.{address_of}
+use Rattle.binfarce_ranges.specs.Address.{address_of, has_prefix, hexadecimal}
 use Rattle.binfarce_ranges.specs.machine.Digits.{digit_value}
 use Rattle.binfarce_ranges.proofs.Digits.{number_from, digit_is_small, fits_times, is_hexadecimal, next_below}
 
@@ -30,34 +29,36 @@ pub no_digits : (bytes : List ℕ) → number_from 0 (take 0 bytes) ≡ Some 0
 unfolding number_from
 no_digits bytes = refl
 
--- digits don't begin with `0x`
-no_prefix : (digits : List ℕ) (number : ℕ) → number_from 0 digits ≡ Some number → starts_with nat_eq digits (codes "0x") ≡ false
+-- digits don't begin with `0x` or `0X`
+no_prefix : (digits : List ℕ) (number : ℕ) → number_from 0 digits ≡ Some number → has_prefix digits ≡ false
 unfolding number_from
 no_prefix [] number is = refl
 no_prefix (a ∷ []) number is = none (nat_eq 48 a)
   where
-    none : (b : Bool) → (b && false) ≡ false
+    none : (b : Bool) → ((b && false) || (b && false)) ≡ false
     none true = refl
     none false = refl
-no_prefix (a ∷ b ∷ others) number is = by_second (nat_eq 48 a) (nat_eq 120 b) (λ e. second (digit_value a) (no_value b e) is)
+no_prefix (a ∷ b ∷ others) number is = by_second (nat_eq 48 a) (nat_eq 120 b) (nat_eq 88 b) (λ e. second (digit_value a) (no_value b (inl e)) is) (λ e. second (digit_value a) (no_value b (inr e)) is)
   where
-    no_value : (b : ℕ) → nat_eq 120 b ≡ true → digit_value b ≡ None
+    no_value : (b : ℕ) → (nat_eq 120 b ≡ true) ⊎ (nat_eq 88 b ≡ true) → digit_value b ≡ None
     no_value b e = grind (arith, nat_tests)
 
     second : (o : Option ℕ) → digit_value b ≡ None → option_and_then (λ value. option_and_then (λ next. number_from (16 * (16 * 0 + value) + next) others) (digit_value b)) o ≡ Some number → ⊥
     second None none some = absurd cc
     second (Some value) none some = let never : Path (Option ℕ) None (Some number) = sym (ap (option_and_then (λ next. number_from (16 * (16 * 0 + value) + next) others)) none) ∙ some in absurd cc
 
-    by_second : (x y : Bool) → (y ≡ true → ⊥) → (x && (y && true)) ≡ false
-    by_second true true never = absurd (never refl)
-    by_second true false never = refl
-    by_second false y never = refl
+    by_second : (x y z : Bool) → (y ≡ true → ⊥) → (z ≡ true → ⊥) → ((x && (y && true)) || (x && (z && true))) ≡ false
+    by_second true true z never none = absurd (never refl)
+    by_second true false true never none = absurd (none refl)
+    by_second true false false never none = refl
+    by_second false y z never none = refl
 
 -- 1 to 16 digits write an address
 pub writes : (bytes : List ℕ) (len number : ℕ) → len ≤ length bytes → 0 < len → len ≤ 16 → number_from 0 (take len bytes) ≡ Some number → address_of (take len bytes) ≡ Some number
 writes bytes len number within some few is =
     let count : length (take len bytes) ≡ len = length-take-le len bytes within in
-    rw (no_prefix (take len bytes) number is) (is_hexadecimal (take len bytes) (omega (arith, count)) (omega (arith, count)) ∙ is)
+    ap (λ (t : Bool). hexadecimal (if t then drop 2 (take len bytes) else take len bytes)) (no_prefix (take len bytes) number is)
+    ∙ is_hexadecimal (take len bytes) (omega (arith, count)) (omega (arith, count)) ∙ is
 
 -- a value that isn't wrapped, since 16 digits fit
 pub full_more : (bytes : List ℕ) (i number value : ℕ) → i < length bytes → i < 16 → number < 16 ^ i → number_from 0 (take i bytes) ≡ Some number → digit_value (get_or bytes i 0) ≡ Some value

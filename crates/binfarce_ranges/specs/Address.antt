@@ -1,5 +1,5 @@
 -- How an address is read from a word.
-use Rattle.std.specs.Prelude.{ℕ, List, ◌&&◌, length, drop, codes, Option, Some, None, nat_eq, if◌then◌else◌}
+use Rattle.std.specs.Prelude.{ℕ, Bool, List, ◌&&◌, ◌||◌, length, drop, codes, Option, Some, None, nat_eq, if◌then◌else◌}
 use Rattle.std.specs.Char.{is_ascii_hexdigit}
 use Rattle.std.specs.Int.{is_in_range}
 use Rattle.std.specs.List.{list_all, starts_with}
@@ -9,6 +9,10 @@ use Rattle.std.specs.Str.Parse.{digits_value}
 abbrev pub hexadecimal : List ℕ → Option ℕ
 hexadecimal digits = if is_in_range 1 16 (length digits) && list_all is_ascii_hexdigit digits then Some (digits_value 16 digits) else None
 
--- the address that a word writes: hexadecimal digits, before which `0x` may stand
+-- the word begins with `0x` or `0X`
+abbrev pub has_prefix : List ℕ → Bool
+has_prefix word = starts_with nat_eq word (codes "0x") || starts_with nat_eq word (codes "0X")
+
+-- the address that a word writes: hexadecimal digits, before which `0x` or `0X` may come
 abbrev pub address_of : List ℕ → Option ℕ
-address_of word = hexadecimal (if starts_with nat_eq word (codes "0x") then drop 2 word else word)
+address_of word = hexadecimal (if has_prefix word then drop 2 word else word)

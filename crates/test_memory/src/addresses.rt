@@ -35,7 +35,7 @@ fn is_answered(alloc: Global, text: &[u8]) -> Row {
     let result = answer_lines(alloc, &places, 0, &mut input, &mut out);
     let written = out.into_inner();
     match result {
-        Ok(()) => Ok(written.is_whole()),
+        Ok(missing) => Ok(missing == 0 && written.is_whole()),
         Err(LinesError::OutOfMemory) if written.is_beginning() => Err(AllocError),
         Err(_) => Ok(false),
     }

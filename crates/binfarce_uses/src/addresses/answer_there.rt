@@ -6,7 +6,7 @@ use binfarce_addresses::at::Places;
 use binfarce_addresses::stream::push_lines;
 use std::alloc::{AllocError, Global};
 
-/// What stands at the addresses that the whole lines of a text write, up to the first that writes none.
+/// The answers of the whole lines of a text.
 pub fn answer_there(alloc: Global, places: &Places<'_>, there: &[u8]) -> Result<Vec<u8>, AllocError>
     ensures { IfOk result (λ text. (answered : Answered) × AnswersOf places.now 0 there.now [] text.items answered) }
 {

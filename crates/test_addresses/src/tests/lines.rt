@@ -78,10 +78,10 @@ fn refuses_as_list_does(rt: HostRuntime) -> Result<(), Fail> {
     Ok(())
 }
 
-const TEXT: &[u8] = b"1000\n0x100f\n1010\nfff\n";
+const TEXT: &[u8] = b"1000\n0x100f\nmain\n\n1010\n\t fff \r\n";
 
 const ANSWERS: &str =
-    "0000000000001000 foo+0x0\n000000000000100f foo+0xf\n0000000000001010 ??\n0000000000000fff ??\n";
+    "0000000000001000 foo+0x0\n000000000000100f foo+0xf\n??\n??\n0000000000001010 ??\n0000000000000fff ??\n";
 
 // Whether a text in two parts is answered as in one, whatever the parts are.
 fn is_answered(alloc: Global, places: &Places<'_>, at: usize) -> Result<bool, AllocError> {
@@ -89,8 +89,9 @@ fn is_answered(alloc: Global, places: &Places<'_>, at: usize) -> Result<bool, Al
     let first = push_lines(alloc, places, 0, TEXT.get(..at).unwrap_or(&[]), &mut text)?;
     let rest = TEXT.get(first.len..).unwrap_or(&[]);
     let second = push_lines(alloc, places, 0, rest, &mut text)?;
-    let whole = second.len == rest.len();
-    Ok(whole && !first.wrong && !second.wrong && text.as_slice() == ANSWERS.as_bytes())
+    let missing = first.missing.checked_add(second.missing);
+    let whole = second.len == rest.len() && missing == Some(2);
+    Ok(whole && text.as_slice() == ANSWERS.as_bytes())
 }
 
 #[test]

@@ -29,7 +29,7 @@ fn answered(
     alloc: Global,
     source: Source<'_>,
     target: Target,
-) -> Result<(Result<(), LinesError>, Vec<u8>), Fail> {
+) -> Result<(Result<u64, LinesError>, Vec<u8>), Fail> {
     let places = places(alloc)?;
     let mut source = source;
     let mut out = Out::new(target);
@@ -55,7 +55,7 @@ fn short_reads_and_writes(rt: HostRuntime) -> Result<(), Fail> {
             ..Source::of(TEXT)
         };
         let (ended, taken) = answered(rt.alloc(), source, takes(rt.alloc(), most))?;
-        assert!(rt; ended == Ok(()), "{most}");
+        assert!(rt; ended == Ok(0), "{most}");
         assert!(rt; taken.as_slice() == ANSWERS, "{most}");
     }
     Ok(())
@@ -69,7 +69,7 @@ fn interrupted_reads(rt: HostRuntime) -> Result<(), Fail> {
     let mut source = InterruptedSource::of(TEXT, &unflushed);
     let mut out = Out::new(takes(rt.alloc(), usize::MAX));
     let ended = answer_lines(rt.alloc(), &places, 0x40_0000, &mut source, &mut out);
-    assert!(rt; ended == Ok(()));
+    assert!(rt; ended == Ok(0));
     assert!(rt; out.into_inner().taken.as_slice() == ANSWERS);
     Ok(())
 }
@@ -114,41 +114,51 @@ fn failed_writes(rt: HostRuntime) -> Result<(), Fail> {
     Ok(())
 }
 
-// Texts of which a line is wrong, and how many lines are answered before it.
-const WRONG: [(&[u8], usize); 9] = [
-    (b"\n", 0),
-    (b"401000\n\n401000\n", 1),
-    (b"401000\n401000\r\n", 1),
-    (b"401000\n401000\n40 1000\n401000\n", 2),
-    (b"401000\n 401000\n", 1),
-    (b"401000\n0x", 1),
-    (b"401000\n401000,", 1),
-    (b"401000\n0x00000000000000401000\n401000\n", 1),
-    (b"401000\n00000000000000000000000000000000", 1),
+// Texts, what is written of them, with the base taken off, and how many of their lines write no address.
+const TEXTS: [(&[u8], &[u8], u64); 16] = [
+    (b"\n", b"??\n", 1),
+    (b"401000\n\n401000\n", b"A??\nA", 1),
+    (b"401000\r\n401000\r\n\r\n", b"AA??\n", 1),
+    (b"401000\n40 1000\n401000\n", b"A??\nA", 1),
+    (b" \t401000\n401000 \t \n  401000  ", b"AAA", 0),
+    (b"401000 401000\n", b"??\n", 1),
+    (b"401000\n0x", b"A??\n", 1),
+    (b"0X401000\n0x401000\n", b"AA", 0),
+    (b"401000\n401000,", b"A??\n", 1),
+    (b"main\nx\n401000\ny", b"??\n??\nA??\n", 3),
+    (b"401000\n0x00000000000000401000\n401000\n", b"A??\nA", 1),
+    (b"401000\n00000000000000000000000000000000", b"A??\n", 1),
+    (b"0x0000000000401000  \n", b"A", 0),
+    (b"                                401000                         \n", b"A", 0),
+    (b"                                401000                         4\n", b"??\n", 1),
+    (b"                                                      ", b"??\n", 1),
 ];
 
-fn is_wrong(alloc: Global, text: &[u8], lines: usize, most: usize) -> Result<bool, Fail> {
-    let source = Source {
-        most,
-        ..Source::of(text)
-    };
-    let (ended, taken) = answered(alloc, source, takes(alloc, usize::MAX))?;
-    let first = b"0000000000401000 foo+0x0\n";
-    let same = taken
-        .chunks(first.len())
-        .all(|line| line == first.as_slice());
-    Ok(
-        ended == Err(LinesError::Address)
-            && same
-            && lines.checked_mul(first.len()) == Some(taken.len()),
-    )
+// What is written of a text, `A` being the answer of 401000.
+fn written(alloc: Global, answers: &[u8]) -> Result<Vec<u8>, Fail> {
+    let mut text = Vec::new(alloc);
+    for byte in answers {
+        if *byte == b'A' {
+            text.extend_from_slice(b"0000000000401000 foo+0x0\n")?;
+        } else {
+            text.push(*byte)?;
+        }
+    }
+    Ok(text)
 }
 
 #[test]
-fn wrong_lines(rt: HostRuntime) -> Result<(), Fail> {
-    for (text, lines) in &WRONG {
+fn lines_of_every_kind(rt: HostRuntime) -> Result<(), Fail> {
+    for (text, answers, missing) in &TEXTS {
+        let answers = written(rt.alloc(), answers)?;
         for most in 1..text.len() + 1 {
-            assert!(rt; is_wrong(rt.alloc(), text, *lines, most)?, "{lines} {most}");
+            let source = Source {
+                most,
+                ..Source::of(text)
+            };
+            let (ended, taken) = answered(rt.alloc(), source, takes(rt.alloc(), usize::MAX))?;
+            assert!(rt; ended == Ok(*missing), "{missing} {most}");
+            assert!(rt; taken.as_slice() == answers.as_slice(), "{missing} {most}");
         }
     }
     Ok(())
@@ -157,7 +167,7 @@ fn wrong_lines(rt: HostRuntime) -> Result<(), Fail> {
 #[test]
 fn empty_text(rt: HostRuntime) -> Result<(), Fail> {
     let (ended, taken) = answered(rt.alloc(), Source::of(b""), takes(rt.alloc(), 1))?;
-    assert!(rt; ended == Ok(()));
+    assert!(rt; ended == Ok(0));
     assert!(rt; taken.is_empty());
     Ok(())
 }

@@ -90,22 +90,38 @@ impl<'a> Places<'a> {
         self.push_shown(alloc, text, base, address, shown)
     }
 
-    // Writes the lines of addresses after the text. What all need of memory is read before the first is written: it comes
-    // sooner where many wait at once.
+    // Writes the answers of lines that write these addresses, or none, after the text. What all need of memory is read before
+    // the first is written: it comes sooner where many wait at once.
     pub(crate) fn push_all(
         &self,
         alloc: Global,
         text: &mut Vec<u8>,
         base: u64,
-        addresses: &[u64],
+        addresses: &[Option<u64>],
     ) -> Result<(), AllocError> {
         let nears = self.cells.nears(alloc, base, addresses)?;
         let names = self.names.text.as_bytes();
         self.cells.ends_of_names(alloc, &nears, names)?;
         for k in 0..addresses.len() {
-            self.push_near(alloc, text, base, addresses[k], nears[k])?;
+            self.push_answer(alloc, text, base, addresses[k], nears[k])?;
         }
         Ok(())
+    }
+
+    // Writes the answer of a line that writes this address, or none, after the text: what the cell at this place says, or what
+    // is found.
+    fn push_answer(
+        &self,
+        alloc: Global,
+        text: &mut Vec<u8>,
+        base: u64,
+        address: Option<u64>,
+        near: usize,
+    ) -> Result<(), AllocError> {
+        match address {
+            Some(address) => self.push_near(alloc, text, base, address, near),
+            None => Ok(text.extend_from_slice(b"??\n")?),
+        }
     }
 
     // Writes the line of an address after the text: what the cell at this place tells, or what is found.

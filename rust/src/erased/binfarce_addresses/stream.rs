@@ -27,8 +27,6 @@ const LONGEST: usize = 18;
 pub enum LinesError {
     /// The reader failed.
     Read,
-    /// A line writes no address.
-    Address,
     /// An allocation failed.
     OutOfMemory,
     /// A write of the sink failed.
@@ -39,7 +37,6 @@ impl fmt::Display for LinesError {
     fn fmt(&self, f: &mut fmt::Formatter<'_>) -> fmt::Result {
         match self {
             LinesError::Read => write!(f, "read failed"),
-            LinesError::Address => write!(f, "not an address"),
             LinesError::OutOfMemory => write!(f, "out of memory"),
             LinesError::Write => write!(f, "write failed"),
         }
@@ -54,17 +51,17 @@ impl From<AllocError> for LinesError {
     }
 }
 
-/// What was answered of a text.
+/// How much of a text was answered.
 #[derive(Debug, Clone, Copy, PartialEq)]
 pub struct Answered {
-    /// How many bytes the lines have that were answered, with their line feeds.
+    /// How many bytes its whole lines have, with their line feeds.
     pub len: usize,
-    /// The line behind them writes no address.
-    pub wrong: bool,
+    /// How many of these lines write no address.
+    pub missing: u64,
 }
 
-/// Writes after `text` the lines of the addresses that the whole lines of `bytes` write, up to the first line that writes
-/// none. A line of more than 18 bytes writes none, also before its line feed has come.
+/// Writes after `text` the answers of the whole lines of `bytes`: the line of the address that a line writes, as
+/// `Places::push_line` does, or `??` for a line that writes none. White space at both ends of a line is no part of the address.
 ///
 /// # Errors
 ///
@@ -81,28 +78,34 @@ pub fn push_lines(
     Ok(answered)
 }
 
-// The addresses that the whole lines of `bytes` write, up to the first line that writes none, and how much of it that is.
-fn addresses_of(alloc: Global, bytes: &[u8]) -> Result<(Vec<u64>, Answered), AllocError> {
+// The addresses that the whole lines of `bytes` write, or none, and how much of the text that is.
+fn addresses_of(
+    alloc: Global,
+    bytes: &[u8],
+) -> Result<(Vec<Option<u64>>, Answered), AllocError> {
     let mut addresses = Vec::with_capacity(alloc, bytes.len() / 8)?;
     let mut len = 0;
+    let mut missing = 0;
     while let Some((address, line_len)) = first_address(&bytes[len..]) {
-        match address {
-            Some(address) => addresses.push(address)?,
-            None => return Ok((addresses, Answered { len, wrong: true })),
-        }
+        addresses.push(address)?;
         len += line_len;
+        missing += u64::from(address.is_none());
     }
-    let wrong = bytes.len() - len > LONGEST;
-    Ok((addresses, Answered { len, wrong }))
+    Ok((addresses, Answered { len, missing }))
 }
 
-// What the first line of the bytes writes, if it writes an address, and how many bytes it has with its line feed.
+// The address that the first line of the bytes writes, or none, and how many bytes that line has with its line feed.
 fn first_address(bytes: &[u8]) -> Option<(Option<u64>, usize)> {
     if let Some((address, len)) = hex_line(bytes) {
         return Some((Some(address), len + 1));
     }
     let line = first_line(bytes)?;
-    Some((parse_address(line), line.len() + 1))
+    Some((parse_line(line), line.len() + 1))
+}
+
+// The address that a line writes.
+fn parse_line(line: &[u8]) -> Option<u64> {
+    parse_address(line.trim_ascii())
 }
 
 // The bytes before the first line feed.
@@ -115,36 +118,25 @@ fn first_line(bytes: &[u8]) -> Option<&[u8]> {
     None
 }
 
-/// Tells what stands at the addresses that the lines of `input` write, until it ends: what came is answered before more is
-/// read. The last line may have no line feed. A read that was interrupted is tried again.
+/// Answers the lines of `input` until it ends, each as soon as its line feed has come, and returns how many of them write no
+/// address, at most `u64::MAX`. The last line may have no line feed. A read that was interrupted is tried again. Of a line
+/// that has no end yet at most 19 bytes are kept.
 ///
 /// # Errors
 ///
-/// `Address` where a line writes no address, and `Read` where the reader fails: the lines before are answered. `Write` where
-/// a write failed, and `OutOfMemory` where an allocation did: a beginning was written.
+/// `Read` where the reader fails: the whole lines before are answered. `Write` where a write failed, and `OutOfMemory` where
+/// an allocation did: a beginning was written.
 pub fn answer_lines<R: Read, S: Sink>(
     alloc: Global,
     places: &Places<'_>,
     base: u64,
     input: &mut R,
     out: &mut S,
-) -> Result<(), LinesError> {
-    let mut line = Vec::new(alloc);
-    answer_all(alloc, places, base, &mut line, input, out)?;
-    answer_last(alloc, places, base, line.as_slice(), out)
-}
-
-// Answers the whole lines of what the reader gives, and keeps the last one.
-fn answer_all<R: Read, S: Sink>(
-    alloc: Global,
-    places: &Places<'_>,
-    base: u64,
-    line: &mut Vec<u8>,
-    input: &mut R,
-    out: &mut S,
-) -> Result<(), LinesError> {
+) -> Result<u64, LinesError> {
     let mut chunk = new_chunk(alloc)?;
-    answer_chunks(alloc, places, base, line, chunk.as_mut_slice(), input, out)
+    let mut line = Vec::new(alloc);
+    let missing = answer_whole(alloc, places, base, &mut line, chunk.as_mut_slice(), input, out)?;
+    answer_last(alloc, places, base, &mut line, missing, out)
 }
 
 // Room for the bytes of a read.
@@ -152,8 +144,8 @@ fn new_chunk(alloc: Global) -> Result<Vec<u8>, AllocError> {
     Vec::filled(alloc, 0, CHUNK)
 }
 
-// The same, with room for the bytes of a read.
-fn answer_chunks<R: Read, S: Sink>(
+// Answers the whole lines of what the reader gives, and returns how many of them write no address; `line` keeps what is left.
+fn answer_whole<R: Read, S: Sink>(
     alloc: Global,
     places: &Places<'_>,
     base: u64,
@@ -161,11 +153,15 @@ fn answer_chunks<R: Read, S: Sink>(
     chunk: &mut [u8],
     input: &mut R,
     out: &mut S,
-) -> Result<(), LinesError> {
+) -> Result<u64, LinesError> {
+    let mut missing = 0;
     for _ in 0..u64::MAX {
         match input.read(chunk) {
-            Ok(0) => return Ok(()),
-            Ok(n) => answer_part(alloc, places, base, line, &chunk[..n], out)?,
+            Ok(0) => return Ok(missing),
+            Ok(n) => {
+                let more = answer_part(alloc, places, base, line, &chunk[..n], out)?;
+                missing = u64::saturating_add(missing, more);
+            }
             Err(e) => {
                 if e.kind() != ErrorKind::Interrupted {
                     return Err(LinesError::Read);
@@ -184,50 +180,56 @@ fn answer_part<S: Sink>(
     line: &mut Vec<u8>,
     part: &[u8],
     out: &mut S,
-) -> Result<(), LinesError> {
+) -> Result<u64, LinesError> {
     line.extend_from_slice(part)?;
-    let len = answer(alloc, places, base, line.as_slice(), out)?;
-    let left = Vec::from_slice(alloc, &line[len..])?;
-    *line = left;
-    Ok(())
+    let answered = answer(alloc, places, base, line.as_slice(), out)?;
+    let kept = kept_of(alloc, &line[answered.len..])?;
+    *line = kept;
+    Ok(answered.missing)
 }
 
-// Answers the whole lines of the bytes, and gives their length.
+// What is kept of the first part of a line: no white space before the address, and at most one byte of it behind. A line that
+// is too long for an address is kept as a byte that no address has.
+fn kept_of(alloc: Global, line: &[u8]) -> Result<Vec<u8>, AllocError> {
+    let begun = line.trim_ascii_start();
+    if begun.is_empty() {
+        return Vec::from_slice(alloc, &line[..line.len().min(1)]);
+    }
+    let len = begun.trim_ascii_end().len();
+    if len > LONGEST {
+        return Vec::from_slice(alloc, b"?");
+    }
+    Vec::from_slice(alloc, &begun[..begun.len().min(len + 1)])
+}
+
+// Answers the whole lines of the bytes.
 fn answer<S: Sink>(
     alloc: Global,
     places: &Places<'_>,
     base: u64,
     bytes: &[u8],
     out: &mut S,
-) -> Result<usize, LinesError> {
+) -> Result<Answered, LinesError> {
     let mut text = Vec::with_capacity(alloc, bytes.len().saturating_mul(GROWTH))?;
     let answered = push_lines(alloc, places, base, bytes, &mut text)?;
     write_all(out, text.as_slice())?;
-    if answered.wrong {
-        return Err(LinesError::Address);
-    }
-    Ok(answered.len)
+    Ok(answered)
 }
 
-// Answers the last line, if there is one.
+// Answers the last line, if there is one, and returns how many of all lines write no address.
 fn answer_last<S: Sink>(
     alloc: Global,
     places: &Places<'_>,
     base: u64,
-    line: &[u8],
+    line: &mut Vec<u8>,
+    missing: u64,
     out: &mut S,
-) -> Result<(), LinesError> {
-    if line.is_empty() {
-        return Ok(());
+) -> Result<u64, LinesError> {
+    if line.as_slice().is_empty() {
+        return Ok(missing);
     }
-    match parse_address(line) {
-        Some(address) => {
-            let mut text = Vec::new(alloc);
-            places.push_line(alloc, &mut text, base, address)?;
-            write_all(out, text.as_slice())
-        }
-        None => Err(LinesError::Address),
-    }
+    let more = answer_part(alloc, places, base, line, b"\n", out)?;
+    Ok(missing.saturating_add(more))
 }
 
 // Writes the bytes in as many calls as the sink needs.

@@ -17,7 +17,7 @@ pub struct Asked<'a> {
     pub addresses: Vec<u64>,
 }
 
-/// What the arguments after the program's own name ask: `[--base ADDRESS] FILE ADDRESS..`.
+/// What the arguments after the program's own name ask: `[--base ADDRESS] FILE ADDRESS..`, or `--base=ADDRESS` as one word.
 ///
 /// `Usage` for any others; `OutOfMemory` where an allocation fails.
 pub fn read_arguments<'a>(alloc: Global, arguments: &'a [String]) -> Result<Asked<'a>, Failure> {
@@ -42,6 +42,8 @@ fn base_and_others(arguments: &[String]) -> Option<(u64, &[String])> {
         [option, others @ ..] => {
             if option.as_str() == "--base" {
                 base_of(others)
+            } else if option.as_bytes().starts_with(b"--base=") {
+                given_base(&option.as_bytes()[7..], others)
             } else {
                 Some((0, arguments))
             }
@@ -53,12 +55,15 @@ fn base_and_others(arguments: &[String]) -> Option<(u64, &[String])> {
 // The base that the first word writes, and the other words.
 fn base_of(words: &[String]) -> Option<(u64, &[String])> {
     match words {
-        [word, others @ ..] => {
-            let base = parse_address(word.as_bytes())?;
-            Some((base, others))
-        }
+        [word, others @ ..] => given_base(word.as_bytes(), others),
         [] => None,
     }
+}
+
+// The base that the word writes, and the other words.
+fn given_base<'a>(word: &[u8], others: &'a [String]) -> Option<(u64, &'a [String])> {
+    let base = parse_address(word)?;
+    Some((base, others))
 }
 
 // The addresses that the words write, if each writes one.

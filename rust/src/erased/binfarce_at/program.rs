@@ -24,6 +24,10 @@ pub enum Fault {
     File,
     /// The lines of standard input were not answered to its end.
     Lines(LinesError),
+    /// One line of standard input writes no address; all were answered.
+    OneMissing,
+    /// So many lines of standard input write no address; all were answered.
+    Missing(u64),
     /// The addresses were not symbolized.
     At(ListError),
 }
@@ -34,6 +38,8 @@ impl std::fmt::Display for Fault {
             Fault::Usage => write!(f, "usage: binfarce-at [--base ADDRESS] FILE [ADDRESS..]"),
             Fault::File => write!(f, "binfarce-at: cannot read file"),
             Fault::Lines(e) => write!(f, "binfarce-at: {e}"),
+            Fault::OneMissing => write!(f, "binfarce-at: 1 line without an address"),
+            Fault::Missing(e) => write!(f, "binfarce-at: {e} lines without an address"),
             Fault::At(e) => write!(f, "binfarce-at: {e}"),
         }
     }
@@ -78,7 +84,7 @@ impl From<LinesError> for Fault {
 impl crate::erased::binfarce_program::Fault for Fault {
     fn status(&self) -> u8 {
         match self {
-            Fault::Usage | Fault::Lines(LinesError::Address) => 2,
+            Fault::Usage | Fault::OneMissing | Fault::Missing(_) => 2,
             _ => 1,
         }
     }
@@ -134,7 +140,8 @@ pub fn run_file<F: Read + Source, W: Write>(
 /// Reads the file to its end, and symbolizes the addresses that the lines of `input` write, as `run` does, until it ends:
 /// what came is answered before more is read.
 ///
-/// `File`, and `At` before anything is read of `input`, as `run`; `Lines` where `answer_lines` fails.
+/// `File`, and `At` before anything is read of `input`, as `run`; `Lines` where `answer_lines` fails, and `Missing` where lines
+/// write no address.
 pub fn run_lines<R: Read, I: Read, W: Write>(
     alloc: Global,
     file: &mut R,
@@ -184,8 +191,8 @@ fn answer_in_bytes<I: Read, W: Write>(
     out: &mut Out<W>,
 ) -> Result<(), Fault> {
     let places = named_places_in_bytes(alloc, file)?;
-    answer_lines(alloc, &places, base, input, out)?;
-    Ok(())
+    let missing = answer_lines(alloc, &places, base, input, out)?;
+    ended(missing)
 }
 
 // The same, of a file's tables.
@@ -197,8 +204,17 @@ fn answer_in_tables<I: Read, W: Write>(
     out: &mut Out<W>,
 ) -> Result<(), Fault> {
     let places = named_places_in_tables(alloc, tables)?;
-    answer_lines(alloc, &places, base, input, out)?;
-    Ok(())
+    let missing = answer_lines(alloc, &places, base, input, out)?;
+    ended(missing)
+}
+
+// How the work ended where all lines were answered, and so many of them write no address.
+fn ended(missing: u64) -> Result<(), Fault> {
+    match missing {
+        0 => Ok(()),
+        1 => Err(Fault::OneMissing),
+        _ => Err(Fault::Missing(missing)),
+    }
 }
 
 // The places of the function symbols of a file's bytes, with their names.

@@ -18,9 +18,12 @@ use crate::erased::test_streams::{
 const USAGE: &str = "usage: binfarce-at [--base ADDRESS] FILE [ADDRESS..]";
 
 // Arguments that ask nothing.
-const WRONG: [&[&str]; 8] = [
+const WRONG: [&[&str]; 11] = [
     &[],
     &["--base"],
+    &["--base=", "file", "10"],
+    &["--base=file", "file", "10"],
+    &["--base=10"],
     &["--base", "10"],
     &["--base", "file", "10"],
     &["file", "0x"],
@@ -79,6 +82,8 @@ fn takes_a_base_and_addresses() -> Result<(), AllocError> {
     let addresses = [0x10, u64::MAX, 10];
     assert!(asks(rt.alloc(), &words, 0, "file", &addresses)?);
     let words = ["--base", "0x400000", "file", "400010"];
+    assert!(asks(rt.alloc(), &words, 0x40_0000, "file", &[0x40_0010])?);
+    let words = ["--base=0X400000", "file", "400010"];
     assert!(asks(rt.alloc(), &words, 0x40_0000, "file", &[0x40_0010])?);
     assert!(asks(rt.alloc(), &["file"], 0, "file", &[])?);
     Ok(())
@@ -166,6 +171,22 @@ fn symbolizes_in_any_file() -> Result<(), AllocError> {
             assert!(is_written(ended, out, want), "{label}");
         }
     }
+    Ok(())
+}
+
+// Lines of which three write no address: all are answered, and the fault has their number.
+#[test]
+fn reports_lines_without_an_address() -> Result<(), AllocError> {
+    let rt = HostRuntime::new();
+    let files = samples(rt.alloc())?;
+    let file = &files[0];
+    let mut out = Out::new(Vec::new(rt.alloc()));
+    let mut lines = Source::of(b"\nmain\n1000\r\n10 00");
+    let ended = run_lines(rt.alloc(), &mut file.as_slice(), 0, &mut lines, &mut out);
+    let want = "binfarce-at: 3 lines without an address";
+    assert!(ended_with(rt.alloc(), ended, want, 2)?);
+    let text = out.into_inner();
+    assert!(text.as_slice() == b"??\n??\n0000000000001000 foo+0x0\n??\n".as_slice());
     Ok(())
 }
 

@@ -2,10 +2,10 @@
 
 //! Addresses as words.
 
-/// The address that a word writes: 1 to 16 hexadecimal digits, in upper or lower case, before which `0x` may stand. `None`
-/// for any other word.
+/// The address that a word writes: 1 to 16 hexadecimal digits, in upper or lower case, before which `0x` or `0X` may come.
+/// `None` for any other word.
 pub fn parse_address(word: &[u8]) -> Option<u64> {
-    if word.starts_with(b"0x") {
+    if word.starts_with(b"0x") || word.starts_with(b"0X") {
         hex_number(&word[2..])
     } else {
         hex_number(word)

@@ -1,12 +1,16 @@
-use Rattle.std.proofs.Common.{List, ℕ, ◌++◌, ◌∙◌, sym, ap}
-use Rattle.binfarce_addresses.proofs.Answering.{last_none, last_written}
+use Rattle.std.proofs.Common.{◌∙◌, sym}
+use Rattle.binfarce_addresses.proofs.Answering.{last_answered, last_stopped, no_last, not_nil, nil}
 use Rattle.binfarce_addresses.proofs.stream.answer_last.Goals as goal
 
-pub returns-in_err-push_line-in-Some : goal.returns-in_err-push_line-in-Some
-returns-in_err-push_line-in-Some g c = last_none c.args.places.now c.args.base c.args.line.now _ c.from_residual.result c.from_residual.ensures.1
+pub returns-then-is_empty : goal.returns-then-is_empty
+returns-then-is_empty g c = no_last c.args.places.now c.args.base c.args.line.now.items c.args.missing _ (nil c.args.line.now.items c.as_slice.result.now c.as_slice.ensures.value (sym c.is_empty.ensures ∙ c.if-is_empty.true))
 
-pub returns-in_ok-push_line-in-Some : goal.returns-in_ok-push_line-in-Some
-returns-in_ok-push_line-in-Some g c =
-    let line = c.in_ok-push_line-in-Some.ensures in
-    last_written c.args.places.now c.args.base c.args.line.now c.as_slice.result.now line.0 c.in-Some.address _ _ c.write_all.result (sym c.in-Some.ensures) line.1
-    (c.as_slice.ensures.value ∙ line.2 ∙ ap (λ (xs : List ℕ). xs ++ line.0) c.new-text.ensures.items) c.write_all.ensures
+pub returns-in_err-more : goal.returns-in_err-more
+returns-in_err-more g c =
+    last_stopped c.args.places.now c.args.base c.args.line.now.items c.answer_part.new.line.items c.args.missing _ _ c.in_err-more.field-0.0 c.from_residual.result
+    (not_nil c.args.line.now.items c.as_slice.result.now c.as_slice.ensures.value (sym c.is_empty.ensures ∙ c.if-is_empty.false)) c.from_residual.ensures.1 c.in_err-more.ensures
+
+pub returns : goal.returns
+returns g c =
+    last_answered c.args.places.now c.args.base c.args.line.now.items c.answer_part.new.line.items c.args.missing c.in_ok-more.more c.saturating_add.result _ _
+    (not_nil c.args.line.now.items c.as_slice.result.now c.as_slice.ensures.value (sym c.is_empty.ensures ∙ c.if-is_empty.false)) c.in_ok-more.ensures c.saturating_add.ensures

@@ -6,7 +6,7 @@ use crate::shim::HostRuntime;
 use crate::erased::binfarce_addresses::parse_address;
 
 // A word, and the address that it writes.
-const WORDS: [(&str, Option<u64>); 17] = [
+const WORDS: [(&str, Option<u64>); 20] = [
     ("0", Some(0)),
     ("0x0", Some(0)),
     ("1f", Some(31)),
@@ -19,7 +19,10 @@ const WORDS: [(&str, Option<u64>); 17] = [
     ("00000000000000000", None),
     ("", None),
     ("0x", None),
-    ("0X10", None),
+    ("0X10", Some(16)),
+    ("0Xffffffffffffffff", Some(u64::MAX)),
+    ("0X", None),
+    ("0x0X1", None),
     ("0x0x1", None),
     ("+1", None),
     ("1 ", None),

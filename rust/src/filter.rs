@@ -18,8 +18,10 @@ pub enum Form {
 
 /// Returns `text` with each mangled name in it replaced by its readable form. Everything else is unchanged.
 ///
-/// A name is a longest run of ASCII letters, digits, `_`, `$` and `.` that begins with `_` and is mangled, without the dots
-/// at its end. One of more than 2^20 bytes, or whose readable form has a control character, is unchanged.
+/// A name begins with `_ZN` and a digit, or with `_R` and one of `N`, `I`, `M`, `X` and `Y`, also within a word such as
+/// `.text._ZN..`, and ends where its mangling does. What follows it is kept, except `.llvm.` and a number. A name whose
+/// readable form has a control character is unchanged. So is a run of more than 2^20 bytes: a run goes from a `_` to the
+/// next byte other than an ASCII letter or digit, `_`, `$` and `.`.
 ///
 /// # Errors
 ///
@@ -41,7 +43,7 @@ pub fn filter(text: &str, form: Form) -> Result<String, OutOfMemory> {
 
 /// Copies `input` to `output` as [`filter`] does, byte strings of any kind. What has been read is written before the next
 /// read, except the beginning of what may become a name, and `output` is flushed each time: so it serves in a pipe. Memory
-/// goes by the longest run that may be a name.
+/// goes by the longest run that may hold names.
 ///
 /// # Errors
 ///

@@ -1,4 +1,5 @@
 pub mod Runs
+pub mod Lanes
 pub mod Scans
 pub mod Names
 pub mod Parts

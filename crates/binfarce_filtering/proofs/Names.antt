@@ -1,12 +1,12 @@
 -- Names in a run, and what is shown of a run up to a position.
-use Rattle.std.proofs.Common.{inl, inr, ◌≡◌, ℕ, ◌+◌, ◌<◌, ◌≤◌, Bool, true, false, cond, not, ◌&&◌, ◌==◌, List, [], ◌∷◌, ◌++◌, length, drop, take, get_or, refl, sym, ◌∙◌, ap, subst, arith, append_assoc, append-nil}
+use Rattle.std.proofs.Common.{inl, inr, ◌≡◌, ℕ, ◌+◌, ◌<◌, ◌≤◌, Bool, true, false, cond, not, ◌==◌, List, [], ◌∷◌, ◌++◌, length, drop, take, get_or, refl, sym, ◌∙◌, ap, subst, arith, append_assoc, append-nil}
 use Rattle.std.proofs.lemmas.Bool.{and_parts, false≢true}
 use Rattle.std.proofs.lemmas.Bool.Decides.{nat_tests}
 use Rattle.std.proofs.lemmas.List.{drop-drop, drop_all}
 use Rattle.std.specs.List.{prefix_len}
 use Rattle.binfarce_legacy.specs.Legacy.{Element, Reads}
 use Rattle.binfarce_legacy.proofs.ElementLemmas.{reads_one_way}
-use Rattle.binfarce_filtering.specs.Filter.{IsLegacyUpTo, IsNameLength, IsRead, IsReadable, IsSymbolLength, begins_name, begins_symbol, begins_v0, byte_then, ends_name, is_dot, llvm_length, name_then, no_more}
+use Rattle.binfarce_filtering.specs.Filter.{IsNameLength, IsRead, IsReadable, IsSymbolLength, begins_name, begins_symbol, begins_v0, byte_then, ends_name, is_dot, llvm_length, name_then, no_more}
 
 first_is : (b : ℕ) → (95 == b) ≡ true → not (is_dot b) ≡ true
 first_is b is = grind (arith, nat_tests)

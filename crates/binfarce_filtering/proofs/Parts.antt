@@ -1,5 +1,5 @@
 -- Texts that come in parts.
-use Rattle.std.proofs.Common.{◌≡◌, ℕ, ◌<◌, Result, Ok, Err, Bool, cond, true, false, ◌&&◌, ◌==◌, List, [], ◌∷◌, ◌++◌, length, take, drop, get_or, ◌+◌, refl, sym, ◌∙◌, ap, subst, arith, append_assoc, append-nil, length-append, eqb-true}
+use Rattle.std.proofs.Common.{◌≡◌, ℕ, ◌<◌, Result, Ok, Err, Bool, cond, true, false, ◌==◌, List, [], ◌∷◌, ◌++◌, length, take, drop, get_or, ◌+◌, refl, sym, ◌∙◌, ap, subst, arith, append_assoc, append-nil, length-append, eqb-true}
 use Rattle.std.specs.Prelude.{OnOk}
 use Rattle.std.specs.Result.{is_ok}
 use Rattle.std.specs.List.{list_all}

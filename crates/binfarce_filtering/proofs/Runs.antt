@@ -1,5 +1,5 @@
 -- Runs, and texts up to one.
-use Rattle.std.proofs.Common.{◌≡◌, ℕ, ◌+◌, ◌-◌, ◌<◌, ◌≤◌, Bool, true, false, not, ◌&&◌, ◌==◌, List, [], ◌∷◌, ◌++◌, length, take, drop, get_or, refl, sym, ◌∙◌, ap, subst, arith, append_assoc, append-nil, length-drop, length-take}
+use Rattle.std.proofs.Common.{◌≡◌, ℕ, ◌+◌, ◌-◌, ◌<◌, Bool, true, false, not, ◌==◌, List, [], ◌∷◌, ◌++◌, length, take, drop, get_or, refl, sym, ◌∙◌, ap, subst, arith, append_assoc, append-nil, length-drop, length-take}
 use Rattle.std.proofs.Math.Seq.{take-add}
 use Rattle.std.proofs.lemmas.Bool.{and_from, and_parts}
 use Rattle.std.proofs.lemmas.Bool.Decides.{nat_tests}
@@ -60,7 +60,7 @@ filtered_same full text other filtered also same both is =
     let P : List ℕ → Type 0 = λ x. IsFiltered full x also in
     subst P same (subst (λ (x : List ℕ). IsFiltered full text x) both is)
 
--- nothing stands in place of nothing
+-- nothing replaces nothing
 pub continues_none : (full : Bool) → Continues full [] []
 continues_none full more filtered is = is
 
@@ -86,7 +86,7 @@ pub continues_both : (full : Bool) (text shown after written : List ℕ) → Con
 continues_both full text shown after written first second more filtered is =
     filtered_same full _ _ _ _ (sym (append_assoc text after more)) (sym (append_assoc shown written filtered)) (first (after ++ more) (written ++ filtered) (second more filtered is))
 
--- what was written after old is what stands in place of the text before a position
+-- what was written after old replaces the text before a position
 abbrev pub Reaches : Bool → List ℕ → ℕ → List ℕ → List ℕ → Type 0
 Reaches full text at old new = (shown : List ℕ) × Continues full (take at text) shown × (new ≡ old ++ shown)
 

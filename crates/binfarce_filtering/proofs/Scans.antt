@@ -8,7 +8,7 @@ use Rattle.std.specs.List.{list_all}
 use Rattle.binfarce_filtering.specs.Filter.{IsFiltered, IsRead, IsShown, IsShownIf, begins_name, begins_symbol, byte_then, is_run, is_run_byte, is_too_long, no_more, other_then}
 use Rattle.binfarce_filtering.specs.Continued.{Continues}
 use Rattle.binfarce_filtering.specs.machine.Scan.{IsOutside, ends_after, ends_inside, goes_inside, is_mark, is_plain}
-use Rattle.binfarce_filtering.proofs.Runs.{filtered_same, no_underscore, run_and_byte}
+use Rattle.binfarce_filtering.proofs.Runs.{filtered_same, run_and_byte}
 
 -- the text was plain before its last byte, which is no `Z` or `R` behind a `_`
 pub plain_more : (after : Bool) (text : List ℕ) (b : ℕ) → is_plain after text ≡ true → (ends_after after text && is_mark b) ≡ false → is_plain after (text ++ b ∷ []) ≡ true
@@ -25,7 +25,7 @@ plain_front after (suc n) (a ∷ text) is =
     let parts = and_parts (not (after && is_mark a)) (is_plain (95 == a) text) is in
     and_from (not (after && is_mark a)) (is_plain (95 == a) (take n text)) parts.0 (plain_front (95 == a) n text parts.1)
 
--- the last byte tells whether it is a `_`
+-- the last byte decides whether it is a `_`
 pub after_more : (after : Bool) (text : List ℕ) (b : ℕ) → ends_after after (text ++ b ∷ []) ≡ (95 == b)
 after_more after [] b = refl
 after_more after (a ∷ text) b = after_more (95 == a) text b
@@ -44,6 +44,26 @@ after_here text at some within = ap (ends_after false) (last_is text at some wit
 
 inside_here : (text : List ℕ) (at : ℕ) → 0 < at → at ≤ length text → ends_inside false (take at text) ≡ goes_inside (ends_inside false (take (at - 1) text)) (get_or text (at - 1) 0)
 inside_here text at some within = ap (ends_inside false) (last_is text at some within) ∙ inside_more false (take (at - 1) text) (get_or text (at - 1) 0)
+
+same_test : (b : ℕ) → (b == 95) ≡ false → (95 == b) ≡ false
+same_test b is = grind (arith, nat_tests)
+
+pub other_test : (b : ℕ) → ¬ (b ≡ 95) → (95 == b) ≡ false
+other_test b is = grind (arith, nat_tests)
+
+-- bytes after other bytes than `_` are plain
+pub plain_on : (text : List ℕ) (at n : ℕ) → 0 < at → at + n ≤ length text → is_plain false (take at text) ≡ true → ((k : ℕ) → k < n → ¬ (get_or text (at - 1 + k) 0 ≡ 95)) → is_plain false (take (at + n) text) ≡ true
+plain_on text at zero some within plain others = let P : ℕ → Type 0 = λ m. is_plain false (take m text) ≡ true in subst P (omega arith) plain
+plain_on text at (suc n) some within plain others =
+    let P : ℕ → Type 0 = λ m. is_plain false (take m text) ≡ true in
+    let Q : List ℕ → Type 0 = λ x. is_plain false x ≡ true in
+    let fits : at + n < length text = omega (arith, within) in
+    let last : at + n - 1 ≡ at - 1 + n = omega (arith, some) in
+    let before = plain_on text at n some (omega (arith, within)) plain (λ k under. others k (omega (arith, under))) in
+    let other : ends_after false (take (at + n) text) ≡ false =
+    after_here text (at + n) (omega (arith, some)) (omega (arith, fits)) ∙ ap (λ (k : ℕ). 95 == get_or text k 0) last ∙ other_test (get_or text (at - 1 + n) 0) (others n (omega arith)) in
+    subst P (omega arith)
+    (subst Q (sym (take_more text (at + n) 0 fits)) (plain_more false (take (at + n) text) (get_or text (at + n) 0) before (ap (λ (t : Bool). t && is_mark (get_or text (at + n) 0)) other)))
 
 none_goes : (inside : Bool) (b : ℕ) → is_run_byte b ≡ false → goes_inside inside b ≡ false
 none_goes inside b is = ap (λ (t : Bool). t && (inside || 95 == b)) is
@@ -119,9 +139,6 @@ Again full text more filtered = (inside : Bool) (run : List ℕ) → Starts insi
 outside_byte : (inside : Bool) (b : ℕ) → goes_inside inside b ≡ false → (b == 95) ≡ false
 outside_byte true b goes = grind (arith, nat_tests)
 outside_byte false b goes = grind (arith, nat_tests)
-
-pub same_test : (b : ℕ) → (b == 95) ≡ false → (95 == b) ≡ false
-same_test b is = grind (arith, nat_tests)
 
 ends_here : (b : ℕ) → goes_inside true b ≡ false → is_run_byte b ≡ false
 ends_here b goes = grind (arith, nat_tests)

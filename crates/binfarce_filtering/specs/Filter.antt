@@ -58,11 +58,11 @@ abbrev pub IsSymbolLength : (is_v0 : Bool) (run : List ℕ) (n : ℕ) → Type 0
 IsSymbolLength true run n = n ≡ prefix_len (λ b. not (is_dot b)) run
 IsSymbolLength false run n = IsLegacyUpTo run n ⊎ ((n ≡ length run) × ((k : ℕ) → ¬ (IsLegacyUpTo run k)))
 
--- how many `_` a platform has put before the symbol with which a run begins
+-- how many `_` a platform has added before the symbol with which a run begins
 abbrev pub added : (run : List ℕ) → ℕ
 added run = if begins_symbol run then 0 else 1
 
--- the same length, with the `_` that a platform has put before the symbol
+-- the same length, with the `_` that a platform has added
 abbrev pub IsNameLength : (run : List ℕ) (n : ℕ) → Type 0
 IsNameLength run n = (len : ℕ) × (n ≡ added run + len) × IsSymbolLength (begins_v0 (drop (added run) run)) (drop (added run) run) len
 
@@ -85,7 +85,7 @@ has_control text = list_any is_control (chars text)
 abbrev pub IsReadable : (full : Bool) (name shown : List ℕ) → Type 0
 IsReadable full name shown = (answer : Name) × IsNamed name answer × (shown ≡ (if has_control (text_of full answer) then name else text_of full answer))
 
--- shown stands in place of a run, or of its rest, from left to right: each name is replaced, `.llvm.` and a number after it are left out, and each other byte stays
+-- shown replaces a run, or its rest, from left to right: each name by its readable text, `.llvm.` and a number behind it by nothing, and each other byte by itself
 pub data IsRead (full : Bool) : (first : Bool) (run shown : List ℕ) → Type 0 where
   no_more : (first : Bool) → IsRead full first [] []
   byte_then : (first : Bool) (b : ℕ) (run shown : List ℕ) → begins_name first (b ∷ run) ≡ false → IsRead full false run shown → IsRead full first (b ∷ run) (b ∷ shown)
@@ -96,7 +96,7 @@ pub data IsRead (full : Bool) : (first : Bool) (run shown : List ℕ) → Type 0
 abbrev pub is_too_long : (run : List ℕ) → Bool
 is_too_long run = nat_lt MAX_RUN (length run)
 
--- shown stands in place of a run, which stays where it is too long
+-- shown replaces a run, by the run itself where it is too long
 abbrev pub IsShownIf : (too_long full : Bool) (run shown : List ℕ) → Type 0
 IsShownIf true full run shown = shown ≡ run
 IsShownIf false full run shown = IsRead full true run shown
@@ -104,7 +104,7 @@ IsShownIf false full run shown = IsRead full true run shown
 abbrev pub IsShown : (full : Bool) (run shown : List ℕ) → Type 0
 IsShown full run shown = IsShownIf (is_too_long run) full run shown
 
--- filtered stands in place of the text: each run, from a `_` to the next byte that no run has, is replaced, and each other byte stays
+-- filtered replaces the text: each run, from a `_` to the next byte that no run has, by what is shown of it, and each other byte by itself
 pub data IsFiltered (full : Bool) : (text filtered : List ℕ) → Type 0 where
   nothing : IsFiltered full [] []
   other_then : (b : ℕ) (text filtered : List ℕ) → (b == byte "_") ≡ false → IsFiltered full text filtered → IsFiltered full (b ∷ text) (b ∷ filtered)

@@ -1,21 +1,26 @@
 //! Makes the mangled names within a text readable.
 
-ghost use Rattle.std.specs.Prelude.{◌≡◌, ◌++◌, ◌∷◌, ◌+◌, ◌-◌, ◌^◌, ◌<◌, ◌≤◌, ℕ, List, Bool, true, false, not, [], length, take, drop, slice_index, IfOk, OnOk};
+ghost use Rattle.std.specs.Prelude.{◌≡◌, ◌++◌, ◌∷◌, ◌+◌, ◌-◌, ◌^◌, ◌<◌, ◌≤◌, ◌≢◌, ℕ, List, Bool, true, false, not, [], length, take, drop, slice_index, IfOk, OnOk};
 ghost use Rattle.std.specs.List.{list_all, prefix_len};
 ghost use Rattle.std.specs.String.{string_bytes};
 ghost use Rattle.binfarce_text.specs.Suffixes.{is_llvm_digit};
 ghost use Rattle.binfarce_names.specs.Name.{Name};
 ghost use Rattle.binfarce_names.specs.Named.{IsNamed};
-ghost use Rattle.binfarce_filtering.specs.Filter.{IsFiltered, IsNameLength, IsRead, IsReadable, IsShown, IsSymbolLength, added, begins_legacy, begins_name, begins_symbol, begins_v0, ends_name, has_control, is_dot, is_run, is_run_byte, is_too_long, llvm_length, text_of};
+ghost use Rattle.binfarce_filtering.specs.Filter.{IsFiltered, IsNameLength, IsRead, IsReadable, IsShown, IsSymbolLength, begins_legacy, begins_name, begins_symbol, begins_v0, ends_name, has_control, is_dot, is_run, is_run_byte, is_too_long, llvm_length, text_of};
 ghost use Rattle.binfarce_filtering.specs.Continued.{Continues};
-ghost use Rattle.binfarce_filtering.specs.machine.Scan.{IsOutside, MayGoOn, is_plain};
+ghost use Rattle.binfarce_filtering.specs.machine.Reading.{ShowsFirst};
+ghost use Rattle.binfarce_filtering.specs.machine.Scan.{IsOutside, MayGoOn, is_other, is_plain};
 
 use binfarce_legacy::elements::elements_end;
 use binfarce_names::demangle::{SymbolName, push_trimmed};
 use std::alloc::{AllocError, Global};
+use std::simd::prelude::*;
 
 /// The length in bytes of the longest run that may hold names. A longer one stays unchanged.
 pub const MAX_RUN: usize = 1 << 20;
+
+// How many bytes are looked at together.
+const STRIDE: usize = 16;
 
 // The limit, which the definition cites by name, is 1 MiB.
 fn limit_is()
@@ -198,18 +203,52 @@ fn mark_at(text: &[u8]) -> usize
 {
     let mut at = 0;
     while at < text.len() && !is_mark_at(text, at) {
-        at += 1;
+        let others = others_at(text, at);
+        at += 1 + others;
     }
     at
 }
 
 // Whether a `Z` or `R` that follows a `_` is here.
+#[inline(always)]
 fn is_mark_at(text: &[u8], at: usize) -> bool
     requires { at < length text.now }
     ensures after { result ≡ true → (0 < at) × (slice_index text.now (at - 1) ≡ 95) }
     ensures goes_on { result ≡ false → MayGoOn (take at text.now) (slice_index text.now at) }
 {
-    (text[at] == b'Z' || text[at] == b'R') && at > 0 && text[at - 1] == b'_'
+    if at == 0 {
+        return false;
+    }
+    text[at - 1] == b'_' && (text[at] == b'Z' || text[at] == b'R')
+}
+
+// How many bytes from a position on are no `_`, of the next 16; 0 where fewer come after it.
+#[inline(always)]
+fn others_at(text: &[u8], at: usize) -> usize
+    requires { at < length text.now }
+    ensures within { at + 1 + result ≤ length text.now }
+    ensures others { (k : ℕ) → k < result → slice_index text.now (at + k) ≢ 95 }
+{
+    if text.len() - at <= STRIDE {
+        return 0;
+    }
+    others_among(&text[at..at + STRIDE])
+}
+
+// How many of 16 bytes come before a `_`.
+#[inline(always)]
+fn others_among(bytes: &[u8]) -> usize
+    requires { length bytes.now ≡ 16 }
+    ensures { result ≡ prefix_len is_other bytes.now }
+{
+    let underscores = u8x16::from_slice(bytes)
+        .simd_eq(u8x16::splat(b'_'))
+        .to_bitmask();
+    if underscores == 0 {
+        STRIDE
+    } else {
+        underscores.trailing_zeros() as usize
+    }
 }
 
 // Where the run begins that the text ends in before a position, or the position.
@@ -282,8 +321,8 @@ fn push_names(alloc: Global, full: bool, run: &[u8], out: &mut Vec<u8>) -> Resul
     Ok(())
 }
 
-// Writes what is shown of the name or else the byte with which a run or its rest begins, and gives how many bytes that is
-// shown of.
+// Writes what is shown of the name, or else the byte, with which a run or its rest begins. Returns how many bytes that
+// replaces.
 fn push_next(
     alloc: Global,
     full: bool,
@@ -294,7 +333,7 @@ fn push_next(
     requires some { 0 < length run.now }
     requires run { list_all is_run_byte run.now ≡ true }
     ensures within { IfOk result (λ n. (0 < n) × (n ≤ length run.now)) }
-    ensures shown { IfOk result (λ n. (shown : List ℕ) × ((rest : List ℕ) → IsRead full false (drop n run.now) rest → IsRead full first run.now (shown ++ rest)) × (out.new.items ≡ out.old.items ++ shown)) }
+    ensures shown { IfOk result (λ n. ShowsFirst full first run.now n out.old.items out.new.items) }
 {
     if !begins_name(first, run) {
         out.push(run[0])?;
@@ -347,7 +386,7 @@ fn name_len(run: &[u8]) -> usize
     }
 }
 
-// The same without a `_` that a platform has put before it.
+// The same without a `_` that a platform has added before it.
 fn symbol_len(run: &[u8]) -> usize
     requires { begins_symbol run.now ≡ true }
     ensures within { (0 < result) × (result ≤ length run.now) }

@@ -28,13 +28,13 @@ each_byte f p all (x ∷ xs) fits =
     ap₂ (λ a b. a ∷ b) (agree_below_at (λ y. top 7 (f y)) p 256 x all (fits 0).fits) (each_byte f p all xs (λ k. fits (suc k)))
 
 -- a mask has a bit for each byte that passes p
-masked : (f : ℕ → ℕ) (p : ℕ → Bool) (v z : List ℕ) → length v ≤ 64 → ((k : ℕ) → Fits w8 (get_or v k 0)) → z ≡ map f v → agree_below (λ x. top 7 (f x)) p 256 ≡ true
+pub masked : (f : ℕ → ℕ) (p : ℕ → Bool) (v z : List ℕ) → length v ≤ 64 → ((k : ℕ) → Fits w8 (get_or v k 0)) → z ≡ map f v → agree_below (λ x. top 7 (f x)) p 256 ≡ true
     → mask_l (map (top 7) z) % 2 ^ 64 ≡ mask_l (map p v)
 masked f p v z short fits e all =
     ap (λ l. mask_l l % 2 ^ 64) (ap (map (top 7)) e ∙ each_byte f p all v fits) ∙ mask_l-mod (map p v) 64 (omega (arith, length-map v p, short))
 
 -- a load of all bytes, each compared with one
-hits : (v : List ℕ) (n y : ℕ) → length v ≡ n → zip2 hit (take n v) (replicate n y) ≡ map (λ x. hit x y) v
+pub hits : (v : List ℕ) (n y : ℕ) → length v ≡ n → zip2 hit (take n v) (replicate n y) ≡ map (λ x. hit x y) v
 hits v n y long =
     ap (λ (xs : List ℕ). zip2 hit xs (replicate n y)) (ap (λ k. take k v) (sym long) ∙ take-length v) ∙ zip2_splat hit v n y long
 

@@ -6,6 +6,10 @@ use Rattle.binfarce_filtering.specs.Filter.{is_run_byte}
 abbrev pub is_mark : (b : ℕ) → Bool
 is_mark b = 90 == b || 82 == b
 
+-- a byte that is no `_`
+abbrev pub is_other : (b : ℕ) → Bool
+is_other b = not (b == 95)
+
 -- no `Z` or `R` of the text follows a `_`, where the byte before the text is a `_` or isn't
 abbrev pub is_plain : (after : Bool) (text : List ℕ) → Bool
 is_plain after [] = true

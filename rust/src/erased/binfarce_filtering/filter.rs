@@ -6,9 +6,13 @@ use crate::shim::{String, Vec};
 use crate::erased::binfarce_legacy::elements::elements_end;
 use crate::erased::binfarce_names::demangle::{SymbolName, push_trimmed};
 use crate::shim::alloc::{AllocError, Global};
+use crate::shim::simd::prelude::*;
 
 /// The length in bytes of the longest run that may hold names. A longer one stays unchanged.
 pub const MAX_RUN: usize = 1 << 20;
+
+// How many bytes are looked at together.
+const STRIDE: usize = 16;
 
 /// The text with each mangled name in it made readable: by its trimmed text, or `full` by its complete one.
 ///
@@ -147,14 +151,41 @@ fn plain_len(text: &[u8]) -> usize {
 fn mark_at(text: &[u8]) -> usize {
     let mut at = 0;
     while at < text.len() && !is_mark_at(text, at) {
-        at += 1;
+        let others = others_at(text, at);
+        at += 1 + others;
     }
     at
 }
 
 // Whether a `Z` or `R` that follows a `_` is here.
+#[cfg_attr(not(debug_assertions), inline(always))]
 fn is_mark_at(text: &[u8], at: usize) -> bool {
-    (text[at] == b'Z' || text[at] == b'R') && at > 0 && text[at - 1] == b'_'
+    if at == 0 {
+        return false;
+    }
+    text[at - 1] == b'_' && (text[at] == b'Z' || text[at] == b'R')
+}
+
+// How many bytes from a position on are no `_`, of the next 16; 0 where fewer come after it.
+#[cfg_attr(not(debug_assertions), inline(always))]
+fn others_at(text: &[u8], at: usize) -> usize {
+    if text.len() - at <= STRIDE {
+        return 0;
+    }
+    others_among(&text[at..at + STRIDE])
+}
+
+// How many of 16 bytes come before a `_`.
+#[cfg_attr(not(debug_assertions), inline(always))]
+fn others_among(bytes: &[u8]) -> usize {
+    let underscores = u8x16::from_slice(bytes)
+        .simd_eq(u8x16::splat(b'_'))
+        .to_bitmask();
+    if underscores == 0 {
+        STRIDE
+    } else {
+        underscores.trailing_zeros() as usize
+    }
 }
 
 // Where the run begins that the text ends in before a position, or the position.
@@ -207,8 +238,8 @@ fn push_names(alloc: Global, full: bool, run: &[u8], out: &mut Vec<u8>) -> Resul
     Ok(())
 }
 
-// Writes what is shown of the name or else the byte with which a run or its rest begins, and gives how many bytes that is
-// shown of.
+// Writes what is shown of the name, or else the byte, with which a run or its rest begins. Returns how many bytes that
+// replaces.
 fn push_next(
     alloc: Global,
     full: bool,
@@ -254,7 +285,7 @@ fn name_len(run: &[u8]) -> usize {
     }
 }
 
-// The same without a `_` that a platform has put before it.
+// The same without a `_` that a platform has added before it.
 fn symbol_len(run: &[u8]) -> usize {
     if begins_v0(run) {
         return dot_at(run);

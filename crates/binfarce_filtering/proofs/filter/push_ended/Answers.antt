@@ -1,4 +1,4 @@
-use Rattle.std.proofs.Common.{◌≡◌, ◌+◌, ◌-◌, ◌<◌, ℕ, List, true, length, drop, take, get_or, refl, ◌∙◌, ap, sym, subst, arith, length-drop}
+use Rattle.std.proofs.Common.{◌≡◌, ◌+◌, ◌-◌, ◌<◌, ℕ, true, length, drop, take, get_or, refl, ◌∙◌, ap, subst, arith, length-drop}
 use Rattle.std.proofs.lemmas.List.{drop-drop}
 use Rattle.binfarce_filtering.specs.Filter.{is_run}
 use Rattle.binfarce_filtering.proofs.Runs.{Reaches, ends_in_run, from_here, one_run, plain_reaches, run_here}

@@ -1,7 +1,7 @@
 // From crates/test_filtering/src/tests/texts.rt, by tools/erase.
 
-// Texts in which names are made readable: whole, and in parts. Complete texts are those that `c++filt` 2.40 writes. Trimmed
-// texts are those of `llvm-cxxfilt` 14 for v0 names, and of `c++filt` without the hash for legacy ones.
+// Texts in which names are made readable: whole, and in parts. Complete texts of names are those that `c++filt` 2.40 writes.
+// Trimmed texts are those of `llvm-cxxfilt` 14 for v0 names, and of `c++filt` without the hash for legacy ones.
 
 use crate::shim::{HostRuntime, Vec};
 use crate::erased::binfarce_filtering::filter::{TextFilter, filter};
@@ -10,7 +10,7 @@ use crate::shim::alloc::{AllocError, Global};
 // A text, and what it becomes with trimmed and with complete texts.
 struct Row(&'static [u8], &'static [u8], &'static [u8]);
 
-const ROWS: [Row; 17] = [
+const ROWS: [Row; 23] = [
     Row(b"", b"", b""),
     Row(b"no name\n", b"no name\n", b"no name\n"),
     // Lines of `gdb`, `addr2line -f` and `objdump -d`.
@@ -41,18 +41,57 @@ const ROWS: [Row; 17] = [
         b"a[0]::b@plt,c[0]::d",
     ),
     Row(b"_RNvC1a1b", b"a::b", b"a[0]::b"),
-    Row(b"(_RC3foo.llvm.9D1C9369)", b"(foo)", b"(foo[0])"),
+    Row(
+        b"(_RNvC1a3foo.llvm.9D1C9369)",
+        b"(a::foo)",
+        b"(a[0]::foo)",
+    ),
     // Dots after a name are the text's.
     Row(
         b"in _RNvC1a1b. _RNvC1a1b...",
         b"in a::b. a::b...",
         b"in a[0]::b. a[0]::b...",
     ),
-    // A run is a name from its first byte on, or none.
+    // What follows a name in its run stays, but for `.llvm.` and a number.
     Row(
-        b".text._RNvC1a1b $_RNvC1a1b x_RNvC1a1b",
-        b".text._RNvC1a1b $_RNvC1a1b x_RNvC1a1b",
-        b".text._RNvC1a1b $_RNvC1a1b x_RNvC1a1b",
+        b"_RNvC1a1b.cold.1 _RNvC1a1b.llvm.123.cold _RNvC1a1b.llvm.12x _ZN3foo17h0123456789abcdefE.so",
+        b"a::b.cold.1 a::b.cold a::b.llvm.12x foo.so",
+        b"a[0]::b.cold.1 a[0]::b.cold a[0]::b.llvm.12x foo::h0123456789abcdef.so",
+    ),
+    // A name may begin within a run, and a run may hold several.
+    Row(
+        b".text._RNvC1a1b $_RNvC1a1b x_RNvC1a1b __imp__ZN3foo17h0123456789abcdefE",
+        b".text.a::b $a::b xa::b __imp_foo",
+        b".text.a[0]::b $a[0]::b xa[0]::b __imp_foo::h0123456789abcdef",
+    ),
+    Row(
+        b"_RNvC1a1b._RNvC1c1d. __profc__RNvC1a1b",
+        b"a::b.c::d. __profc_a::b",
+        b"a[0]::b.c[0]::d. __profc_a[0]::b",
+    ),
+    // Escape sequences of colours.
+    Row(
+        b"\x1B[31m_RNvC1a1b\x1B[0m \x1B[01;31m\x1B[K__RNvC1a1b\x1B[m",
+        b"\x1B[31ma::b\x1B[0m \x1B[01;31m\x1B[Ka::b\x1B[m",
+        b"\x1B[31ma[0]::b\x1B[0m \x1B[01;31m\x1B[Ka[0]::b\x1B[m",
+    ),
+    // Words that read as a crate root, and an empty legacy mangling, are no names.
+    Row(
+        b"FOO_RC0 v1_RC1_x _RC3foo GAMMA_ZNE",
+        b"FOO_RC0 v1_RC1_x _RC3foo GAMMA_ZNE",
+        b"FOO_RC0 v1_RC1_x _RC3foo GAMMA_ZNE",
+    ),
+    // C++ names, and what follows one in its run.
+    Row(
+        b"_ZN3foo3barEv _ZN3foo3barEv.cold._RNvC1a1b _ZNK3foo3barEv",
+        b"_ZN3foo3barEv _ZN3foo3barEv.cold._RNvC1a1b _ZNK3foo3barEv",
+        b"_ZN3foo3barEv _ZN3foo3barEv.cold._RNvC1a1b _ZNK3foo3barEv",
+    ),
+    // A v0 name that doesn't read ends before a `.`, behind which names are looked for.
+    Row(
+        b"SOME_RNG._RNvC1a1b _RNvC1a._RNvC1a1b",
+        b"SOME_RNG.a::b _RNvC1a.a::b",
+        b"SOME_RNG.a[0]::b _RNvC1a.a[0]::b",
     ),
     // What is no mangling stands unchanged.
     Row(
@@ -81,8 +120,8 @@ const ROWS: [Row; 17] = [
     // A name begins with `_`, of which there may be two.
     Row(
         b"1.0-RC0 (RC1a) ZN3foo17h0123456789abcdefE R __RNvC1a1b __ZN3foo17h0123456789abcdefE ___RNvC1a1b",
-        b"1.0-RC0 (RC1a) ZN3foo17h0123456789abcdefE R a::b foo ___RNvC1a1b",
-        b"1.0-RC0 (RC1a) ZN3foo17h0123456789abcdefE R a[0]::b foo::h0123456789abcdef ___RNvC1a1b",
+        b"1.0-RC0 (RC1a) ZN3foo17h0123456789abcdefE R a::b foo __a::b",
+        b"1.0-RC0 (RC1a) ZN3foo17h0123456789abcdefE R a[0]::b foo::h0123456789abcdef __a[0]::b",
     ),
     Row(
         b"1 2.5 a_b $x .. _",

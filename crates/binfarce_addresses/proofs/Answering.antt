@@ -1,15 +1,15 @@
 -- What is read, answered and written one after the other.
 use Rattle.std.proofs.Common.{◌≡◌, ◌≢◌, inl, inr, ◌⊎◌, false, true, ℕ, ◌+◌, ◌-◌, ◌^◌, min, List, [], ◌∷◌, ◌++◌, length, take, drop, get_or, Option, Some, None, Result, Ok, Err, IsErrAnd, refl, sym, ◌∙◌, ap, subst, append_assoc, append-nil, arith}
-use Rattle.std.specs.Prelude.{◌==◌, is_none, cond, All}
+use Rattle.std.specs.Prelude.{◌==◌, is_none, cond}
 use Rattle.std.specs.List.{AllZip, concat}
-use Rattle.std.specs.Io.KnownBytes.{Appends, Consumes, IsAtEnd, Keeps}
-use Rattle.std.proofs.lemmas.List.Elements.{All-append, All-cons, All-head, All-tail}
+use Rattle.std.specs.Io.KnownBytes.{Appends, Consumes, Keeps}
+use Rattle.std.proofs.lemmas.List.Elements.{All-append, All-head, All-tail}
 use Rattle.std.proofs.lemmas.List.Sums.{sum_by-append}
 use Rattle.binfarce.specs.Symbol.{Entry}
 use Rattle.binfarce_tools.specs.Writing.{AppendsBeginning}
 use Rattle.binfarce_addresses.specs.Answered.{AnswersOf}
-use Rattle.binfarce_addresses.specs.Stream.{line_address, missing, with_line_feeds, AreAnswered, AreAnswersOf, Begins, BreaksOff, EndsIn, HasNoLineFeed, IsAnswerOf, Reads, StopsWithin, Streams, Writes}
-use Rattle.binfarce_addresses.specs.machine.Answering.{AnswersAll, AnswersLast, AnswersPart, AnswersUpTo, Breaks, Goes, HasAnswered, IsKeptOf, Stops, WritesAll}
+use Rattle.binfarce_addresses.specs.Stream.{line_address, missing, with_line_feeds, AreAnswered, AreAnswersOf, Begins, BreaksOff, EndsIn, HasNoLineFeed, IsAnswerOf, StopsWithin, Streams, Writes}
+use Rattle.binfarce_addresses.specs.machine.Answering.{AnswersAll, AnswersLast, AnswersPart, AnswersUpTo, Breaks, Goes, HasAnswered, IsKeptOf, Stops}
 use Rattle.binfarce_addresses.proofs.Streams.{left_of}
 use Rattle.binfarce_addresses.proofs.Trimmed.{is_none as none, is_some}
 use Rattle.binfarce_addresses.specs.declared.stream.Answered.{Answered}

@@ -12,21 +12,6 @@ one_digit k n text small = cond-true (eqb (n / 16) 0) _ _ (eq-eqb (n / 16) 0 (om
 more_digits : (k n : ℕ) (text : List ℕ) → 16 ≤ n → digits_onto (suc k) 16 false n text ≡ digits_onto k 16 false (n / 16) (digit_glyph false (n % 16) ∷ text)
 more_digits k n text more = cond-false (eqb (n / 16) 0) _ _ (ne_eqb (n / 16) 0 (λ none. omega arith))
 
--- a number of one digit, and one of two
-pub of_one_digit : (n digit : ℕ) → n < 16 → digit ≡ digit_glyph false n → digits 16 false n ≡ digit ∷ []
-unfolding digits
-of_one_digit n digit small is =
-    let last : n % 16 ≡ n = omega arith in
-    one_digit 63 n [] small ∙ ap (λ g. digit_glyph false g ∷ []) last ∙ ap (λ d. d ∷ []) (sym is)
-
-pub of_two_digits : (n high low : ℕ) → 16 ≤ n → n < 256 → high ≡ digit_glyph false (n / 16) → low ≡ digit_glyph false (n % 16) → digits 16 false n ≡ high ∷ low ∷ []
-unfolding digits
-of_two_digits n high low more small first then =
-    let below : n / 16 < 16 = omega arith in
-    let last : (n / 16) % 16 ≡ n / 16 = omega arith in
-    more_digits 63 n [] more ∙ one_digit 62 (n / 16) (digit_glyph false (n % 16) ∷ []) below
-    ∙ ap (λ g. digit_glyph false g ∷ digit_glyph false (n % 16) ∷ []) last ∙ ap (λ d. d ∷ digit_glyph false (n % 16) ∷ []) (sym first) ∙ ap (λ d. high ∷ d ∷ []) (sym then)
-
 pub none_put : (n : ℕ) (ds : List ℕ) → ds ≡ replicate 16 48 → digits_onto 64 16 false n (drop 16 ds) ≡ digits 16 false n
 unfolding digits
 none_put n ds zeros = rw zeros refl

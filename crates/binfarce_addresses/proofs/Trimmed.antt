@@ -66,7 +66,7 @@ trimmed : (word : List ℕ) (address : ℕ) → address_of word ≡ Some address
 trimmed word address is =
     let first : prefix_len is_ascii_whitespace word ≡ 0 = prefix_len_is is_ascii_whitespace word 0 0 (omega arith) (λ k lt. absurd (omega arith)) (λ lt. not_white word address 0 is lt) in
     let last : suffix_len is_ascii_whitespace word ≡ length word - length word =
-        suffix_len_is is_ascii_whitespace word (length word) 0 (omega arith) (λ k le lt. absurd (omega arith)) (λ lt. not_white word address (length word - 1) is (omega arith)) in
+    suffix_len_is is_ascii_whitespace word (length word) 0 (omega arith) (λ k le lt. absurd (omega arith)) (λ lt. not_white word address (length word - 1) is (omega arith)) in
     ap trim_end (ap (λ n. drop n word) first) ∙ take_all (length word - suffix_len is_ascii_whitespace word) word (omega (arith, last))
 
 -- and a line of it alone writes the same
@@ -197,7 +197,7 @@ module _ (begun word : List ℕ) (ends : IsTrimAsciiEnd begun word) where
   kept_end =
       let n = length word + 1 in
       let behind : suffix_len is_ascii_whitespace (drop n begun) ≡ length (drop n begun) - 0 =
-          suffix_len_is is_ascii_whitespace (drop n begun) 0 0 (omega arith) (λ k le lt. ap is_ascii_whitespace (get_or-drop n begun k 0) ∙ ends.4 (n + k) (omega (arith, ends.2)) (omega (arith, length-drop n begun))) (λ lt. absurd (omega arith)) in
+      suffix_len_is is_ascii_whitespace (drop n begun) 0 0 (omega arith) (λ k le lt. ap is_ascii_whitespace (get_or-drop n begun k 0) ∙ ends.4 (n + k) (omega (arith, ends.2)) (omega (arith, length-drop n begun))) (λ lt. absurd (omega arith)) in
       sym (end_white (take n begun) (drop n begun) (white (suffix_len is_ascii_whitespace (drop n begun)) (length (drop n begun)) behind)) ∙ ap trim_end (take-append-drop n begun)
     where
       white : (a b : ℕ) → a ≡ b - 0 → eqb a b ≡ true
@@ -217,7 +217,7 @@ module _ (begun word : List ℕ) (ends : IsTrimAsciiEnd begun word) where
             let count : length (take (n + 1) begun) ≡ n + 1 = length-take-le (n + 1) begun (omega arith) in
             let white : is_ascii_whitespace (get_or begun n 0) ≡ true = ends.4 n (omega (arith, ends.2)) lt in
             white_none (take (n + 1) begun ++ rest) n (omega (arith, count, length-append (take (n + 1) begun) rest))
-                (ap is_ascii_whitespace (get_or_append_left (take (n + 1) begun) rest 0 n (omega (arith, count)) ∙ get_or-take (n + 1) begun n 0 (omega arith)) ∙ white)
+            (ap is_ascii_whitespace (get_or_append_left (take (n + 1) begun) rest 0 n (omega (arith, count)) ∙ get_or-take (n + 1) begun n 0 (omega arith)) ∙ white)
             ∙ sym (white_none (begun ++ rest) n (omega (arith, length-append begun rest)) (ap is_ascii_whitespace (get_or_append_left begun rest 0 n lt) ∙ white))
       ]
 

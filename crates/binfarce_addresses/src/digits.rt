@@ -20,31 +20,6 @@ pub(crate) fn push_address(text: &mut Vec<u8>, address: u64) -> Result<(), Alloc
 pub(crate) fn push_offset(text: &mut Vec<u8>, offset: u64) -> Result<(), AllocError>
     ensures { OnOk result (text.new.items ≡ text.old.items ++ (codes "+0x" ++ (digits 16 false offset ++ codes "\n"))) }
 {
-    // Most offsets are small, and a part of known length is written by a few stores.
-    if offset < 16 {
-        let shown = [b'+', b'0', b'x', hex_digit(offset), b'\n'];
-        text.extend_from_slice(&shown)?;
-        return Ok(());
-    }
-    if offset < 256 {
-        let shown = [
-            b'+',
-            b'0',
-            b'x',
-            hex_digit(offset / 16),
-            hex_digit(offset % 16),
-            b'\n',
-        ];
-        text.extend_from_slice(&shown)?;
-        return Ok(());
-    }
-    push_any_offset(text, offset)
-}
-
-// The same of any offset.
-fn push_any_offset(text: &mut Vec<u8>, offset: u64) -> Result<(), AllocError>
-    ensures { OnOk result (text.new.items ≡ text.old.items ++ (codes "+0x" ++ (digits 16 false offset ++ codes "\n"))) }
-{
     let mut shown = [b'0'; 16];
     let at = put_digits(&mut shown, offset);
     text.extend_from_slice(b"+0x")?;

@@ -92,10 +92,7 @@ pub fn push_lines(
 }
 
 // The addresses that the whole lines of `bytes` write, or none, and how much of the text that is.
-fn addresses_of(
-    alloc: Global,
-    bytes: &[u8],
-) -> Result<(Vec<Option<u64>>, Answered), AllocError>
+fn addresses_of(alloc: Global, bytes: &[u8]) -> Result<(Vec<Option<u64>>, Answered), AllocError>
     ensures { IfOk result (λ r. AreAddressesOf bytes.now r.0.items r.1) }
 {
     let mut addresses = Vec::with_capacity(alloc, bytes.len() / 8)?;
@@ -158,7 +155,15 @@ pub fn answer_lines<R: Read, S: Sink>(
 {
     let mut chunk = new_chunk(alloc)?;
     let mut line = Vec::new(alloc);
-    let missing = answer_whole(alloc, places, base, &mut line, chunk.as_mut_slice(), input, out)?;
+    let missing = answer_whole(
+        alloc,
+        places,
+        base,
+        &mut line,
+        chunk.as_mut_slice(),
+        input,
+        out,
+    )?;
     answer_last(alloc, places, base, &mut line, missing, out)
 }
 

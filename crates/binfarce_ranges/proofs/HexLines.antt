@@ -1,11 +1,11 @@
 -- A line of digits, digit after digit.
-use Rattle.std.proofs.Common.{◌≡◌, ℕ, ◌+◌, ◌*◌, ◌%◌, ◌^◌, ◌<◌, ◌≤◌, ◌⊎◌, inl, inr, Bool, true, false, ◌&&◌, ◌||◌, nat_eq, List, [], ◌∷◌, ◌++◌, length, get_or, take, drop, Option, Some, None, if◌then◌else◌, refl, sym, ap, subst, ◌∙◌, arith}
+use Rattle.std.proofs.Common.{◌≡◌, ℕ, ◌+◌, ◌*◌, ◌<◌, ◌≤◌, ◌⊎◌, inl, inr, Bool, true, false, ◌&&◌, ◌||◌, nat_eq, List, [], ◌∷◌, ◌++◌, length, get_or, take, drop, Option, Some, None, if◌then◌else◌, refl, sym, ap, ◌∙◌, arith}
 use Rattle.std.specs.Option.{option_and_then}
 use Rattle.std.proofs.lemmas.Bool.Decides.{nat_tests}
 use Rattle.std.proofs.lemmas.List.{take_more, length-take-le}
 use Rattle.binfarce_ranges.specs.Address.{address_of, has_prefix, hexadecimal}
 use Rattle.binfarce_ranges.specs.machine.Digits.{digit_value}
-use Rattle.binfarce_ranges.proofs.Digits.{number_from, digit_is_small, fits_times, is_hexadecimal, next_below}
+use Rattle.binfarce_ranges.proofs.Digits.{number_from, is_hexadecimal}
 
 -- digits, and more of them
 number_append : (number : ℕ) (digits more : List ℕ) → number_from number (digits ++ more) ≡ option_and_then (λ n. number_from n more) (number_from number digits)
@@ -59,12 +59,3 @@ writes bytes len number within some few is =
     let count : length (take len bytes) ≡ len = length-take-le len bytes within in
     ap (λ (t : Bool). hexadecimal (if t then drop 2 (take len bytes) else take len bytes)) (no_prefix (take len bytes) number is)
     ∙ is_hexadecimal (take len bytes) (omega (arith, count)) (omega (arith, count)) ∙ is
-
--- a value that isn't wrapped, since 16 digits fit
-pub full_more : (bytes : List ℕ) (i number value : ℕ) → i < length bytes → i < 16 → number < 16 ^ i → number_from 0 (take i bytes) ≡ Some number → digit_value (get_or bytes i 0) ≡ Some value
-    → (((number * 16) % 2 ^ 64 + value) % 2 ^ 64 < 16 ^ (i + 1)) × (number_from 0 (take (i + 1) bytes) ≡ Some (((number * 16) % 2 ^ 64 + value) % 2 ^ 64))
-full_more bytes i number value lt few below is digit =
-    let small : value < 16 = digit_is_small (get_or bytes i 0) value digit in
-    let room : 16 * number + 15 < 2 ^ 64 = fits_times number i below few in
-    let same : 16 * number + value ≡ ((number * 16) % 2 ^ 64 + value) % 2 ^ 64 = omega arith in
-    (subst (λ n. n < 16 ^ (i + 1)) same (next_below number value i below small), digit_more bytes i number value lt is digit ∙ ap Some same)

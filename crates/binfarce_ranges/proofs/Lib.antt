@@ -1,6 +1,5 @@
 pub mod Links
 pub mod Rows
-pub mod Slices
 pub mod Found
 pub mod Digits
 pub mod Values

@@ -1,8 +1,8 @@
 -- Rows in the order of a sort.
-use Rattle.std.proofs.Common.{◌≡◌, ℕ, ◌+◌, ◌<◌, ◌≤◌, Bool, true, false, ◌&&◌, ◌||◌, List, [], ◌∷◌, ◌++◌, length, length-append, ◌⊎◌, inl, inr, sym, ap, ◌∙◌, arith, nat_lt, nat_eq, nat_cmp, is_lt, IsPermutation}
+use Rattle.std.proofs.Common.{◌≡◌, ℕ, ◌+◌, ◌<◌, ◌≤◌, Bool, true, false, leb, ◌&&◌, ◌||◌, List, [], ◌∷◌, ◌++◌, length, length-append, ◌⊎◌, inl, inr, sym, ap, ◌∙◌, arith, nat_lt, nat_eq, nat_cmp, is_lt, IsPermutation}
 use Rattle.std.specs.Cmp.{IsStrictWeakOrder}
 use Rattle.std.specs.List.{Contains}
-use Rattle.std.specs.List.Sorted.{IsSortedBy}
+use Rattle.std.specs.List.Sorted.{IsNonDecreasingBy, IsPartitionPoint, IsSortedBy}
 use Rattle.std.specs.Ordering.{ordering_then}
 use Rattle.std.proofs.lemmas.Bool.Decides.{nat_tests}
 use Rattle.std.proofs.Math.ListN.{get_or-append}
@@ -13,7 +13,7 @@ use Rattle.std.proofs.lemmas.List.Elements.{All-get_or, All-from_get_or, Contain
 use Rattle.std.proofs.lemmas.List.Sorted.{sorted_far, All-permutation, Contains-permutation, length_permutation}
 use Rattle.binfarce_ranges.specs.declared.ranges.AddressRange.{AddressRange}
 use Rattle.binfarce_ranges.specs.declared.ranges.Row.{Row}
-use Rattle.binfarce_ranges.specs.machine.Index.{AreRowsOf, DoRise, NotBehind, last_of, range_at, row_at, no_row}
+use Rattle.binfarce_ranges.specs.machine.Index.{AreRowsOf, DoRise, IsBound, NotBehind, last_of, range_at, row_at, no_row}
 
 -- by address, at equal addresses from the last place to the first, and at equal places by the last address
 abbrev pub comes_before : Row → Row → Bool
@@ -127,3 +127,23 @@ arranged_rows ranges rows sorted made same up = record {
 -- the addresses of rows in order don't fall
 pub addresses_rise : (ranges : List AddressRange) (rows : List Row) → AreRowsOf ranges rows → DoRise rows
 addresses_rise ranges rows are i j le lt = elim (are.rise i j le lt) [ inl lower ↦ omega arith | inr same ↦ omega (arith, same.0) ]
+
+-- where a search among rows ends
+abbrev pub EndsAmong : List Row → ℕ → ℕ → Type 0
+EndsAmong rows address place = IsPartitionPoint (λ (r : Row). leb r.address address ≡ true) (λ (r : Row). leb r.address address ≡ false) rows place
+
+pub bound : (rows : List Row) (address place : ℕ) → place ≤ length rows → EndsAmong rows address place → IsBound rows address place
+bound rows address place within among = record {
+  within = within;
+  before = λ k lt. at_most (row_at rows k).address address (among.0 k no_row (omega arith) lt);
+  behind = λ k low high. above (row_at rows k).address address (among.1 k no_row low high);
+}
+  where
+    at_most : (a b : ℕ) → leb a b ≡ true → a ≤ b
+    at_most a b e = grind (arith, nat_tests)
+
+    above : (a b : ℕ) → leb a b ≡ false → b < a
+    above a b e = grind (arith, nat_tests)
+
+pub do_not_fall : (rows : List Row) → DoRise rows → IsNonDecreasingBy (λ (r : Row). r.address) rows
+do_not_fall rows rise i j d le lt = omega (arith, rise i j le lt, ap (λ (r : Row). r.address) (get_or_default rows i no_row d (omega arith)), ap (λ (r : Row). r.address) (get_or_default rows j no_row d lt))

@@ -21,9 +21,6 @@ pub fn parse_address(word: &[u8]) -> Option<u64>
 pub fn hex_line(bytes: &[u8]) -> Option<(u64, usize)>
     ensures { IfSome result (λ r. (r.1 < length bytes.now) × (slice_index_or bytes.now r.1 0 ≡ 10) × (address_of (take r.1 bytes.now) ≡ Some r.0)) }
 {
-    if let Some(address) = full_line(bytes) {
-        return Some((address, 16));
-    }
     let mut number = 0;
     for (len, byte) in bytes.iter().enumerate() {
         match hex_digit(*byte) {
@@ -43,26 +40,6 @@ pub fn hex_line(bytes: &[u8]) -> Option<(u64, usize)>
         }
     }
     None
-}
-
-// The address that the first 16 bytes write, where all are digits and a line feed follows: read without a branch on each.
-fn full_line(bytes: &[u8]) -> Option<u64>
-    ensures { IfSome result (λ n. (16 < length bytes.now) × (slice_index_or bytes.now 16 0 ≡ 10) × (address_of (take 16 bytes.now) ≡ Some n)) }
-{
-    if bytes.len() <= 16 || bytes[16] != b'\n' {
-        return None;
-    }
-    let mut number = 0;
-    let mut greatest = 0;
-    for digit in &bytes[..16] {
-        let value = value_of(*digit);
-        greatest = value.max(greatest);
-        number = u64::wrapping_mul(number, 16).wrapping_add(value as u64);
-    }
-    if greatest > 15 {
-        return None;
-    }
-    Some(number)
 }
 
 // The number that 1 to 16 digits write.
@@ -104,12 +81,4 @@ fn hex_digit(digit: u8) -> Option<u64>
         return None;
     }
     Some(value as u64)
-}
-
-// The same, and more than 15 where it is none.
-#[inline(always)]
-fn value_of(digit: u8) -> u8
-    ensures { result ≤ 15 → digit_value digit ≡ Some result }
-{
-    VALUES[digit as usize]
 }

@@ -1,6 +1,7 @@
 //! Where among rising addresses the last one stands that isn't greater than a given one, mostly.
 
-use crate::ranges::shift_of;
+ghost use Rattle.std.specs.Prelude.{◌<◌};
+
 use std::alloc::{AllocError, Global};
 
 // How many slices there are for each address, so that few slices have two.
@@ -85,4 +86,15 @@ fn last_in(mark: Mark, slice: u64) -> usize {
     (mark.before as usize)
         .wrapping_add(up_to.count_ones() as usize)
         .wrapping_sub(1)
+}
+
+// How often so many addresses are halved until they are at most so many slices.
+fn shift_of(addresses: u64, slices: usize) -> u32
+    ensures { result < 64 }
+{
+    let mut shift = 0;
+    while shift < 63 && (addresses >> shift) > slices as u64 {
+        shift += 1;
+    }
+    shift
 }

@@ -3,7 +3,7 @@
 ghost use Rattle.std.specs.Prelude.{◌≡◌, ◌+◌, ◌-◌, ◌<◌, ◌≤◌, ◌^◌, ◌⊎◌, List, length, true, MatchOption, IfOk, IfSome};
 ghost use Rattle.binfarce_ranges.specs.Range.{Finds, IsFoundAt, IsSpanAt, IsSpanOf, NoneHolds};
 ghost use Rattle.binfarce_ranges.specs.declared.ranges.AddressRange.{AddressRange};
-ghost use Rattle.binfarce_ranges.specs.machine.Index.{AreRowsOf, AreSlicesOf, AreLinked, AreLinksOf, AreNodesOf, ArePast, DoReachFurther, DoRise, IsBound, IsIndexed, IsOuter, JumpsOver, Follows, last_of, node_at, row_at, slice_at};
+ghost use Rattle.binfarce_ranges.specs.machine.Index.{AreRowsOf, AreLinked, AreLinksOf, AreNodesOf, ArePast, DoReachFurther, DoRise, IsBound, IsIndexed, IsOuter, JumpsOver, Follows, last_of, node_at, row_at};
 
 use std::alloc::{AllocError, Global};
 use std::cmp::Reverse;
@@ -40,7 +40,6 @@ pub struct Found {
 pub struct Ranges {
     ranges: Vec<AddressRange>,
     rows: Vec<Row>,
-    slices: Slices,
     nodes: Vec<Node>,
 }
 
@@ -51,16 +50,6 @@ struct Row {
     address: u64,
     place: Reverse<usize>,
     last: u64,
-}
-
-// Equally large slices of the addresses: slice 0 begins with the first row, and has what lies before it too.
-#[derive(Drop)]
-struct Slices {
-    first: u64,
-    // A slice has 2^shift addresses.
-    shift: u32,
-    // How many rows stand before each slice; the last count is that of all rows.
-    starts: Vec<usize>,
 }
 
 // Which earlier rows reach further than one. Node 0 stands before all rows, node k + 1 for row k. Where each row reaches as
@@ -89,7 +78,7 @@ impl Model for Ranges {
 
     ghost view = { λ s. s.ranges.items };
 
-    ghost invariant = { λ s. IsIndexed s.ranges.items s.rows.items s.slices.first s.slices.shift s.slices.starts.items s.nodes.items };
+    ghost invariant = { λ s. IsIndexed s.ranges.items s.rows.items s.nodes.items };
 }
 
 impl Ranges {
@@ -98,12 +87,10 @@ impl Ranges {
         ensures { IfOk result (λ r. r ≡ ranges.items) }
     {
         let rows = rows_of(alloc, &ranges)?;
-        let slices = slices_of(alloc, &rows)?;
         let nodes = nodes_of(alloc, &rows)?;
         Ok(Ranges {
             ranges,
             rows,
-            slices,
             nodes,
         })
     }
@@ -142,7 +129,7 @@ impl Ranges {
     fn find_from(&self, address: u64) -> Option<Found>
         ensures { Finds self.now address result }
     {
-        let mut node = rows_up_to(&self.rows, &self.slices, address);
+        let mut node = rows_up_to(&self.rows, address);
         while last_at(&self.rows, node) < address {
             node = node_before(&self.rows, &self.nodes, node, address);
         }
@@ -173,65 +160,12 @@ fn rows_of(alloc: Global, ranges: &[AddressRange]) -> Result<Vec<Row>, AllocErro
     Ok(rows)
 }
 
-// The slices of the rows: one or two for four rows.
-fn slices_of(alloc: Global, rows: &[Row]) -> Result<Slices, AllocError>
+// How many rows have an address that isn't greater.
+fn rows_up_to(rows: &[Row], address: u64) -> usize
     requires { DoRise rows.now }
-    ensures { IfOk result (λ s. AreSlicesOf rows.now s.first s.shift s.starts.items) }
-{
-    let mut starts = Vec::with_capacity(alloc, rows.len())?;
-    let (first, last) = match rows {
-        [] => (0, 0),
-        [row] => (row.address, row.address),
-        [first, .., last] => (first.address, last.address),
-    };
-    let shift = shift_of(last.saturating_sub(first), rows.len() / 4);
-    for (place, row) in rows.iter().enumerate() {
-        let slice = slice_of(first, shift, row.address);
-        while starts.len() <= slice {
-            starts.push(place)?;
-        }
-    }
-    starts.push(rows.len())?;
-    Ok(Slices {
-        first,
-        shift,
-        starts,
-    })
-}
-
-// How often so many addresses are halved until they are at most so many slices.
-pub(crate) fn shift_of(addresses: u64, slices: usize) -> u32
-    ensures { result < 64 }
-{
-    let mut shift = 0;
-    while shift < 63 && (addresses >> shift) > slices as u64 {
-        shift += 1;
-    }
-    shift
-}
-
-// The slice that an address lies in.
-#[inline(always)]
-fn slice_of(first: u64, shift: u32, address: u64) -> usize
-    requires { shift < 64 }
-    ensures { result ≡ slice_at first shift address }
-{
-    (address.saturating_sub(first) >> shift) as usize
-}
-
-// How many rows have an address that isn't greater: the rows of one slice are searched.
-fn rows_up_to(rows: &[Row], slices: &Slices, address: u64) -> usize
-    requires rise { DoRise rows.now }
-    requires slices { AreSlicesOf rows.now slices.now.first slices.now.shift slices.now.starts.items }
     ensures { IsBound rows.now address result }
 {
-    let slice = slice_of(slices.first, slices.shift, address);
-    if slice >= slices.starts.len() - 1 {
-        return rows.len();
-    }
-    let start = slices.starts[slice];
-    let end = slices.starts[slice + 1];
-    start + rows[start..end].partition_point(|row| row.address <= address)
+    rows.partition_point(|row| row.address <= address)
 }
 
 // The address of the row behind this one, or the last of all.

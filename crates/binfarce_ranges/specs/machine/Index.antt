@@ -1,5 +1,5 @@
 -- What the index of ranges keeps.
-use Rattle.std.specs.Prelude.{◌≡◌, ℕ, ◌+◌, ◌-◌, ◌/◌, ◌^◌, ◌<◌, ◌≤◌, ◌⊎◌, max, min, List, length, slice_index_or}
+use Rattle.std.specs.Prelude.{◌≡◌, ℕ, ◌+◌, ◌-◌, ◌^◌, ◌<◌, ◌≤◌, ◌⊎◌, max, min, List, length, slice_index_or}
 use Rattle.binfarce_ranges.specs.declared.ranges.AddressRange.{AddressRange}
 use Rattle.binfarce_ranges.specs.declared.ranges.Row.{Row}
 use Rattle.binfarce_ranges.specs.declared.ranges.Node.{Node}
@@ -42,23 +42,6 @@ pub record AreRowsOf (ranges : List AddressRange) (rows : List Row) : Type 0 whe
 abbrev pub DoRise : List Row → Type 0
 DoRise rows = (i j : ℕ) → i ≤ j → j < length rows → (row_at rows i).address ≤ (row_at rows j).address
 
--- the slice that an address lies in
-abbrev pub slice_at : ℕ → ℕ → ℕ → ℕ
-slice_at first shift address = (address - first) / 2 ^ shift
-
--- so many rows stand before the slice
-pub record IsStart (rows : List Row) (first shift slice start : ℕ) : Type 0 where
-  pub within : start ≤ length rows
-  pub before : (k : ℕ) → k < start → slice_at first shift (row_at rows k).address < slice
-  pub behind : (k : ℕ) → start ≤ k → k < length rows → slice ≤ slice_at first shift (row_at rows k).address
-
--- how many rows stand before each slice, and before the end of all
-pub record AreSlicesOf (rows : List Row) (first shift : ℕ) (starts : List ℕ) : Type 0 where
-  pub small : shift < 64
-  pub some : 0 < length starts
-  pub start_is : (slice : ℕ) → slice < length starts → IsStart rows first shift slice (slice_index_or starts slice 0)
-  pub end_is : slice_index_or starts (length starts - 1) 0 ≡ length rows
-
 -- the rows before the place have no greater address, and those from it on have
 pub record IsBound (rows : List Row) (address place : ℕ) : Type 0 where
   pub within : place ≤ length rows
@@ -95,9 +78,8 @@ abbrev pub ArePast : List Row → ℕ → ℕ → ℕ → Type 0
 ArePast rows address from to = (k : ℕ) → from ≤ k → k < to → (row_at rows k).last < address
 
 -- what stands in an index of ranges
-pub record IsIndexed (ranges : List AddressRange) (rows : List Row) (first shift : ℕ) (starts : List ℕ) (nodes : List Node) : Type 0 where
+pub record IsIndexed (ranges : List AddressRange) (rows : List Row) (nodes : List Node) : Type 0 where
   pub rows_are : AreRowsOf ranges rows
-  pub slices_are : AreSlicesOf rows first shift starts
   pub nodes_are : AreNodesOf rows nodes
 
 -- the nearest node whose `last` isn't less

@@ -15,9 +15,6 @@ pub fn parse_address(word: &[u8]) -> Option<u64> {
 /// The address that the first line of the bytes writes, and how many bytes the line has, where these are 1 to 16 digits and
 /// nothing else. `None` doesn't say that the line writes no address: it may have `0x` before its digits.
 pub fn hex_line(bytes: &[u8]) -> Option<(u64, usize)> {
-    if let Some(address) = full_line(bytes) {
-        return Some((address, 16));
-    }
     let mut number = 0;
     for (len, byte) in bytes.iter().enumerate() {
         match hex_digit(*byte) {
@@ -37,24 +34,6 @@ pub fn hex_line(bytes: &[u8]) -> Option<(u64, usize)> {
         }
     }
     None
-}
-
-// The address that the first 16 bytes write, where all are digits and a line feed follows: read without a branch on each.
-fn full_line(bytes: &[u8]) -> Option<u64> {
-    if bytes.len() <= 16 || bytes[16] != b'\n' {
-        return None;
-    }
-    let mut number = 0;
-    let mut greatest = 0;
-    for digit in &bytes[..16] {
-        let value = value_of(*digit);
-        greatest = value.max(greatest);
-        number = u64::wrapping_mul(number, 16).wrapping_add(value as u64);
-    }
-    if greatest > 15 {
-        return None;
-    }
-    Some(number)
 }
 
 // The number that 1 to 16 digits write.
@@ -92,10 +71,4 @@ fn hex_digit(digit: u8) -> Option<u64> {
         return None;
     }
     Some(value as u64)
-}
-
-// The same, and more than 15 where it is none.
-#[cfg_attr(not(debug_assertions), inline(always))]
-fn value_of(digit: u8) -> u8 {
-    VALUES[digit as usize]
 }

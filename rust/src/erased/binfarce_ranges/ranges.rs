@@ -36,7 +36,6 @@ pub struct Found {
 pub struct Ranges {
     ranges: Vec<AddressRange>,
     rows: Vec<Row>,
-    slices: Slices,
     nodes: Vec<Node>,
 }
 
@@ -47,15 +46,6 @@ struct Row {
     address: u64,
     place: Reverse<usize>,
     last: u64,
-}
-
-// Equally large slices of the addresses: slice 0 begins with the first row, and has what lies before it too.
-struct Slices {
-    first: u64,
-    // A slice has 2^shift addresses.
-    shift: u32,
-    // How many rows stand before each slice; the last count is that of all rows.
-    starts: Vec<usize>,
 }
 
 // Which earlier rows reach further than one. Node 0 stands before all rows, node k + 1 for row k. Where each row reaches as
@@ -83,12 +73,10 @@ impl Ranges {
     /// Arranges the ranges. The only error is that an allocation failed.
     pub fn new(alloc: Global, ranges: Vec<AddressRange>) -> Result<Ranges, AllocError> {
         let rows = rows_of(alloc, &ranges)?;
-        let slices = slices_of(alloc, &rows)?;
         let nodes = nodes_of(alloc, &rows)?;
         Ok(Ranges {
             ranges,
             rows,
-            slices,
             nodes,
         })
     }
@@ -120,7 +108,7 @@ impl Ranges {
 
     // What is found at an address.
     fn find_from(&self, address: u64) -> Option<Found> {
-        let mut node = rows_up_to(&self.rows, &self.slices, address);
+        let mut node = rows_up_to(&self.rows, address);
         while last_at(&self.rows, node) < address {
             node = node_before(&self.rows, &self.nodes, node, address);
         }
@@ -149,53 +137,9 @@ fn rows_of(alloc: Global, ranges: &[AddressRange]) -> Result<Vec<Row>, AllocErro
     Ok(rows)
 }
 
-// The slices of the rows: one or two for four rows.
-fn slices_of(alloc: Global, rows: &[Row]) -> Result<Slices, AllocError> {
-    let mut starts = Vec::with_capacity(alloc, rows.len())?;
-    let (first, last) = match rows {
-        [] => (0, 0),
-        [row] => (row.address, row.address),
-        [first, .., last] => (first.address, last.address),
-    };
-    let shift = shift_of(last.saturating_sub(first), rows.len() / 4);
-    for (place, row) in rows.iter().enumerate() {
-        let slice = slice_of(first, shift, row.address);
-        while starts.len() <= slice {
-            starts.push(place)?;
-        }
-    }
-    starts.push(rows.len())?;
-    Ok(Slices {
-        first,
-        shift,
-        starts,
-    })
-}
-
-// How often so many addresses are halved until they are at most so many slices.
-pub(crate) fn shift_of(addresses: u64, slices: usize) -> u32 {
-    let mut shift = 0;
-    while shift < 63 && (addresses >> shift) > slices as u64 {
-        shift += 1;
-    }
-    shift
-}
-
-// The slice that an address lies in.
-#[cfg_attr(not(debug_assertions), inline(always))]
-fn slice_of(first: u64, shift: u32, address: u64) -> usize {
-    (address.saturating_sub(first) >> shift) as usize
-}
-
-// How many rows have an address that isn't greater: the rows of one slice are searched.
-fn rows_up_to(rows: &[Row], slices: &Slices, address: u64) -> usize {
-    let slice = slice_of(slices.first, slices.shift, address);
-    if slice >= slices.starts.len() - 1 {
-        return rows.len();
-    }
-    let start = slices.starts[slice];
-    let end = slices.starts[slice + 1];
-    start + rows[start..end].partition_point(|row| row.address <= address)
+// How many rows have an address that isn't greater.
+fn rows_up_to(rows: &[Row], address: u64) -> usize {
+    rows.partition_point(|row| row.address <= address)
 }
 
 // The address of the row behind this one, or the last of all.

@@ -12,11 +12,11 @@ overflow_mul-number c = omega (arith, fits_times c.loop-len.number c.loop-len.le
 
 pub overflow_add-number : goal.overflow_add-number
 overflow_add-number c =
-    let digit : digit_value (get_or c.args.bytes.now c.loop-len.len 0) ≡ Some c.in-Some-hex_digit.value = sym c.hex_digit.ensures ∙ c.in-Some-hex_digit.is in
+    let digit : digit_value (get_or c.args.bytes.now c.loop-len.len 0) ≡ Some c.in-Some.value = sym c.hex_digit.ensures ∙ c.in-Some.is in
     omega (
       arith,
       fits_times c.loop-len.number c.loop-len.len c.loop-len.invariant.below (omega (arith, c.loop-len.invariant.few, c.if-len-eq16.false)),
-      digit_is_small (get_or c.args.bytes.now c.loop-len.len 0) c.in-Some-hex_digit.value digit,
+      digit_is_small (get_or c.args.bytes.now c.loop-len.len 0) c.in-Some.value digit,
     )
 
 pub returns-then-len-gt0 : goal.returns-then-len-gt0
@@ -24,9 +24,9 @@ returns-then-len-gt0 c = (c.loop-len-test.true, c.if-byte-eq10.true, writes c.ar
 
 pub loop-len-preserved : goal.loop-len-preserved
 loop-len-preserved c =
-    let digit : digit_value (get_or c.args.bytes.now c.loop-len.len 0) ≡ Some c.in-Some-hex_digit.value = sym c.hex_digit.ensures ∙ c.in-Some-hex_digit.is in
+    let digit : digit_value (get_or c.args.bytes.now c.loop-len.len 0) ≡ Some c.in-Some.value = sym c.hex_digit.ensures ∙ c.in-Some.is in
     record {
       few = omega (arith, c.loop-len.invariant.few, c.if-len-eq16.false);
-      below = next_below c.loop-len.number c.in-Some-hex_digit.value c.loop-len.len c.loop-len.invariant.below (digit_is_small (get_or c.args.bytes.now c.loop-len.len 0) c.in-Some-hex_digit.value digit);
-      is = digit_more c.args.bytes.now c.loop-len.len c.loop-len.number c.in-Some-hex_digit.value c.loop-len-test.true c.loop-len.invariant.is digit;
+      below = next_below c.loop-len.number c.in-Some.value c.loop-len.len c.loop-len.invariant.below (digit_is_small (get_or c.args.bytes.now c.loop-len.len 0) c.in-Some.value digit);
+      is = digit_more c.args.bytes.now c.loop-len.len c.loop-len.number c.in-Some.value c.loop-len-test.true c.loop-len.invariant.is digit;
     }

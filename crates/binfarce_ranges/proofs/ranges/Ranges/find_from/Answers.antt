@@ -3,18 +3,13 @@ use Rattle.binfarce_ranges.specs.declared.ranges.Row.{Row}
 use Rattle.std.proofs.lemmas.List.{get_or_default}
 use Rattle.binfarce_ranges.specs.Range.{NoneHolds, IsFoundAt}
 use Rattle.binfarce_ranges.specs.declared.ranges.AddressRange.{AddressRange}
-use Rattle.binfarce_ranges.specs.machine.Index.{AreSlicesOf, ArePast, DoRise, IsBound, row_at, no_row}
+use Rattle.binfarce_ranges.specs.machine.Index.{ArePast, DoRise, IsBound, row_at, no_row}
 use Rattle.binfarce_ranges.proofs.Found.{searched, passed_on, none_holds, is_found, offset_at}
 use Rattle.binfarce_ranges.proofs.Rows.{addresses_rise}
 use Rattle.binfarce_ranges.proofs.ranges.Ranges.find_from.Goals as goal
 
-pub rows_up_to-node-requires-clause-rise : goal.rows_up_to-node-requires-clause-rise
-rows_up_to-node-requires-clause-rise c = subst DoRise (sym c.deref.ensures.value) (addresses_rise c.self.inside.ranges.items c.self.inside.rows.items c.self.invariant.rows_are)
-
-pub rows_up_to-node-requires-clause-slices : goal.rows_up_to-node-requires-clause-slices
-rows_up_to-node-requires-clause-slices c =
-    let P : List Row → Type 0 = λ rs. AreSlicesOf rs c.self.inside.slices.first c.self.inside.slices.shift c.self.inside.slices.starts.items in
-    subst P (sym c.deref.ensures.value) c.self.invariant.slices_are
+pub rows_up_to-node-requires : goal.rows_up_to-node-requires
+rows_up_to-node-requires c = subst DoRise (sym c.deref.ensures.value) (addresses_rise c.self.inside.ranges.items c.self.inside.rows.items c.self.invariant.rows_are)
 
 pub loop-node-init : goal.loop-node-init
 loop-node-init c =

@@ -1,5 +1,5 @@
 use Rattle.std.proofs.Common.{◌-◌, ◌<◌}
-use Rattle.binfarce_ranges.proofs.ranges.shift_of.Given as goal
+use Rattle.binfarce_ranges.proofs.marks.shift_of.Given as goal
 
 -- a shift of 64 bits
 abbrev pub invariant-loop-shift : goal.invariant-loop-shift

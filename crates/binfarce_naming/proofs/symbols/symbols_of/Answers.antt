@@ -13,3 +13,9 @@ returns-in_err-push-clause-memory g c =
     rw (← c.into_iter-function-iterator.ensures.into_iter_gives)
     (on_err c.from_residual-in_err-push.result _
     (gives_at_first g.I.Iterator.next_gives c.into_iter-function-iterator.result c.loop-function.function-iterator c.next.new.self c.loop-function.yielded c.in-Some.function c.loop-function.yielded_by c.in-Some.ensures.steps))
+
+pub returns-in_err-symbol_of-clause-memory : goal.returns-in_err-symbol_of-clause-memory
+returns-in_err-symbol_of-clause-memory g c =
+    rw (← c.into_iter-function-iterator.ensures.into_iter_gives)
+    (on_err c.from_residual.result _
+    (gives_at_first g.I.Iterator.next_gives c.into_iter-function-iterator.result c.loop-function.function-iterator c.next.new.self c.loop-function.yielded c.in-Some.function c.loop-function.yielded_by c.in-Some.ensures.steps))

@@ -66,6 +66,7 @@ copy() {
     sed -i '/^#\[cfg(test)\]$/,/^mod tests;$/d' "$gate"/crates/binfarce_*/src/main.rt
 }
 
+echo "commit $(git rev-parse HEAD 2>/dev/null)"
 part bench/count.py
 part tests/unreached
 part tests/documents

@@ -7,7 +7,7 @@ macro_rules! reader {
         use crate::erased::binfarce::$erased as erased;
         use crate::error::{Error, ParseError};
         use crate::shim::alloc::Global;
-        use crate::{ByteOrder, FunctionSymbol, symbols_of};
+        use crate::{ByteOrder, FunctionSymbol, SectionFunction, SymbolTable, symbols_of};
         use std::fmt;
         use std::ops::Range;
 
@@ -155,6 +155,15 @@ macro_rules! reader {
                 Ok(self.0.section_with_name(name)?.map(Section))
             }
 
+            /// Returns the section of this index, which counts from 0; `None` where there are fewer.
+            ///
+            /// # Errors
+            ///
+            /// Those of `find_section`.
+            pub fn section_with_index(&self, index: u32) -> Result<Option<Section>, ParseError> {
+                Ok(self.0.section_with_index(index)?.map(Section))
+            }
+
             /// Returns the section's bytes, a part of the file. A section of type `SHT_NOBITS` has no bytes in the file:
             /// for it they have no meaning.
             ///
@@ -202,6 +211,36 @@ macro_rules! reader {
                 let (functions, size) = self.0.functions(section_name)?;
                 Ok((Functions(functions), size))
             }
+
+            /// Returns what `symbols` does, of the dynamic symbol table, which a stripped file still has.
+            ///
+            /// # Errors
+            ///
+            /// Those of `dynamic_functions`, and [`Error::OutOfMemory`] where an allocation failed.
+            pub fn dynamic_symbols(&self, section_name: &str) -> Result<(Vec<SymbolData>, u64), Error> {
+                Ok(symbols_of(self.0.dynamic_symbols(Global, section_name)?))
+            }
+
+            /// Returns what `functions` does, of the dynamic symbol table.
+            ///
+            /// # Errors
+            ///
+            /// Those of `functions`, with [`ParseError::SectionIsMissing`] for `.dynsym` and then for `.dynstr`.
+            pub fn dynamic_functions(&self, section_name: &str) -> Result<(Functions<'a>, u64), ParseError> {
+                let (functions, size) = self.0.dynamic_functions(section_name)?;
+                Ok((Functions(functions), size))
+            }
+
+            /// Returns an iterator over the function symbols of all sections, each with the index of its section, in the
+            /// order of this symbol table, with their names as the file stores them. Nothing is allocated.
+            ///
+            /// # Errors
+            ///
+            /// In this order: [`ParseError::UnexpectedEof`] where the section header table doesn't begin in the file or a
+            /// section header is truncated; those of `functions` or `dynamic_functions` from the missing symbol table on.
+            pub fn all_functions(&self, table: SymbolTable) -> Result<AllFunctions<'a>, ParseError> {
+                Ok(AllFunctions(self.0.all_functions(table)?))
+            }
         }
 
         /// An iterator over the sections of a file. After an error it ends.
@@ -228,7 +267,19 @@ macro_rules! reader {
             }
         }
 
-        debug_by_name!(Sections, Functions);
+        /// An iterator over the function symbols of all sections.
+        #[must_use = "iterators are lazy and do nothing unless consumed"]
+        pub struct AllFunctions<'a>(erased::AllFunctions<'a>);
+
+        impl<'a> Iterator for AllFunctions<'a> {
+            type Item = SectionFunction<'a>;
+
+            fn next(&mut self) -> Option<Self::Item> {
+                self.0.next()
+            }
+        }
+
+        debug_by_name!(Sections, Functions, AllFunctions);
     };
 }
 

@@ -9,11 +9,14 @@ pub use Rattle.binfarce_bytes.specs.Steps
 pub use Rattle.binfarce_bytes.specs.Refusal
 pub use Rattle.binfarce_bytes.specs.Walk
 pub use Rattle.binfarce_naming.specs.Symbol
+pub use Rattle.binfarce_symbols.specs.SectionEntries
 pub use Rattle.binfarce_symbols.specs.SymbolViews
 pub use Rattle.binfarce_symbols.specs.Found
 pub use Rattle.binfarce_symbols.specs.Sizes
 pub use Rattle.binfarce_elf.specs.Elf
+pub use Rattle.binfarce_elf.specs.SymbolTables
 pub use Rattle.binfarce_elf.specs.ElfSymbols
+pub use Rattle.binfarce_elf.specs.ElfAll
 pub use Rattle.binfarce_elf.specs.ElfViews
 pub use Rattle.binfarce_macho.specs.Macho
 pub use Rattle.binfarce_macho.specs.MachoSymbols

@@ -1,19 +1,22 @@
 //! ELF files of either class (System V gABI).
 
-ghost use Rattle.std.specs.Prelude.{◌≡◌, ◌<◌, ◌≤◌, length, All, MatchResult};
+ghost use Rattle.std.specs.Prelude.{◌≡◌, ◌<◌, ◌≤◌, length, nat_eq, All, MatchResult};
 ghost use Rattle.std.specs.Option.{option_map};
 ghost use Rattle.binfarce_bytes.specs.Refusal.{Gives, refusal_of, unexpected_eof};
 ghost use Rattle.binfarce_bytes.specs.Walk.{MayBeAsked, FirstAccepted, first};
 ghost use Rattle.binfarce_symbols.specs.Entries.{Answers, ListsSome};
 ghost use Rattle.binfarce_naming.specs.Symbol.{HoldsSymbols};
 ghost use Rattle.binfarce_elf.specs.Elf.{header_of, section_table, walk, name_of};
-ghost use Rattle.binfarce_elf.specs.ElfSymbols.{is_named, section_data, elf_answer};
+ghost use Rattle.binfarce_elf.specs.ElfSymbols.{is_named, section_data, elf_answer, dynamic_answer};
+ghost use Rattle.binfarce_elf.specs.ElfAll.{all_answer, all_left};
 ghost use Rattle.binfarce_elf.specs.ElfViews.{header_view, section_view, functions_view};
 
 use binfarce_bytes::{ByteOrder, ParseError};
+use binfarce_elf::all::{self, AllFunctions};
 use binfarce_elf::class::Class;
 use binfarce_elf::header::{Header, parse_header};
 use binfarce_elf::sections::{self, HasSections, Section, Sections, Table};
+use binfarce_elf::symbol_table::SymbolTable;
 use binfarce_elf::symbols::{self, Functions};
 use binfarce_names::demangle::SymbolData;
 use binfarce_naming::symbols::symbols_of;
@@ -115,6 +118,18 @@ impl<'a, C: Class> Elf<'a, C> {
         Ok(sections::section_with_name::<C>(self.section_table(), name)?)
     }
 
+    /// The section of this index in the section header table, which counts from 0; `None` where there are fewer.
+    ///
+    /// # Errors
+    ///
+    /// Those of `find_section`.
+    pub fn section_with_index(&self, index: u32) -> Result<Option<Section<C>>, ParseError>
+        ensures { let table = section_table C.table self.now in Gives refusal_of (option_map (section_view C.number_of))
+            (first (λ s. nat_eq s.index index) (walk C.table table)) result }
+    {
+        Ok(symbols::section_of_index::<C>(self.section_table(), index)?)
+    }
+
     /// The function symbols of the section with this name as the file stores them, in the order of the symbol table,
     /// and the section's size in bytes. Nothing is allocated, and names stay mangled.
     ///
@@ -132,7 +147,38 @@ impl<'a, C: Class> Elf<'a, C> {
         symbols::section_functions::<C>(self.section_table(), section_name)
     }
 
-    /// The same functions as symbols, whose names are in readable form, and the section's size in bytes.
+    /// The same functions of the dynamic symbol table, which a stripped file still has.
+    ///
+    /// # Errors
+    ///
+    /// Those of `functions`, where `SectionIsMissing` is of `.dynsym` (the first section of kind 11, `SHT_DYNSYM`) and of
+    /// `.dynstr` (the section that it links to).
+    pub fn dynamic_functions(
+        &self,
+        section_name: &str,
+    ) -> Result<(Functions<'a, C>, u64), ParseError>
+        ensures { Gives refusal_of (functions_view C.table) (dynamic_answer C.table (section_table C.table self.now) section_name.now) result }
+    {
+        symbols::dynamic_functions::<C>(self.section_table(), section_name)
+    }
+
+    /// The function symbols of all sections as the file stores them, each with the index of its section, in the order of
+    /// this symbol table. Nothing is allocated, and names stay mangled.
+    ///
+    /// Kept are the rows that `functions`, or for the dynamic symbol table `dynamic_functions`, keeps for some section of
+    /// the file: none without a section (`SHN_UNDEF`), and none with a reserved index, as that of `SHN_ABS`.
+    ///
+    /// # Errors
+    ///
+    /// In this order: `UnexpectedEof` where the section header table doesn't begin in the file, or a section header is
+    /// truncated; those of `functions`, or `dynamic_functions`, from the missing symbol table on.
+    pub fn all_functions(&self, which: SymbolTable) -> Result<AllFunctions<'a, C>, ParseError>
+        ensures { Gives refusal_of (all_left C.table) (all_answer which C.table (section_table C.table self.now)) result }
+    {
+        all::all_functions::<C>(self.section_table(), which)
+    }
+
+    /// The functions of the symbol table as symbols, whose names are in readable form, and the section's size in bytes.
     ///
     /// # Errors
     ///
@@ -146,6 +192,23 @@ impl<'a, C: Class> Elf<'a, C> {
     {
         let (functions, size) = self.functions(section_name)?;
         Ok((symbols_of(alloc, functions)?, size))
+    }
+
+    /// The functions of the dynamic symbol table as symbols, and the section's size in bytes.
+    ///
+    /// # Errors
+    ///
+    /// Those of `dynamic_functions`, and `OutOfMemory` where an allocation failed, which an empty list never needs.
+    pub fn dynamic_symbols(
+        &self,
+        alloc: Global,
+        section_name: &str,
+    ) -> Result<(Vec<SymbolData>, u64), ParseError>
+        ensures { Answers HoldsSymbols ListsSome (dynamic_answer C.table (section_table C.table self.now) section_name.now) result }
+    {
+        let (functions, size) = self.dynamic_functions(section_name)?;
+        let symbols = symbols_of(alloc, functions)?;
+        Ok((symbols, size))
     }
 
     /// The file's bytes, as they were given to `parse`.

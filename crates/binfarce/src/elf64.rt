@@ -5,7 +5,7 @@ ghost use Rattle.binfarce_bytes.specs.Refusal.{refusal_of, unexpected_eof};
 
 use crate::elf;
 use binfarce_bytes::{ByteOrder, ParseError};
-use binfarce_elf::{header, sections, symbols};
+use binfarce_elf::{all, header, sections, symbols};
 
 // The standard's data types of this class (gABI, "Data Representation"): the word by which it is known.
 type Address = u64;
@@ -26,6 +26,9 @@ pub type Sections<'a> = sections::Sections<'a, Offset>;
 
 /// The function symbols of a section that are left: what [`Elf64::functions`](elf::Elf::functions) gives.
 pub type Functions<'a> = symbols::Functions<'a, Address>;
+
+/// The function symbols of all sections that are left: what [`Elf64::all_functions`](elf::Elf::all_functions) gives.
+pub type AllFunctions<'a> = all::AllFunctions<'a, Address>;
 
 /// Reads the file header in the given order, without a look at the magic number. Nothing is copied.
 ///

@@ -2,9 +2,10 @@
 #![tactic(auto)]
 
 pub use binfarce_bytes::{ByteOrder, ParseError, UnexpectedEof};
+pub use binfarce_elf::symbol_table::SymbolTable;
 pub use binfarce_format::{Format, detect_format};
 pub use binfarce_names::demangle;
-pub use binfarce_symbols::functions::{FunctionSymbol, symbol_at};
+pub use binfarce_symbols::functions::{FunctionSymbol, SectionFunction, symbol_at};
 
 mod elf;
 pub mod elf32;

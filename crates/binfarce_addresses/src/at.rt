@@ -5,11 +5,12 @@ ghost use Rattle.std.specs.String.{string_bytes};
 ghost use Rattle.binfarce.specs.Format.{format_of};
 ghost use Rattle.binfarce.specs.Symbol.{Entry};
 ghost use Rattle.binfarce.specs.SymbolViews.{function_view};
-ghost use Rattle.binfarce_tools.specs.Answer.{symbols_answer, NeedsMemory};
+ghost use Rattle.binfarce_tools.specs.Answer.{symbols_answer, answer_of, NeedsMemory};
 ghost use Rattle.binfarce_tools.specs.Entries.{functions_left};
 ghost use Rattle.binfarce_tools.specs.Listing.{ListingFits};
 ghost use Rattle.binfarce_tools.specs.ListWords.{outcome_of};
 ghost use Rattle.binfarce_tools.specs.Tables.{AreTablesOf};
+ghost use Rattle.binfarce_tools.specs.declared.SymbolTable.{SymbolTable};
 ghost use Rattle.binfarce_tools.specs.declared.list.ListError.TheVariants.{Write};
 ghost use Rattle.binfarce_tools.specs.Writing.{Tells, Takes, Fails, Leaves};
 ghost use Rattle.binfarce_addresses.specs.Lines.{in_file, found_at, IsLineAt, AreLinesOf, AreLinesAt};
@@ -68,7 +69,7 @@ impl<'a> Places<'a> {
     ///
     /// As `of_file`.
     pub fn of_tables(alloc: Global, tables: &'a Tables) -> Result<Places<'a>, ListError>
-        ensures made { (file section : List ℕ) → AreTablesOf file section tables.entry.now → IsMadeOf (NeedsMemory (format_of file) file) (symbols_answer (format_of file) file section) result }
+        ensures made { (which : SymbolTable) (file section : List ℕ) → AreTablesOf which file section tables.entry.now → IsMadeOf (NeedsMemory (format_of file) file) (answer_of which file section) result }
         ensures unwritten { IfErr result (λ e. e ≢ Write) }
     {
         let (functions, _) = tables.functions(alloc)?;
@@ -343,8 +344,8 @@ pub fn at_tables<S: Sink>(
     addresses: &[u64],
     out: &mut S,
 ) -> Result<(), ListError>
-    ensures tells { (file section : List ℕ) → AreTablesOf file section tables.now → Tells ListingFits (NeedsMemory (format_of file) file) (symbols_answer (format_of file) file section) (outcome_of result) }
-    ensures takes { (file section : List ℕ) → AreTablesOf file section tables.now → Takes (AreLinesAt base addresses.now) (symbols_answer (format_of file) file section) (S.taken out.old) (S.taken out.new) (outcome_of result) }
+    ensures tells { (which : SymbolTable) (file section : List ℕ) → AreTablesOf which file section tables.now → Tells ListingFits (NeedsMemory (format_of file) file) (answer_of which file section) (outcome_of result) }
+    ensures takes { (which : SymbolTable) (file section : List ℕ) → AreTablesOf which file section tables.now → Takes (AreLinesAt base addresses.now) (answer_of which file section) (S.taken out.old) (S.taken out.new) (outcome_of result) }
     ensures fails { Fails (S.has_failed out.old) (S.has_failed out.new) (outcome_of result) }
     ensures leaves { Leaves out.old out.new (outcome_of result) }
 {

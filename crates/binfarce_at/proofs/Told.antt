@@ -12,6 +12,7 @@ use Rattle.binfarce_tables.specs.declared.error.ReadError.{ReadError}
 use Rattle.binfarce_tables.specs.declared.error.ReadError.TheVariants.{Refused, Unreadable, OutOfMemory}
 use Rattle.binfarce_tools.specs.Answer.{symbols_answer, NeedsMemory}
 use Rattle.binfarce_tools.specs.Tables.{ReadsTables}
+use Rattle.binfarce_tools.specs.declared.SymbolTable.TheVariants.{Symtab}
 use Rattle.binfarce_tools.specs.declared.list.ListError.TheVariants as errors
 use Rattle.binfarce_at.specs.Program.{AnswersLines, IsUntouched, lines_end, read_fault}
 use Rattle.binfarce_at.specs.declared.program.Fault.{Fault}
@@ -41,7 +42,7 @@ untouched given old = (none_read given, none_written old)
     none_written None = tt
     none_written (Some taken) = sym (append-nil taken)
 
-not_read : (may : Type 0) (bytes section : List ℕ) (base : ℕ) (given old : Option (List ℕ)) (e : ReadError) → ReadsTables may bytes section (Err e)
+not_read : (may : Type 0) (bytes section : List ℕ) (base : ℕ) (given old : Option (List ℕ)) (e : ReadError) → ReadsTables may Symtab bytes section (Err e)
     → AnswersLines may (NeedsMemory (format_of bytes) bytes) (symbols_answer (format_of bytes) bytes section) base given given old old (Err (read_fault e))
 not_read may bytes section base given old (Refused p) reads =
     let P : Option (Result Listed Refusal) → Type 0 = λ answer. IsMadeOf (NeedsMemory (format_of bytes) bytes) answer (Err (errors.Parse p)) in
@@ -51,7 +52,7 @@ not_read may bytes section base given old Unreadable reads = inl (inl (reads, re
 not_read may bytes section base given old OutOfMemory reads = inl (inr refl, untouched given old)
 
 -- nothing was answered where the file isn't read
-pub unread : (may : Type 0) (bytes section : List ℕ) (base : ℕ) (given old : Option (List ℕ)) (e : ReadError) (result : Result (Unit {0}) Fault) → ReadsTables may bytes section (Err e) → IsErrAnd result (λ x. x ≡ read_fault e)
+pub unread : (may : Type 0) (bytes section : List ℕ) (base : ℕ) (given old : Option (List ℕ)) (e : ReadError) (result : Result (Unit {0}) Fault) → ReadsTables may Symtab bytes section (Err e) → IsErrAnd result (λ x. x ≡ read_fault e)
     → AnswersLines may (NeedsMemory (format_of bytes) bytes) (symbols_answer (format_of bytes) bytes section) base given given old old result
 unread may bytes section base given old e (Ok x) reads is = absurd is
 unread may bytes section base given old e (Err x) reads is =

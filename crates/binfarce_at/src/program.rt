@@ -6,6 +6,7 @@ ghost use Rattle.binfarce_tools.specs.Answer.{symbols_answer, NeedsMemory};
 ghost use Rattle.binfarce_tools.specs.Listing.{ListingFits};
 ghost use Rattle.binfarce_tools.specs.Sink.{writer_of, has_failed};
 ghost use Rattle.binfarce_tools.specs.Tables.{AreTablesOf};
+ghost use Rattle.binfarce_tools.specs.declared.SymbolTable.TheVariants.{Symtab};
 ghost use Rattle.binfarce_tools.specs.Writing.{ProgramTells, Takes, Fails, Leaves};
 ghost use Rattle.binfarce_addresses.specs.Lines.{AreLinesAt};
 ghost use Rattle.binfarce_addresses.specs.PlacesViews.{IsMadeOf};
@@ -247,7 +248,7 @@ fn answer_in_tables<I: Read, W: Write>(
     input: &mut I,
     out: &mut Out<W>,
 ) -> Result<(), Fault>
-    ensures { (file : List ℕ) → AreTablesOf file (codes ".text") tables.now → AnswersLines ⊥ (NeedsMemory (format_of file) file) (symbols_answer (format_of file) file (codes ".text")) base
+    ensures { (file : List ℕ) → AreTablesOf Symtab file (codes ".text") tables.now → AnswersLines ⊥ (NeedsMemory (format_of file) file) (symbols_answer (format_of file) file (codes ".text")) base
         (I.remaining input.old) (I.remaining input.new) (W.contents (writer_of out.old)) (W.contents (writer_of out.new)) result }
 {
     let places = named_places_in_tables(alloc, tables)?;
@@ -266,7 +267,7 @@ fn named_places_in_bytes(alloc: Global, file: &[u8]) -> Result<Places<'_>, ListE
 
 // The same, of a file's tables.
 fn named_places_in_tables(alloc: Global, tables: &Tables) -> Result<Places<'_>, ListError>
-    ensures { (file : List ℕ) → AreTablesOf file (codes ".text") tables.entry.now → IsMadeOf (NeedsMemory (format_of file) file) (symbols_answer (format_of file) file (codes ".text")) result }
+    ensures { (file : List ℕ) → AreTablesOf Symtab file (codes ".text") tables.entry.now → IsMadeOf (NeedsMemory (format_of file) file) (symbols_answer (format_of file) file (codes ".text")) result }
 {
     let mut places = Places::of_tables(alloc, tables)?;
     places.keep_names(alloc)?;

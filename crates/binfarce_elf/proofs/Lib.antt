@@ -4,3 +4,4 @@ pub mod Names
 pub mod RowsLeft
 pub mod RowParts
 pub mod SectionsLeft
+pub mod Steps

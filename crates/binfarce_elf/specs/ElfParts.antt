@@ -1,11 +1,13 @@
 -- What the symbols of a section need, found in the section headers and the section names.
-use Rattle.std.specs.Prelude.{ℕ, List, Option, Result, Ok, codes, nat_eq}
+use Rattle.std.specs.Prelude.{ℕ, List, Option, Result, Ok, nat_eq}
 use Rattle.binfarce_bytes.specs.declared.ByteOrder.{ByteOrder}
 use Rattle.binfarce_bytes.specs.Refusal.{◌>>=◌, Refusal, symbols_section_is_missing, section_is_missing}
 use Rattle.binfarce_elf.specs.declared.parts.Needed.{Needed}
 use Rattle.binfarce_elf.specs.Elf.{ElfClass, Section, SectionTable, walk, name_among}
 use Rattle.binfarce_elf.specs.ElfSymbols.{sought, is_named, string_table_kind}
 use Rattle.binfarce_elf.specs.ElfViews.{section_view}
+use Rattle.binfarce_elf.specs.SymbolTables.{section_type, table_name, strings_name}
+use Rattle.binfarce_elf.specs.declared.symbol_table.SymbolTable.{SymbolTable}
 
 -- the section that was asked for, the symbol table, and the section of its strings
 pub record NeededSections : Type 0 where
@@ -18,11 +20,11 @@ abbrev pub headers_alone : ByteOrder → List ℕ → ℕ → SectionTable
 headers_alone order headers count = record { order = order; file = headers; shoff = 0; shnum = count; shstrndx = 0 }
 
 -- the refusals in order; else the sections
-unfoldable pub needed : ElfClass → SectionTable → Option (List ℕ) → List ℕ → Result NeededSections Refusal
-needed class table names wanted = do
+unfoldable pub needed : SymbolTable → ElfClass → SectionTable → Option (List ℕ) → List ℕ → Result NeededSections Refusal
+needed which class table names wanted = do
   section ← sought symbols_section_is_missing (λ s. is_named wanted (name_among names s.name_offset)) (walk class table)
-  symbols ← sought (section_is_missing (codes ".symtab")) (λ s. nat_eq s.kind 2) (walk class table)
-  linked ← sought (section_is_missing (codes ".strtab")) (λ s. nat_eq s.index symbols.link) (walk class table)
+  symbols ← sought (section_is_missing (table_name which)) (λ s. nat_eq s.kind (section_type which)) (walk class table)
+  linked ← sought (section_is_missing (strings_name which)) (λ s. nat_eq s.index symbols.link) (walk class table)
   strings ← string_table_kind linked
   Ok (record { section = section; symbols = symbols; strings = strings })
 

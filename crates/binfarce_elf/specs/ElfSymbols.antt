@@ -1,5 +1,5 @@
 -- The function symbols of one section of an ELF file (System V gABI, "Symbol Table").
-use Rattle.std.specs.Prelude.{ℕ, ◌-◌, ◌*◌, ◌/◌, ◌%◌, Bool, false, ◌&&◌, List, length, Option, Some, None, Result, Ok, Err, nat_eq, not, codes, if◌then◌else◌}
+use Rattle.std.specs.Prelude.{ℕ, ◌-◌, ◌*◌, ◌/◌, ◌%◌, Bool, false, ◌&&◌, List, length, Option, Some, None, Result, Ok, Err, nat_eq, not, if◌then◌else◌}
 use Rattle.std.specs.Option.{option_map}
 use Rattle.std.specs.List.{range_with_len, filter_map}
 use Rattle.std.specs.Str.{bytes_eq}
@@ -9,6 +9,9 @@ use Rattle.binfarce_bytes.specs.Refusal.{◌>>=◌, Refusal, required, symbols_s
 use Rattle.binfarce_bytes.specs.Walk.{Walk, first}
 use Rattle.binfarce_bytes.specs.Field.{value_at}
 use Rattle.binfarce_elf.specs.Elf.{ElfClass, SectionTable, Section, SymbolRow, walk, name_of}
+use Rattle.binfarce_elf.specs.SymbolTables.{section_type, table_name, strings_name}
+use Rattle.binfarce_elf.specs.declared.symbol_table.SymbolTable.{SymbolTable}
+use Rattle.binfarce_elf.specs.declared.symbol_table.SymbolTable.TheVariants.{Symtab, Dynsym}
 use Rattle.binfarce_symbols.specs.Entries.{Entry, Listed}
 
 -- the row that begins at start
@@ -60,26 +63,51 @@ string_table_kind section = if nat_eq section.kind 3 then Ok section else Err (u
 abbrev pub whole_rows : ElfClass → List ℕ → Result (List ℕ) Refusal
 whole_rows class rows = if nat_eq (length rows % class.symbol_length) 0 then Ok rows else Err unexpected_eof
 
+-- the bytes of a symbol table's strings, and of its rows
+pub record TableRows : Type 0 where
+  pub strings : List ℕ
+  pub rows : List ℕ
+
+-- the refusals of a symbol table in order; else its strings and its rows
+unfoldable pub rows_in : SymbolTable → ElfClass → SectionTable → Result TableRows Refusal
+rows_in which class table = do
+  symbols ← sought (section_is_missing (table_name which)) (λ s. nat_eq s.kind (section_type which)) (walk class table)
+  linked ← sought (section_is_missing (strings_name which)) (λ s. nat_eq s.index symbols.link) (walk class table)
+  string_table ← string_table_kind linked
+  strings ← section_data table.file string_table
+  table_bytes ← section_data table.file symbols
+  rows ← whole_rows class table_bytes
+  Ok (record { strings = strings; rows = rows })
+
 -- the section that was asked for, the string table's bytes, and the symbol table's
 pub record Located : Type 0 where
   pub section : Section
   pub strings : List ℕ
   pub rows : List ℕ
 
--- the refusals in order; else where the symbols are
-unfoldable pub located : ElfClass → SectionTable → List ℕ → Result Located Refusal
-located class table name = do
+-- the refusals in order: that the section is missing, and those of the symbol table; else where the symbols are
+unfoldable pub located_in : SymbolTable → ElfClass → SectionTable → List ℕ → Result Located Refusal
+located_in which class table name = do
   section ← sought symbols_section_is_missing (λ s. is_named name (name_of class table s)) (walk class table)
-  symbols ← sought (section_is_missing (codes ".symtab")) (λ s. nat_eq s.kind 2) (walk class table)
-  linked ← sought (section_is_missing (codes ".strtab")) (λ s. nat_eq s.index symbols.link) (walk class table)
-  string_table ← string_table_kind linked
-  strings ← section_data table.file string_table
-  table_bytes ← section_data table.file symbols
-  rows ← whole_rows class table_bytes
-  Ok (record { section = section; strings = strings; rows = rows })
+  found ← rows_in which class table
+  Ok (record { section = section; strings = found.strings; rows = found.rows })
+
+-- where the symbols are: those of SHT_SYMTAB
+unfoldable pub located : ElfClass → SectionTable → List ℕ → Result Located Refusal
+located class table name = located_in Symtab class table name
 
 -- the entries of all rows, and the size of the section that was asked for
 unfoldable pub elf_answer : ElfClass → SectionTable → List ℕ → Result Listed Refusal
 elf_answer class table name = do
   found ← located class table name
   Ok (record { entries = entries_from class table.order found.strings found.section.index found.rows 0; section_size = found.section.size })
+
+-- the same of this symbol table
+unfoldable pub answer_in : SymbolTable → ElfClass → SectionTable → List ℕ → Result Listed Refusal
+answer_in which class table name = do
+  found ← located_in which class table name
+  Ok (record { entries = entries_from class table.order found.strings found.section.index found.rows 0; section_size = found.section.size })
+
+-- the answer of the dynamic symbol table
+abbrev pub dynamic_answer : ElfClass → SectionTable → List ℕ → Result Listed Refusal
+dynamic_answer class table name = answer_in Dynsym class table name

@@ -2,9 +2,11 @@
 #![tactic(auto)]
 
 mod accessors;
+pub mod all;
 pub mod class;
 pub mod header;
 mod laws;
 pub mod parts;
 pub mod sections;
+pub mod symbol_table;
 pub mod symbols;

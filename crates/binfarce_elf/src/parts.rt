@@ -12,6 +12,7 @@ ghost use Rattle.binfarce_elf.specs.machine.RawElf.{table_view};
 
 use crate::class::{Class, Half};
 use crate::sections::{Section, Sections, Table, first_section, is_named, name_at, sections_of};
+use crate::symbol_table::SymbolTable;
 use crate::symbols::{Functions, linked_section, string_table, symbol_table};
 use binfarce_bytes::parser::UnexpectedEof;
 use binfarce_bytes::{ByteOrder, ParseError};
@@ -24,21 +25,23 @@ pub struct Needed<C> {
     pub strings: Section<C>,
 }
 
-/// These sections, found in `count` section headers, whose names are among `names`. Refused as `functions` of a reader
-/// is, up to the string table's kind.
+/// These sections, found in `count` section headers, whose names are among `names`. Refused as `functions` and
+/// `dynamic_functions` of a reader are, up to the string table's kind.
 pub fn needed_sections<C: Class>(
     headers: &[u8],
     byte_order: ByteOrder,
     count: Half,
     names: Option<&[u8]>,
+    which: SymbolTable,
     section_name: &str,
 ) -> Result<Needed<C>, ParseError>
     ensures { Gives refusal_of (needed_view C.number_of)
-        (needed C.table (headers_alone byte_order headers.now count) (option_map (λ b. b.now) names.entry) section_name.now) result }
+        (needed which C.table (headers_alone byte_order headers.now count) (option_map (λ b. b.now) names.entry) section_name.now) result }
 {
     needed_of::<C>(
         headers_alone(headers, byte_order, count),
         names,
+        which,
         section_name,
     )
 }
@@ -74,14 +77,15 @@ fn headers_alone(headers: &[u8], byte_order: ByteOrder, count: Half) -> Table<'_
 fn needed_of<C: Class>(
     table: Table<'_>,
     names: Option<&[u8]>,
+    which: SymbolTable,
     section_name: &str,
 ) -> Result<Needed<C>, ParseError>
     ensures { Gives refusal_of (needed_view C.number_of)
-        (needed C.table (table_view table.entry) (option_map (λ b. b.now) names.entry) section_name.now) result }
+        (needed which C.table (table_view table.entry) (option_map (λ b. b.now) names.entry) section_name.now) result }
 {
     let section = named_section::<C>(table, names, section_name)?;
-    let symbols = symbol_table::<C>(table)?;
-    let linked = linked_section::<C>(table, symbols.link)?;
+    let symbols = symbol_table::<C>(table, which)?;
+    let linked = linked_section::<C>(table, which, symbols.link)?;
     let strings = string_table(linked)?;
     Ok(Needed {
         section,

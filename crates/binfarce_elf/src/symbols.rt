@@ -1,28 +1,34 @@
 //! The function symbols of one section.
 
-ghost use Rattle.std.specs.Prelude.{◌≡◌, [], ◌∷◌, MatchOption, nat_eq, codes};
+ghost use Rattle.std.specs.Prelude.{◌≡◌, [], ◌∷◌, MatchOption, nat_eq};
 ghost use Rattle.std.specs.Option.{option_map};
 ghost use Rattle.binfarce_bytes.specs.Refusal.{Gives, refusal_of, unexpected_eof, symbols_section_is_missing, section_is_missing};
 ghost use Rattle.binfarce_bytes.specs.Walk.{first};
 ghost use Rattle.binfarce_symbols.specs.SymbolViews.{function_view};
 ghost use Rattle.binfarce_symbols.specs.Found.{entry_at};
 ghost use Rattle.binfarce_elf.specs.Elf.{walk, name_of};
-ghost use Rattle.binfarce_elf.specs.ElfSymbols.{is_named, sought, string_table_kind, whole_rows, located, elf_answer, entries_from, function_name};
+ghost use Rattle.binfarce_elf.specs.ElfSymbols.{is_named, sought, string_table_kind, whole_rows, rows_in, located_in, elf_answer, answer_in, dynamic_answer, entries_from, function_name};
+ghost use Rattle.binfarce_elf.specs.SymbolTables.{section_type, table_name, strings_name};
 ghost use Rattle.binfarce_elf.specs.ElfViews.{section_view, functions_left, functions_view};
-ghost use Rattle.binfarce_elf.specs.machine.RawElf.{symbol_view, table_view, located_view};
+ghost use Rattle.binfarce_elf.specs.machine.RawElf.{symbol_view, table_view, rows_view, located_view};
 
 use crate::class::{Class, Half, SymbolRow, Word};
 use crate::sections::{Section, Table, first_section, section_data, section_with_name};
+use crate::symbol_table::SymbolTable;
 use binfarce_bytes::parser::{UnexpectedEof, parse_null_string};
 use binfarce_bytes::{ByteOrder, ParseError};
 use binfarce_symbols::functions::{FunctionSymbol, found_with};
 use std::marker::PhantomData;
 
-/// `SHT_SYMTAB`.
-const SYMBOL_TABLE: Word = 2;
-
 /// `SHT_STRTAB`.
 const STRING_TABLE: Word = 3;
+
+// The strings and the rows of a symbol table.
+#[derive(Clone, Copy)]
+pub(crate) struct Rows<'a> {
+    pub(crate) strings: &'a [u8],
+    pub(crate) rows: &'a [u8],
+}
 
 // Where the symbols of a section are in the file.
 #[derive(Clone, Copy)]
@@ -33,39 +39,77 @@ struct Located<'a, C> {
 }
 
 /// The function symbols of the section with this name, and the section's size.
-#[tactic(auto, unfolding(crate::specs::ElfSymbols::elf_answer))]
+#[tactic(auto, unfolding(crate::specs::ElfSymbols::elf_answer, crate::specs::ElfSymbols::located, crate::specs::ElfSymbols::answer_in))]
 pub fn section_functions<'a, C: Class>(
     table: Table<'a>,
     section_name: &str,
 ) -> Result<(Functions<'a, C>, u64), ParseError>
     ensures { Gives refusal_of (functions_view C.table) (elf_answer C.table (table_view table.entry) section_name.now) result }
 {
+    functions_of(table, SymbolTable::Symtab, section_name)
+}
+
+/// The same of the dynamic symbol table.
+pub fn dynamic_functions<'a, C: Class>(
+    table: Table<'a>,
+    section_name: &str,
+) -> Result<(Functions<'a, C>, u64), ParseError>
+    ensures { Gives refusal_of (functions_view C.table) (dynamic_answer C.table (table_view table.entry) section_name.now) result }
+{
+    functions_of(table, SymbolTable::Dynsym, section_name)
+}
+
+// The same of this symbol table.
+#[tactic(auto, unfolding(crate::specs::ElfSymbols::answer_in))]
+fn functions_of<'a, C: Class>(
+    table: Table<'a>,
+    which: SymbolTable,
+    section_name: &str,
+) -> Result<(Functions<'a, C>, u64), ParseError>
+    ensures { Gives refusal_of (functions_view C.table) (answer_in which C.table (table_view table.entry) section_name.now) result }
+{
     let Located {
         section,
         strings,
         rows,
-    } = locate::<C>(table, section_name)?;
+    } = locate::<C>(table, which, section_name)?;
     let functions = Functions::new(rows, strings, table.byte_order, section.index);
     Ok((functions, section.size.widened()))
 }
 
-// The section with this name, and the rows and the strings of the symbol table.
-#[tactic(auto, unfolding(crate::specs::ElfSymbols::located))]
-fn locate<'a, C: Class>(table: Table<'a>, section_name: &str) -> Result<Located<'a, C>, ParseError>
-    ensures { Gives refusal_of (located_view C.number_of) (located C.table (table_view table.entry) section_name.now) result }
+// The section with this name, and the rows and the strings of this symbol table.
+#[tactic(auto, unfolding(crate::specs::ElfSymbols::located_in))]
+fn locate<'a, C: Class>(
+    table: Table<'a>,
+    which: SymbolTable,
+    section_name: &str,
+) -> Result<Located<'a, C>, ParseError>
+    ensures { Gives refusal_of (located_view C.number_of) (located_in which C.table (table_view table.entry) section_name.now) result }
 {
     let section = named_section::<C>(table, section_name)?;
-    let symbols = symbol_table::<C>(table)?;
-    let linked = linked_section::<C>(table, symbols.link)?;
-    let string_table = string_table(linked)?;
-    let strings = section_data(table.data, string_table)?;
-    let rows = section_data(table.data, symbols)?;
-    let rows = whole_rows::<C>(rows)?;
+    let Rows { strings, rows } = rows_of::<C>(table, which)?;
     Ok(Located {
         section,
         strings,
         rows,
     })
+}
+
+// The rows and the strings of this symbol table.
+#[tactic(auto, unfolding(crate::specs::ElfSymbols::rows_in))]
+pub(crate) fn rows_of<'a, C: Class>(
+    table: Table<'a>,
+    which: SymbolTable,
+) -> Result<Rows<'a>, ParseError>
+    ensures { Gives refusal_of rows_view (rows_in which C.table (table_view table.entry)) result }
+{
+    let symbols = symbol_table::<C>(table, which)?;
+    let linked = linked_section::<C>(table, which, symbols.link)?;
+    let string_table = string_table(linked)?;
+    let strings = section_data(table.data, string_table)?;
+    let rows = section_data(table.data, symbols)?;
+    let rows = whole_rows::<C>(rows)?;
+    Ok(Rows { strings, rows })
 }
 
 fn named_section<C: Class>(table: Table<'_>, name: &str) -> Result<Section<C>, ParseError>
@@ -75,11 +119,16 @@ fn named_section<C: Class>(table: Table<'_>, name: &str) -> Result<Section<C>, P
     section_with_name::<C>(table, name)?.ok_or(ParseError::SymbolsSectionIsMissing)
 }
 
-pub(crate) fn symbol_table<C: Class>(table: Table<'_>) -> Result<Section<C>, ParseError>
+pub(crate) fn symbol_table<C: Class>(
+    table: Table<'_>,
+    which: SymbolTable,
+) -> Result<Section<C>, ParseError>
     ensures { Gives refusal_of (section_view C.number_of)
-        (sought (section_is_missing (codes ".symtab")) (λ s. nat_eq s.kind 2) (walk C.table (table_view table.entry))) result }
+        (sought (section_is_missing (table_name which)) (λ s. nat_eq s.kind (section_type which)) (walk C.table (table_view table.entry))) result }
 {
-    section_of_kind::<C>(table, SYMBOL_TABLE)?.ok_or(ParseError::SectionIsMissing(".symtab"))
+    section_of_kind::<C>(table, which.section_type())?.ok_or(ParseError::SectionIsMissing(
+        which.name(),
+    ))
 }
 
 fn section_of_kind<C: Class>(
@@ -94,15 +143,17 @@ fn section_of_kind<C: Class>(
 
 pub(crate) fn linked_section<C: Class>(
     table: Table<'_>,
+    which: SymbolTable,
     link: Word,
 ) -> Result<Section<C>, ParseError>
     ensures { Gives refusal_of (section_view C.number_of)
-        (sought (section_is_missing (codes ".strtab")) (λ s. nat_eq s.index link) (walk C.table (table_view table.entry))) result }
+        (sought (section_is_missing (strings_name which)) (λ s. nat_eq s.index link) (walk C.table (table_view table.entry))) result }
 {
-    section_of_index::<C>(table, link)?.ok_or(ParseError::SectionIsMissing(".strtab"))
+    section_of_index::<C>(table, link)?.ok_or(ParseError::SectionIsMissing(which.strings_name()))
 }
 
-fn section_of_index<C: Class>(
+/// The section of this index.
+pub fn section_of_index<C: Class>(
     table: Table<'_>,
     index: Word,
 ) -> Result<Option<Section<C>>, UnexpectedEof>
@@ -227,7 +278,7 @@ impl<'a, C: Class> Iterator for Functions<'a, C> {
 
 // The name of a function of the section `index`, with a size and a name offset.
 #[tactic(auto, unfolding(crate::specs::ElfSymbols::function_name))]
-fn function_name(strings: &[u8], index: Half, row: SymbolRow) -> Option<&str>
+pub(crate) fn function_name(strings: &[u8], index: Half, row: SymbolRow) -> Option<&str>
     ensures { option_map (λ t. t.now) result ≡ function_name strings.now index (symbol_view row) }
 {
     const STT_FUNC: u8 = 2;

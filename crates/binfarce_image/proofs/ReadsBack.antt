@@ -8,6 +8,8 @@ use Rattle.binfarce.specs.Refusal.{Refusal, ◌>>=◌, required, symbols_section
 use Rattle.binfarce.specs.Walk.{Walk, found_or_end}
 use Rattle.binfarce.specs.Elf.{ElfClass, Section, SectionTable, walk, name_of}
 use Rattle.binfarce.specs.ElfSymbols.{Located, sought, located, is_named, elf_answer}
+use Rattle.binfarce_elf.proofs.Steps.{located_steps}
+use Rattle.binfarce_elf.specs.declared.symbol_table.SymbolTable.TheVariants.{Symtab}
 use Rattle.binfarce.specs.Symbol.{Listed}
 use Rattle.binfarce_image.specs.declared.image.ElfLayout.{ElfLayout}
 use Rattle.binfarce_image.specs.declared.image.Image.{Image}
@@ -149,7 +151,8 @@ module _ (image : Image) (layout : ElfLayout) (due : LaysOut image layout) (fits
       let f : Section → Bool = λ s. is_named name (name_of class table s) in
       let g : ℕ × Part → Bool = λ q. is_named name (part_name_of image q.1) in
       let agree : (s : Section) (q : ℕ × Part) → Holds image layout s q → f s ≡ g q = λ s q h. ap (is_named name) (name_back image layout due fits s q h) in
-      ap (λ (x : Result Section Refusal). answer_of class table (x >>= λ (text : Section). located_for text)) (sought_in_file symbols_section_is_missing f (find f sections) refl)
+      ap (answer_of class table) (located_steps Symtab class table name)
+      ∙ ap (λ (x : Result Section Refusal). answer_of class table (x >>= λ (text : Section). located_for text)) (sought_in_file symbols_section_is_missing f (find f sections) refl)
       ∙ named_by name (find f sections) (find g numbered) (both f g agree) other
 
 -- in each layout, an image's file reads back to what the image holds

@@ -5,11 +5,12 @@ ghost use Rattle.std.specs.Prelude.{◌≡◌, ℕ, List, map, IfOk};
 ghost use Rattle.std.specs.String.{string_bytes};
 ghost use Rattle.binfarce.specs.Format.{format_of};
 ghost use Rattle.binfarce_chart.specs.Views.{bar_view};
-ghost use Rattle.binfarce_tools.specs.Answer.{symbols_answer, NeedsMemory};
+ghost use Rattle.binfarce_tools.specs.Answer.{symbols_answer, answer_of, NeedsMemory};
 ghost use Rattle.binfarce_tools.specs.Report.{Share, AreCratesOf, ReportFits};
 ghost use Rattle.binfarce_tools.specs.ReportWords.{outcome_of};
 ghost use Rattle.binfarce_tools.specs.Sums.{AreSumsOf};
 ghost use Rattle.binfarce_tools.specs.Tables.{AreTablesOf};
+ghost use Rattle.binfarce_tools.specs.declared.SymbolTable.{SymbolTable};
 ghost use Rattle.binfarce_tools.specs.Writing.{Tells, Takes, Fails, Leaves};
 ghost use Rattle.binfarce_mapping.specs.Map.{IsMapOf, IsMapOfShares, crate_rows};
 
@@ -53,8 +54,8 @@ pub fn map<S: Sink>(
 ///
 /// As `map`.
 pub fn map_tables<S: Sink>(alloc: Global, tables: &Tables, out: &mut S) -> Result<(), ReportError>
-    ensures tells { (file section : List ℕ) → AreTablesOf file section tables.now → Tells ReportFits (NeedsMemory (format_of file) file) (symbols_answer (format_of file) file section) (outcome_of result) }
-    ensures takes { (file section : List ℕ) → AreTablesOf file section tables.now → Takes IsMapOf (symbols_answer (format_of file) file section) (S.taken out.old) (S.taken out.new) (outcome_of result) }
+    ensures tells { (which : SymbolTable) (file section : List ℕ) → AreTablesOf which file section tables.now → Tells ReportFits (NeedsMemory (format_of file) file) (answer_of which file section) (outcome_of result) }
+    ensures takes { (which : SymbolTable) (file section : List ℕ) → AreTablesOf which file section tables.now → Takes IsMapOf (answer_of which file section) (S.taken out.old) (S.taken out.new) (outcome_of result) }
     ensures fails { Fails (S.has_failed out.old) (S.has_failed out.new) (outcome_of result) }
     ensures leaves { Leaves out.old out.new (outcome_of result) }
 {

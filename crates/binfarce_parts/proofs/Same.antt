@@ -9,6 +9,8 @@ use Rattle.binfarce.specs.Symbol.{Listed}
 use Rattle.binfarce.specs.Walk.{Walk, found_or_end}
 use Rattle.binfarce.specs.Elf.{ElfClass, SectionTable, Section, walk, name_of, section_table}
 use Rattle.binfarce.specs.ElfSymbols.{Located, sought, is_named, section_data, string_table_kind, whole_rows, located, elf_answer, entries_from}
+use Rattle.binfarce_elf.proofs.Steps.{located_steps}
+use Rattle.binfarce_elf.specs.declared.symbol_table.SymbolTable.TheVariants.{Symtab}
 use Rattle.binfarce_tools.specs.Answer.{elf_file_answer}
 use Rattle.binfarce_parts.specs.Part.{SameParts}
 use Rattle.binfarce_parts.specs.ElfParts.{table_of, symbol_table, string_table, elf_parts}
@@ -102,7 +104,7 @@ module _ (class : ElfClass) (sections : Walk Section) (name : Section → Option
 -- what is located is by the walk, the names and the sections' bytes
 located_is : (class : ElfClass) (table : SectionTable) (wanted : List ℕ) → located class table wanted ≡ located_by class (walk class table) (name_of class table) wanted (section_data table.file)
 unfolding located
-located_is class table wanted = refl
+located_is class table wanted = located_steps Symtab class table wanted
 
 pub located_same : (class : ElfClass) (table : SectionTable) (other wanted : List ℕ) → length table.file ≡ length other
     → walk class (of_file table other) ≡ walk class table → name_of class (of_file table other) ≡ name_of class table

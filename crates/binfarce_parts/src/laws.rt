@@ -61,7 +61,7 @@ fn worked_sizes()
 {}
 
 /// Every byte of a part counts: two headers that differ in the last byte of `shoff` alone.
-#[tactic(auto, unfolding(binfarce_elf::specs::Elf::elf32, binfarce_elf::specs::Elf::section_table, binfarce_elf::specs::Elf::header_of, binfarce_elf::specs::Elf::walk, binfarce_elf::specs::ElfSymbols::elf_answer, binfarce_elf::specs::ElfSymbols::located, binfarce_bytes::proofs::Computing::computing))]
+#[tactic(auto, unfolding(binfarce_elf::specs::Elf::elf32, binfarce_elf::specs::Elf::section_table, binfarce_elf::specs::Elf::header_of, binfarce_elf::specs::Elf::walk, binfarce_elf::specs::ElfSymbols::elf_answer, binfarce_elf::specs::ElfSymbols::located, binfarce_elf::specs::ElfSymbols::located_in, binfarce_elf::specs::ElfSymbols::rows_in, binfarce_bytes::proofs::Computing::computing))]
 fn worked_answers()
     ensures no_sections { elf_file_answer elf32 LittleEndian (replicate 52 0) (0x66 ∷ []) ≡ Err symbols_section_is_missing }
     ensures past_the_end { elf_file_answer elf32 LittleEndian (replicate 35 0 ++ 1 ∷ replicate 16 0) (0x66 ∷ []) ≡ Err unexpected_eof }

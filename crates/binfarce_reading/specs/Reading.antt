@@ -1,5 +1,5 @@
 -- What a reading of a file's parts gives.
-pub use Rattle.binfarce_tables.specs.Reading.{Reads, Known, file_answer}
+pub use Rattle.binfarce_tables.specs.Reading.{Reads, Known, file_answer, file_answer_in}
 use Rattle.std.specs.Prelude.{ℕ}
 use Rattle.binfarce_symbols.specs.Entries.{Listed}
 use Rattle.binfarce_elf.specs.Elf.{ElfClass}

@@ -2,10 +2,12 @@
 
 ghost use Rattle.std.specs.Prelude.{◌≡◌, List, ℕ, Some};
 ghost use Rattle.binfarce_elf.specs.Elf.{elf32};
-ghost use Rattle.binfarce_reading.specs.Reading.{Reads, file_answer, parts_view};
+ghost use Rattle.binfarce_elf.specs.declared.symbol_table.SymbolTable.TheVariants.{Dynsym};
+ghost use Rattle.binfarce_reading.specs.Reading.{Reads, file_answer, file_answer_in, parts_view};
 
 use crate::elf;
 use binfarce_bytes::ByteOrder;
+use binfarce_elf::symbol_table::SymbolTable;
 use binfarce_source::Source;
 pub use binfarce_tables::elf32::{SectionParts, read_sections};
 use binfarce_tables::{ReadError, elf32};
@@ -34,5 +36,25 @@ pub fn read<S: Source>(
         → Reads (S.may_fail source.now) (parts_view elf32 (λ n. n)) (file_answer elf32 byte_order file section_name.now) result }
 {
     let tables = elf32::read(alloc, source, byte_order, section_name)?;
+    Ok(elf::of_tables(tables))
+}
+
+/// Reads the parts of a file that the function symbols of the section with this name in the dynamic symbol table are read
+/// from: what `read` reads, with the dynamic symbol table and its strings in place of the symbol table and its own.
+///
+/// # Errors
+///
+/// `Refused` with what `parse` and `dynamic_functions` of a reader of the whole file refuse; else as `read`.
+pub fn read_dynamic<S: Source>(
+    alloc: Global,
+    source: &S,
+    byte_order: ByteOrder,
+    section_name: &str,
+) -> Result<Parts, ReadError>
+    ensures { (file : List ℕ) → S.bytes source.now ≡ Some file
+        → Reads (S.may_fail source.now) (parts_view elf32 (λ n. n)) (file_answer_in Dynsym elf32 byte_order file section_name.now) result }
+{
+    let which = SymbolTable::Dynsym;
+    let tables = elf32::read_by(alloc, source, byte_order, which, section_name)?;
     Ok(elf::of_tables(tables))
 }

@@ -1,5 +1,5 @@
 -- Where the symbols are, and what they are, by what is needed.
-use Rattle.std.proofs.Common.{◌≡◌, ℕ, ◌-◌, ◌/◌, ◌%◌, ◌<◌, ◌≤◌, Bool, true, false, cond, ltb, eqb, List, length, min, Option, Some, None, Result, Ok, Err, refl, sym, ap, ap₂, ◌∙◌, arith, codes}
+use Rattle.std.proofs.Common.{◌≡◌, ℕ, ◌-◌, ◌/◌, ◌%◌, ◌<◌, ◌≤◌, Bool, true, false, cond, ltb, eqb, List, length, min, Option, Some, None, Result, Ok, Err, refl, sym, ap, ap₂, ◌∙◌, arith}
 use Rattle.std.proofs.Math.Nat.{zero-div}
 use Rattle.std.proofs.Math.Path.{fun_ext}
 use Rattle.std.proofs.lemmas.Bool.{le-ltb, lt-ltb, le-leb}
@@ -9,36 +9,35 @@ use Rattle.binfarce_bytes.specs.Walk.{Walk, ended}
 use Rattle.binfarce_symbols.specs.Entries.{Listed}
 use Rattle.binfarce_elf.specs.Elf.{ElfClass, SectionTable, Section, section_table, walk, whole_headers, name_of, names_bytes, name_among}
 use Rattle.binfarce_elf.specs.ElfParts.{NeededSections, headers_alone, needed}
-use Rattle.binfarce_elf.specs.ElfSymbols.{Located, sought, is_named, section_data, string_table_kind, whole_rows, located, elf_answer, entries_from}
+use Rattle.binfarce_elf.specs.ElfSymbols.{Located, sought, is_named, section_data, string_table_kind, whole_rows, located_in, answer_in, entries_from}
+use Rattle.binfarce_elf.proofs.Steps.{assoc, located_steps}
+use Rattle.binfarce_elf.specs.SymbolTables.{section_type, table_name, strings_name}
+use Rattle.binfarce_elf.specs.declared.symbol_table.SymbolTable.{SymbolTable}
 use Rattle.binfarce_tables.specs.declared.error.ReadError.{ReadError}
-use Rattle.binfarce_tables.specs.Reading.{Reads, file_answer}
+use Rattle.binfarce_tables.specs.Reading.{Reads, file_answer_in}
 use Rattle.binfarce_tables.proofs.Readings.{instead}
 use Rattle.binfarce_tables.specs.machine.Places.{table_step, headers_of}
 use Rattle.binfarce_tables.proofs.HeadersAlone.{HasWithin, headers_walk}
 
 -- what is needed, by the walk
-needed_by : ElfClass → Walk Section → Option (List ℕ) → List ℕ → Result NeededSections Refusal
-needed_by class sections names wanted = do
+needed_by : SymbolTable → ElfClass → Walk Section → Option (List ℕ) → List ℕ → Result NeededSections Refusal
+needed_by which class sections names wanted = do
   section ← sought symbols_section_is_missing (λ s. is_named wanted (name_among names s.name_offset)) sections
-  symbols ← sought (section_is_missing (codes ".symtab")) (λ s. eqb s.kind 2) sections
-  linked ← sought (section_is_missing (codes ".strtab")) (λ s. eqb s.index symbols.link) sections
+  symbols ← sought (section_is_missing (table_name which)) (λ s. eqb s.kind (section_type which)) sections
+  linked ← sought (section_is_missing (strings_name which)) (λ s. eqb s.index symbols.link) sections
   strings ← string_table_kind linked
   Ok (record { section = section; symbols = symbols; strings = strings })
 
-needed_is : (class : ElfClass) (table : SectionTable) (names : Option (List ℕ)) (wanted : List ℕ) → needed class table names wanted ≡ needed_by class (walk class table) names wanted
+needed_is : (which : SymbolTable) (class : ElfClass) (table : SectionTable) (names : Option (List ℕ)) (wanted : List ℕ) → needed which class table names wanted ≡ needed_by which class (walk class table) names wanted
 unfolding needed needed_by
-needed_is class table names wanted = refl
+needed_is which class table names wanted = refl
 
-pub needed_alone : (class : ElfClass) (table : SectionTable) (names : Option (List ℕ)) (wanted : List ℕ) → HasWithin class → 0 < class.section_length → table.shoff < length table.file → 0 < table.shnum
-    → needed class (headers_alone table.order (headers_of class table) table.shnum) names wanted ≡ needed class table names wanted
-needed_alone class table names wanted within some inside any =
-    needed_is class (headers_alone table.order (headers_of class table) table.shnum) names wanted
-    ∙ ap (λ w. needed_by class w names wanted) (headers_walk class table within some inside any)
-    ∙ sym (needed_is class table names wanted)
-
-assoc : {A B C : Type 0} (r : Result A Refusal) (f : A → Result B Refusal) (g : B → Result C Refusal) → ((r >>= f) >>= g) ≡ (r >>= λ x. f x >>= g)
-assoc (Ok x) f g = refl
-assoc (Err e) f g = refl
+pub needed_alone : (which : SymbolTable) (class : ElfClass) (table : SectionTable) (names : Option (List ℕ)) (wanted : List ℕ) → HasWithin class → 0 < class.section_length → table.shoff < length table.file → 0 < table.shnum
+    → needed which class (headers_alone table.order (headers_of class table) table.shnum) names wanted ≡ needed which class table names wanted
+needed_alone which class table names wanted within some inside any =
+    needed_is which class (headers_alone table.order (headers_of class table) table.shnum) names wanted
+    ∙ ap (λ w. needed_by which class w names wanted) (headers_walk class table within some inside any)
+    ∙ sym (needed_is which class table names wanted)
 
 -- what follows what is needed
 abbrev pub bytes_of : ElfClass → List ℕ → NeededSections → Result Located Refusal
@@ -48,15 +47,15 @@ bytes_of class file found = do
   rows ← whole_rows class bytes
   Ok (record { section = found.section; strings = strings; rows = rows })
 
-module _ (class : ElfClass) (sections : Walk Section) (names : Option (List ℕ)) (file wanted : List ℕ) where
+module _ (which : SymbolTable) (class : ElfClass) (sections : Walk Section) (names : Option (List ℕ)) (file wanted : List ℕ) where
   abbrev wanted_in : Result Section Refusal
   wanted_in = sought symbols_section_is_missing (λ s. is_named wanted (name_among names s.name_offset)) sections
 
   abbrev symbols_in : Result Section Refusal
-  symbols_in = sought (section_is_missing (codes ".symtab")) (λ s. eqb s.kind 2) sections
+  symbols_in = sought (section_is_missing (table_name which)) (λ s. eqb s.kind (section_type which)) sections
 
   abbrev linked_in : Section → Result Section Refusal
-  linked_in symbols = sought (section_is_missing (codes ".strtab")) (λ s. eqb s.index symbols.link) sections
+  linked_in symbols = sought (section_is_missing (strings_name which)) (λ s. eqb s.index symbols.link) sections
 
   abbrev of_linked : Section → Section → Section → Result NeededSections Refusal
   of_linked section symbols linked = string_table_kind linked >>= λ strings. Ok (record { section = section; symbols = symbols; strings = strings })
@@ -79,24 +78,24 @@ module _ (class : ElfClass) (sections : Walk Section) (names : Option (List ℕ)
       assoc (string_table_kind linked) (λ strings. Ok (record { section = section; symbols = symbols; strings = strings })) (bytes_of class file)))))))
 
 -- where the symbols are, by what gives the names
-located_by : ElfClass → SectionTable → (Section → Option (List ℕ)) → List ℕ → Result Located Refusal
-located_by class table name wanted = do
+located_by : SymbolTable → ElfClass → SectionTable → (Section → Option (List ℕ)) → List ℕ → Result Located Refusal
+located_by which class table name wanted = do
   section ← sought symbols_section_is_missing (λ s. is_named wanted (name s)) (walk class table)
-  symbols ← sought (section_is_missing (codes ".symtab")) (λ s. eqb s.kind 2) (walk class table)
-  linked ← sought (section_is_missing (codes ".strtab")) (λ s. eqb s.index symbols.link) (walk class table)
+  symbols ← sought (section_is_missing (table_name which)) (λ s. eqb s.kind (section_type which)) (walk class table)
+  linked ← sought (section_is_missing (strings_name which)) (λ s. eqb s.index symbols.link) (walk class table)
   strings ← string_table_kind linked
   bytes_of class table.file (record { section = section; symbols = symbols; strings = strings })
 
-located_is : (class : ElfClass) (table : SectionTable) (wanted : List ℕ) → located class table wanted ≡ located_by class table (name_of class table) wanted
-unfolding located located_by
-located_is class table wanted = refl
+located_is : (which : SymbolTable) (class : ElfClass) (table : SectionTable) (wanted : List ℕ) → located_in which class table wanted ≡ located_by which class table (name_of class table) wanted
+unfolding located_by
+located_is which class table wanted = located_steps which class table wanted
 
 -- where the symbols are, by what is needed
-pub located_from : (class : ElfClass) (table : SectionTable) (wanted : List ℕ) → located class table wanted ≡ (needed class table (names_bytes class table) wanted >>= bytes_of class table.file)
+pub located_from : (which : SymbolTable) (class : ElfClass) (table : SectionTable) (wanted : List ℕ) → located_in which class table wanted ≡ (needed which class table (names_bytes class table) wanted >>= bytes_of class table.file)
 unfolding needed located_by name_of
-located_from class table wanted =
-    located_is class table wanted
-    ∙ sym (chained class (walk class table) (names_bytes class table) table.file wanted)
+located_from which class table wanted =
+    located_is which class table wanted
+    ∙ sym (chained which class (walk class table) (names_bytes class table) table.file wanted)
 
 -- what follows the bytes of the rows, those of the strings, and what is needed, up to the answer
 abbrev pub after_rows : ElfClass → ByteOrder → NeededSections → List ℕ → List ℕ → Result Listed Refusal
@@ -125,20 +124,20 @@ by_bytes class order section (Ok s) (Ok b) = by_rows (whole_rows class b)
     by_rows (Err e) = refl
 
 -- the answer, by what is needed
-pub answer_from : (class : ElfClass) (table : SectionTable) (wanted : List ℕ) → elf_answer class table wanted ≡ (needed class table (names_bytes class table) wanted >>= answer_of class table.order table.file)
-unfolding elf_answer
-answer_from class table wanted =
-    ap (λ (found : Result Located Refusal). found >>= listed class table.order) (located_from class table wanted)
-    ∙ assoc (needed class table (names_bytes class table) wanted) (bytes_of class table.file) (listed class table.order)
-    ∙ ap (λ (k : NeededSections → Result Listed Refusal). needed class table (names_bytes class table) wanted >>= k)
+pub answer_from : (which : SymbolTable) (class : ElfClass) (table : SectionTable) (wanted : List ℕ) → answer_in which class table wanted ≡ (needed which class table (names_bytes class table) wanted >>= answer_of class table.order table.file)
+unfolding answer_in
+answer_from which class table wanted =
+    ap (λ (found : Result Located Refusal). found >>= listed class table.order) (located_from which class table wanted)
+    ∙ assoc (needed which class table (names_bytes class table) wanted) (bytes_of class table.file) (listed class table.order)
+    ∙ ap (λ (k : NeededSections → Result Listed Refusal). needed which class table (names_bytes class table) wanted >>= k)
     (fun_ext (λ found. by_bytes class table.order found.section (section_data table.file found.strings) (section_data table.file found.symbols)))
 
 -- a file's answer, by its table
-pub file_answer_from : (class : ElfClass) (order : ByteOrder) (file wanted : List ℕ) → file_answer class order file wanted ≡ (table_step class order file >>= λ table. elf_answer class table wanted)
-file_answer_from class order file wanted = by_test (ltb (length file) class.header_length)
+pub file_answer_from : (which : SymbolTable) (class : ElfClass) (order : ByteOrder) (file wanted : List ℕ) → file_answer_in which class order file wanted ≡ (table_step class order file >>= λ table. answer_in which class table wanted)
+file_answer_from which class order file wanted = by_test (ltb (length file) class.header_length)
   where
-    by_test : (short : Bool) → cond short (Err unexpected_eof) (elf_answer class (section_table class (record { order = order; bytes = file })) wanted)
-        ≡ (cond short (Err unexpected_eof) (Ok (section_table class (record { order = order; bytes = file }))) >>= λ table. elf_answer class table wanted)
+    by_test : (short : Bool) → cond short (Err unexpected_eof) (answer_in which class (section_table class (record { order = order; bytes = file })) wanted)
+        ≡ (cond short (Err unexpected_eof) (Ok (section_table class (record { order = order; bytes = file }))) >>= λ table. answer_in which class table wanted)
     by_test true = refl
     by_test false = refl
 
@@ -151,10 +150,10 @@ walk_outside class table outside =
     let count : min table.shnum (whole_headers class table) ≡ 0 = omega arith in
     rw (count, le-ltb table.shoff (length table.file) outside) refl
 
-pub needed_outside : (class : ElfClass) (table : SectionTable) (names : Option (List ℕ)) (wanted : List ℕ) → length table.file ≤ table.shoff → needed class table names wanted ≡ Err unexpected_eof
+pub needed_outside : (which : SymbolTable) (class : ElfClass) (table : SectionTable) (names : Option (List ℕ)) (wanted : List ℕ) → length table.file ≤ table.shoff → needed which class table names wanted ≡ Err unexpected_eof
 unfolding needed_by
-needed_outside class table names wanted outside =
-    needed_is class table names wanted ∙ ap (λ (w : Walk Section). needed_by class w names wanted) (walk_outside class table outside)
+needed_outside which class table names wanted outside =
+    needed_is which class table names wanted ∙ ap (λ (w : Walk Section). needed_by which class w names wanted) (walk_outside class table outside)
 
 -- nothing is found where there are no sections
 walk_of_none : (class : ElfClass) (table : SectionTable) → table.shoff < length table.file → table.shnum ≡ 0 → walk class table ≡ ended None
@@ -163,19 +162,19 @@ walk_of_none class table inside empty =
     let count : min table.shnum (whole_headers class table) ≡ 0 = omega arith in
     rw (count, lt-ltb table.shoff (length table.file) inside, le-leb table.shnum (whole_headers class table) (omega arith)) refl
 
-pub needed_of_none : (class : ElfClass) (table : SectionTable) (names : Option (List ℕ)) (wanted : List ℕ) → table.shoff < length table.file → table.shnum ≡ 0
-    → needed class table names wanted ≡ Err symbols_section_is_missing
+pub needed_of_none : (which : SymbolTable) (class : ElfClass) (table : SectionTable) (names : Option (List ℕ)) (wanted : List ℕ) → table.shoff < length table.file → table.shnum ≡ 0
+    → needed which class table names wanted ≡ Err symbols_section_is_missing
 unfolding needed_by
-needed_of_none class table names wanted inside empty =
-    needed_is class table names wanted ∙ ap (λ (w : Walk Section). needed_by class w names wanted) (walk_of_none class table inside empty)
+needed_of_none which class table names wanted inside empty =
+    needed_is which class table names wanted ∙ ap (λ (w : Walk Section). needed_by which class w names wanted) (walk_of_none class table inside empty)
 
 -- what is needed, by the section headers and the section names that were read
-pub needed_read : (class : ElfClass) (table : SectionTable) (headers : List ℕ) (names : Option (List ℕ)) (wanted : List ℕ) → HasWithin class → 0 < class.section_length → table.shoff < length table.file → 0 < table.shnum
+pub needed_read : (which : SymbolTable) (class : ElfClass) (table : SectionTable) (headers : List ℕ) (names : Option (List ℕ)) (wanted : List ℕ) → HasWithin class → 0 < class.section_length → table.shoff < length table.file → 0 < table.shnum
     → headers ≡ headers_of class table → names ≡ names_bytes class table
-    → needed class table (names_bytes class table) wanted ≡ needed class (headers_alone table.order headers table.shnum) names wanted
-needed_read class table headers names wanted within some inside any headers_are names_are =
-    sym (ap₂ (λ (h : List ℕ) (n : Option (List ℕ)). needed class (headers_alone table.order h table.shnum) n wanted) headers_are names_are
-    ∙ needed_alone class table (names_bytes class table) wanted within some inside any)
+    → needed which class table (names_bytes class table) wanted ≡ needed which class (headers_alone table.order headers table.shnum) names wanted
+needed_read which class table headers names wanted within some inside any headers_are names_are =
+    sym (ap₂ (λ (h : List ℕ) (n : Option (List ℕ)). needed which class (headers_alone table.order h table.shnum) n wanted) headers_are names_are
+    ∙ needed_alone which class table (names_bytes class table) wanted within some inside any)
 
 -- rows that are whole are those that were given
 pub rows_are : (class : ElfClass) (bytes rows : List ℕ) → whole_rows class bytes ≡ Ok rows → whole_rows class bytes ≡ Ok bytes
@@ -186,26 +185,26 @@ rows_are class bytes rows whole = by_test (eqb (length bytes % class.symbol_leng
     by_test false e = absurd cc
 
 -- a file's answer from a step on, where those before it were taken
-module _ {Z : Type 0} (fails : Bool) (next : Z → Listed) (class : ElfClass) (order : ByteOrder) (file wanted : List ℕ) (table : SectionTable) (r : Result Z ReadError) (placed : table_step class order file ≡ Ok table) where
-  pub from_table : Reads fails next (needed class table (names_bytes class table) wanted >>= answer_of class table.order table.file) r → Reads fails next (file_answer class order file wanted) r
+module _ {Z : Type 0} (fails : Bool) (next : Z → Listed) (which : SymbolTable) (class : ElfClass) (order : ByteOrder) (file wanted : List ℕ) (table : SectionTable) (r : Result Z ReadError) (placed : table_step class order file ≡ Ok table) where
+  pub from_table : Reads fails next (needed which class table (names_bytes class table) wanted >>= answer_of class table.order table.file) r → Reads fails next (file_answer_in which class order file wanted) r
   from_table rest =
-      instead fails next (file_answer class order file wanted) (needed class table (names_bytes class table) wanted >>= answer_of class table.order table.file) r
-      (file_answer_from class order file wanted ∙ ap (λ (a : Result SectionTable Refusal). a >>= λ t. elf_answer class t wanted) placed ∙ answer_from class table wanted) rest
+      instead fails next (file_answer_in which class order file wanted) (needed which class table (names_bytes class table) wanted >>= answer_of class table.order table.file) r
+      (file_answer_from which class order file wanted ∙ ap (λ (a : Result SectionTable Refusal). a >>= λ t. answer_in which class t wanted) placed ∙ answer_from which class table wanted) rest
 
-  module _ (found : NeededSections) (needs : needed class table (names_bytes class table) wanted ≡ Ok found) where
-    pub from_needed : Reads fails next (answer_of class table.order table.file found) r → Reads fails next (file_answer class order file wanted) r
+  module _ (found : NeededSections) (needs : needed which class table (names_bytes class table) wanted ≡ Ok found) where
+    pub from_needed : Reads fails next (answer_of class table.order table.file found) r → Reads fails next (file_answer_in which class order file wanted) r
     from_needed rest =
-        from_table (instead fails next (needed class table (names_bytes class table) wanted >>= answer_of class table.order table.file) (answer_of class table.order table.file found) r
+        from_table (instead fails next (needed which class table (names_bytes class table) wanted >>= answer_of class table.order table.file) (answer_of class table.order table.file found) r
         (ap (λ (a : Result NeededSections Refusal). a >>= answer_of class table.order table.file) needs) rest)
 
     module _ (strings : List ℕ) (holds : section_data table.file found.strings ≡ Ok strings) where
-      pub from_strings : Reads fails next (after_strings class table.order table.file found strings) r → Reads fails next (file_answer class order file wanted) r
+      pub from_strings : Reads fails next (after_strings class table.order table.file found strings) r → Reads fails next (file_answer_in which class order file wanted) r
       from_strings rest =
           from_needed (instead fails next (answer_of class table.order table.file found) (after_strings class table.order table.file found strings) r
           (ap (λ (a : Result (List ℕ) Refusal). a >>= after_strings class table.order table.file found) holds) rest)
 
       module _ (bytes : List ℕ) (lists : section_data table.file found.symbols ≡ Ok bytes) where
-        pub from_rows : Reads fails next (after_rows class table.order found strings bytes) r → Reads fails next (file_answer class order file wanted) r
+        pub from_rows : Reads fails next (after_rows class table.order found strings bytes) r → Reads fails next (file_answer_in which class order file wanted) r
         from_rows rest =
             from_strings (instead fails next (after_strings class table.order table.file found strings) (after_rows class table.order found strings bytes) r
             (ap (λ (a : Result (List ℕ) Refusal). a >>= after_rows class table.order found strings) lists) rest)

@@ -4,8 +4,9 @@ use Rattle.binfarce_bytes.specs.declared.ByteOrder.{ByteOrder}
 use Rattle.binfarce_bytes.specs.Refusal.{Refusal, refusal_of, unexpected_eof}
 use Rattle.binfarce_symbols.specs.Entries.{Listed}
 use Rattle.binfarce_elf.specs.Elf.{ElfClass, section_table}
-use Rattle.binfarce_elf.specs.ElfSymbols.{elf_answer, entries_from}
+use Rattle.binfarce_elf.specs.ElfSymbols.{elf_answer, answer_in, entries_from}
 use Rattle.binfarce_elf.specs.ElfViews.{section_view}
+use Rattle.binfarce_elf.specs.declared.symbol_table.SymbolTable.{SymbolTable}
 use Rattle.binfarce_tables.specs.declared.error.ReadError.{ReadError}
 use Rattle.binfarce_tables.specs.declared.error.ReadError.TheVariants.{Refused, Unreadable, OutOfMemory}
 use Rattle.binfarce_tables.specs.declared.elf.Parts.{Parts}
@@ -26,6 +27,12 @@ abbrev pub file_answer : ElfClass → ByteOrder → List ℕ → List ℕ → Re
 file_answer class order file name =
     if nat_lt (length file) class.header_length then Err unexpected_eof
     else elf_answer class (section_table class (record { order = order; bytes = file })) name
+
+-- the same of this symbol table
+abbrev pub file_answer_in : SymbolTable → ElfClass → ByteOrder → List ℕ → List ℕ → Result Listed Refusal
+file_answer_in which class order file name =
+    if nat_lt (length file) class.header_length then Err unexpected_eof
+    else answer_in which class (section_table class (record { order = order; bytes = file })) name
 
 -- the entries that a file's parts hold, and the size of the section that was asked for
 abbrev pub parts_view : {C : Type 0} → ElfClass → (C → ℕ) → Parts C → Listed

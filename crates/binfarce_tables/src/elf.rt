@@ -9,7 +9,7 @@ ghost use Rattle.binfarce_elf.specs.Elf.{contents, header_of, names_bytes};
 ghost use Rattle.binfarce_elf.specs.ElfParts.{headers_alone, needed, needed_view};
 ghost use Rattle.binfarce_elf.specs.ElfSymbols.{section_data};
 ghost use Rattle.binfarce_elf.specs.ElfViews.{header_view, section_view, functions_view};
-ghost use Rattle.binfarce_tables.specs.Reading.{Reads, Known, file_answer, parts_view};
+ghost use Rattle.binfarce_tables.specs.Reading.{Reads, Known, file_answer_in, parts_view};
 ghost use Rattle.binfarce_tables.specs.declared.error.ReadError.TheVariants.{Unreadable, OutOfMemory};
 ghost use Rattle.binfarce_tables.specs.machine.Places.{table_at, table_step, headers_of};
 
@@ -19,6 +19,7 @@ use binfarce_elf::class::{Class, Half};
 use binfarce_elf::header::{Header, parse_header};
 use binfarce_elf::parts::{Needed, functions_in, needed_sections};
 use binfarce_elf::sections::{Section, section_at};
+use binfarce_elf::symbol_table::SymbolTable;
 use binfarce_elf::symbols::{Functions, whole_rows};
 use binfarce_source::{Source, read_part};
 use std::alloc::Global;
@@ -51,18 +52,20 @@ pub(crate) struct Place {
     pub(crate) shstrndx: Half,
 }
 
-/// The parts of the section with this name. Refused as `functions` of a reader is.
+/// The parts of the section with this name, by this symbol table. Refused as `functions` and `dynamic_functions` of a
+/// reader are.
 pub(crate) fn read_parts<C: Class, S: Source>(
     alloc: Global,
     source: &S,
     byte_order: ByteOrder,
+    which: SymbolTable,
     section_name: &str,
 ) -> Result<Parts<C>, ReadError>
-    ensures { (file : List ℕ) → S.bytes source.now ≡ Some file → Reads (S.may_fail source.now) (parts_view C.table C.number_of) (file_answer C.table byte_order file section_name.now) result }
+    ensures { (file : List ℕ) → S.bytes source.now ≡ Some file → Reads (S.may_fail source.now) (parts_view C.table C.number_of) (file_answer_in which C.table byte_order file section_name.now) result }
 {
     let len = source.length()? as usize;
     let place = read_place::<C, S>(alloc, source, len, byte_order)?;
-    let needed = read_needed::<C, S>(alloc, source, len, place, section_name)?;
+    let needed = read_needed::<C, S>(alloc, source, len, place, which, section_name)?;
     let strings = read_section::<C, S>(alloc, source, len, needed.strings)?;
     let rows = read_section::<C, S>(alloc, source, len, needed.symbols)?;
     let _ = whole_rows::<C>(&rows)?;
@@ -110,10 +113,11 @@ fn read_needed<C: Class, S: Source>(
     source: &S,
     len: usize,
     place: Place,
+    which: SymbolTable,
     section_name: &str,
 ) -> Result<Needed<C>, ReadError>
     ensures { (file : List ℕ) → Known (S.bytes source.now) len file → let table = table_at file place in
-        Reads (S.may_fail source.now) (needed_view C.number_of) (needed C.table table (names_bytes C.table table) section_name.now) result }
+        Reads (S.may_fail source.now) (needed_view C.number_of) (needed which C.table table (names_bytes C.table table) section_name.now) result }
 {
     if place.shoff >= len {
         return Err(ReadError::Refused(ParseError::UnexpectedEof));
@@ -123,7 +127,7 @@ fn read_needed<C: Class, S: Source>(
     }
     let names = read_names::<C, S>(alloc, source, len, place)?;
     let headers = read_headers::<C, S>(alloc, source, len, place)?;
-    Ok(needed_in::<C>(&headers, &names, place, section_name)?)
+    Ok(needed_in::<C>(&headers, &names, place, which, section_name)?)
 }
 
 // The sections that are needed, among these section headers and section names.
@@ -131,13 +135,21 @@ fn needed_in<C: Class>(
     headers: &[u8],
     names: &Option<Vec<u8>>,
     place: Place,
+    which: SymbolTable,
     section_name: &str,
 ) -> Result<Needed<C>, ParseError>
     ensures { Gives refusal_of (needed_view C.number_of)
-        (needed C.table (headers_alone place.byte_order headers.now place.shnum) (option_map (λ v. v.items) names.now) section_name.now) result }
+        (needed which C.table (headers_alone place.byte_order headers.now place.shnum) (option_map (λ v. v.items) names.now) section_name.now) result }
 {
     let names = slice_of(names);
-    needed_sections::<C>(headers, place.byte_order, place.shnum, names, section_name)
+    needed_sections::<C>(
+        headers,
+        place.byte_order,
+        place.shnum,
+        names,
+        which,
+        section_name,
+    )
 }
 
 pub(crate) fn slice_of(bytes: &Option<Vec<u8>>) -> Option<&[u8]>

@@ -2,12 +2,13 @@
 
 ghost use Rattle.std.specs.Prelude.{◌≡◌, List, ℕ, Some};
 ghost use Rattle.binfarce_elf.specs.Elf.{elf64};
-ghost use Rattle.binfarce_tables.specs.Reading.{Reads, file_answer, parts_view};
+ghost use Rattle.binfarce_tables.specs.Reading.{Reads, file_answer, file_answer_in, parts_view};
 ghost use Rattle.binfarce_tables.specs.SectionReading.{file_sections, sections_view};
 
 use crate::error::ReadError;
 use crate::{elf, sections};
 use binfarce_bytes::ByteOrder;
+use binfarce_elf::symbol_table::SymbolTable;
 use binfarce_source::Source;
 use std::alloc::Global;
 
@@ -27,6 +28,7 @@ pub type SectionParts = sections::SectionParts<u64>;
 /// `Refused` with what `parse` and `functions` of a reader of the whole file refuse; `Unreadable` where the source can't
 /// be read at offsets, or a read of it fails, and never of a source that can't fail, as bytes in memory are;
 /// `OutOfMemory` where an allocation fails.
+#[tactic(auto, unfolding(binfarce_elf::specs::ElfSymbols::elf_answer, binfarce_elf::specs::ElfSymbols::located, binfarce_elf::specs::ElfSymbols::answer_in))]
 pub fn read<S: Source>(
     alloc: Global,
     source: &S,
@@ -36,7 +38,25 @@ pub fn read<S: Source>(
     ensures { (file : List ℕ) → S.bytes source.now ≡ Some file
         → Reads (S.may_fail source.now) (parts_view elf64 (λ n. n)) (file_answer elf64 byte_order file section_name.now) result }
 {
-    elf::read_parts::<u64, S>(alloc, source, byte_order, section_name)
+    read_by(alloc, source, byte_order, SymbolTable::Symtab, section_name)
+}
+
+/// Reads what `read` does, with this symbol table and its strings in place of the symbol table and its own.
+///
+/// # Errors
+///
+/// As `read`, where `Refused` is for the dynamic symbol table what `dynamic_functions` of a reader refuses.
+pub fn read_by<S: Source>(
+    alloc: Global,
+    source: &S,
+    byte_order: ByteOrder,
+    which: SymbolTable,
+    section_name: &str,
+) -> Result<Parts, ReadError>
+    ensures { (file : List ℕ) → S.bytes source.now ≡ Some file
+        → Reads (S.may_fail source.now) (parts_view elf64 (λ n. n)) (file_answer_in which elf64 byte_order file section_name.now) result }
+{
+    elf::read_parts::<u64, S>(alloc, source, byte_order, which, section_name)
 }
 
 /// Reads the section headers and the section names of a file, numbers in the given order, without a look at the magic

@@ -41,7 +41,8 @@ gets_refusal memory (Ok listed) e told answers = (answers.1, as_memory e answers
 gets_refusal memory (Err refusal) e told (inl is) = inl (e, is, parse e (ap is_told is ∙ told))
 gets_refusal memory (Err refusal) e told (inr h) = inr (h.1, as_memory e h.0)
 
-told_refusal : (memory : Result Listed Refusal → Type 0) (answer : Result Listed Refusal) (e : ParseError) (result : Result (Functions × ℕ) ListError)
+-- as `?` passes it on
+pub told_refusal : (memory : Result Listed Refusal → Type 0) (answer : Result Listed Refusal) (e : ParseError) (result : Result (Functions × ℕ) ListError)
     → Told answer → Answers HoldsLeft memory answer (Err e) → IsErrAnd result (λ f. f ≡ list_error_of e) → Gets memory (Some answer) result
 told_refusal memory answer e (Ok x) told answers is = absurd is
 told_refusal memory answer e (Err f) told answers is =

@@ -7,6 +7,8 @@ use Rattle.binfarce_format.specs.declared.Format.TheVariants as formats
 use Rattle.binfarce_symbols.specs.declared.functions.FunctionSymbol.{FunctionSymbol}
 use Rattle.binfarce_bytes.specs.declared.error.ParseError.{ParseError}
 use Rattle.binfarce_format.specs.Format.{format_of}
+use Rattle.binfarce_elf.specs.declared.symbol_table.SymbolTable.{SymbolTable}
+use Rattle.binfarce_elf.specs.declared.symbol_table.SymbolTable.TheVariants.{Symtab, Dynsym}
 use Rattle.binfarce_macho.specs.MachoParts.{SomeAddress}
 use Rattle.binfarce_macho.specs.MachoSymbols.{Located, HasAddress, located, kept, listed_of, answer_of}
 use Rattle.binfarce_bytes.specs.Refusal.{◌>>=◌, Refusal, unexpected_eof}
@@ -16,10 +18,10 @@ use Rattle.binfarce_symbols.specs.SymbolViews.{HoldsFunctions}
 use Rattle.binfarce_tables.specs.MachoReading.{located_answer}
 use Rattle.binfarce_tools.specs.declared.functions.Functions.{Functions}
 use Rattle.binfarce_tools.specs.declared.list.ListError.{ListError}
-use Rattle.binfarce_tools.specs.Answer.{macho_file_answer, symbols_answer, NeedsMemory}
+use Rattle.binfarce_tools.specs.Answer.{macho_file_answer, symbols_answer, dynamic_symbols_answer, answer_of as answer_by, NeedsMemory}
 use Rattle.binfarce_tools.specs.Entries.{HoldsLeft, IsArranged, Gets}
 use Rattle.binfarce_tools.specs.ListWords.{list_error_of}
-use Rattle.binfarce_tools.proofs.Listings.{as_memory, refused}
+use Rattle.binfarce_tools.proofs.Listings.{as_memory, told_refusal}
 use Rattle.binfarce_tools.proofs.TablesRead.{macho_is}
 use Rattle.binfarce_tools.proofs.Told.{told_macho}
 
@@ -68,14 +70,26 @@ some_is : (a b : Result Listed Refusal) → Some a ≡ Some b → a ≡ b
 some_is a b is = cc
 
 -- a list that isn't empty needs memory, whatever the file's format
-pub needs_memory : (format : Format) (file section : List ℕ) (listed : Listed) → symbols_answer format file section ≡ Some (Ok listed) → ListsSome (Ok listed) → NeedsMemory format file (Ok listed)
+by_symtab : (format : Format) (file section : List ℕ) (listed : Listed) → symbols_answer format file section ≡ Some (Ok listed) → ListsSome (Ok listed) → NeedsMemory format file (Ok listed)
 unfolding symbols_answer NeedsMemory
-needs_memory (formats.Elf32 order) file section listed is some = some
-needs_memory (formats.Elf64 order) file section listed is some = some
-needs_memory formats.Macho file section listed is some =
+by_symtab (formats.Elf32 order) file section listed is some = some
+by_symtab (formats.Elf64 order) file section listed is some = some
+by_symtab formats.Macho file section listed is some =
     listed_address file (located_answer file) listed refl (sym (macho_is file) ∙ some_is (macho_file_answer file) (Ok listed) is) some
-needs_memory formats.PE file section listed is some = some
-needs_memory formats.Unknown file section listed is some = absurd cc
+by_symtab formats.PE file section listed is some = some
+by_symtab formats.Unknown file section listed is some = absurd cc
+
+by_dynsym : (format : Format) (file section : List ℕ) (listed : Listed) → dynamic_symbols_answer format file section ≡ Some (Ok listed) → ListsSome (Ok listed) → NeedsMemory format file (Ok listed)
+unfolding dynamic_symbols_answer NeedsMemory
+by_dynsym (formats.Elf32 order) file section listed is some = some
+by_dynsym (formats.Elf64 order) file section listed is some = some
+by_dynsym formats.Macho file section listed is some = absurd cc
+by_dynsym formats.PE file section listed is some = absurd cc
+by_dynsym formats.Unknown file section listed is some = absurd cc
+
+pub needs_memory : (which : SymbolTable) (file section : List ℕ) (listed : Listed) → answer_by which file section ≡ Some (Ok listed) → ListsSome (Ok listed) → NeedsMemory (format_of file) file (Ok listed)
+needs_memory Symtab file section listed is some = by_symtab (format_of file) file section listed is some
+needs_memory Dynsym file section listed is some = by_dynsym (format_of file) file section listed is some
 
 of_ok : (A B : Type 0) (answer : Result Listed Refusal) (functions : Vec FunctionSymbol Global × ℕ) (value : Functions × ℕ)
     → Answers HoldsFunctions (λ _. A) answer (Ok functions) → IsArranged functions value → Gets (λ _. B) (Some answer) (Ok value)
@@ -87,21 +101,27 @@ of_err A B (Ok listed) e f answers = (answers.0, f answers.1)
 of_err A B (Err refusal) e f (inl is) = inl is
 of_err A B (Err refusal) e f (inr h) = inr (h.0, f h.1)
 
-module _ (file section : List ℕ) (found : Option Located) (is : (format_of file ≡ formats.Macho) × (located_answer file ≡ Ok found)) where
+module _ (which : SymbolTable) (file section : List ℕ) (found : Option Located)
+    (is : (format_of file ≡ formats.Macho) × (answer_by which file section ≡ Some (macho_file_answer file)) × (located_answer file ≡ Ok found)) where
   same : answer_of found ≡ macho_file_answer file
-  same = sym (macho_is file ∙ ap (λ (l : Result (Option Located) Refusal). l >>= answer_of) is.1)
+  same = sym (macho_is file ∙ ap (λ (l : Result (Option Located) Refusal). l >>= answer_of) is.2)
+
+  by_format : (result : Result (Functions × ℕ) ListError) → Gets (λ _. HasAddress file) (Some (macho_file_answer file)) result → Gets (NeedsMemory (format_of file) file) (answer_by which file section) result
+  unfolding NeedsMemory
+  by_format result gets =
+      subst (λ (a : Option (Result Listed Refusal)). Gets (NeedsMemory (format_of file) file) a result) (sym is.1)
+      (subst (λ (f : Format). Gets (NeedsMemory f file) (Some (macho_file_answer file)) result) (sym is.0) gets)
 
   pub given_macho : (functions : Vec FunctionSymbol Global × ℕ) (value : Functions × ℕ) → Answers HoldsFunctions (λ _. SomeAddress found) (answer_of found) (Ok functions) → IsArranged functions value
-      → Gets (NeedsMemory (format_of file) file) (symbols_answer (format_of file) file section) (Ok value)
-  unfolding symbols_answer NeedsMemory
+      → Gets (NeedsMemory (format_of file) file) (answer_by which file section) (Ok value)
   given_macho functions value answers arranged =
-      subst (λ (f : Format). Gets (NeedsMemory f file) (symbols_answer f file section) (Ok value)) (sym is.0)
+      by_format (Ok value)
       (subst (λ (a : Result Listed Refusal). Gets (λ _. HasAddress file) (Some a) (Ok value)) same (of_ok (SomeAddress found) (HasAddress file) (answer_of found) functions value answers arranged))
 
   pub not_given_macho : (e : ParseError) (result : Result (Functions × ℕ) ListError) → Answers HoldsFunctions (λ _. SomeAddress found) (answer_of found) (Err e) → IsErrAnd result (λ f. f ≡ list_error_of e)
-      → Gets (NeedsMemory (format_of file) file) (symbols_answer (format_of file) file section) result
-  unfolding symbols_answer NeedsMemory
+      → Gets (NeedsMemory (format_of file) file) (answer_by which file section) result
   not_given_macho e result answers err =
-      let some = addressed file found (whole_located (ltb (length file) 28) (located file) found is.1) in
-      refused formats.Macho (format_of file) file section (macho_file_answer file) e result (sym is.0) refl (told_macho file)
-      (subst (λ (a : Result Listed Refusal). Answers HoldsLeft (λ _. HasAddress file) a (Err e)) same (of_err (SomeAddress found) (HasAddress file) (answer_of found) e some answers)) err
+      let some = addressed file found (whole_located (ltb (length file) 28) (located file) found is.2) in
+      by_format result
+      (told_refusal (λ _. HasAddress file) (macho_file_answer file) e result (told_macho file)
+      (subst (λ (a : Result Listed Refusal). Answers HoldsLeft (λ _. HasAddress file) a (Err e)) same (of_err (SomeAddress found) (HasAddress file) (answer_of found) e some answers)) err)

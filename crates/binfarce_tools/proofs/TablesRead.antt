@@ -1,24 +1,28 @@
 -- What was read of a file is what the file answers.
 use Rattle.std.proofs.Common.{◌≡◌, ℕ, Bool, true, false, ltb, List, [], ◌∷◌, length, take, Option, Some, None, Result, Ok, Err, refl, sym, ap, subst, ◌∙◌, arith}
-use Rattle.std.specs.Prelude.{IfSome, if◌then◌else◌}
+use Rattle.std.specs.Prelude.{IfSome, codes, if◌then◌else◌}
 use Rattle.std.specs.Result.{IsErr, IsErrAnd}
 use Rattle.std.proofs.lemmas.Bool.{le-ltb}
 use Rattle.binfarce_bytes.specs.declared.ByteOrder.{ByteOrder}
 use Rattle.binfarce_format.specs.declared.Format.{Format}
 use Rattle.binfarce_format.specs.declared.Format.TheVariants as formats
-use Rattle.binfarce_elf.specs.Elf.{elf32, elf64}
+use Rattle.binfarce_elf.specs.Elf.{ElfClass, elf32, elf64}
+use Rattle.binfarce_elf.specs.ElfSymbols as elf
+use Rattle.binfarce_elf.specs.declared.symbol_table.SymbolTable.{SymbolTable}
+use Rattle.binfarce_elf.specs.declared.symbol_table.SymbolTable.TheVariants.{Symtab, Dynsym}
 use Rattle.binfarce_format.specs.Format.{format_of}
 use Rattle.binfarce_macho.specs.MachoSymbols.{Located, located, answer_of, macho_answer}
-use Rattle.binfarce_bytes.specs.Refusal.{◌>>=◌, Refusal, unexpected_eof}
+use Rattle.binfarce_bytes.specs.declared.error.ParseError.{ParseError}
+use Rattle.binfarce_bytes.specs.Refusal.{◌>>=◌, Refusal, refusal_of, unexpected_eof, section_is_missing}
 use Rattle.binfarce_symbols.specs.Entries.{Listed}
 use Rattle.binfarce_tables.specs.MachoReading as macho
 use Rattle.binfarce_tables.specs.MachoReading.{located_answer}
-use Rattle.binfarce_tables.specs.Reading.{Reads}
+use Rattle.binfarce_tables.specs.Reading.{Reads, file_answer_in}
 use Rattle.binfarce_tables.specs.declared.error.ReadError.{ReadError}
 use Rattle.binfarce_tables.specs.declared.error.ReadError.TheVariants.{Refused, Unreadable, OutOfMemory}
 use Rattle.binfarce_tools.specs.declared.list.ListError.TheVariants as errors
 use Rattle.binfarce_tools.specs.declared.tables.Tables.{Tables}
-use Rattle.binfarce_tools.specs.Answer.{elf_file_answer, macho_file_answer, pe_file_answer, symbols_answer, NeedsMemory}
+use Rattle.binfarce_tools.specs.Answer.{elf_file_answer, macho_file_answer, pe_file_answer, symbols_answer, dynamic_symbols_answer, answer_of as answer, NeedsMemory}
 use Rattle.binfarce_tools.specs.Entries.{Gets}
 use Rattle.binfarce_tools.specs.Tables.{ReadsTables}
 
@@ -46,22 +50,30 @@ length_told (Some bytes) file len is told =
     let same : bytes ≡ file = cc in
     told ∙ ap length same
 
+-- the answer of an ELF file by its symbol table
+by_symtab : (class : ElfClass) (order : ByteOrder) (file section : List ℕ) → elf_file_answer class order file section ≡ file_answer_in Symtab class order file section
+unfolding elf.elf_answer elf.located elf.answer_in
+by_symtab class order file section = refl
+
 -- the answer of an ELF file is that of its class
-pub answer_32 : (order : ByteOrder) (file section : List ℕ) (answer : Result Listed Refusal) → format_of file ≡ formats.Elf32 order → elf_file_answer elf32 order file section ≡ answer → symbols_answer (format_of file) file section ≡ Some answer
-unfolding symbols_answer
-answer_32 order file section answer format is = ap (λ (f : Format). symbols_answer f file section) format ∙ ap Some is
+pub answer_32 : (which : SymbolTable) (order : ByteOrder) (file section : List ℕ) (given : Result Listed Refusal) → format_of file ≡ formats.Elf32 order → file_answer_in which elf32 order file section ≡ given → answer which file section ≡ Some given
+unfolding symbols_answer dynamic_symbols_answer
+answer_32 Symtab order file section given format is = ap (λ (f : Format). symbols_answer f file section) format ∙ ap Some (by_symtab elf32 order file section ∙ is)
+answer_32 Dynsym order file section given format is = ap (λ (f : Format). dynamic_symbols_answer f file section) format ∙ ap Some is
 
-pub answer_64 : (order : ByteOrder) (file section : List ℕ) (answer : Result Listed Refusal) → format_of file ≡ formats.Elf64 order → elf_file_answer elf64 order file section ≡ answer → symbols_answer (format_of file) file section ≡ Some answer
-unfolding symbols_answer
-answer_64 order file section answer format is = ap (λ (f : Format). symbols_answer f file section) format ∙ ap Some is
+pub answer_64 : (which : SymbolTable) (order : ByteOrder) (file section : List ℕ) (given : Result Listed Refusal) → format_of file ≡ formats.Elf64 order → file_answer_in which elf64 order file section ≡ given → answer which file section ≡ Some given
+unfolding symbols_answer dynamic_symbols_answer
+answer_64 Symtab order file section given format is = ap (λ (f : Format). symbols_answer f file section) format ∙ ap Some (by_symtab elf64 order file section ∙ is)
+answer_64 Dynsym order file section given format is = ap (λ (f : Format). dynamic_symbols_answer f file section) format ∙ ap Some is
 
-pub answer_pe : (file section : List ℕ) (answer : Result Listed Refusal) → format_of file ≡ formats.PE → pe_file_answer file ≡ answer → symbols_answer (format_of file) file section ≡ Some answer
+-- that of a Mach-O or PE file, which has a symbol table alone
+pub answer_pe : (which : SymbolTable) (file section : List ℕ) (given : Result Listed Refusal) → which ≡ Symtab → format_of file ≡ formats.PE → pe_file_answer file ≡ given → answer which file section ≡ Some given
 unfolding symbols_answer
-answer_pe file section answer format is = ap (λ (f : Format). symbols_answer f file section) format ∙ ap Some is
+answer_pe which file section given table format is = ap (λ (w : SymbolTable). answer w file section) table ∙ ap (λ (f : Format). symbols_answer f file section) format ∙ ap Some is
 
-pub answer_macho : (file section : List ℕ) (answer : Result Listed Refusal) → format_of file ≡ formats.Macho → macho_file_answer file ≡ answer → symbols_answer (format_of file) file section ≡ Some answer
+pub answer_macho : (which : SymbolTable) (file section : List ℕ) (given : Result Listed Refusal) → which ≡ Symtab → format_of file ≡ formats.Macho → macho_file_answer file ≡ given → answer which file section ≡ Some given
 unfolding symbols_answer
-answer_macho file section answer format is = ap (λ (f : Format). symbols_answer f file section) format ∙ ap Some is
+answer_macho which file section given table format is = ap (λ (w : SymbolTable). answer w file section) table ∙ ap (λ (f : Format). symbols_answer f file section) format ∙ ap Some is
 
 -- the answer of a Mach-O file is that of where its symbols are
 by_length : (short : Bool) (found : Result (Option Located) Refusal) → (if short then Err unexpected_eof else (found >>= answer_of)) ≡ ((if short then Err unexpected_eof else found) >>= answer_of)
@@ -73,18 +85,18 @@ unfolding macho_answer
 macho_is file = by_length (ltb (length file) 28) (located file)
 
 -- why a file's parts weren't read is why its tables weren't
-not_read : {X : Type 0} (may_fail : Bool) (view : X → Listed) (answer : Result Listed Refusal) (file section : List ℕ) (e : ReadError)
-    → symbols_answer (format_of file) file section ≡ Some answer → Reads may_fail view answer (Err e) → ReadsTables (may_fail ≡ true) file section (Err e)
-not_read may_fail view answer file section (Refused p) is reads = is ∙ ap Some reads
-not_read may_fail view answer file section Unreadable is reads = reads
-not_read may_fail view answer file section OutOfMemory is reads = tt
+not_read : {X : Type 0} (may_fail : Bool) (view : X → Listed) (given : Result Listed Refusal) (which : SymbolTable) (file section : List ℕ) (e : ReadError)
+    → answer which file section ≡ Some given → Reads may_fail view given (Err e) → ReadsTables (may_fail ≡ true) which file section (Err e)
+not_read may_fail view given which file section (Refused p) is reads = is ∙ ap Some reads
+not_read may_fail view given which file section Unreadable is reads = reads
+not_read may_fail view given which file section OutOfMemory is reads = tt
 
 -- and as `?` passes it on
-pub unread : {X : Type 0} (may_fail : Bool) (view : X → Listed) (answer : Result Listed Refusal) (file section : List ℕ) (e : ReadError) (r : Result Tables ReadError)
-    → symbols_answer (format_of file) file section ≡ Some answer → Reads may_fail view answer (Err e) → (IsErr r × IsErrAnd r (λ x. x ≡ e)) → ReadsTables (may_fail ≡ true) file section r
-unread may_fail view answer file section e (Ok x) is reads err = let never : false ≡ true = err.0 in absurd cc
-unread may_fail view answer file section e (Err x) is reads err =
-    subst (λ (error : ReadError). ReadsTables (may_fail ≡ true) file section (Err error)) (sym err.1) (not_read may_fail view answer file section e is reads)
+pub unread : {X : Type 0} (may_fail : Bool) (view : X → Listed) (given : Result Listed Refusal) (which : SymbolTable) (file section : List ℕ) (e : ReadError) (r : Result Tables ReadError)
+    → answer which file section ≡ Some given → Reads may_fail view given (Err e) → (IsErr r × IsErrAnd r (λ x. x ≡ e)) → ReadsTables (may_fail ≡ true) which file section r
+unread may_fail view given which file section e (Ok x) is reads err = let never : false ≡ true = err.0 in absurd cc
+unread may_fail view given which file section e (Err x) is reads err =
+    subst (λ (error : ReadError). ReadsTables (may_fail ≡ true) which file section (Err error)) (sym err.1) (not_read may_fail view given which file section e is reads)
 
 -- so for a Mach-O file, of which it is read where its symbols are
 of_answer : {X : Type 0} (may_fail : Bool) (view : X → Option Located) (found : Result (Option Located) Refusal) (e : ReadError) → Reads may_fail view found (Err e) → Reads may_fail (λ (l : Listed). l) (found >>= answer_of) (Err e)
@@ -92,13 +104,34 @@ of_answer may_fail view found (Refused p) reads = ap (λ (r : Result (Option Loc
 of_answer may_fail view found Unreadable reads = reads
 of_answer may_fail view found OutOfMemory reads = tt
 
-pub unread_macho : (may_fail : Bool) (file section : List ℕ) (e : ReadError) (r : Result Tables ReadError)
-    → format_of file ≡ formats.Macho → Reads may_fail macho.parts_view (located_answer file) (Err e) → (IsErr r × IsErrAnd r (λ x. x ≡ e)) → ReadsTables (may_fail ≡ true) file section r
-unread_macho may_fail file section e r format reads err =
-    unread may_fail (λ (l : Listed). l) (located_answer file >>= answer_of) file section e r (answer_macho file section (located_answer file >>= answer_of) format (macho_is file))
+pub unread_macho : (may_fail : Bool) (which : SymbolTable) (file section : List ℕ) (e : ReadError) (r : Result Tables ReadError)
+    → which ≡ Symtab → format_of file ≡ formats.Macho → Reads may_fail macho.parts_view (located_answer file) (Err e) → (IsErr r × IsErrAnd r (λ x. x ≡ e)) → ReadsTables (may_fail ≡ true) which file section r
+unread_macho may_fail which file section e r table format reads err =
+    unread may_fail (λ (l : Listed). l) (located_answer file >>= answer_of) which file section e r (answer_macho which file section (located_answer file >>= answer_of) table format (macho_is file))
     (of_answer may_fail macho.parts_view (located_answer file) e reads) err
 
+-- a Mach-O or PE file has no dynamic symbol table
+abbrev pub IsWithout : List ℕ → List ℕ → Type 0
+IsWithout file section = dynamic_symbols_answer (format_of file) file section ≡ Some (Err (section_is_missing (codes ".dynsym")))
+
+pub macho_without : (file section : List ℕ) → format_of file ≡ formats.Macho → IsWithout file section
+unfolding dynamic_symbols_answer
+macho_without file section format = ap (λ (f : Format). dynamic_symbols_answer f file section) format
+
+pub pe_without : (file section : List ℕ) → format_of file ≡ formats.PE → IsWithout file section
+unfolding dynamic_symbols_answer
+pe_without file section format = ap (λ (f : Format). dynamic_symbols_answer f file section) format
+
+-- so it is refused
+pub no_table : (may : Type 0) (which : SymbolTable) (file section : List ℕ) (p : ParseError) (r : Result Tables ReadError)
+    → IsWithout file section → (which ≡ Dynsym) × (refusal_of p ≡ section_is_missing (codes ".dynsym")) → (IsErr r × IsErrAnd r (λ x. x ≡ Refused p)) → ReadsTables may which file section r
+no_table may which file section p (Ok x) without told err = let never : false ≡ true = err.0 in absurd cc
+no_table may which file section p (Err x) without told err =
+    subst (λ (w : SymbolTable). ReadsTables may w file section (Err x)) (sym told.0)
+    (subst (λ (e : ReadError). ReadsTables may Dynsym file section (Err e)) (sym err.1) (without ∙ ap (λ (r : Refusal). Some (Err r)) (sym told.1)))
+
 -- a file of an unknown format
-pub of_unknown : (file section : List ℕ) → format_of file ≡ formats.Unknown → Gets (NeedsMemory (format_of file) file) (symbols_answer (format_of file) file section) (Err errors.Unknown)
-unfolding symbols_answer
-of_unknown file section is = subst (λ (f : Format). Gets (NeedsMemory f file) (symbols_answer f file section) (Err errors.Unknown)) (sym is) refl
+pub of_unknown : (which : SymbolTable) (file section : List ℕ) → format_of file ≡ formats.Unknown → Gets (NeedsMemory (format_of file) file) (answer which file section) (Err errors.Unknown)
+unfolding symbols_answer dynamic_symbols_answer
+of_unknown Symtab file section is = subst (λ (f : Format). Gets (NeedsMemory f file) (symbols_answer f file section) (Err errors.Unknown)) (sym is) refl
+of_unknown Dynsym file section is = subst (λ (f : Format). Gets (NeedsMemory f file) (dynamic_symbols_answer f file section) (Err errors.Unknown)) (sym is) refl

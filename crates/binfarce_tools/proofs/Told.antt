@@ -5,7 +5,10 @@ use Rattle.binfarce_bytes.specs.declared.ByteOrder.{ByteOrder}
 use Rattle.binfarce_bytes.specs.Refusal.{Refusal, ◌>>=◌, required, symbols_section_is_missing, section_is_missing, unexpected_section_type, malformed_input, unexpected_eof, out_of_memory, bytes_in_file}
 use Rattle.binfarce_bytes.specs.Walk.{Walk, found_or_end, first, ended, ahead_of, and_then}
 use Rattle.binfarce_elf.specs.Elf.{ElfClass, SectionTable, Section, walk, name_of, section_table, whole_headers}
-use Rattle.binfarce_elf.specs.ElfSymbols.{sought, is_named, section_data, located, elf_answer}
+use Rattle.binfarce_elf.specs.ElfSymbols.{sought, is_named, section_data, located, located_in, rows_in, elf_answer}
+use Rattle.binfarce_elf.specs.SymbolTables.{section_type, table_name, strings_name}
+use Rattle.binfarce_elf.specs.declared.symbol_table.SymbolTable.{SymbolTable}
+use Rattle.binfarce_elf.specs.declared.symbol_table.SymbolTable.TheVariants.{Symtab}
 use Rattle.std.specs.Str.{bytes_eq}
 use Rattle.binfarce_bytes.specs.Number.{bytes_at}
 use Rattle.binfarce_symbols.specs.Sizes.{arranged, least_above}
@@ -60,22 +63,27 @@ told_section_data : (file : List ℕ) (section : Section) → Told (section_data
 unfolding section_data bytes_in_file
 told_section_data file section = told_if (leb (2 ^ 64) (section.offset + section.size)) _ _ refl (told_if (ltb (length file) (section.offset + section.size)) _ _ refl tt)
 
-told_located : (class : ElfClass) (table : SectionTable) (name : List ℕ) → Told (located class table name)
-unfolding located
-told_located class table name =
-    told_step _ _ (told_sought class table symbols_section_is_missing (λ section. is_named name (name_of class table section)) refl) (λ text.
-    told_step _ _ (told_sought class table (section_is_missing (codes ".symtab")) (λ section. nat_eq section.kind 2) refl) (λ symbols.
-    told_step _ _ (told_sought class table (section_is_missing (codes ".strtab")) (λ section. nat_eq section.index symbols.link) refl) (λ linked.
+told_rows : (which : SymbolTable) (class : ElfClass) (table : SectionTable) → Told (rows_in which class table)
+unfolding rows_in
+told_rows which class table =
+    told_step _ _ (told_sought class table (section_is_missing (table_name which)) (λ section. nat_eq section.kind (section_type which)) refl) (λ symbols.
+    told_step _ _ (told_sought class table (section_is_missing (strings_name which)) (λ section. nat_eq section.index symbols.link) refl) (λ linked.
     told_step _ _ (told_if (nat_eq linked.kind 3) (Ok linked) (Err (unexpected_section_type 3 linked.kind)) tt refl) (λ string_table.
     told_step _ _ (told_section_data table.file string_table) (λ strings.
     told_step _ _ (told_section_data table.file symbols) (λ part.
-    told_step _ _ (told_if (nat_eq (length part % class.symbol_length) 0) (Ok part) (Err unexpected_eof) tt refl) (λ rows. tt)))))))
+    told_step _ _ (told_if (nat_eq (length part % class.symbol_length) 0) (Ok part) (Err unexpected_eof) tt refl) (λ rows. tt))))))
+
+told_located : (which : SymbolTable) (class : ElfClass) (table : SectionTable) (name : List ℕ) → Told (located_in which class table name)
+unfolding located_in
+told_located which class table name =
+    told_step _ _ (told_sought class table symbols_section_is_missing (λ section. is_named name (name_of class table section)) refl) (λ text.
+    told_step (rows_in which class table) _ (told_rows which class table) (λ found. tt))
 
 pub told_elf : (class : ElfClass) (order : ByteOrder) (file section : List ℕ) → Told (elf_file_answer class order file section)
-unfolding elf_answer
+unfolding elf_answer located
 told_elf class order file section =
     let table = section_table class (record { order = order; bytes = file }) in
-    told_if (ltb (length file) class.header_length) (Err unexpected_eof) _ refl (told_step (located class table section) _ (told_located class table section) (λ found. tt))
+    told_if (ltb (length file) class.header_length) (Err unexpected_eof) _ refl (told_step (located_in Symtab class table section) _ (told_located Symtab class table section) (λ found. tt))
 
 -- a walk doesn't end with a failed allocation
 abbrev ToldEnd : Option Refusal → Type 0

@@ -1,11 +1,14 @@
 -- The symbols of a file of any format.
-use Rattle.std.specs.Prelude.{ℕ, List, length, nat_lt, Option, Some, None, Result, Err, if◌then◌else◌}
+use Rattle.std.specs.Prelude.{ℕ, List, length, codes, nat_lt, Option, Some, None, Result, Err, if◌then◌else◌}
 use Rattle.binfarce_bytes.specs.declared.ByteOrder.{ByteOrder}
 use Rattle.binfarce_format.specs.declared.Format.{Format}
 use Rattle.binfarce_format.specs.declared.Format.TheVariants.{Elf32, Elf64, Macho, PE, Unknown}
-use Rattle.binfarce_bytes.specs.Refusal.{Refusal, unexpected_eof}
+use Rattle.binfarce_format.specs.Format.{format_of}
+use Rattle.binfarce_bytes.specs.Refusal.{Refusal, unexpected_eof, section_is_missing}
 use Rattle.binfarce_elf.specs.Elf.{ElfClass, elf32, elf64, section_table}
-use Rattle.binfarce_elf.specs.ElfSymbols.{elf_answer}
+use Rattle.binfarce_elf.specs.ElfSymbols.{elf_answer, dynamic_answer}
+use Rattle.binfarce_elf.specs.declared.symbol_table.SymbolTable.{SymbolTable}
+use Rattle.binfarce_elf.specs.declared.symbol_table.SymbolTable.TheVariants.{Symtab, Dynsym}
 use Rattle.binfarce_macho.specs.MachoSymbols.{macho_answer, HasAddress}
 use Rattle.binfarce_pe.specs.Pe.{least_length}
 use Rattle.binfarce_pe.specs.PeSymbols.{pe_answer}
@@ -30,6 +33,25 @@ symbols_answer (Elf64 order) file section = Some (elf_file_answer elf64 order fi
 symbols_answer Macho file section = Some (macho_file_answer file)
 symbols_answer PE file section = Some (pe_file_answer file)
 symbols_answer Unknown file section = None
+
+-- what it answers by the dynamic symbol table
+abbrev pub elf_dynamic_answer : ElfClass → ByteOrder → List ℕ → List ℕ → Result Listed Refusal
+elf_dynamic_answer class order file section =
+    if nat_lt (length file) class.header_length then Err unexpected_eof
+    else dynamic_answer class (section_table class (record { order = order; bytes = file })) section
+
+-- what the reader of the format answers by the dynamic symbol table: a Mach-O or PE file has none
+unfoldable pub dynamic_symbols_answer : Format → List ℕ → List ℕ → Option (Result Listed Refusal)
+dynamic_symbols_answer (Elf32 order) file section = Some (elf_dynamic_answer elf32 order file section)
+dynamic_symbols_answer (Elf64 order) file section = Some (elf_dynamic_answer elf64 order file section)
+dynamic_symbols_answer Macho file section = Some (Err (section_is_missing (codes ".dynsym")))
+dynamic_symbols_answer PE file section = Some (Err (section_is_missing (codes ".dynsym")))
+dynamic_symbols_answer Unknown file section = None
+
+-- what a file answers for a section by this symbol table
+abbrev pub answer_of : SymbolTable → List ℕ → List ℕ → Option (Result Listed Refusal)
+answer_of Symtab file section = symbols_answer (format_of file) file section
+answer_of Dynsym file section = dynamic_symbols_answer (format_of file) file section
 
 -- the answers that need memory, in whose place alone an allocation may be refused: a list that isn't empty, and of a Mach-O file whose table holds an address any
 unfoldable pub NeedsMemory : Format → List ℕ → Result Listed Refusal → Type 0

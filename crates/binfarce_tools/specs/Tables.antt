@@ -9,21 +9,22 @@ use Rattle.binfarce_tables.specs.PeReading as pe
 use Rattle.binfarce_tables.specs.Reading.{parts_view}
 use Rattle.binfarce_tables.specs.declared.error.ReadError.{ReadError}
 use Rattle.binfarce_tables.specs.declared.error.ReadError.TheVariants.{Refused, Unreadable, OutOfMemory}
-use Rattle.binfarce_tools.specs.Answer.{symbols_answer}
+use Rattle.binfarce_elf.specs.declared.symbol_table.SymbolTable.{SymbolTable}
+use Rattle.binfarce_tools.specs.Answer.{answer_of, macho_file_answer}
 use Rattle.binfarce_tools.specs.declared.tables.Tables.{Tables}
 use Rattle.binfarce_tools.specs.declared.tables.Tables.TheVariants.{Elf32, Elf64, Macho, Pe, Unknown}
 
--- what was read is what this file answers for the section: the parts of an ELF or PE file hold its entries, those of a Mach-O file where its symbols are, and of an unknown format there is nothing
-abbrev pub AreTablesOf : List ℕ → List ℕ → Tables → Type 0
-AreTablesOf file section (Elf32 parts) = symbols_answer (format_of file) file section ≡ Some (Ok (parts_view elf32 (λ n. n) parts))
-AreTablesOf file section (Elf64 parts) = symbols_answer (format_of file) file section ≡ Some (Ok (parts_view elf64 (λ n. n) parts))
-AreTablesOf file section (Macho parts) = (format_of file ≡ formats.Macho) × (macho.located_answer file ≡ Ok (macho.parts_view parts))
-AreTablesOf file section (Pe parts) = symbols_answer (format_of file) file section ≡ Some (Ok (pe.parts_view parts))
-AreTablesOf file section Unknown = format_of file ≡ formats.Unknown
+-- what was read is what this file answers for the section by this symbol table: the parts of an ELF or PE file hold its entries, those of a Mach-O file where its symbols are, and of an unknown format there is nothing
+unfoldable pub AreTablesOf : SymbolTable → List ℕ → List ℕ → Tables → Type 0
+AreTablesOf which file section (Elf32 parts) = answer_of which file section ≡ Some (Ok (parts_view elf32 (λ n. n) parts))
+AreTablesOf which file section (Elf64 parts) = answer_of which file section ≡ Some (Ok (parts_view elf64 (λ n. n) parts))
+AreTablesOf which file section (Macho parts) = (format_of file ≡ formats.Macho) × (answer_of which file section ≡ Some (macho_file_answer file)) × (macho.located_answer file ≡ Ok (macho.parts_view parts))
+AreTablesOf which file section (Pe parts) = answer_of which file section ≡ Some (Ok (pe.parts_view parts))
+AreTablesOf which file section Unknown = format_of file ≡ formats.Unknown
 
 -- what a reading of this file gives: its tables, or its refusal; or a read failed, which it may only where MayFail says so; or an allocation failed
-abbrev pub ReadsTables : Type 0 → List ℕ → List ℕ → Result Tables ReadError → Type 0
-ReadsTables MayFail file section (Ok tables) = AreTablesOf file section tables
-ReadsTables MayFail file section (Err (Refused e)) = symbols_answer (format_of file) file section ≡ Some (Err (refusal_of e))
-ReadsTables MayFail file section (Err Unreadable) = MayFail
-ReadsTables MayFail file section (Err OutOfMemory) = Unit {0}
+abbrev pub ReadsTables : Type 0 → SymbolTable → List ℕ → List ℕ → Result Tables ReadError → Type 0
+ReadsTables MayFail which file section (Ok tables) = AreTablesOf which file section tables
+ReadsTables MayFail which file section (Err (Refused e)) = answer_of which file section ≡ Some (Err (refusal_of e))
+ReadsTables MayFail which file section (Err Unreadable) = MayFail
+ReadsTables MayFail which file section (Err OutOfMemory) = Unit {0}

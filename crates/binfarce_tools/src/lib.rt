@@ -7,3 +7,5 @@ pub mod list;
 pub mod report;
 pub mod tables;
 pub mod writing;
+
+pub use binfarce_elf::symbol_table::SymbolTable;

@@ -6,7 +6,8 @@ ghost use Rattle.std.specs.Io.KnownBytes.{Keeps, Appends};
 ghost use Rattle.binfarce_format.specs.Format.{format_of};
 ghost use Rattle.binfarce_symbols.specs.Entries.{Listed};
 ghost use Rattle.binfarce_symbols.specs.SymbolViews.{function_view};
-ghost use Rattle.binfarce_tools.specs.Answer.{symbols_answer, NeedsMemory};
+ghost use Rattle.binfarce_elf.specs.declared.symbol_table.SymbolTable.{SymbolTable};
+ghost use Rattle.binfarce_tools.specs.Answer.{symbols_answer, answer_of, NeedsMemory};
 ghost use Rattle.binfarce_tools.specs.Listing.{IsLineOf, IsListingOf, ListingFits};
 ghost use Rattle.binfarce_tools.specs.ListWords.{outcome_of};
 ghost use Rattle.binfarce_tools.specs.Writing.{Tells, Takes, Fails, Leaves};
@@ -189,8 +190,8 @@ pub fn list<S: Sink>(
 ///
 /// As `list`.
 pub fn list_tables<S: Sink>(alloc: Global, tables: &Tables, out: &mut S) -> Result<(), ListError>
-    ensures tells { (file section : List ℕ) → AreTablesOf file section tables.now → Tells ListingFits (NeedsMemory (format_of file) file) (symbols_answer (format_of file) file section) (outcome_of result) }
-    ensures takes { (file section : List ℕ) → AreTablesOf file section tables.now → Takes IsListingOf (symbols_answer (format_of file) file section) (S.taken out.old) (S.taken out.new) (outcome_of result) }
+    ensures tells { (which : SymbolTable) (file section : List ℕ) → AreTablesOf which file section tables.now → Tells ListingFits (NeedsMemory (format_of file) file) (answer_of which file section) (outcome_of result) }
+    ensures takes { (which : SymbolTable) (file section : List ℕ) → AreTablesOf which file section tables.now → Takes IsListingOf (answer_of which file section) (S.taken out.old) (S.taken out.new) (outcome_of result) }
     ensures fails { Fails (S.has_failed out.old) (S.has_failed out.new) (outcome_of result) }
     ensures leaves { Leaves out.old out.new (outcome_of result) }
 {

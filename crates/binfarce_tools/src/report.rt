@@ -7,7 +7,8 @@ ghost use Rattle.binfarce_format.specs.Format.{format_of};
 ghost use Rattle.binfarce_names.specs.Name.{Name};
 ghost use Rattle.binfarce_names.specs.Named.{IsNamed};
 ghost use Rattle.binfarce_symbols.specs.SymbolViews.{function_view};
-ghost use Rattle.binfarce_tools.specs.Answer.{symbols_answer, NeedsMemory};
+ghost use Rattle.binfarce_elf.specs.declared.symbol_table.SymbolTable.{SymbolTable};
+ghost use Rattle.binfarce_tools.specs.Answer.{symbols_answer, answer_of, NeedsMemory};
 ghost use Rattle.binfarce_tools.specs.Report.{Share, IsShareOf, IsReportOf, IsReportOfShares, ReportFits, crate_text, crate_line};
 ghost use Rattle.binfarce_tools.specs.ReportWords.{outcome_of};
 ghost use Rattle.binfarce_tools.specs.Writing.{Tells, Takes, Fails, Leaves};
@@ -131,8 +132,8 @@ pub fn report_tables<S: Sink>(
     tables: &Tables,
     out: &mut S,
 ) -> Result<(), ReportError>
-    ensures tells { (file section : List ℕ) → AreTablesOf file section tables.now → Tells ReportFits (NeedsMemory (format_of file) file) (symbols_answer (format_of file) file section) (outcome_of result) }
-    ensures takes { (file section : List ℕ) → AreTablesOf file section tables.now → Takes IsReportOf (symbols_answer (format_of file) file section) (S.taken out.old) (S.taken out.new) (outcome_of result) }
+    ensures tells { (which : SymbolTable) (file section : List ℕ) → AreTablesOf which file section tables.now → Tells ReportFits (NeedsMemory (format_of file) file) (answer_of which file section) (outcome_of result) }
+    ensures takes { (which : SymbolTable) (file section : List ℕ) → AreTablesOf which file section tables.now → Takes IsReportOf (answer_of which file section) (S.taken out.old) (S.taken out.new) (outcome_of result) }
     ensures fails { Fails (S.has_failed out.old) (S.has_failed out.new) (outcome_of result) }
     ensures leaves { Leaves out.old out.new (outcome_of result) }
 {
@@ -171,7 +172,7 @@ pub fn sums_of_file(alloc: Global, data: &[u8], section: &str) -> Result<CrateSu
 ///
 /// As `report_tables`, but for `Write`.
 pub fn sums_of_tables(alloc: Global, tables: &Tables) -> Result<CrateSums, ReportError>
-    ensures sums { (file section : List ℕ) → AreTablesOf file section tables.now → GetsSums (NeedsMemory (format_of file) file) (symbols_answer (format_of file) file section) result }
+    ensures sums { (which : SymbolTable) (file section : List ℕ) → AreTablesOf which file section tables.now → GetsSums (NeedsMemory (format_of file) file) (answer_of which file section) result }
     ensures made { IfOk result (λ s. (shares : List Share) × AreSumsOf shares s) }
     ensures unwritten { IfErr result (λ e. e ≢ Write) }
 {

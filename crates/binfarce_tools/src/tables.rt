@@ -1,15 +1,20 @@
 //! What is read of a file to list its function symbols.
 
-ghost use Rattle.std.specs.Prelude.{◌≡◌, ◌≢◌, ℕ, List, take, true, Ok, Some, IfErr};
+ghost use Rattle.std.specs.Prelude.{◌≡◌, ◌≢◌, ℕ, List, take, true, Ok, Some, IfErr, MatchResult, codes};
+ghost use Rattle.binfarce_bytes.specs.Refusal.{refusal_of, section_is_missing};
+ghost use Rattle.binfarce_elf.specs.declared.symbol_table.SymbolTable.{SymbolTable};
+ghost use Rattle.binfarce_elf.specs.declared.symbol_table.SymbolTable.TheVariants.{Symtab, Dynsym};
 ghost use Rattle.binfarce_format.specs.Format.{format_of};
 ghost use Rattle.binfarce_tables.specs.Reading.{Reads, Known};
-ghost use Rattle.binfarce_tools.specs.Answer.{symbols_answer, NeedsMemory};
+ghost use Rattle.binfarce_tools.specs.Answer.{answer_of, NeedsMemory};
 ghost use Rattle.binfarce_tools.specs.Entries.{Gets};
 ghost use Rattle.binfarce_tools.specs.declared.list.ListError.TheVariants.{Write};
 ghost use Rattle.binfarce_tools.specs.Tables.{AreTablesOf, ReadsTables};
 
 use crate::functions::{Functions, all_of};
 use crate::list::ListError;
+use binfarce_bytes::ParseError;
+use binfarce_elf::symbol_table::SymbolTable;
 use binfarce_format::{Format, detect_format};
 use binfarce_source::{Source, read_part};
 use binfarce_tables::{ReadError, elf32, elf64, macho, pe};
@@ -34,13 +39,15 @@ pub enum Tables {
 }
 
 impl Tables {
-    /// What `functions_of_file` gives of the file, for the section that the tables were read for.
+    /// The function symbols of the section that the tables were read for, by the symbol table that they were read by, and
+    /// the section's size: of the symbol table what `functions_of_file` gives of the file.
     ///
     /// # Errors
     ///
     /// As `functions_of_file`.
+    #[tactic(auto, unfolding(crate::specs::Tables::AreTablesOf))]
     pub fn functions(&self, alloc: Global) -> Result<(Functions<'_>, u64), ListError>
-        ensures gets { (file section : List ℕ) → AreTablesOf file section self.entry.now → Gets (NeedsMemory (format_of file) file) (symbols_answer (format_of file) file section) result }
+        ensures gets { (which : SymbolTable) (file section : List ℕ) → AreTablesOf which file section self.entry.now → Gets (NeedsMemory (format_of file) file) (answer_of which file section) result }
         ensures unwritten { IfErr result (λ e. e ≢ Write) }
     {
         match self {
@@ -75,27 +82,60 @@ impl Tables {
 /// or a read of it fails, and never of a source that can't fail, as bytes in memory are; `OutOfMemory` where an
 /// allocation fails.
 pub fn read<S: Source>(alloc: Global, source: &S, section: &str) -> Result<Tables, ReadError>
-    ensures { (file : List ℕ) → S.bytes source.now ≡ Some file → ReadsTables (S.may_fail source.now ≡ true) file section.now result }
+    ensures { (file : List ℕ) → S.bytes source.now ≡ Some file → ReadsTables (S.may_fail source.now ≡ true) Symtab file section.now result }
+{
+    read_by(alloc, source, SymbolTable::Symtab, section)
+}
+
+/// Reads what `read` does, by this symbol table: of an ELF file that table and its strings in place of the symbol table
+/// and its own.
+///
+/// # Errors
+///
+/// As `read`, where `Refused` is for the dynamic symbol table what `dynamic_functions` of a reader of an ELF file refuses,
+/// and `SectionIsMissing` of `.dynsym` for a Mach-O or PE file.
+#[tactic(auto, unfolding(crate::specs::Tables::AreTablesOf))]
+pub fn read_by<S: Source>(
+    alloc: Global,
+    source: &S,
+    which: SymbolTable,
+    section: &str,
+) -> Result<Tables, ReadError>
+    ensures { (file : List ℕ) → S.bytes source.now ≡ Some file → ReadsTables (S.may_fail source.now ≡ true) which file section.now result }
 {
     let len = source.length()? as usize;
     match read_format(alloc, source, len)? {
         Format::Elf32 { byte_order } => {
-            let parts = elf32::read(alloc, source, byte_order, section)?;
+            let parts = elf32::read_by(alloc, source, byte_order, which, section)?;
             Ok(Tables::Elf32(parts))
         }
         Format::Elf64 { byte_order } => {
-            let parts = elf64::read(alloc, source, byte_order, section)?;
+            let parts = elf64::read_by(alloc, source, byte_order, which, section)?;
             Ok(Tables::Elf64(parts))
         }
         Format::Macho => {
+            has_table(which)?;
             let parts = macho::read(alloc, source)?;
             Ok(Tables::Macho(parts))
         }
         Format::PE => {
+            has_table(which)?;
             let parts = pe::read(alloc, source)?;
             Ok(Tables::Pe(parts))
         }
         Format::Unknown => Ok(Tables::Unknown),
+    }
+}
+
+// Whether a Mach-O or PE file has this symbol table: none has a dynamic one.
+fn has_table(which: SymbolTable) -> Result<(), ParseError>
+    ensures { MatchResult result
+        (λ _. which ≡ Symtab)
+        (λ e. (which ≡ Dynsym) × (refusal_of e ≡ section_is_missing (codes ".dynsym"))) }
+{
+    match which {
+        SymbolTable::Symtab => Ok(()),
+        SymbolTable::Dynsym => Err(ParseError::SectionIsMissing(which.name())),
     }
 }
 

@@ -3,6 +3,7 @@
 pub mod beginning_of;
 pub mod begins_in_file;
 pub mod count_functions_of;
+pub mod dynamic_parts;
 pub mod elf_symbols;
 pub mod fill_first;
 pub mod functions_of;

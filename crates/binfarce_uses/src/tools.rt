@@ -1,5 +1,6 @@
 //! Listings and reports.
 
+pub mod dynamic_tables;
 pub mod fails_at_a_byte;
 pub mod first_stored;
 pub mod format_of_source;

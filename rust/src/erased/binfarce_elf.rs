@@ -3,8 +3,10 @@
 //! ELF files of both classes and both byte orders (System V gABI).
 
 mod accessors;
+pub mod all;
 pub mod class;
 pub mod header;
 pub mod parts;
 pub mod sections;
+pub mod symbol_table;
 pub mod symbols;

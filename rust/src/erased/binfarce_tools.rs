@@ -8,3 +8,5 @@ pub mod list;
 pub mod report;
 pub mod tables;
 pub mod writing;
+
+pub use crate::erased::binfarce_elf::symbol_table::SymbolTable;

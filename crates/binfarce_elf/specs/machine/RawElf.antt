@@ -6,6 +6,7 @@ use Rattle.binfarce_bytes.specs.Field.{Field, field}
 use Rattle.binfarce_elf.specs.declared.class.SymbolRow.{SymbolRow}
 use Rattle.binfarce_elf.specs.declared.sections.Table.{Table}
 use Rattle.binfarce_elf.specs.declared.symbols.Located.{Located}
+use Rattle.binfarce_elf.specs.declared.symbols.Rows.{Rows}
 use Rattle.binfarce_elf.specs.Elf as elf
 use Rattle.binfarce_elf.specs.Elf.{ElfClass, Header, SectionHeader, SectionTable, section_of, whole_headers, walk}
 use Rattle.binfarce_elf.specs.ElfSymbols as symbols
@@ -61,6 +62,10 @@ walk_from class table (Some k) = record {
   items = map (section_of class table) (range_with_len k (section_count class table - k));
   refusal = (walk class table).refusal;
 }
+
+-- the strings and the rows of a symbol table
+abbrev pub rows_view : Rows → symbols.TableRows
+rows_view r = record { strings = r.strings.now; rows = r.rows.now }
 
 -- where the symbols are
 abbrev pub located_view : {C : Type 0} → (C → ℕ) → Located C → symbols.Located

@@ -1,9 +1,9 @@
 ghost use Rattle.std.specs.Prelude.{List, ℕ};
-ghost use Rattle.binfarce.specs.Format.{format_of};
 ghost use Rattle.binfarce_addresses.specs.Lines.{AreLinesAt};
-ghost use Rattle.binfarce_tools.specs.Answer.{symbols_answer};
+ghost use Rattle.binfarce_tools.specs.Answer.{answer_of};
 ghost use Rattle.binfarce_tools.specs.ListWords.{outcome_of};
 ghost use Rattle.binfarce_tools.specs.Tables.{AreTablesOf};
+ghost use Rattle.binfarce_tools.specs.declared.SymbolTable.{SymbolTable};
 ghost use Rattle.binfarce_tools.specs.Writing.{Takes};
 
 use binfarce_addresses::at::at_tables;
@@ -18,8 +18,8 @@ pub fn write_lines<S: Sink>(
     frames: &[u64],
     out: &mut S,
 ) -> Result<(), ListError>
-    ensures { (file section : List ℕ) → AreTablesOf file section tables.now
-        → Takes (AreLinesAt 0x555555554000 frames.now) (symbols_answer (format_of file) file section) (S.taken out.old) (S.taken out.new) (outcome_of result) }
+    ensures { (which : SymbolTable) (file section : List ℕ) → AreTablesOf which file section tables.now
+        → Takes (AreLinesAt 0x555555554000 frames.now) (answer_of which file section) (S.taken out.old) (S.taken out.new) (outcome_of result) }
 {
     at_tables(alloc, tables, 0x5555_5555_4000, frames, out)
 }

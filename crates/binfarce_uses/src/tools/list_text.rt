@@ -1,9 +1,9 @@
 ghost use Rattle.std.specs.Prelude.{List, ℕ};
-ghost use Rattle.binfarce.specs.Format.{format_of};
-ghost use Rattle.binfarce_tools.specs.Answer.{symbols_answer};
+ghost use Rattle.binfarce_tools.specs.Answer.{answer_of};
 ghost use Rattle.binfarce_tools.specs.Listing.{IsListingOf};
 ghost use Rattle.binfarce_tools.specs.ListWords.{outcome_of};
 ghost use Rattle.binfarce_tools.specs.Tables.{AreTablesOf};
+ghost use Rattle.binfarce_tools.specs.declared.SymbolTable.{SymbolTable};
 ghost use Rattle.binfarce_tools.specs.Writing.{Takes};
 
 use binfarce_tools::list::{ListError, Sink, list_tables};
@@ -12,8 +12,8 @@ use std::alloc::Global;
 
 /// Lists the tables that were read of a file.
 pub fn list_text<S: Sink>(alloc: Global, tables: &Tables, out: &mut S) -> Result<(), ListError>
-    ensures { (file section : List ℕ) → AreTablesOf file section tables.now
-        → Takes IsListingOf (symbols_answer (format_of file) file section) (S.taken out.old) (S.taken out.new) (outcome_of result) }
+    ensures { (which : SymbolTable) (file section : List ℕ) → AreTablesOf which file section tables.now
+        → Takes IsListingOf (answer_of which file section) (S.taken out.old) (S.taken out.new) (outcome_of result) }
 {
     list_tables(alloc, tables, out)
 }

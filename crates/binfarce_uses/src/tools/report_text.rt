@@ -1,9 +1,9 @@
 ghost use Rattle.std.specs.Prelude.{List, ℕ};
-ghost use Rattle.binfarce.specs.Format.{format_of};
-ghost use Rattle.binfarce_tools.specs.Answer.{symbols_answer};
+ghost use Rattle.binfarce_tools.specs.Answer.{answer_of};
 ghost use Rattle.binfarce_tools.specs.Report.{IsReportOf};
 ghost use Rattle.binfarce_tools.specs.ReportWords.{outcome_of};
 ghost use Rattle.binfarce_tools.specs.Tables.{AreTablesOf};
+ghost use Rattle.binfarce_tools.specs.declared.SymbolTable.{SymbolTable};
 ghost use Rattle.binfarce_tools.specs.Writing.{Takes};
 
 use binfarce_tools::list::Sink;
@@ -13,8 +13,8 @@ use std::alloc::Global;
 
 /// Reports the tables that were read of a file.
 pub fn report_text<S: Sink>(alloc: Global, tables: &Tables, out: &mut S) -> Result<(), ReportError>
-    ensures { (file section : List ℕ) → AreTablesOf file section tables.now
-        → Takes IsReportOf (symbols_answer (format_of file) file section) (S.taken out.old) (S.taken out.new) (outcome_of result) }
+    ensures { (which : SymbolTable) (file section : List ℕ) → AreTablesOf which file section tables.now
+        → Takes IsReportOf (answer_of which file section) (S.taken out.old) (S.taken out.new) (outcome_of result) }
 {
     report_tables(alloc, tables, out)
 }

@@ -4,9 +4,11 @@
 
 use crate::shim::Vec;
 use crate::erased::binfarce_bytes::{ByteOrder, ParseError};
+use crate::erased::binfarce_elf::all::{self, AllFunctions};
 use crate::erased::binfarce_elf::class::Class;
 use crate::erased::binfarce_elf::header::{Header, parse_header};
 use crate::erased::binfarce_elf::sections::{self, HasSections, Section, Sections, Table};
+use crate::erased::binfarce_elf::symbol_table::SymbolTable;
 use crate::erased::binfarce_elf::symbols::{self, Functions};
 use crate::erased::binfarce_names::demangle::SymbolData;
 use crate::erased::binfarce_naming::symbols::symbols_of;
@@ -78,6 +80,15 @@ impl<'a, C: Class> Elf<'a, C> {
         Ok(sections::section_with_name::<C>(self.section_table(), name)?)
     }
 
+    /// The section of this index in the section header table, which counts from 0; `None` where there are fewer.
+    ///
+    /// # Errors
+    ///
+    /// Those of `find_section`.
+    pub fn section_with_index(&self, index: u32) -> Result<Option<Section<C>>, ParseError> {
+        Ok(symbols::section_of_index::<C>(self.section_table(), index)?)
+    }
+
     /// The function symbols of the section with this name as the file stores them, in the order of the symbol table,
     /// and the section's size in bytes. Nothing is allocated, and names stay mangled.
     ///
@@ -93,7 +104,34 @@ impl<'a, C: Class> Elf<'a, C> {
         symbols::section_functions::<C>(self.section_table(), section_name)
     }
 
-    /// The same functions as symbols, whose names are in readable form, and the section's size in bytes.
+    /// The same functions of the dynamic symbol table, which a stripped file still has.
+    ///
+    /// # Errors
+    ///
+    /// Those of `functions`, where `SectionIsMissing` is of `.dynsym` (the first section of kind 11, `SHT_DYNSYM`) and of
+    /// `.dynstr` (the section that it links to).
+    pub fn dynamic_functions(
+        &self,
+        section_name: &str,
+    ) -> Result<(Functions<'a, C>, u64), ParseError> {
+        symbols::dynamic_functions::<C>(self.section_table(), section_name)
+    }
+
+    /// The function symbols of all sections as the file stores them, each with the index of its section, in the order of
+    /// this symbol table. Nothing is allocated, and names stay mangled.
+    ///
+    /// Kept are the rows that `functions`, or for the dynamic symbol table `dynamic_functions`, keeps for some section of
+    /// the file: none without a section (`SHN_UNDEF`), and none with a reserved index, as that of `SHN_ABS`.
+    ///
+    /// # Errors
+    ///
+    /// In this order: `UnexpectedEof` where the section header table doesn't begin in the file, or a section header is
+    /// truncated; those of `functions`, or `dynamic_functions`, from the missing symbol table on.
+    pub fn all_functions(&self, which: SymbolTable) -> Result<AllFunctions<'a, C>, ParseError> {
+        all::all_functions::<C>(self.section_table(), which)
+    }
+
+    /// The functions of the symbol table as symbols, whose names are in readable form, and the section's size in bytes.
     ///
     /// # Errors
     ///
@@ -105,6 +143,21 @@ impl<'a, C: Class> Elf<'a, C> {
     ) -> Result<(Vec<SymbolData>, u64), ParseError> {
         let (functions, size) = self.functions(section_name)?;
         Ok((symbols_of(alloc, functions)?, size))
+    }
+
+    /// The functions of the dynamic symbol table as symbols, and the section's size in bytes.
+    ///
+    /// # Errors
+    ///
+    /// Those of `dynamic_functions`, and `OutOfMemory` where an allocation failed, which an empty list never needs.
+    pub fn dynamic_symbols(
+        &self,
+        alloc: Global,
+        section_name: &str,
+    ) -> Result<(Vec<SymbolData>, u64), ParseError> {
+        let (functions, size) = self.dynamic_functions(section_name)?;
+        let symbols = symbols_of(alloc, functions)?;
+        Ok((symbols, size))
     }
 
     /// The file's bytes, as they were given to `parse`.

@@ -4,7 +4,7 @@
 
 use crate::erased::binfarce::elf;
 use crate::erased::binfarce_bytes::{ByteOrder, ParseError};
-use crate::erased::binfarce_elf::{header, sections, symbols};
+use crate::erased::binfarce_elf::{all, header, sections, symbols};
 
 // The standard's data types of this class (gABI, "Data Representation"): the word by which it is known.
 type Address = u32;
@@ -25,6 +25,9 @@ pub type Sections<'a> = sections::Sections<'a, Offset>;
 
 /// The function symbols of a section that are left: what [`Elf32::functions`](elf::Elf::functions) gives.
 pub type Functions<'a> = symbols::Functions<'a, Address>;
+
+/// The function symbols of all sections that are left: what [`Elf32::all_functions`](elf::Elf::all_functions) gives.
+pub type AllFunctions<'a> = all::AllFunctions<'a, Address>;
 
 /// Reads the file header in the given order, without a look at the magic number. Nothing is copied.
 ///

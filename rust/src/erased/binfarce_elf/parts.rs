@@ -6,6 +6,7 @@ use crate::erased::binfarce_elf::class::{Class, Half};
 use crate::erased::binfarce_elf::sections::{
     Section, Sections, Table, first_section, is_named, name_at, sections_of,
 };
+use crate::erased::binfarce_elf::symbol_table::SymbolTable;
 use crate::erased::binfarce_elf::symbols::{Functions, linked_section, string_table, symbol_table};
 use crate::erased::binfarce_bytes::parser::UnexpectedEof;
 use crate::erased::binfarce_bytes::{ByteOrder, ParseError};
@@ -18,18 +19,20 @@ pub struct Needed<C> {
     pub strings: Section<C>,
 }
 
-/// These sections, found in `count` section headers, whose names are among `names`. Refused as `functions` of a reader
-/// is, up to the string table's kind.
+/// These sections, found in `count` section headers, whose names are among `names`. Refused as `functions` and
+/// `dynamic_functions` of a reader are, up to the string table's kind.
 pub fn needed_sections<C: Class>(
     headers: &[u8],
     byte_order: ByteOrder,
     count: Half,
     names: Option<&[u8]>,
+    which: SymbolTable,
     section_name: &str,
 ) -> Result<Needed<C>, ParseError> {
     needed_of::<C>(
         headers_alone(headers, byte_order, count),
         names,
+        which,
         section_name,
     )
 }
@@ -58,11 +61,12 @@ fn headers_alone(headers: &[u8], byte_order: ByteOrder, count: Half) -> Table<'_
 fn needed_of<C: Class>(
     table: Table<'_>,
     names: Option<&[u8]>,
+    which: SymbolTable,
     section_name: &str,
 ) -> Result<Needed<C>, ParseError> {
     let section = named_section::<C>(table, names, section_name)?;
-    let symbols = symbol_table::<C>(table)?;
-    let linked = linked_section::<C>(table, symbols.link)?;
+    let symbols = symbol_table::<C>(table, which)?;
+    let linked = linked_section::<C>(table, which, symbols.link)?;
     let strings = string_table(linked)?;
     Ok(Needed {
         section,

@@ -6,16 +6,21 @@ use crate::erased::binfarce_elf::class::{Class, Half, SymbolRow, Word};
 use crate::erased::binfarce_elf::sections::{
     Section, Table, first_section, section_data, section_with_name,
 };
+use crate::erased::binfarce_elf::symbol_table::SymbolTable;
 use crate::erased::binfarce_bytes::parser::{UnexpectedEof, parse_null_string};
 use crate::erased::binfarce_bytes::{ByteOrder, ParseError};
 use crate::erased::binfarce_symbols::functions::{FunctionSymbol, found_with};
 use std::marker::PhantomData;
 
-/// `SHT_SYMTAB`.
-const SYMBOL_TABLE: Word = 2;
-
 /// `SHT_STRTAB`.
 const STRING_TABLE: Word = 3;
+
+// The strings and the rows of a symbol table.
+#[derive(Clone, Copy)]
+pub(crate) struct Rows<'a> {
+    pub(crate) strings: &'a [u8],
+    pub(crate) rows: &'a [u8],
+}
 
 // Where the symbols of a section are in the file.
 #[derive(Clone, Copy)]
@@ -30,24 +35,40 @@ pub fn section_functions<'a, C: Class>(
     table: Table<'a>,
     section_name: &str,
 ) -> Result<(Functions<'a, C>, u64), ParseError> {
+    functions_of(table, SymbolTable::Symtab, section_name)
+}
+
+/// The same of the dynamic symbol table.
+pub fn dynamic_functions<'a, C: Class>(
+    table: Table<'a>,
+    section_name: &str,
+) -> Result<(Functions<'a, C>, u64), ParseError> {
+    functions_of(table, SymbolTable::Dynsym, section_name)
+}
+
+// The same of this symbol table.
+fn functions_of<'a, C: Class>(
+    table: Table<'a>,
+    which: SymbolTable,
+    section_name: &str,
+) -> Result<(Functions<'a, C>, u64), ParseError> {
     let Located {
         section,
         strings,
         rows,
-    } = locate::<C>(table, section_name)?;
+    } = locate::<C>(table, which, section_name)?;
     let functions = Functions::new(rows, strings, table.byte_order, section.index);
     Ok((functions, section.size.widened()))
 }
 
-// The section with this name, and the rows and the strings of the symbol table.
-fn locate<'a, C: Class>(table: Table<'a>, section_name: &str) -> Result<Located<'a, C>, ParseError> {
+// The section with this name, and the rows and the strings of this symbol table.
+fn locate<'a, C: Class>(
+    table: Table<'a>,
+    which: SymbolTable,
+    section_name: &str,
+) -> Result<Located<'a, C>, ParseError> {
     let section = named_section::<C>(table, section_name)?;
-    let symbols = symbol_table::<C>(table)?;
-    let linked = linked_section::<C>(table, symbols.link)?;
-    let string_table = string_table(linked)?;
-    let strings = section_data(table.data, string_table)?;
-    let rows = section_data(table.data, symbols)?;
-    let rows = whole_rows::<C>(rows)?;
+    let Rows { strings, rows } = rows_of::<C>(table, which)?;
     Ok(Located {
         section,
         strings,
@@ -55,12 +76,31 @@ fn locate<'a, C: Class>(table: Table<'a>, section_name: &str) -> Result<Located<
     })
 }
 
+// The rows and the strings of this symbol table.
+pub(crate) fn rows_of<'a, C: Class>(
+    table: Table<'a>,
+    which: SymbolTable,
+) -> Result<Rows<'a>, ParseError> {
+    let symbols = symbol_table::<C>(table, which)?;
+    let linked = linked_section::<C>(table, which, symbols.link)?;
+    let string_table = string_table(linked)?;
+    let strings = section_data(table.data, string_table)?;
+    let rows = section_data(table.data, symbols)?;
+    let rows = whole_rows::<C>(rows)?;
+    Ok(Rows { strings, rows })
+}
+
 fn named_section<C: Class>(table: Table<'_>, name: &str) -> Result<Section<C>, ParseError> {
     section_with_name::<C>(table, name)?.ok_or(ParseError::SymbolsSectionIsMissing)
 }
 
-pub(crate) fn symbol_table<C: Class>(table: Table<'_>) -> Result<Section<C>, ParseError> {
-    section_of_kind::<C>(table, SYMBOL_TABLE)?.ok_or(ParseError::SectionIsMissing(".symtab"))
+pub(crate) fn symbol_table<C: Class>(
+    table: Table<'_>,
+    which: SymbolTable,
+) -> Result<Section<C>, ParseError> {
+    section_of_kind::<C>(table, which.section_type())?.ok_or(ParseError::SectionIsMissing(
+        which.name(),
+    ))
 }
 
 fn section_of_kind<C: Class>(
@@ -72,12 +112,14 @@ fn section_of_kind<C: Class>(
 
 pub(crate) fn linked_section<C: Class>(
     table: Table<'_>,
+    which: SymbolTable,
     link: Word,
 ) -> Result<Section<C>, ParseError> {
-    section_of_index::<C>(table, link)?.ok_or(ParseError::SectionIsMissing(".strtab"))
+    section_of_index::<C>(table, link)?.ok_or(ParseError::SectionIsMissing(which.strings_name()))
 }
 
-fn section_of_index<C: Class>(
+/// The section of this index.
+pub fn section_of_index<C: Class>(
     table: Table<'_>,
     index: Word,
 ) -> Result<Option<Section<C>>, UnexpectedEof> {
@@ -176,7 +218,7 @@ impl<'a, C: Class> Iterator for Functions<'a, C> {
 }
 
 // The name of a function of the section `index`, with a size and a name offset.
-fn function_name(strings: &[u8], index: Half, row: SymbolRow) -> Option<&str> {
+pub(crate) fn function_name(strings: &[u8], index: Half, row: SymbolRow) -> Option<&str> {
     const STT_FUNC: u8 = 2;
     if row.section == index && row.size != 0 && row.name != 0 && row.info & 0xf == STT_FUNC {
         parse_null_string(strings, row.name as usize)

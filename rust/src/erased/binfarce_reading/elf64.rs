@@ -4,6 +4,7 @@
 
 use crate::erased::binfarce_reading::elf;
 use crate::erased::binfarce_bytes::ByteOrder;
+use crate::erased::binfarce_elf::symbol_table::SymbolTable;
 use crate::erased::binfarce_source::Source;
 pub use crate::erased::binfarce_tables::elf64::{SectionParts, read_sections};
 use crate::erased::binfarce_tables::{ReadError, elf64};
@@ -29,5 +30,22 @@ pub fn read<S: Source>(
     section_name: &str,
 ) -> Result<Parts, ReadError> {
     let tables = elf64::read(alloc, source, byte_order, section_name)?;
+    Ok(elf::of_tables(tables))
+}
+
+/// Reads the parts of a file that the function symbols of the section with this name in the dynamic symbol table are read
+/// from: what `read` reads, with the dynamic symbol table and its strings in place of the symbol table and its own.
+///
+/// # Errors
+///
+/// `Refused` with what `parse` and `dynamic_functions` of a reader of the whole file refuse; else as `read`.
+pub fn read_dynamic<S: Source>(
+    alloc: Global,
+    source: &S,
+    byte_order: ByteOrder,
+    section_name: &str,
+) -> Result<Parts, ReadError> {
+    let which = SymbolTable::Dynsym;
+    let tables = elf64::read_by(alloc, source, byte_order, which, section_name)?;
     Ok(elf::of_tables(tables))
 }

@@ -9,6 +9,7 @@ use crate::erased::binfarce_elf::class::{Class, Half};
 use crate::erased::binfarce_elf::header::{Header, parse_header};
 use crate::erased::binfarce_elf::parts::{Needed, functions_in, needed_sections};
 use crate::erased::binfarce_elf::sections::{Section, section_at};
+use crate::erased::binfarce_elf::symbol_table::SymbolTable;
 use crate::erased::binfarce_elf::symbols::{Functions, whole_rows};
 use crate::erased::binfarce_source::{Source, read_part};
 use crate::shim::alloc::Global;
@@ -38,16 +39,18 @@ pub(crate) struct Place {
     pub(crate) shstrndx: Half,
 }
 
-/// The parts of the section with this name. Refused as `functions` of a reader is.
+/// The parts of the section with this name, by this symbol table. Refused as `functions` and `dynamic_functions` of a
+/// reader are.
 pub(crate) fn read_parts<C: Class, S: Source>(
     alloc: Global,
     source: &S,
     byte_order: ByteOrder,
+    which: SymbolTable,
     section_name: &str,
 ) -> Result<Parts<C>, ReadError> {
     let len = source.length()? as usize;
     let place = read_place::<C, S>(alloc, source, len, byte_order)?;
-    let needed = read_needed::<C, S>(alloc, source, len, place, section_name)?;
+    let needed = read_needed::<C, S>(alloc, source, len, place, which, section_name)?;
     let strings = read_section::<C, S>(alloc, source, len, needed.strings)?;
     let rows = read_section::<C, S>(alloc, source, len, needed.symbols)?;
     let _ = whole_rows::<C>(&rows)?;
@@ -89,6 +92,7 @@ fn read_needed<C: Class, S: Source>(
     source: &S,
     len: usize,
     place: Place,
+    which: SymbolTable,
     section_name: &str,
 ) -> Result<Needed<C>, ReadError> {
     if place.shoff >= len {
@@ -99,7 +103,7 @@ fn read_needed<C: Class, S: Source>(
     }
     let names = read_names::<C, S>(alloc, source, len, place)?;
     let headers = read_headers::<C, S>(alloc, source, len, place)?;
-    Ok(needed_in::<C>(&headers, &names, place, section_name)?)
+    Ok(needed_in::<C>(&headers, &names, place, which, section_name)?)
 }
 
 // The sections that are needed, among these section headers and section names.
@@ -107,10 +111,18 @@ fn needed_in<C: Class>(
     headers: &[u8],
     names: &Option<Vec<u8>>,
     place: Place,
+    which: SymbolTable,
     section_name: &str,
 ) -> Result<Needed<C>, ParseError> {
     let names = slice_of(names);
-    needed_sections::<C>(headers, place.byte_order, place.shnum, names, section_name)
+    needed_sections::<C>(
+        headers,
+        place.byte_order,
+        place.shnum,
+        names,
+        which,
+        section_name,
+    )
 }
 
 pub(crate) fn slice_of(bytes: &Option<Vec<u8>>) -> Option<&[u8]> {

@@ -5,6 +5,7 @@
 use crate::erased::binfarce_tables::error::ReadError;
 use crate::erased::binfarce_tables::{elf, sections};
 use crate::erased::binfarce_bytes::ByteOrder;
+use crate::erased::binfarce_elf::symbol_table::SymbolTable;
 use crate::erased::binfarce_source::Source;
 use crate::shim::alloc::Global;
 
@@ -30,7 +31,22 @@ pub fn read<S: Source>(
     byte_order: ByteOrder,
     section_name: &str,
 ) -> Result<Parts, ReadError> {
-    elf::read_parts::<u64, S>(alloc, source, byte_order, section_name)
+    read_by(alloc, source, byte_order, SymbolTable::Symtab, section_name)
+}
+
+/// Reads what `read` does, with this symbol table and its strings in place of the symbol table and its own.
+///
+/// # Errors
+///
+/// As `read`, where `Refused` is for the dynamic symbol table what `dynamic_functions` of a reader refuses.
+pub fn read_by<S: Source>(
+    alloc: Global,
+    source: &S,
+    byte_order: ByteOrder,
+    which: SymbolTable,
+    section_name: &str,
+) -> Result<Parts, ReadError> {
+    elf::read_parts::<u64, S>(alloc, source, byte_order, which, section_name)
 }
 
 /// Reads the section headers and the section names of a file, numbers in the given order, without a look at the magic

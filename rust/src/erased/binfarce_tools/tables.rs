@@ -5,6 +5,8 @@
 use crate::shim::Vec;
 use crate::erased::binfarce_tools::functions::{Functions, all_of};
 use crate::erased::binfarce_tools::list::ListError;
+use crate::erased::binfarce_bytes::ParseError;
+use crate::erased::binfarce_elf::symbol_table::SymbolTable;
 use crate::erased::binfarce_format::{Format, detect_format};
 use crate::erased::binfarce_source::{Source, read_part};
 use crate::erased::binfarce_tables::{ReadError, elf32, elf64, macho, pe};
@@ -28,7 +30,8 @@ pub enum Tables {
 }
 
 impl Tables {
-    /// What `functions_of_file` gives of the file, for the section that the tables were read for.
+    /// The function symbols of the section that the tables were read for, by the symbol table that they were read by, and
+    /// the section's size: of the symbol table what `functions_of_file` gives of the file.
     ///
     /// # Errors
     ///
@@ -66,25 +69,51 @@ impl Tables {
 /// or a read of it fails, and never of a source that can't fail, as bytes in memory are; `OutOfMemory` where an
 /// allocation fails.
 pub fn read<S: Source>(alloc: Global, source: &S, section: &str) -> Result<Tables, ReadError> {
+    read_by(alloc, source, SymbolTable::Symtab, section)
+}
+
+/// Reads what `read` does, by this symbol table: of an ELF file that table and its strings in place of the symbol table
+/// and its own.
+///
+/// # Errors
+///
+/// As `read`, where `Refused` is for the dynamic symbol table what `dynamic_functions` of a reader of an ELF file refuses,
+/// and `SectionIsMissing` of `.dynsym` for a Mach-O or PE file.
+pub fn read_by<S: Source>(
+    alloc: Global,
+    source: &S,
+    which: SymbolTable,
+    section: &str,
+) -> Result<Tables, ReadError> {
     let len = source.length()? as usize;
     match read_format(alloc, source, len)? {
         Format::Elf32 { byte_order } => {
-            let parts = elf32::read(alloc, source, byte_order, section)?;
+            let parts = elf32::read_by(alloc, source, byte_order, which, section)?;
             Ok(Tables::Elf32(parts))
         }
         Format::Elf64 { byte_order } => {
-            let parts = elf64::read(alloc, source, byte_order, section)?;
+            let parts = elf64::read_by(alloc, source, byte_order, which, section)?;
             Ok(Tables::Elf64(parts))
         }
         Format::Macho => {
+            has_table(which)?;
             let parts = macho::read(alloc, source)?;
             Ok(Tables::Macho(parts))
         }
         Format::PE => {
+            has_table(which)?;
             let parts = pe::read(alloc, source)?;
             Ok(Tables::Pe(parts))
         }
         Format::Unknown => Ok(Tables::Unknown),
+    }
+}
+
+// Whether a Mach-O or PE file has this symbol table: none has a dynamic one.
+fn has_table(which: SymbolTable) -> Result<(), ParseError> {
+    match which {
+        SymbolTable::Symtab => Ok(()),
+        SymbolTable::Dynsym => Err(ParseError::SectionIsMissing(which.name())),
     }
 }
 

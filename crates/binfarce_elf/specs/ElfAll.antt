@@ -1,0 +1,36 @@
+-- The function symbols of all sections of an ELF file.
+use Rattle.std.specs.Prelude.{ℕ, ◌-◌, ◌*◌, ◌/◌, Bool, ◌&&◌, List, length, Option, None, Result, Ok, nat_lt, if◌then◌else◌}
+use Rattle.std.specs.Option.{option_map}
+use Rattle.std.specs.List.{range_with_len, filter_map}
+use Rattle.binfarce_bytes.specs.declared.ByteOrder.{ByteOrder}
+use Rattle.binfarce_bytes.specs.Refusal.{◌>>=◌, Refusal}
+use Rattle.binfarce_symbols.specs.SectionEntries.{SectionEntry, unless}
+use Rattle.binfarce_elf.specs.Elf.{ElfClass, SectionTable, SymbolRow, walk}
+use Rattle.binfarce_elf.specs.ElfSymbols.{symbol_at, entry_of, rows_in}
+use Rattle.binfarce_elf.specs.declared.all.AllFunctions.{AllFunctions}
+use Rattle.binfarce_elf.specs.declared.symbol_table.SymbolTable.{SymbolTable}
+
+-- a section index is that of one of so many sections: above SHN_UNDEF (0), and below SHN_LORESERVE (0xff00)
+abbrev pub is_of_section : ℕ → ℕ → Bool
+is_of_section count index = nat_lt 0 index && nat_lt index 65280 && nat_lt index count
+
+-- the row's entry with its section, where it has one: by the rule of the section that it names
+abbrev pub section_entry_of : List ℕ → ℕ → SymbolRow ℕ → Option SectionEntry
+section_entry_of strings count row =
+    if is_of_section count row.section then option_map (λ e. record { section = row.section; entry = e }) (entry_of strings row.section row) else None
+
+-- those of the rows numbered from k on, in table order
+abbrev pub section_entries_from : ElfClass → ByteOrder → List ℕ → ℕ → List ℕ → ℕ → List SectionEntry
+section_entries_from class order strings count rows k =
+    filter_map (λ row. section_entry_of strings count (symbol_at class order rows (row * class.symbol_length))) (range_with_len k (length rows / class.symbol_length - k))
+
+-- the refusals in order: that of the walk over all sections, and those of the symbol table; else the entries of all rows
+unfoldable pub all_answer : SymbolTable → ElfClass → SectionTable → Result (List SectionEntry) Refusal
+all_answer which class table = do
+  count ← unless (walk class table).refusal table.shnum
+  found ← rows_in which class table
+  Ok (section_entries_from class table.order found.strings count found.rows 0)
+
+-- the entries that an iterator of the function symbols of all sections has left
+abbrev pub all_left : {C : Type 0} → ElfClass → AllFunctions C → List SectionEntry
+all_left class f = section_entries_from class f.byte_order f.strings.now f.count f.rows.now f.next

@@ -7,7 +7,7 @@ use Rattle.binfarce_bytes.specs.declared.ByteOrder.{ByteOrder}
 use Rattle.binfarce_format.specs.declared.Format.{Format}
 use Rattle.binfarce_format.specs.declared.Format.TheVariants as formats
 use Rattle.binfarce_elf.specs.Elf.{ElfClass, elf32, elf64}
-use Rattle.binfarce_elf.specs.ElfSymbols.{elf_answer, located, answer_in}
+use Rattle.binfarce_elf.specs.ElfSymbols as elf
 use Rattle.binfarce_elf.specs.declared.symbol_table.SymbolTable.{SymbolTable}
 use Rattle.binfarce_elf.specs.declared.symbol_table.SymbolTable.TheVariants.{Symtab, Dynsym}
 use Rattle.binfarce_format.specs.Format.{format_of}
@@ -52,7 +52,7 @@ length_told (Some bytes) file len is told =
 
 -- the answer of an ELF file by its symbol table
 by_symtab : (class : ElfClass) (order : ByteOrder) (file section : List ℕ) → elf_file_answer class order file section ≡ file_answer_in Symtab class order file section
-unfolding elf_answer located answer_in
+unfolding elf.elf_answer elf.located elf.answer_in
 by_symtab class order file section = refl
 
 -- the answer of an ELF file is that of its class

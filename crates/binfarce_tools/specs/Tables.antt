@@ -15,7 +15,7 @@ use Rattle.binfarce_tools.specs.declared.tables.Tables.{Tables}
 use Rattle.binfarce_tools.specs.declared.tables.Tables.TheVariants.{Elf32, Elf64, Macho, Pe, Unknown}
 
 -- what was read is what this file answers for the section by this symbol table: the parts of an ELF or PE file hold its entries, those of a Mach-O file where its symbols are, and of an unknown format there is nothing
-abbrev pub AreTablesOf : SymbolTable → List ℕ → List ℕ → Tables → Type 0
+unfoldable pub AreTablesOf : SymbolTable → List ℕ → List ℕ → Tables → Type 0
 AreTablesOf which file section (Elf32 parts) = answer_of which file section ≡ Some (Ok (parts_view elf32 (λ n. n) parts))
 AreTablesOf which file section (Elf64 parts) = answer_of which file section ≡ Some (Ok (parts_view elf64 (λ n. n) parts))
 AreTablesOf which file section (Macho parts) = (format_of file ≡ formats.Macho) × (answer_of which file section ≡ Some (macho_file_answer file)) × (macho.located_answer file ≡ Ok (macho.parts_view parts))

@@ -45,6 +45,7 @@ impl Tables {
     /// # Errors
     ///
     /// As `functions_of_file`.
+    #[tactic(auto, unfolding(crate::specs::Tables::AreTablesOf))]
     pub fn functions(&self, alloc: Global) -> Result<(Functions<'_>, u64), ListError>
         ensures gets { (which : SymbolTable) (file section : List ℕ) → AreTablesOf which file section self.entry.now → Gets (NeedsMemory (format_of file) file) (answer_of which file section) result }
         ensures unwritten { IfErr result (λ e. e ≢ Write) }
@@ -93,6 +94,7 @@ pub fn read<S: Source>(alloc: Global, source: &S, section: &str) -> Result<Table
 ///
 /// As `read`, where `Refused` is for the dynamic symbol table what `dynamic_functions` of a reader of an ELF file refuses,
 /// and `SectionIsMissing` of `.dynsym` for a Mach-O or PE file.
+#[tactic(auto, unfolding(crate::specs::Tables::AreTablesOf))]
 pub fn read_by<S: Source>(
     alloc: Global,
     source: &S,

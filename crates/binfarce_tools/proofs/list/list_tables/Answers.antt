@@ -2,8 +2,11 @@ use Rattle.std.proofs.Common.{sym, subst}
 use Rattle.binfarce_format.specs.Format.{format_of}
 use Rattle.binfarce_tools.specs.Answer.{answer_of, NeedsMemory}
 use Rattle.binfarce_tools.specs.Listing.{IsListingOf}
-use Rattle.binfarce_tools.proofs.Lines.{takes}
+use Rattle.binfarce_tools.proofs.Lines.{takes, takes_nothing}
 use Rattle.binfarce_tools.proofs.list.list_tables.Goals as goal
+
+pub returns-in_err-text-clause-takes : goal.returns-in_err-text-clause-takes
+returns-in_err-text-clause-takes g c = λ which file section are. takes_nothing (answer_of which file section) _ c.from_residual-in_err-text.result c.from_residual-in_err-text.ensures.1
 
 pub returns-clause-takes : goal.returns-clause-takes
 returns-clause-takes g c = λ which file section are.

@@ -5,22 +5,26 @@ use Rattle.binfarce_elf.specs.Elf.{elf32, elf64}
 use Rattle.binfarce_tables.specs.PeReading as pe
 use Rattle.binfarce_tables.specs.Reading.{Known, parts_view, file_answer_in}
 use Rattle.binfarce_tools.specs.Answer.{pe_file_answer}
+use Rattle.binfarce_tools.specs.Tables.{AreTablesOf}
 use Rattle.binfarce_tools.proofs.TablesRead.{taken, length_told, answer_32, answer_64, answer_pe, answer_macho, unread, unread_macho, macho_without, pe_without, no_table}
 use Rattle.binfarce_tools.proofs.tables.read_by.Goals as goal
 
 pub returns-in_ok-parts-in-Elf32 : goal.returns-in_ok-parts-in-Elf32
+unfolding AreTablesOf
 returns-in_ok-parts-in-Elf32 g c = λ file known.
     let told : Known (g.S.Source.bytes c.args.source.now) c.in_ok-len.len file = (known, length_told _ file c.in_ok-len.len known c.in_ok-len.ensures.length) in
     let format : format_of file ≡ Elf32 c.in-Elf32.byte_order = sym (taken (c.in_ok-byte_order.ensures file told)) ∙ c.in-Elf32.is in
     answer_32 c.args.which c.in-Elf32.byte_order file c.args.section.now _ format (c.in_ok-parts-in-Elf32.ensures file known)
 
 pub returns-in_ok-parts-in-Elf64 : goal.returns-in_ok-parts-in-Elf64
+unfolding AreTablesOf
 returns-in_ok-parts-in-Elf64 g c = λ file known.
     let told : Known (g.S.Source.bytes c.args.source.now) c.in_ok-len.len file = (known, length_told _ file c.in_ok-len.len known c.in_ok-len.ensures.length) in
     let format : format_of file ≡ Elf64 c.in-Elf64.byte_order = sym (taken (c.in_ok-byte_order.ensures file told)) ∙ c.in-Elf64.is in
     answer_64 c.args.which c.in-Elf64.byte_order file c.args.section.now _ format (c.in_ok-parts-in-Elf64.ensures file known)
 
 pub returns-in_err-parts-in-Elf32 : goal.returns-in_err-parts-in-Elf32
+unfolding AreTablesOf
 returns-in_err-parts-in-Elf32 g c = λ file known.
     let told : Known (g.S.Source.bytes c.args.source.now) c.in_ok-len.len file = (known, length_told _ file c.in_ok-len.len known c.in_ok-len.ensures.length) in
     let format : format_of file ≡ Elf32 c.in-Elf32.byte_order = sym (taken (c.in_ok-byte_order.ensures file told)) ∙ c.in-Elf32.is in
@@ -28,6 +32,7 @@ returns-in_err-parts-in-Elf32 g c = λ file known.
     (answer_32 c.args.which c.in-Elf32.byte_order file c.args.section.now _ format refl) (c.in_err-parts-in-Elf32.ensures file known) c.from_residual-in_err-parts-in-Elf32.ensures
 
 pub returns-in_err-parts-in-Elf64 : goal.returns-in_err-parts-in-Elf64
+unfolding AreTablesOf
 returns-in_err-parts-in-Elf64 g c = λ file known.
     let told : Known (g.S.Source.bytes c.args.source.now) c.in_ok-len.len file = (known, length_told _ file c.in_ok-len.len known c.in_ok-len.ensures.length) in
     let format : format_of file ≡ Elf64 c.in-Elf64.byte_order = sym (taken (c.in_ok-byte_order.ensures file told)) ∙ c.in-Elf64.is in
@@ -35,25 +40,29 @@ returns-in_err-parts-in-Elf64 g c = λ file known.
     (answer_64 c.args.which c.in-Elf64.byte_order file c.args.section.now _ format refl) (c.in_err-parts-in-Elf64.ensures file known) c.from_residual-in_err-parts-in-Elf64.ensures
 
 pub returns-in_ok-parts-in-Macho : goal.returns-in_ok-parts-in-Macho
+unfolding AreTablesOf
 returns-in_ok-parts-in-Macho g c = λ file known.
     let told : Known (g.S.Source.bytes c.args.source.now) c.in_ok-len.len file = (known, length_told _ file c.in_ok-len.len known c.in_ok-len.ensures.length) in
     let format : format_of file ≡ Macho = sym (taken (c.in_ok-byte_order.ensures file told)) ∙ c.in-Macho.is in
-    (format, (answer_macho c.args.which file c.args.section.now _ c.in_ok-has_table.ensures format refl, c.in_ok-parts-in-Macho.ensures file known))
+    (format, answer_macho c.args.which file c.args.section.now _ c.in_ok-has_table-in-Macho.ensures format refl, c.in_ok-parts-in-Macho.ensures file known)
 
 pub returns-in_ok-parts-in-PE : goal.returns-in_ok-parts-in-PE
+unfolding AreTablesOf
 returns-in_ok-parts-in-PE g c = λ file known.
     let told : Known (g.S.Source.bytes c.args.source.now) c.in_ok-len.len file = (known, length_told _ file c.in_ok-len.len known c.in_ok-len.ensures.length) in
     let format : format_of file ≡ PE = sym (taken (c.in_ok-byte_order.ensures file told)) ∙ c.in-PE.is in
     answer_pe c.args.which file c.args.section.now _ c.in_ok-has_table-in-PE.ensures format (c.in_ok-parts-in-PE.ensures file known)
 
 pub returns-in_err-parts-in-Macho : goal.returns-in_err-parts-in-Macho
+unfolding AreTablesOf
 returns-in_err-parts-in-Macho g c = λ file known.
     let told : Known (g.S.Source.bytes c.args.source.now) c.in_ok-len.len file = (known, length_told _ file c.in_ok-len.len known c.in_ok-len.ensures.length) in
     let format : format_of file ≡ Macho = sym (taken (c.in_ok-byte_order.ensures file told)) ∙ c.in-Macho.is in
-    unread_macho (g.S.Source.may_fail c.args.source.now) c.args.which file c.args.section.now c.in_err-parts-in-Macho.field-0.0 c.from_residual-in_err-parts-in-Macho.result c.in_ok-has_table.ensures format
+    unread_macho (g.S.Source.may_fail c.args.source.now) c.args.which file c.args.section.now c.in_err-parts-in-Macho.field-0.0 c.from_residual-in_err-parts-in-Macho.result c.in_ok-has_table-in-Macho.ensures format
     (c.in_err-parts-in-Macho.ensures file known) c.from_residual-in_err-parts-in-Macho.ensures
 
 pub returns-in_err-parts-in-PE : goal.returns-in_err-parts-in-PE
+unfolding AreTablesOf
 returns-in_err-parts-in-PE g c = λ file known.
     let told : Known (g.S.Source.bytes c.args.source.now) c.in_ok-len.len file = (known, length_told _ file c.in_ok-len.len known c.in_ok-len.ensures.length) in
     let format : format_of file ≡ PE = sym (taken (c.in_ok-byte_order.ensures file told)) ∙ c.in-PE.is in
@@ -61,6 +70,7 @@ returns-in_err-parts-in-PE g c = λ file known.
     (answer_pe c.args.which file c.args.section.now _ c.in_ok-has_table-in-PE.ensures format refl) (c.in_err-parts-in-PE.ensures file known) c.from_residual-in_err-parts-in-PE.ensures
 
 pub returns-in_err-has_table-in-Macho : goal.returns-in_err-has_table-in-Macho
+unfolding AreTablesOf
 returns-in_err-has_table-in-Macho g c = λ file known.
     let told : Known (g.S.Source.bytes c.args.source.now) c.in_ok-len.len file = (known, length_told _ file c.in_ok-len.len known c.in_ok-len.ensures.length) in
     let format : format_of file ≡ Macho = sym (taken (c.in_ok-byte_order.ensures file told)) ∙ c.in-Macho.is in
@@ -68,6 +78,7 @@ returns-in_err-has_table-in-Macho g c = λ file known.
     (macho_without file c.args.section.now format) c.in_err-has_table-in-Macho.ensures c.from_residual-in_err-has_table-in-Macho.ensures
 
 pub returns-in_err-has_table-in-PE : goal.returns-in_err-has_table-in-PE
+unfolding AreTablesOf
 returns-in_err-has_table-in-PE g c = λ file known.
     let told : Known (g.S.Source.bytes c.args.source.now) c.in_ok-len.len file = (known, length_told _ file c.in_ok-len.len known c.in_ok-len.ensures.length) in
     let format : format_of file ≡ PE = sym (taken (c.in_ok-byte_order.ensures file told)) ∙ c.in-PE.is in

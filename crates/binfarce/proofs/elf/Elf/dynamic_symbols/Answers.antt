@@ -5,6 +5,6 @@ use Rattle.binfarce.proofs.elf.Elf.dynamic_symbols.Goals as goal
 
 pub returns : goal.returns
 returns g c =
-    let functions = c.in_ok-dynamic_functions.functions in
+    let functions = c.in_ok-functions.functions in
     let made = c.in_ok-symbols.ensures.symbols in
-    rw c.in_ok-dynamic_functions.ensures (symbols_are (functions_left g.C.Class.table) functions made.0 c.in_ok-symbols.symbols.items made.1 made.2, refl)
+    rw c.in_ok-functions.ensures (symbols_are (functions_left g.C.Class.table) functions made.0 c.in_ok-symbols.symbols.items made.1 made.2, refl)

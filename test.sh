@@ -91,7 +91,7 @@ running=
 [ -z "$failed" ] || { echo "test.sh: failed: $failed; rt ci: $last"; exit 1; }
 
 mkdir "$scratch/proved"
-for name in list size map filter at section; do
+for name in list size command; do
     cp "$gate/crates/binfarce_$name/out/binfarce_$name" "$scratch/proved"
 done
 part tests/programs.sh "$scratch/proved"

@@ -17,7 +17,7 @@ import sys
 import listing
 
 elf = importlib.import_module("compare-elf")
-PROGRAM = os.path.join(os.path.dirname(os.path.abspath(__file__)), "../target/release/binfarce-at")
+PROGRAM = os.path.join(os.path.dirname(os.path.abspath(__file__)), "../target/release/binfarce")
 COUNT = 10_000
 
 
@@ -61,7 +61,7 @@ def main():
         low, high = min(row[0] for row in rows), max(row[0] + row[1] for row in rows)
         addresses = [random.randrange(max(low - 8, 0), high + 8) for _ in range(COUNT)]
         asked = b"".join(b"%x\n" % address for address in addresses)
-        got = subprocess.run([PROGRAM, file], input=asked, stdout=subprocess.PIPE).stdout.split(b"\n")[:-1]
+        got = subprocess.run([PROGRAM, "at", file], input=asked, stdout=subprocess.PIPE).stdout.split(b"\n")[:-1]
         find = finder(rows)
         places = [find(address) for address in addresses]
         want = [

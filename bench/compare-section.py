@@ -16,7 +16,7 @@ import tempfile
 import listing
 from listing import blocks, number
 
-PROGRAM = os.path.join(os.path.dirname(os.path.abspath(__file__)), "../target/release/binfarce-section")
+PROGRAM = os.path.join(os.path.dirname(os.path.abspath(__file__)), "../target/release/binfarce")
 
 
 def run(*words):
@@ -87,14 +87,14 @@ def judge_bytes(file, kind, rows, program, scratch, counts):
         if name in seen or not name:
             continue
         seen.add(name)
-        status, out, err = run(program, file, name)
+        status, out, err = run(program, "section", file, name)
         if not has:
             counts["without bytes"] += 1
-            if (status, out, err) != (1, b"", b"binfarce-section: section has no bytes in the file\n"):
+            if (status, out, err) != (1, b"", b"binfarce: %s: section has no bytes in the file\n" % os.fsencode(file)):
                 wrong.append((name, status, err))
         elif offset + size > length:
             counts["past the end"] += 1
-            if (status, out, err) != (1, b"", b"binfarce-section: section reaches past the end of the file\n"):
+            if (status, out, err) != (1, b"", b"binfarce: %s: section reaches past the end of the file\n" % os.fsencode(file)):
                 wrong.append((name, status, err))
         elif status or err:
             wrong.append((name, status, err))
@@ -127,7 +127,7 @@ def main():
         kind = kind_of(file)
         rows = list(expected(file, kind))
         text = b"".join(b"%016x %10d %10d %s\n" % row[:4] for row in rows)
-        status, out, err = run(program, file)
+        status, out, err = run(program, "section", file)
         wrong = [] if (status, out, err) == (0, text, b"") else ["the lines: %d %r" % (status, err)]
         if kind == "elf":
             shown = [row for row in shown_by_readelf(file)]

@@ -1,9 +1,11 @@
 #!/bin/sh
-# Lets each of a program's allocations fail in turn and says how it ends: it may print the usage (the arguments are
-# texts too), `out of memory`, or all that it prints of the file; anything else is shown as WRONG, and ends with status 1.
+# Lets each of a program's allocations fail in turn and says how it ends: it may print the usage or that an argument isn't UTF-8
+# (the arguments are texts too), `out of memory`, or all that it prints of the file; anything else is shown as WRONG, and ends
+# with status 1.
 #
-#   PROGRAM  (optional) the program: binfarce_list, binfarce_size, binfarce_map, or binfarce_at
-#   WORDS    (optional) what follows the file: the addresses of binfarce_at
+#   PROGRAM  (optional) the program: binfarce_list, binfarce_size, or binfarce_command
+#   COMMAND  (optional) its command, as list
+#   WORDS    (optional) what follows the file: the addresses of `at`
 #   LAST     (optional) the last allocation that fails, 30; from some number on there is none left
 #
 # Usage: ./refuse-memory.sh FILE
@@ -17,7 +19,7 @@ trap 'rm -rf "$scratch"' EXIT
 trap 'exit 130' HUP INT TERM
 
 ends() {
-    rt try "$@" --data "listed=$file" -- listed ${WORDS:-} 2>&1 |
+    rt try "$@" --data "listed=$file" -- ${COMMAND:-} listed ${WORDS:-} 2>&1 |
         grep -v -e warning -e '^interpreter' -e '^checked' -e '^run=' -e '^allocations' || true
 }
 
@@ -26,8 +28,8 @@ request=1 wrong=0
 while [ "$request" -le "${LAST:-30}" ]; do
     ends --fail-alloc "$request" >"$scratch/end"
     case $(cat "$scratch/end") in
-        "$shown: out of memory") how="out of memory" ;;
-        "usage: $shown "*) how="the usage" ;;
+        "$shown: out of memory" | "binfarce: out of memory" | "binfarce: listed: out of memory") how="out of memory" ;;
+        "usage: $shown "* | "binfarce: an argument is not UTF-8") how="the usage" ;;
         "$(cat "$scratch/whole")") how="the whole" ;;
         *) how="WRONG: $(head -n 1 "$scratch/end")" wrong=1 ;;
     esac

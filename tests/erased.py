@@ -12,15 +12,17 @@ import tempfile
 TOP = pathlib.Path(__file__).resolve().parent.parent
 NAMES = 20_000
 FILES = 4_000
-PROGRAMS = ["list", "size", "map", "filter", "at", "section"]
-ON_FILES = ["list", "size", "map", "at", "section"]
+PROGRAMS = {"binfarce": "binfarce_command", "binfarce-list": "binfarce_list", "binfarce-size": "binfarce_size"}
+# Each program or command, and its call up to the arguments.
+CALLS = {name: [name] for name in PROGRAMS} | {name: ["binfarce", name] for name in ("list", "size", "map", "filter", "at", "section")}
+ON_FILES = ["binfarce-list", "binfarce-size", "list", "size", "map", "at", "section"]
 
 
 def program(folder, name):
-    for path in (f"binfarce_{name}", f"binfarce-{name}"):
-        if (pathlib.Path(folder) / path).is_file():
-            return str((pathlib.Path(folder) / path).resolve())
-    sys.exit(f"tests/erased.sh: {folder} has no binfarce_{name}")
+    for path in (pathlib.Path(folder) / PROGRAMS[name], pathlib.Path(folder) / name):
+        if path.is_file():
+            return str(path.resolve())
+    sys.exit(f"tests/erased.sh: {folder} has no {name}")
 
 
 PROVED, ERASED = ({name: program(folder, name) for name in PROGRAMS} for folder in sys.argv[1:3])
@@ -36,11 +38,12 @@ def ended(path, arguments, given, streams):
 
 def differs(row):
     name, arguments, given, streams = row
-    proved, erased = (ended(programs[name], arguments, given, streams) for programs in (PROVED, ERASED))
+    first, *words = CALLS[name]
+    proved, erased = (ended(programs[first], [*words, *arguments], given, streams) for programs in (PROVED, ERASED))
     if proved == erased:
         return None
     call = " ".join(map(repr, arguments))
-    return f"binfarce-{name} {call} {streams}: proved {str(proved)[:200]}, erased {str(erased)[:200]}"
+    return f"{name} {call} {streams}: proved {str(proved)[:200]}, erased {str(erased)[:200]}"
 
 
 def compare(what, rows):
@@ -139,9 +142,10 @@ def elf_of(found):
 def on_file(rng, path):
     section = rng.choice([[], [], [".text"], [".symtab"], ["__text"], [".data"], [""], ["é"]])
     addresses = [rng.choice(["1000", "0x1005", "100f", "1010", "fff", "0", "180", "1040", "ffffffffffffffff"]) for _ in range(4)]
-    return [("list", [path, *section], None, ""), ("size", [path, *section], None, ""),
-            (rng.choice(["map", "map", "section"]), [path, *section], None, ""), ("section", [path, *section], None, ""),
-            ("at", [*rng.choice([[], ["--base", "40"]]), path, *addresses], None, "")]
+    option = [f"--section={name}" for name in section]
+    return [(rng.choice(["binfarce-list", "binfarce-size"]), [path, *section], None, ""),
+            (rng.choice(["list", "list", "size"]), [path, *option], None, ""), (rng.choice(["size", "map"]), [*option, path], None, ""),
+            ("section", [path, *section], None, ""), ("at", [*rng.choice([[], ["--base", "40"]]), path, *addresses], None, "")]
 
 
 def main(scratch):
@@ -157,7 +161,7 @@ def main(scratch):
     for at in range(FILES):
         rows += on_file(rng, file(f"h{at}", changed(rng, rng.choice(intact))))
     failed += compare("hostile files", rows)
-    whole = [programs["list"] for programs in (PROVED, ERASED)]
+    whole = [programs["binfarce"] for programs in (PROVED, ERASED)]
     failed += compare("the programs' own files", [row for path in whole for _ in range(3) for row in on_file(rng, path)])
 
     found = names(rng)
@@ -178,13 +182,17 @@ def main(scratch):
         words = ["1000"] if name == "at" else []
         calls = [[], ["a", "b", "c"], [b"\xff"], [missing], [folder], [empty], ["/dev/null"], [good], [large], [good, b"\xff"],
                  ["--base"], ["--base", "1"], ["--base", "x", good], [good, ".text"], [good, "--base"], [""], ["/proc/self/stat"],
+                 ["-h"], ["--help", good], ["--frob"], ["--section"], [good, "--section=.text"], ["--section", ".text", good], ["--", good],
+                 [good, missing, good, folder], ["-"], ["--all", good], ["--base=40", good],
                  ["/sys/kernel/mm/transparent_hugepage/enabled"]]
         rows += [(name, [*call, *words], None, "") for call in calls]
         rows += [(name, ["/dev/stdin", *words], data, "") for data in (*intact, b"", b"\x7fELF", bytes(3 << 20))]
         rows += [(name, [good, *words], None, streams) for streams in (">/dev/full", "2>&-", "</dev/null", "<&-")]
         rows += [(name, [missing, *words], None, streams) for streams in (">/dev/full", "2>/dev/full", "2>&-", "<&-")]
     lines = [b"1000\n0x1005\n100f", b"1000\nno\n", b"\n", b"", b"1" * 10_000, b"0x\n", b"1000\n" * 5_000]
-    rows += [("at", [good], given, "") for given in lines] + [("at", [good], b"", f"<{folder}"), ("at", ["--base", "f", good], lines[0], "")]
+    rows += [("binfarce", call, None, "") for call in ([], ["help"], ["help", "at"], ["help", "x"], ["--version"], ["-V"], ["lst"], ["--x"])]
+    rows += [("filter", call, None, "") for call in (["_RNvC1a1b", "x"], ["--full", "_RNvC1a1b", "--", "--full"])]
+    rows += [("at", [good], given, "") for given in lines] + [("at", [good], b"", f"<{folder}"), ("at", ["--base=f", good], lines[0], "")]
     failed += compare("arguments and streams", rows)
     return failed
 

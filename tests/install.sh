@@ -12,31 +12,21 @@ fail() {
     exit 1
 }
 
-# A page's synopsis, as the usage is written: the words behind `.Ar` and `.Fl Fl`, those of `.Op` in brackets.
-synopsis() {
-    awk '$1 == ".Nm" && NF == 2 && !name { name = $2 }
-        $1 == ".Sh" { within = $2 == "SYNOPSIS" }
-        !within || $1 == ".Sh" { next }
-        { optional = sub(/^\.Op /, "."); sub(/^\.Nm$/, name); sub(/^\.Ar /, ""); sub(/^\.Fl Fl /, "--"); gsub(/ Ar /, " ")
-          line = line (line ? " " : "") (optional ? "[" $0 "]" : $0) }
-        END { print line }' "$1"
-}
-
 what="a page for each program"
-for needed in cargo gcc pkg-config readelf; do
+for needed in cargo gcc pkg-config readelf groff; do
     command -v "$needed" >/dev/null || fail "$needed is missing"
 done
-programs=$(cd crates && ls -d */src/main.rt | sed 's|/.*||' | grep '^binfarce_' | tr _ -)
+programs=$(cd rust/src/bin && ls | sed 's/\.rs$//')
 for name in $programs; do
     page="man/$name.1"
     [ -e "$page" ] || fail "there is no $page"
-    usage=$(sed -n 's/.*"usage: \(.*\)".*/\1/p' "crates/$(echo "$name" | tr - _)/src/program.rt")
-    [ "$(synopsis "$page")" = "$usage" ] || fail "$page has '$(synopsis "$page")', and the program says '$usage'"
-    if command -v mandoc >/dev/null; then
-        mandoc -Tlint -W warning "$page" || fail "$page isn't right"
-    elif command -v groff >/dev/null; then
-        [ -z "$(groff -ww -mdoc -z "$page" 2>&1)" ] || fail "$page isn't right"
-    fi
+    [ -z "$(groff -ww -mdoc -z "$page" 2>&1)" ] || fail "$page isn't right"
+    groff -mdoc -Tascii -P-cbou "$page" >"$scratch/page"
+    texts="crates/$(echo "$name" | tr - _)/src/program.rt"
+    [ -e "$texts" ] || texts=crates/binfarce_command/src/help.rt
+    sed -n 's/^ *#\[error("\(usage: .*\)")\]$/\1/p; /^usage: /p' "$texts" | sed 's/^usage: //' | while read -r usage; do
+        grep -qF -- "$usage" "$scratch/page" || { echo "install: $page doesn't have '$usage'" >&2 && exit 1; }
+    done
 done
 [ "$(ls man/*.1 | wc -l)" -eq "$(echo "$programs" | wc -l)" ] || fail "a page is of no program"
 
@@ -98,15 +88,15 @@ what="no folder can be made"
 echo >"$scratch/file"
 runs 1 "install: cannot write to $scratch/file/bin" ./install "$scratch/file"
 what="a folder with a program's name"
-mkdir -p "$scratch/taken/bin/binfarce-at/.keep"
-runs 1 "install: cannot write $scratch/taken/bin/binfarce-at" ./install "$scratch/taken"
-runs 1 "uninstall: cannot remove $scratch/taken/bin/binfarce-at" ./uninstall "$scratch/taken"
+mkdir -p "$scratch/taken/bin/binfarce-list/.keep"
+runs 1 "install: cannot write $scratch/taken/bin/binfarce-list" ./install "$scratch/taken"
+runs 1 "uninstall: cannot remove $scratch/taken/bin/binfarce-list" ./uninstall "$scratch/taken"
 [ "$(found "$scratch/taken")" = "" ] || fail "something is left: $(found "$scratch/taken")"
 what="a build that fails, and a program that isn't built"
 printf '#!/bin/sh\necho "error: no" >&2\nexit 101\n' >"$scratch/cargo"
 chmod +x "$scratch/cargo"
 PATH="$scratch:$PATH" runs 101 "error: no" ./install "$scratch/none"
 printf '#!/bin/sh\n' >"$scratch/cargo"
-CARGO_TARGET_DIR="$scratch/target" PATH="$scratch:$PATH" runs 1 "install: $scratch/target/release/binfarce-at is missing: cargo build --release makes it" ./install "$scratch/none"
+CARGO_TARGET_DIR="$scratch/target" PATH="$scratch:$PATH" runs 1 "install: $scratch/target/release/binfarce-list is missing: cargo build --release makes it" ./install "$scratch/none"
 [ ! -e "$scratch/none" ] || fail "something is installed"
 echo "install: as it must be"

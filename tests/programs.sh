@@ -1,7 +1,7 @@
 #!/bin/sh
 # Runs the programs that the repository has built where no stored run can: with a full device or a closed pipe for standard
 # output, on a file of 4 MiB, on one of 8 GiB in little memory, on a path with blanks, on a pipe, on files of /proc and /sys,
-# on a folder, on a file that isn't there, and with a wrong call. Status 1 where one ends otherwise than it must.
+# on a folder, on a file that isn't there, on several files, and with wrong calls. Status 1 where one ends otherwise than it must.
 #
 # Usage: tests/programs.sh FOLDER, which has the programs as `binfarce_list` or as `binfarce-list`
 set -eu
@@ -19,6 +19,8 @@ cp "$sample" "$scratch/sparse"
 truncate -s 8G "$scratch/sparse"
 blanks="$scratch/ a  file "
 cp "$sample" "$blanks"
+head -c 395 "$sample" >"$scratch/truncated"
+missing="$scratch/missing"
 
 # Files whose length isn't the number of their bytes. One of /proc has length 0 and the sample's bytes: the words of a program
 # that waits, with a zero byte after each. One of /sys has length 4096 and a few digits.
@@ -31,8 +33,9 @@ until head -c 4 "$of_proc" | grep -q ELF; do sleep 0.1; done
 
 # call PROGRAM ARGUMENT..: runs a program of the folder.
 call() {
-    program_file="$folder/$1"
-    [ -e "$program_file" ] || program_file="$folder/$(echo "$1" | tr _ -)"
+    for program_file in "$folder/$1" "$folder/$(echo "$1" | tr - _)" "$folder/$1_command"; do
+        [ ! -f "$program_file" ] || break
+    done
     shift
     "$program_file" "$@"
 }
@@ -66,108 +69,125 @@ run() {
     echo "$ended" >"$scratch/ended"
 }
 
-for name in list size map; do
-    program=binfarce_$name shown=binfarce-$name
-    run "$program" "$sample" >/dev/full
-    told 1 "$(cat "$scratch/ended")" "$shown: write failed" "$program" "$sample"
-    { sleep 0.5; run "$program" "$sample"; } | :
-    told 1 "$(cat "$scratch/ended")" "$shown: write failed" "$program" "$sample"
-    ends 0 "crates/$program/stdout" "" "$program" "$sample"
-    ends 0 "crates/$program/stdout" "" "$program" "$scratch/large" .text
-    cat "$scratch/large" | ends 0 "crates/$program/stdout" "" "$program" /dev/stdin
-    ends 0 "crates/$program/stdout" "" "$program" "$blanks"
-    ends 0 "crates/$program/stdout" "" "$program" "$of_proc"
-    ends 1 /dev/null "$shown: unknown file format" "$program" "$of_sys"
-    ends 1 /dev/null "$shown: symbols section is missing" "$program" "$scratch/large" .data
-    ends 1 /dev/null "$shown: cannot read file" "$program" "$scratch"
-    ends 1 /dev/null "$shown: cannot read file" "$program" "$scratch/missing"
-    ends 1 /dev/null "$shown: unknown file format" "$program" /dev/null
-    ends 2 /dev/null "usage: $shown FILE [SECTION]" "$program"
-    ends 2 /dev/null "usage: $shown FILE [SECTION]" "$program" "$sample" .text more
+# fails LINE PIPE_STATUS PIPE_LINE PROGRAM ARGUMENT..: how it ends on a full device, and where no one reads a pipe.
+fails() {
+    line=$1 pipe_status=$2 pipe_line=$3
+    shift 3
+    run "$@" >/dev/full
+    told 1 "$(cat "$scratch/ended")" "$line" "$@"
+    { sleep 0.5; run "$@"; } | :
+    told "$pipe_status" "$(cat "$scratch/ended")" "$pipe_line" "$@"
+}
+
+# reads OUTPUT PROGRAM ARGUMENT..: the program writes this of each file that holds the sample, which comes after the arguments.
+reads() {
+    output=$1
+    shift
+    for file in "$sample" "$scratch/large" "$blanks" "$of_proc"; do
+        ends 0 "$output" "" "$@" "$file"
+    done
+    cat "$scratch/large" | ends 0 "$output" "" "$@" /dev/stdin
+    (ulimit -v 65536 && call "$@" "$scratch/sparse") | cmp "$output" -
+    echo "$* $scratch/sparse: the same in 64 MiB"
+}
+
+for shown in binfarce-list binfarce-size; do
+    stdout=crates/$(echo "$shown" | tr - _)/stdout
+    fails "$shown: write failed" 1 "$shown: write failed" "$shown" "$sample"
+    reads "$stdout" "$shown"
+    ends 1 /dev/null "$shown: unknown file format" "$shown" "$of_sys"
+    ends 1 /dev/null "$shown: symbols section is missing" "$shown" "$scratch/large" .data
+    for file in "$scratch" "$missing"; do
+        ends 1 /dev/null "$shown: cannot read file" "$shown" "$file"
+    done
+    ends 1 /dev/null "$shown: unknown file format" "$shown" /dev/null
+    ends 2 /dev/null "usage: $shown FILE [SECTION]" "$shown"
+    ends 2 /dev/null "usage: $shown FILE [SECTION]" "$shown" "$sample" .text more
 done
 
-# An ELF file of 8 GiB whose tables are small, in 64 MiB of memory.
-for program in binfarce_list binfarce_size binfarce_map binfarce_section; do
-    (ulimit -v 65536 && call "$program" "$scratch/sparse") | cmp "crates/$program/stdout" -
-    echo "$program $scratch/sparse: the same in 64 MiB"
+# The command: what it writes of a file, how it fails, and what it says.
+full="binfarce: standard output: No space left on device"
+for command in list size map section; do
+    stdout=tests/runs/$command.stdout
+    fails "$full" 0 "" binfarce "$command" "$sample"
+    reads "$stdout" binfarce "$command"
+    cat "$sample" | ends 0 "$stdout" "" binfarce "$command" -
+    cat "$sample" | ends 0 "$stdout" "" binfarce "$command" -- -
+    ends 1 /dev/null "binfarce: $scratch: Is a directory" binfarce "$command" "$scratch"
+    ends 1 /dev/null "binfarce: $missing: No such file or directory" binfarce "$command" "$missing"
+    for file in "$of_sys" /dev/null /dev/zero; do
+        ends 1 /dev/null "binfarce: $file: unknown file format" binfarce "$command" "$file"
+    done
+    ends 2 /dev/null "binfarce: no file; binfarce $command --help shows how it is called" binfarce "$command"
+    ends 2 /dev/null "binfarce: no option --frob of $command; binfarce $command --help shows them" binfarce "$command" --frob "$sample"
+    call binfarce "$command" --help >"$scratch/help"
+    ends 0 "$scratch/help" "" binfarce help "$command"
+    grep -q "^usage: binfarce $command " "$scratch/help"
 done
+for command in list size map; do
+    stdout=tests/runs/$command.stdout
+    ends 0 "$stdout" "" binfarce "$command" --section .text "$sample"
+    ends 1 /dev/null "binfarce: $sample: symbols section is missing" binfarce "$command" "$sample" --section=.data
+    { echo; echo "$sample:"; cat "$stdout"; echo; echo "$blanks:"; cat "$stdout"; } >"$scratch/both"
+    ends 1 "$scratch/both" "binfarce: $missing: No such file or directory" binfarce "$command" "$sample" "$missing" "$blanks"
+done
+version="binfarce $(sed -n 's/^version = "\(.*\)"$/\1/p' rust/Cargo.toml)"
+[ "$(call binfarce --version)" = "$version" ] || { echo "binfarce --version: $(call binfarce --version), and must be $version" && exit 1; }
+call binfarce --help >"$scratch/help"
+ends 0 "$scratch/help" "" binfarce help
+ends 2 /dev/null "binfarce: no command; binfarce --help shows them" binfarce
+ends 2 /dev/null "binfarce: no command lst; the nearest is list" binfarce lst "$sample"
+ends 2 /dev/null "binfarce: no option --sect=.text of list; the nearest is --section" binfarce list --sect=.text "$sample"
+ends 2 /dev/null "binfarce: --section has no value" binfarce list "$sample" --section
+ends 2 /dev/null "binfarce: an argument is not UTF-8" binfarce list "$(printf '\377')"
 
-# Sections: their lines, the bytes of one, a file without its end, a full device and a closed pipe.
-program=binfarce_section shown=binfarce-section
-run "$program" "$sample" .text >/dev/full
-told 1 "$(cat "$scratch/ended")" "$shown: write failed" "$program" "$sample" .text
-{ sleep 0.5; run "$program" "$sample"; } | :
-told 1 "$(cat "$scratch/ended")" "$shown: write failed" "$program" "$sample"
-ends 0 "crates/$program/stdout" "" "$program" "$sample"
-cat "$sample" | ends 0 "crates/$program/stdout" "" "$program" /dev/stdin
-ends 0 "crates/$program/stdout" "" "$program" "$blanks"
-ends 0 "crates/$program/stdout" "" "$program" "$of_proc"
-ends 1 /dev/null "$shown: unknown file format" "$program" "$of_sys"
+# Sections: the bytes of one, and a file without its end.
 printf '\0_ZN3foo3barE\0bad\0' >"$scratch/strings"
-cat "$sample" | ends 0 "$scratch/strings" "" "$program" /dev/stdin .strtab
-ends 0 "$scratch/strings" "" "$program" "$of_proc" .strtab
-ends 0 "$scratch/strings" "" "$program" "$scratch/large" .strtab
-ends 1 /dev/null "$shown: no section of this name" "$program" "$sample" .data
-head -c 395 "$sample" >"$scratch/truncated"
+for file in "$sample" "$scratch/large" "$of_proc"; do
+    ends 0 "$scratch/strings" "" binfarce section "$file" .strtab
+done
+cat "$sample" | ends 0 "$scratch/strings" "" binfarce section - .strtab
+ends 1 /dev/null "binfarce: $sample: no section of this name" binfarce section "$sample" .data
 printf '%016x %10d %10d \n' 0 64 0 0 64 32 >"$scratch/lines"
-ends 1 "$scratch/lines" "$shown: unexpected end of file" "$program" "$scratch/truncated"
-ends 1 /dev/null "$shown: cannot read file" "$program" "$scratch"
-ends 1 /dev/null "$shown: cannot read file" "$program" "$scratch/missing" .text
-ends 1 /dev/null "$shown: unknown file format" "$program" /dev/null .text
-ends 2 /dev/null "usage: $shown FILE [SECTION]" "$program"
-ends 2 /dev/null "usage: $shown FILE [SECTION]" "$program" "$sample" .text more
+ends 1 "$scratch/lines" "binfarce: $scratch/truncated: unexpected end of file" binfarce section "$scratch/truncated"
+ends 2 /dev/null "binfarce: one argument too many: more" binfarce section "$sample" .text more
 
-# The filter: a full device, a closed pipe, a folder for standard input, other arguments, and a line that has to be there
-# while its writer still waits.
-program=binfarce_filter shown=binfarce-filter names=crates/binfarce_filter/stdin
-run "$program" <"$names" >/dev/full
-told 1 "$(cat "$scratch/ended")" "$shown: write failed" "$program"
-{ sleep 0.5; run "$program" <"$names"; } | :
-told 1 "$(cat "$scratch/ended")" "$shown: write failed" "$program"
-ends 0 "crates/$program/stdout" "" "$program" <"$names"
-ends 1 /dev/null "$shown: read failed" "$program" <"$scratch"
-ends 2 /dev/null "usage: $shown [--full]" "$program" --half <"$names"
-ends 2 /dev/null "usage: $shown [--full]" "$program" --full --full <"$names"
+# The filter: standard input, names, and a line that has to be there while its writer still waits.
+names=tests/runs/filter.stdin
+fails "$full" 0 "" binfarce filter <"$names"
+ends 0 tests/runs/filter.stdout "" binfarce filter <"$names"
+ends 1 /dev/null "binfarce: standard input: Is a directory" binfarce filter <"$scratch"
+ends 2 /dev/null "binfarce: no option --half of filter; the nearest is --help" binfarce filter --half <"$names"
+printf 'a[0]::b\nfoo::bar::h05af221e174051e9\n-x\n' >"$scratch/lines"
+ends 0 "$scratch/lines" "" binfarce filter _RNvC1a1b --full _ZN3foo3bar17h05af221e174051e9E -- -x
 echo 'in a::b' >"$scratch/line"
-{ echo 'in _RNvC1a1b'; sleep 2; cmp "$scratch/output" "$scratch/line" >"$scratch/told" 2>&1 || true; } | call "$program" >"$scratch/output"
-if [ -s "$scratch/told" ]; then
-    echo "$program: a line isn't written before the next is waited for"
-    exit 1
-fi
+{ echo 'in _RNvC1a1b'; sleep 2; cmp "$scratch/output" "$scratch/line" >"$scratch/told" 2>&1 || true; } | call binfarce filter >"$scratch/output"
+[ ! -s "$scratch/told" ] || { echo "binfarce filter: a line isn't written before the next is waited for" && exit 1; }
 
 # Addresses as arguments and on standard input, where answers come as soon as their lines do.
-sample=crates/binfarce_at/data/e-elf64-little.bin
-usage="usage: binfarce-at [--base ADDRESS] FILE [ADDRESS..]"
-ended=0
-call binfarce_at "$sample" 1000 >/dev/full 2>"$scratch/error" || ended=$?
-told 1 "$ended" "binfarce-at: write failed" binfarce_at "$sample" 1000
-ends 0 crates/binfarce_at/stdout "" binfarce_at "$sample" 1000 0x1005 100f 1010 0fff
-for file in /dev/stdin "$blanks" "$of_proc"; do
-    cat "$sample" | ends 0 crates/binfarce_at/stdout "" binfarce_at "$file" 1000 0x1005 100f 1010 0fff
+stdout=tests/runs/at.stdout
+fails "$full" 0 "" binfarce at "$sample" 1000
+for file in "$sample" "$blanks" "$of_proc" "$scratch/large"; do
+    ends 0 "$stdout" "" binfarce at "$file" 1000 0x1005 100f 1010 0fff
+    printf '1000\n0X1005\r\n 100f\n1010\n0fff' | ends 0 "$stdout" "" binfarce at "$file"
 done
-ends 1 /dev/null "binfarce-at: unknown file format" binfarce_at "$of_sys" 1000
-(ulimit -v 65536 && call binfarce_at "$scratch/sparse" 1000 0x1005 100f 1010 0fff) | cmp crates/binfarce_at/stdout -
-echo "binfarce_at $scratch/sparse: the same in 64 MiB"
-ends 1 /dev/null "binfarce-at: cannot read file" binfarce_at "$scratch/missing" 1000
-ends 1 /dev/null "binfarce-at: unknown file format" binfarce_at /dev/null 1000
-ends 2 /dev/null "$usage" binfarce_at
-ends 2 /dev/null "$usage" binfarce_at "$sample" 1000 10g
-ends 2 /dev/null "$usage" binfarce_at --base "$sample" 1000
-for file in "$sample" "$of_proc"; do
-    printf '1000\n0x1005\n100f\n1010\n0fff' | ends 0 crates/binfarce_at/stdout "" binfarce_at "$file"
+cat "$sample" | ends 0 "$stdout" "" binfarce at - 1000 0x1005 100f 1010 0fff
+ends 1 /dev/null "binfarce: $missing: No such file or directory" binfarce at "$missing" 1000
+ends 2 /dev/null "binfarce: not an address: 10g" binfarce at "$sample" 1000 10g
+ends 2 /dev/null "binfarce: not an address: $sample" binfarce at --base "$sample" 1000
+for base in --base=400000 "--base 400000"; do
+    printf '401000\n401005\n40100f\n401010\n400fff\n' | call binfarce at $base "$sample" | sed 's/^000000000040/000000000000/' | cmp "$stdout" -
 done
-printf '401000\n401005\n40100f\n401010\n400fff\n' | call binfarce_at --base=400000 "$sample" | sed 's/^000000000040/000000000000/' | cmp crates/binfarce_at/stdout -
-head -n 1 crates/binfarce_at/stdout >"$scratch/first"
-{ cat "$scratch/first"; echo '??'; sed -n 2p crates/binfarce_at/stdout; echo '??'; } >"$scratch/lines"
-printf '1000\r\nno\n  0X1005\n' >"$scratch/asked"
-head -c 100000 /dev/zero | cat "$scratch/asked" - | ends 2 "$scratch/lines" "binfarce-at: 2 lines without an address" binfarce_at "$sample"
-ends 1 /dev/null "binfarce-at: read failed" binfarce_at "$sample" <"$scratch"
+{ head -n 1 "$stdout"; echo '??'; sed -n 2p "$stdout"; echo '??'; } >"$scratch/lines"
+printf '1000\nno\n1005\n' >"$scratch/asked"
+head -c 100000 /dev/zero | cat "$scratch/asked" - | ends 2 "$scratch/lines" "binfarce: 2 lines without an address" binfarce at "$sample"
+ends 1 /dev/null "binfarce: standard input: Is a directory" binfarce at "$sample" <"$scratch"
 mkfifo "$scratch/in" "$scratch/out"
-call binfarce_at "$sample" <"$scratch/in" >"$scratch/out" &
+call binfarce at "$sample" <"$scratch/in" >"$scratch/out" &
 exec 3>"$scratch/in" 4<"$scratch/out"
 echo 1000 >&3
 IFS= read -r line <&4
-[ "$line" = "$(cat "$scratch/first")" ] || { echo "binfarce_at: a line is not answered as it comes" && exit 1; }
+[ "$line" = "$(head -n 1 "$stdout")" ] || { echo "binfarce at: a line is not answered as it comes" && exit 1; }
 exec 3>&-
 wait $!
-echo "binfarce_at: a line is answered as it comes"
+echo "binfarce at: a line is answered as it comes"

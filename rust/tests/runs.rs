@@ -17,13 +17,10 @@ fn run(program: &str, path: &str, output: Stdio) -> Output {
 
 #[test]
 fn stored() {
-    for (program, path) in [
-        ("binfarce_list", env!("CARGO_BIN_EXE_binfarce-list")),
-        ("binfarce_size", env!("CARGO_BIN_EXE_binfarce-size")),
-        ("binfarce_map", env!("CARGO_BIN_EXE_binfarce-map")),
-        ("binfarce_filter", env!("CARGO_BIN_EXE_binfarce-filter")),
-        ("binfarce_at", env!("CARGO_BIN_EXE_binfarce-at")),
-        ("binfarce_section", env!("CARGO_BIN_EXE_binfarce-section")),
+    for (program, path, line) in [
+        ("binfarce_list", env!("CARGO_BIN_EXE_binfarce-list"), "binfarce-list: write failed\n"),
+        ("binfarce_size", env!("CARGO_BIN_EXE_binfarce-size"), "binfarce-size: write failed\n"),
+        ("binfarce_command", env!("CARGO_BIN_EXE_binfarce"), "binfarce: standard output: No space left on device\n"),
     ] {
         let ended = run(program, path, Stdio::piped());
         let want = format!("{}/../crates/{program}/stdout", env!("CARGO_MANIFEST_DIR"));
@@ -32,7 +29,7 @@ fn stored() {
         if let Ok(full) = fs::File::create("/dev/full") {
             let ended = run(program, path, full.into());
             assert_eq!(ended.status.code(), Some(1), "{program}");
-            assert!(ended.stderr.ends_with(b": write failed\n"), "{program}");
+            assert_eq!(ended.stderr, line.as_bytes(), "{program}");
         }
     }
 }

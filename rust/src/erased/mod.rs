@@ -32,15 +32,13 @@ pub mod binfarce_parts;
 pub mod binfarce_chart;
 pub mod binfarce_mapping;
 pub mod binfarce_ranges;
+pub mod binfarce_words;
 pub mod binfarce_addresses;
 pub mod binfarce_sections;
 pub mod binfarce_program;
 pub mod binfarce_list;
 pub mod binfarce_size;
-pub mod binfarce_map;
-pub mod binfarce_filter;
-pub mod binfarce_at;
-pub mod binfarce_section;
+pub mod binfarce_command;
 pub mod binfarce_c;
 #[cfg(test)]
 pub mod test_streams;

@@ -39,6 +39,18 @@ impl<R: std::io::Read> Read for R {
     }
 }
 
+/// Standard input. std's buffer is passed by where at least as much as it holds is asked for.
+pub struct Stdin;
+
+impl std::io::Read for Stdin {
+    fn read(&mut self, buf: &mut [u8]) -> Result<usize> {
+        #[cfg(test)]
+        return std::io::Read::read(&mut super::test::Input, buf);
+        #[cfg(not(test))]
+        std::io::Read::read(&mut std::io::stdin(), buf)
+    }
+}
+
 /// A writer that is flushed after each write.
 pub(super) struct Unbuffered<W>(pub(super) W);
 

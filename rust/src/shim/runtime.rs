@@ -1,7 +1,7 @@
 //! What a program gets from its system.
 
 use super::alloc::Global;
-use super::io::Read;
+use super::io::Stdin;
 use std::fmt;
 use std::io::{self, Write};
 
@@ -19,17 +19,14 @@ impl HostRuntime {
         Global
     }
 
-    /// Standard input. std's buffer is passed by where at least as much as it holds is asked for.
-    pub fn stdin(&self) -> impl Read + use<> {
-        #[cfg(test)]
-        return super::test::Input;
-        #[cfg(not(test))]
-        io::stdin()
+    /// Standard input.
+    pub fn stdin(&self) -> Stdin {
+        Stdin
     }
 
     /// The same.
-    pub fn reader(&self) -> impl Read + use<> {
-        self.stdin()
+    pub fn reader(&self) -> Stdin {
+        Stdin
     }
 
     /// Prints a line to standard output.

@@ -1,6 +1,0 @@
-use Rattle.std.proofs.Common.{codes}
-use Rattle.binfarce_tools.specs.declared.SymbolTable.TheVariants.{Symtab}
-use Rattle.binfarce_at.proofs.program.run_at.Goals as goal
-
-pub returns-clause-takes : goal.returns-clause-takes
-returns-clause-takes g c = λ bytes is. c.in-Err.ensures.takes Symtab bytes (codes ".text") (c.in_ok-tables.ensures bytes is)

@@ -1,0 +1,5 @@
+pub mod NameLines
+pub mod Streams
+pub mod Shown
+pub mod Lines
+pub mod AddressWords

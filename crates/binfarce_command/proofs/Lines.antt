@@ -1,0 +1,66 @@
+-- How the lines of standard input are answered: where the file isn't read, and where its entries can be had.
+use Rattle.std.proofs.Common.{◌≡◌, inl, inr, ℕ, List, [], Option, Some, None, Result, Ok, Err, IsErrAnd, refl, sym, subst, append-nil}
+use Rattle.std.specs.Io.KnownBytes.{Appends, Consumes}
+use Rattle.binfarce.specs.Format.{format_of}
+use Rattle.binfarce.specs.Refusal.{Refusal, refusal_of}
+use Rattle.binfarce.specs.Symbol.{Entry, Listed}
+use Rattle.binfarce_addresses.specs.PlacesViews.{IsMadeOf}
+use Rattle.binfarce_addresses.specs.Stream.{Streams}
+use Rattle.binfarce_addresses.specs.declared.stream.LinesError.{LinesError}
+use Rattle.binfarce_tables.specs.declared.error.ReadError.{ReadError}
+use Rattle.binfarce_tables.specs.declared.error.ReadError.TheVariants.{Refused, Unreadable, OutOfMemory}
+use Rattle.binfarce_tools.specs.Answer.{answer_of, NeedsMemory}
+use Rattle.binfarce_tools.specs.Tables.{ReadsTables}
+use Rattle.binfarce_tools.specs.declared.SymbolTable.{SymbolTable}
+use Rattle.binfarce_tools.specs.declared.list.ListError.TheVariants as errors
+use Rattle.binfarce_command.specs.At.{AnswersLines, IsUntouched, lines_end}
+use Rattle.binfarce_command.specs.Faults.{lines_fault, list_fault, read_fault}
+use Rattle.binfarce_command.specs.declared.fault.Fault.{Fault}
+
+pub told : (may : Type 0) (memory : Result Listed Refusal → Type 0) (answer : Option (Result Listed Refusal)) (entries : List Entry) (base : ℕ) (given left old new : Option (List ℕ)) (ended : Result ℕ LinesError) → IsMadeOf memory answer (Ok entries)
+    → Streams entries base given left old new ended → AnswersLines may memory answer base given left old new (lines_end ended)
+told may memory None entries base given left old new ended made streams = absurd made
+told may memory (Some (Err refusal)) entries base given left old new ended made streams = absurd made
+told may memory (Some (Ok listed)) entries base given left old new ended made streams =
+    let P : List Entry → Type 0 = λ es. Streams es base given left old new ended in inr (inr (listed, ended, refl, subst P made streams, refl))
+
+pub told_less : (may : Type 0) (memory : Result Listed Refusal → Type 0) (answer : Option (Result Listed Refusal)) (entries : List Entry) (base : ℕ) (given left old new : Option (List ℕ)) (e : LinesError) (result : Result ℕ Fault) → IsMadeOf memory answer (Ok entries)
+    → Streams entries base given left old new (Err e) → IsErrAnd result (λ x. x ≡ lines_fault e) → AnswersLines may memory answer base given left old new result
+told_less may memory answer entries base given left old new e (Ok x) made streams is = absurd is
+told_less may memory answer entries base given left old new e (Err x) made streams is =
+    let P : Fault → Type 0 = λ f. AnswersLines may memory answer base given left old new (Err f) in subst P (sym is) (told may memory answer entries base given left old new (Err e) made streams)
+
+untouched : (given old : Option (List ℕ)) → IsUntouched given given old old
+untouched given old = (none_read given, none_written old)
+  where
+    none_read : (given : Option (List ℕ)) → Consumes given given []
+    none_read None = tt
+    none_read (Some bytes) = refl
+
+    none_written : (old : Option (List ℕ)) → Appends old old []
+    none_written None = tt
+    none_written (Some taken) = sym (append-nil taken)
+
+not_read : (which : SymbolTable) (may : Type 0) (bytes section : List ℕ) (base : ℕ) (given old : Option (List ℕ)) (e : ReadError) → ReadsTables may which bytes section (Err e)
+    → AnswersLines may (NeedsMemory (format_of bytes) bytes) (answer_of which bytes section) base given given old old (Err (read_fault e))
+not_read which may bytes section base given old (Refused p) reads =
+    let P : Option (Result Listed Refusal) → Type 0 = λ answer. IsMadeOf (NeedsMemory (format_of bytes) bytes) answer (Err (errors.Parse p)) in
+    let refused : P (Some (Err (refusal_of p))) = inl (p, refl, refl) in
+    inr (inl (errors.Parse p, subst P (sym reads) refused, refl, untouched given old))
+not_read which may bytes section base given old Unreadable reads = inl (inl (reads, refl), untouched given old)
+not_read which may bytes section base given old OutOfMemory reads = inl (inr refl, untouched given old)
+
+-- nothing was answered where the file isn't read
+pub unread : (which : SymbolTable) (may : Type 0) (bytes section : List ℕ) (base : ℕ) (given old : Option (List ℕ)) (e : ReadError) (result : Result ℕ Fault) → ReadsTables may which bytes section (Err e) → IsErrAnd result (λ x. x ≡ read_fault e)
+    → AnswersLines may (NeedsMemory (format_of bytes) bytes) (answer_of which bytes section) base given given old old result
+unread which may bytes section base given old e (Ok x) reads is = absurd is
+unread which may bytes section base given old e (Err x) reads is =
+    let P : Fault → Type 0 = λ f. AnswersLines may (NeedsMemory (format_of bytes) bytes) (answer_of which bytes section) base given given old old (Err f) in
+    subst P (sym is) (not_read which may bytes section base given old e reads)
+
+-- lines that are answered of a file that may be unreadable in some cases are answered of one that may be so in more
+pub answers_as_well : (P Q : Type 0) → (P → Q) → (memory : Result Listed Refusal → Type 0) (answer : Option (Result Listed Refusal)) (base : ℕ) (given left old new : Option (List ℕ)) (result : Result ℕ Fault)
+    → AnswersLines P memory answer base given left old new result → AnswersLines Q memory answer base given left old new result
+answers_as_well P Q more memory answer base given left old new result (inl (inl (may, is), rest)) = inl (inl (more may, is), rest)
+answers_as_well P Q more memory answer base given left old new result (inl (inr is, rest)) = inl (inr is, rest)
+answers_as_well P Q more memory answer base given left old new result (inr answers) = inr answers

@@ -1,0 +1,5 @@
+use Rattle.std.proofs.Common.{codes}
+use Rattle.binfarce_command.proofs.at.answer_all.Goals as goal
+
+pub returns-clause-takes : goal.returns-clause-takes
+returns-clause-takes g c = λ file is. c.answer_tables.ensures.takes c.args.which file (codes ".text") (c.in_ok-tables.ensures file is)

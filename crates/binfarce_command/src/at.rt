@@ -1,0 +1,142 @@
+//! `binfarce at [--base=ADDRESS] FILE [ADDRESS..]`: the function symbol at each address.
+
+ghost use Rattle.std.specs.Prelude.{◌≡◌, ℕ, List, true, codes, map, Some};
+ghost use Rattle.binfarce.specs.Format.{format_of};
+ghost use Rattle.binfarce_addresses.specs.Lines.{AreLinesAt};
+ghost use Rattle.binfarce_addresses.specs.PlacesViews.{IsMadeOf};
+ghost use Rattle.binfarce_tools.specs.Answer.{answer_of, NeedsMemory};
+ghost use Rattle.binfarce_tools.specs.Listing.{ListingFits};
+ghost use Rattle.binfarce_tools.specs.Tables.{AreTablesOf};
+ghost use Rattle.binfarce_tools.specs.declared.SymbolTable.{SymbolTable};
+ghost use Rattle.binfarce_tools.specs.Writing.{Tells, ProgramTells, Takes, Fails, Leaves};
+ghost use Rattle.binfarce_command.specs.At.{AnswersLines, addresses_of};
+ghost use Rattle.binfarce_command.specs.Faults.{outcome_of};
+ghost use Rattle.binfarce_words.specs.WordViews.{Gives};
+
+use crate::fault::Fault;
+use binfarce_addresses::at::{Places, at_tables};
+use binfarce_addresses::parse_address;
+use binfarce_addresses::stream::answer_lines;
+use binfarce_source::Source;
+use binfarce_tools::SymbolTable;
+use binfarce_tools::list::{ListError, Sink};
+use binfarce_tools::tables::{Tables, read_by};
+use binfarce_words::words::Wrong;
+use std::alloc::Global;
+use std::io::Read;
+
+// The section whose function symbols are looked up in an ELF file.
+const SECTION: &str = ".text";
+
+/// The addresses that the words write.
+///
+/// # Errors
+///
+/// `NoAddress` with the first word that writes none; `OutOfMemory` where an allocation fails.
+pub fn read_addresses<'a>(alloc: Global, words: &[&'a str]) -> Result<Vec<u64>, Wrong<'a>>
+    ensures { Gives (λ v. v.items) (addresses_of (map (λ word. word.now) words.entry.now)) result }
+{
+    let mut addresses = Vec::new(alloc);
+    for word in words {
+        match parse_address(word.as_bytes()) {
+            Some(address) => match addresses.push(address) {
+                Ok(()) => {}
+                Err(_) => return Err(Wrong::OutOfMemory),
+            },
+            None => return Err(Wrong::NoAddress(word)),
+        }
+    }
+    Ok(addresses)
+}
+
+/// Symbolizes the addresses, once the base is subtracted: of an ELF file by the function symbols of `.text` in this symbol
+/// table. Of the source it reads the headers, that table and the names alone.
+///
+/// # Errors
+///
+/// `Unreadable` where a read fails; `Unknown`, `Parse`, `OutOfMemory` and `Write` as `at` refuses.
+pub fn answer_all<S: Source, K: Sink>(
+    alloc: Global,
+    source: &S,
+    which: SymbolTable,
+    base: u64,
+    addresses: &[u64],
+    out: &mut K,
+) -> Result<(), Fault>
+    ensures tells { (file : List ℕ) → S.bytes source.now ≡ Some file → ProgramTells (S.may_fail source.now ≡ true) ListingFits
+        (NeedsMemory (format_of file) file) (answer_of which file (codes ".text")) (outcome_of result) }
+    ensures takes { (file : List ℕ) → S.bytes source.now ≡ Some file → Takes (AreLinesAt base addresses.now)
+        (answer_of which file (codes ".text")) (K.taken out.old) (K.taken out.new) (outcome_of result) }
+    ensures fails { Fails (K.has_failed out.old) (K.has_failed out.new) (outcome_of result) }
+    ensures leaves { Leaves out.old out.new (outcome_of result) }
+{
+    let tables = read_by(alloc, source, which, SECTION)?;
+    answer_tables(alloc, &tables, base, addresses, out)
+}
+
+// The same, of the tables of the source.
+fn answer_tables<K: Sink>(
+    alloc: Global,
+    tables: &Tables,
+    base: u64,
+    addresses: &[u64],
+    out: &mut K,
+) -> Result<(), Fault>
+    ensures tells { (which : SymbolTable) (file section : List ℕ) → AreTablesOf which file section tables.now → Tells ListingFits
+        (NeedsMemory (format_of file) file) (answer_of which file section) (outcome_of result) }
+    ensures takes { (which : SymbolTable) (file section : List ℕ) → AreTablesOf which file section tables.now → Takes (AreLinesAt base addresses.now)
+        (answer_of which file section) (K.taken out.old) (K.taken out.new) (outcome_of result) }
+    ensures fails { Fails (K.has_failed out.old) (K.has_failed out.new) (outcome_of result) }
+    ensures leaves { Leaves out.old out.new (outcome_of result) }
+{
+    Ok(at_tables(alloc, tables, base, addresses, out)?)
+}
+
+/// Symbolizes the addresses that the lines of `input` write, each as soon as its line feed has come, and returns how many lines
+/// write none.
+///
+/// # Errors
+///
+/// As `answer_all`, before anything is read of `input`; `Input` where it can't be read.
+pub fn answer_input<S: Source, I: Read, K: Sink>(
+    alloc: Global,
+    source: &S,
+    which: SymbolTable,
+    base: u64,
+    input: &mut I,
+    out: &mut K,
+) -> Result<u64, Fault>
+    ensures { (file : List ℕ) → S.bytes source.now ≡ Some file → AnswersLines (S.may_fail source.now ≡ true)
+        (NeedsMemory (format_of file) file) (answer_of which file (codes ".text")) base
+        (I.remaining input.old) (I.remaining input.new) (K.taken out.old) (K.taken out.new) result }
+{
+    let tables = read_by(alloc, source, which, SECTION)?;
+    answer_in_tables(alloc, &tables, base, input, out)
+}
+
+// The same, of the tables of the source.
+fn answer_in_tables<I: Read, K: Sink>(
+    alloc: Global,
+    tables: &Tables,
+    base: u64,
+    input: &mut I,
+    out: &mut K,
+) -> Result<u64, Fault>
+    ensures { (which : SymbolTable) (file : List ℕ) → AreTablesOf which file (codes ".text") tables.now → AnswersLines ⊥
+        (NeedsMemory (format_of file) file) (answer_of which file (codes ".text")) base
+        (I.remaining input.old) (I.remaining input.new) (K.taken out.old) (K.taken out.new) result }
+{
+    let places = named_places(alloc, tables)?;
+    let missing = answer_lines(alloc, &places, base, input, out)?;
+    Ok(missing)
+}
+
+// The places of the function symbols, with their names.
+fn named_places(alloc: Global, tables: &Tables) -> Result<Places<'_>, ListError>
+    ensures { (which : SymbolTable) (file : List ℕ) → AreTablesOf which file (codes ".text") tables.entry.now → IsMadeOf (NeedsMemory (format_of file) file)
+        (answer_of which file (codes ".text")) result }
+{
+    let mut places = Places::of_tables(alloc, tables)?;
+    places.keep_names(alloc)?;
+    Ok(places)
+}

@@ -1,0 +1,131 @@
+//! What a command writes: a sink that writes a heading before the first byte that follows it.
+
+ghost use Rattle.std.specs.Prelude.{◌≡◌, [], true, false, IfSome, IfNone};
+ghost use Rattle.std.specs.Io.KnownBytes.{Keeps};
+ghost use Rattle.binfarce_command.specs.Headed.{writer_of, pending, has_failed, taken};
+
+use binfarce_tools::list::Sink;
+use std::alloc::Global;
+use std::io::{self, Error, ErrorKind, Write};
+
+/// A sink over a writer. A heading is written with the first byte behind it, or never. The system's reason is kept where a write
+/// fails.
+#[derive(Drop)]
+pub struct Headed<W> {
+    writer: W,
+    heading: Vec<u8>,
+    // How much of the heading is written.
+    done: usize,
+    reason: Option<Error>,
+}
+
+impl<W: Write> Headed<W> {
+    /// A sink over this writer, with no heading.
+    pub fn new(alloc: Global, writer: W) -> Headed<W>
+        ensures writer { writer_of result ≡ writer }
+        ensures pending { pending result ≡ [] }
+        ensures failed { has_failed result ≡ false }
+    {
+        Headed {
+            writer,
+            heading: Vec::new(alloc),
+            done: 0,
+            reason: None,
+        }
+    }
+
+    /// Begins what has this heading.
+    pub fn begin(&mut self, heading: Vec<u8>)
+        ensures pending { pending self.new ≡ heading.items }
+        ensures writer { writer_of self.new ≡ writer_of self.old }
+        ensures failed { has_failed self.new ≡ has_failed self.old }
+    {
+        self.heading = heading;
+        self.done = 0;
+    }
+
+    // Writes what is left of the heading.
+    fn write_heading(&mut self) -> Option<()>
+        ensures kept { Keeps (taken W.contents self.old) (taken W.contents self.new) }
+        ensures written { IfSome result (λ _. (pending self.new ≡ []) × (has_failed self.new ≡ has_failed self.old)) }
+        ensures fails { IfNone result (has_failed self.new ≡ true) }
+    {
+        while self.done < self.heading.len() {
+            match self.writer.write(&self.heading[self.done..]) {
+                Ok(n) if n > 0 => self.done += n,
+                Ok(_) => {
+                    self.reason = Some(Error::from(ErrorKind::WriteZero));
+                    return None;
+                }
+                Err(e) => {
+                    self.reason = Some(e);
+                    return None;
+                }
+            }
+        }
+        Some(())
+    }
+}
+
+impl<W: Write + Drop> Headed<W> {
+    /// Why the last write failed that did.
+    pub fn into_reason(self) -> Option<Error> {
+        self.reason
+    }
+}
+
+impl<W: Write> Sink for Headed<W> {
+    ghost use Rattle.binfarce_command.specs.Headed.{taken, has_failed};
+
+    ghost taken = { taken W.contents };
+
+    ghost has_failed = { has_failed };
+
+    fn write(&mut self, bytes: &[u8]) -> Option<usize> {
+        self.write_heading()?;
+        match self.writer.write(bytes) {
+            Ok(n) if n > 0 => Some(n),
+            Ok(_) => {
+                self.reason = Some(Error::from(ErrorKind::WriteZero));
+                None
+            }
+            Err(e) => {
+                self.reason = Some(e);
+                None
+            }
+        }
+    }
+
+    fn failed(&self) -> bool {
+        self.reason.is_some()
+    }
+}
+
+/// Writes without a heading.
+impl<W: Write> Write for Headed<W> {
+    ghost use Rattle.binfarce_command.specs.Headed.{writer_of};
+
+    ghost contents = { λ s. W.contents (writer_of s) };
+
+    fn write(&mut self, bytes: &[u8]) -> io::Result<usize> {
+        match self.writer.write(bytes) {
+            Ok(n) => Ok(n),
+            Err(e) => {
+                let kind = e.kind();
+                self.reason = Some(e);
+                Err(Error::from(kind))
+            }
+        }
+    }
+
+    fn flush(&mut self) -> io::Result<()> {
+        match self.writer.flush() {
+            Ok(()) => Ok(()),
+            Err(e) => {
+                let kind = e.kind();
+                self.reason = Some(e);
+                Err(Error::from(kind))
+            }
+        }
+    }
+}

@@ -1,0 +1,144 @@
+//! A file that is read at offsets, or the bytes that were read of another.
+
+ghost use Rattle.std.specs.Prelude.{◌≡◌, ℕ, List, [], Some};
+ghost use Rattle.binfarce_command.specs.Input.{ReadsJudged, ReadsFirst, ReadsByte, ReadsRest};
+
+use crate::fault::Fault;
+use binfarce_format::{Format, detect_format};
+use binfarce_program::is_read_at_offsets;
+use binfarce_source::Source;
+use std::alloc::Global;
+use std::io::{self, ErrorKind, Read};
+
+// How many of a file's first bytes name its format.
+const MAGIC_LENGTH: usize = 8;
+
+/// A file, and its bytes where it can't be read at offsets.
+#[derive(Drop)]
+pub struct Held<F> {
+    file: F,
+    bytes: Option<Vec<u8>>,
+}
+
+impl<F: Read + Source> Held<F> {
+    ghost use Rattle.binfarce_command.specs.Input.{file_of, held_bytes, held_may_fail, Holds};
+
+    /// This file, of which nothing was read.
+    pub fn new(file: F) -> Held<F>
+        ensures file { file_of result ≡ file }
+        ensures bytes { held_bytes F.bytes result ≡ F.bytes file }
+        ensures may_fail { held_may_fail F.may_fail result ≡ F.may_fail file }
+    {
+        Held { file, bytes: None }
+    }
+
+    /// The file.
+    pub fn file(&self) -> &F
+        ensures { result.now ≡ file_of self.entry.now }
+    {
+        &self.file
+    }
+
+    /// Reads the file, unless it can be read at offsets: to its end, or where its first 8 bytes name no format these alone.
+    ///
+    /// # Errors
+    ///
+    /// `Unreadable` where a read fails, and `OutOfMemory` where an allocation fails.
+    pub fn load(&mut self, alloc: Global) -> Result<(), Fault>
+        requires { held_bytes F.bytes self.old ≡ F.bytes (file_of self.old) }
+        ensures { (bytes : List ℕ) → F.bytes (file_of self.old) ≡ Some bytes → F.remaining (file_of self.old) ≡ Some bytes
+            → Holds (F.may_fail (file_of self.old)) bytes (held_bytes F.bytes self.new) (held_may_fail F.may_fail self.new) result }
+    {
+        if !is_read_at_offsets(&self.file) {
+            let bytes = read_judged(alloc, &mut self.file)?;
+            self.bytes = Some(bytes);
+        }
+        Ok(())
+    }
+}
+
+impl<F: Source> Source for Held<F> {
+    ghost use Rattle.binfarce_command.specs.Input.{held_bytes, held_may_fail};
+
+    ghost bytes = { held_bytes F.bytes };
+
+    ghost may_fail = { held_may_fail F.may_fail };
+
+    fn length(&self) -> io::Result<u64> {
+        match &self.bytes {
+            Some(bytes) => bytes.as_slice().length(),
+            None => self.file.length(),
+        }
+    }
+
+    fn fill_at(&self, offset: u64, buf: &mut [u8]) -> io::Result<()> {
+        match &self.bytes {
+            Some(bytes) => bytes.as_slice().fill_at(offset, buf),
+            None => self.file.fill_at(offset, buf),
+        }
+    }
+}
+
+/// The bytes up to the reader's end; where the first 8 name no format, these alone, and no more is read.
+///
+/// # Errors
+///
+/// As `hold`.
+pub fn read_judged<R: Read>(alloc: Global, reader: &mut R) -> Result<Vec<u8>, Fault>
+    ensures { ReadsJudged (R.remaining reader.old) (R.remaining reader.new) result }
+{
+    let mut bytes = Vec::new(alloc);
+    read_first(reader, &mut bytes)?;
+    match detect_format(&bytes) {
+        Format::Unknown => Ok(bytes),
+        _ => match read_rest(reader, bytes) {
+            Ok(all) => Ok(all),
+            Err(e) => Err(e),
+        },
+    }
+}
+
+// Reads what is left after these bytes.
+fn read_rest<R: Read>(reader: &mut R, mut bytes: Vec<u8>) -> Result<Vec<u8>, Fault>
+    ensures { ReadsRest (R.remaining reader.old) (R.remaining reader.new) bytes.items result }
+{
+    reader.read_to_end(&mut bytes)?;
+    Ok(bytes)
+}
+
+// Reads the first 8 bytes, or all where there are fewer.
+fn read_first<R: Read>(reader: &mut R, bytes: &mut Vec<u8>) -> Result<(), Fault>
+    requires { bytes.old.items ≡ [] }
+    ensures { ReadsFirst (R.remaining reader.old) (R.remaining reader.new) bytes.new.items result }
+{
+    for _ in 0..u64::MAX {
+        if bytes.len() >= MAGIC_LENGTH {
+            return Ok(());
+        }
+        if !read_byte(reader, bytes)? {
+            return Ok(());
+        }
+    }
+    Err(Fault::Unreadable)
+}
+
+// Reads a byte, if no signal interrupts. `false` at the end.
+fn read_byte<R: Read>(reader: &mut R, bytes: &mut Vec<u8>) -> Result<bool, Fault>
+    ensures { ReadsByte (R.remaining reader.old) (R.remaining reader.new) bytes.old.items bytes.new.items result }
+{
+    let mut byte = [0; 1];
+    match reader.read(&mut byte) {
+        Ok(0) => Ok(false),
+        Ok(_) => {
+            bytes.extend_from_slice(&byte)?;
+            Ok(true)
+        }
+        Err(e) => {
+            if e.kind() == ErrorKind::Interrupted {
+                Ok(true)
+            } else {
+                Err(Fault::from(e))
+            }
+        }
+    }
+}

@@ -1,0 +1,105 @@
+//! The texts that the program prints about itself.
+
+use binfarce_words::words::Command;
+
+/// The program's version.
+pub const VERSION: &str = "binfarce 0.2.1\n";
+
+const PROGRAM: &str = "\
+binfarce reads ELF, Mach-O and PE files, and makes mangled Rust names readable.
+
+usage: binfarce COMMAND [OPTION..] ..
+
+  list [OPTION..] FILE..             function symbols: address, size, name
+  size [OPTION..] FILE..             the sum of their sizes by crate
+  map [OPTION..] FILE..              these sums as a picture (SVG)
+  filter [--full] [NAME..]           standard input, or the names, with readable names
+  at [OPTION..] FILE [ADDRESS..]
+                                     the function symbol at each address, and the offset in it
+  section FILE [SECTION]             the bytes of a section, or a line for each section
+
+  COMMAND --help                     help on a command
+  --help                             this text
+  --version                          the version
+
+`--` ends the options, and `-` as a FILE is standard input. Status: 0; 1 if a file
+was refused, or a read or a write failed; 2 for a wrong call.
+";
+
+const LIST: &str = "\
+usage: binfarce list [--dynamic] [--section=NAME] FILE..
+
+Writes a line for each function symbol: its address, its size in bytes, and its
+readable name; last the size of the section. Several files are each listed under a
+line with the file's name.
+
+  --dynamic        by the dynamic symbol table of an ELF file (.dynsym)
+  --section=NAME   the section of an ELF file, by default .text; of Mach-O and PE
+                   files the code section is listed
+  --help           this text
+";
+
+const SIZE: &str = "\
+usage: binfarce size [--dynamic] [--section=NAME] FILE..
+
+Writes a line for each crate: the sum of the sizes of its function symbols, and its
+name; last the sum of all, and the size of the section.
+
+  --dynamic        by the dynamic symbol table of an ELF file (.dynsym)
+  --section=NAME   the section of an ELF file, by default .text; of Mach-O and PE
+                   files the code section is taken
+  --help           this text
+";
+
+const MAP: &str = "\
+usage: binfarce map [--dynamic] [--section=NAME] FILE..
+
+Draws the sums of `binfarce size` as an SVG picture with a bar for each crate.
+
+  --dynamic        by the dynamic symbol table of an ELF file (.dynsym)
+  --section=NAME   the section of an ELF file, by default .text; of Mach-O and PE
+                   files the code section is taken
+  --help           this text
+";
+
+const FILTER: &str = "\
+usage: binfarce filter [--full] [NAME..]
+
+Writes standard input with its mangled Rust names readable, or each NAME on a line.
+
+  --full           keeps hashes and disambiguators
+  --help           this text
+";
+
+const AT: &str = "\
+usage: binfarce at [--dynamic] [--base=ADDRESS] FILE [ADDRESS..]
+
+Writes a line for each address: the function symbol that holds it, and the offset in
+it. Without an ADDRESS the addresses are the lines of standard input.
+
+  --dynamic        by the dynamic symbol table of an ELF file (.dynsym)
+  --base=ADDRESS   is subtracted from each address: where the file is loaded
+  --help           this text
+";
+
+const SECTION: &str = "\
+usage: binfarce section FILE [SECTION]
+
+Writes the bytes of the section, or without SECTION a line for each section. A
+section of a Mach-O file is SEGMENT,SECTION.
+
+  --help           this text
+";
+
+/// The help on the program, or on a command.
+pub fn help(topic: Option<Command>) -> &'static str {
+    match topic {
+        None => PROGRAM,
+        Some(Command::List) => LIST,
+        Some(Command::Size) => SIZE,
+        Some(Command::Map) => MAP,
+        Some(Command::Filter) => FILTER,
+        Some(Command::At) => AT,
+        Some(Command::Section) => SECTION,
+    }
+}

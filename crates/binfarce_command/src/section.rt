@@ -1,0 +1,35 @@
+//! `binfarce section FILE [SECTION]`: the bytes of a section, or a line for each section.
+
+ghost use Rattle.std.specs.Prelude.{◌≡◌, ℕ, List, Some};
+ghost use Rattle.std.specs.Option.{option_map};
+ghost use Rattle.binfarce_sections.specs.Telling.{Fails};
+ghost use Rattle.binfarce_command.specs.Section.{TakesAsked};
+
+use binfarce_sections::bytes::write_section_of;
+use binfarce_sections::error::SectionError;
+use binfarce_sections::list::list_source;
+use binfarce_source::Source;
+use binfarce_tools::list::Sink;
+use std::alloc::Global;
+
+/// Writes the bytes of the first section of this name, or lists all sections where none is named. Of the source it reads the
+/// headers of the sections and their names, and the bytes of the one that is named.
+///
+/// # Errors
+///
+/// As `write_section_of` and `list_source`.
+pub fn write_or_list<S: Source, K: Sink>(
+    alloc: Global,
+    source: &S,
+    name: Option<&str>,
+    out: &mut K,
+) -> Result<(), SectionError>
+    ensures takes { (file : List ℕ) → S.bytes source.now ≡ Some file → TakesAsked (S.may_fail source.now) file (option_map (λ t. t.now) name.entry)
+        (K.taken out.old) (K.taken out.new) result }
+    ensures fails { Fails (K.has_failed out.old) (K.has_failed out.new) result }
+{
+    match name {
+        Some(name) => write_section_of(alloc, source, name, out),
+        None => list_source(alloc, source, out),
+    }
+}

@@ -1,0 +1,78 @@
+//! Shows the function symbols of a file: as a listing, as sums by crate, or as a picture.
+
+ghost use Rattle.std.specs.Prelude.{◌≡◌, ℕ, List, true, Some};
+ghost use Rattle.binfarce_format.specs.Format.{format_of};
+ghost use Rattle.binfarce_tools.specs.Answer.{answer_of, NeedsMemory};
+ghost use Rattle.binfarce_tools.specs.Tables.{AreTablesOf};
+ghost use Rattle.binfarce_tools.specs.declared.SymbolTable.{SymbolTable};
+ghost use Rattle.binfarce_tools.specs.Writing.{Tells, ProgramTells, Takes, Fails, Leaves};
+ghost use Rattle.binfarce_command.specs.Faults.{outcome_of};
+ghost use Rattle.binfarce_command.specs.Show.{Fits, IsTextOf};
+
+use crate::fault::Fault;
+use binfarce_mapping::map_tables;
+use binfarce_source::Source;
+use binfarce_tools::list::{Sink, list_tables};
+use binfarce_tools::report::report_tables;
+use binfarce_tools::SymbolTable;
+use binfarce_tools::tables::{Tables, read_by};
+use std::alloc::Global;
+
+/// How function symbols are shown.
+#[derive(Debug, Clone, Copy, PartialEq)]
+pub enum Kind {
+    /// As a listing.
+    Listing,
+    /// As sums by crate.
+    Sums,
+    /// As a picture of these sums.
+    Picture,
+}
+
+/// Shows the function symbols of a section of the source by this symbol table. Of the source it reads the headers, that table and
+/// the names alone.
+/// The section is that of an ELF file, and of a Mach-O or PE file it is the code.
+///
+/// # Errors
+///
+/// `Unreadable` where a read fails; `Unknown`, `Parse`, `OutOfMemory`, `TooLarge` and `Write` as `list` and `report` refuse. Only
+/// `Write` can leave a beginning written.
+pub fn show<S: Source, K: Sink>(
+    alloc: Global,
+    kind: Kind,
+    source: &S,
+    which: SymbolTable,
+    section: &str,
+    out: &mut K,
+) -> Result<(), Fault>
+    ensures tells { (file : List ℕ) → S.bytes source.now ≡ Some file → ProgramTells (S.may_fail source.now ≡ true) (Fits kind)
+        (NeedsMemory (format_of file) file) (answer_of which file section.now) (outcome_of result) }
+    ensures takes { (file : List ℕ) → S.bytes source.now ≡ Some file → Takes (IsTextOf kind)
+        (answer_of which file section.now) (K.taken out.old) (K.taken out.new) (outcome_of result) }
+    ensures fails { Fails (K.has_failed out.old) (K.has_failed out.new) (outcome_of result) }
+    ensures leaves { Leaves out.old out.new (outcome_of result) }
+{
+    let tables = read_by(alloc, source, which, section)?;
+    show_tables(alloc, kind, &tables, out)
+}
+
+// The same, of the tables of the source.
+fn show_tables<K: Sink>(
+    alloc: Global,
+    kind: Kind,
+    tables: &Tables,
+    out: &mut K,
+) -> Result<(), Fault>
+    ensures tells { (which : SymbolTable) (file section : List ℕ) → AreTablesOf which file section tables.now → Tells (Fits kind)
+        (NeedsMemory (format_of file) file) (answer_of which file section) (outcome_of result) }
+    ensures takes { (which : SymbolTable) (file section : List ℕ) → AreTablesOf which file section tables.now → Takes (IsTextOf kind)
+        (answer_of which file section) (K.taken out.old) (K.taken out.new) (outcome_of result) }
+    ensures fails { Fails (K.has_failed out.old) (K.has_failed out.new) (outcome_of result) }
+    ensures leaves { Leaves out.old out.new (outcome_of result) }
+{
+    match kind {
+        Kind::Listing => Ok(list_tables(alloc, tables, out)?),
+        Kind::Sums => Ok(report_tables(alloc, tables, out)?),
+        Kind::Picture => Ok(map_tables(alloc, tables, out)?),
+    }
+}

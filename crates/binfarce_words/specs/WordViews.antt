@@ -1,0 +1,49 @@
+-- What clauses see of a call, of what words give, and of why they are wrong.
+use Rattle.std.specs.Prelude.{◌≡◌, ◌⊎◌, map, Option, Some, None, Result, Ok, Err}
+use Rattle.binfarce_words.specs.Named.{IsNearest}
+use Rattle.binfarce_words.specs.Words as words
+use Rattle.binfarce_words.specs.Words.{commands, command_name, flags_of, flag_name}
+use Rattle.binfarce_words.specs.declared.words.Call.{Call}
+use Rattle.binfarce_words.specs.declared.words.Call.TheVariants as calls
+use Rattle.binfarce_words.specs.declared.words.Given.{Given}
+use Rattle.binfarce_words.specs.declared.words.Reading.{Reading}
+use Rattle.binfarce_words.specs.declared.words.Wrong.{Wrong}
+use Rattle.binfarce_words.specs.declared.words.Wrong.TheVariants.{NoCommand, UnknownCommand, UnknownOption, NoValue, NoAddress, NoFile, TooMany, NotUtf8, OutOfMemory}
+
+abbrev pub given_view : Given → words.Given
+given_view g = record { help = g.help; section = g.section.now; full = g.full; base = g.base; dynamic = g.dynamic; operands = map (λ t. t.now) g.operands.items }
+
+abbrev pub reading_view : Reading → words.Reading
+reading_view r = record { given = given_view r.given; waiting = r.waiting; are_operands = r.are_operands }
+
+abbrev pub call_view : Call → words.Call
+call_view (calls.Help topic) = words.show_help topic
+call_view calls.Version = words.show_version
+call_view (calls.Run command given) = words.run command (given_view given)
+
+-- the call is wrong for this reason; an unknown name comes with the nearest one
+abbrev pub IsWrong : words.Wrong → Wrong → Type 0
+IsWrong wrong NoCommand = wrong ≡ words.no_command
+IsWrong wrong (UnknownCommand word nearest) = (wrong ≡ words.unknown_command word.now) × IsNearest command_name commands word.now 0 nearest
+IsWrong wrong (UnknownOption command word nearest) = (wrong ≡ words.unknown_option command word.now) × IsNearest flag_name (flags_of command) word.now 2 nearest
+IsWrong wrong (NoValue flag) = wrong ≡ words.no_value flag
+IsWrong wrong (NoAddress word) = wrong ≡ words.no_address word.now
+IsWrong wrong (NoFile command) = wrong ≡ words.no_file command
+IsWrong wrong (TooMany word) = wrong ≡ words.too_many word.now
+IsWrong wrong NotUtf8 = ⊥
+IsWrong wrong OutOfMemory = ⊥
+
+-- what is wrong, if anything is
+abbrev pub IsFault : Option words.Wrong → Option Wrong → Type 0
+IsFault fault None = fault ≡ None
+IsFault fault (Some e) = (wrong : words.Wrong) × (fault ≡ Some wrong) × IsWrong wrong e
+
+-- what is returned for this answer: the answer, or why the call is wrong; or an allocation failed
+abbrev pub Gives : {T X : Type 0} → (T → X) → Result X words.Wrong → Result T Wrong → Type 0
+Gives view answer (Ok x) = answer ≡ Ok (view x)
+Gives view answer (Err e) = (e ≡ OutOfMemory) ⊎ ((wrong : words.Wrong) × (answer ≡ Err wrong) × IsWrong wrong e)
+
+-- what a value is after a call that changes it to this answer, or why the call is wrong; or an allocation failed
+abbrev pub Changes : {T X : Type 0} → (T → X) → Result X words.Wrong → T → Result (Unit {0}) Wrong → Type 0
+Changes view answer new (Ok x) = answer ≡ Ok (view new)
+Changes view answer new (Err e) = (e ≡ OutOfMemory) ⊎ ((wrong : words.Wrong) × (answer ≡ Err wrong) × IsWrong wrong e)

@@ -1,0 +1,46 @@
+//! Names that are looked up.
+
+ghost use Rattle.std.specs.Prelude.{◌≡◌, List, ℕ, find};
+ghost use Rattle.std.specs.Str.{bytes_eq};
+ghost use Rattle.binfarce_words.specs.Named.{shared, IsNearest};
+
+/// What has a name.
+pub trait Named: Copy {
+    // The name.
+    ghost text: { Self → List ℕ };
+
+    /// The name.
+    fn name(self) -> &'static str
+        ensures { result.now ≡ text self };
+}
+
+/// The first of these that has the name. Allocates nothing.
+pub fn find_named<T: Named>(known: &[T], name: &str) -> Option<T>
+    ensures { result ≡ find (λ it. bytes_eq (T.text it) name.now) known.now }
+{
+    known.iter().copied().find(|it| it.name() == name)
+}
+
+/// One of these that shares the longest beginning with the name, where that is more than `least` bytes. `None` where none
+/// shares so many. Allocates nothing.
+pub fn nearest<T: Named>(known: &[T], name: &str, least: usize) -> Option<T>
+    ensures { IsNearest T.text known.now name.now least result }
+{
+    let mut found = None;
+    let mut most = least;
+    for it in known {
+        let count = shared_len(it.name(), name);
+        if count > most {
+            found = Some(*it);
+            most = count;
+        }
+    }
+    found
+}
+
+// How many bytes two names begin with alike.
+fn shared_len(a: &str, b: &str) -> usize
+    ensures { result ≡ shared a.now b.now }
+{
+    a.bytes().zip(b.bytes()).take_while(|(x, y)| x == y).count()
+}

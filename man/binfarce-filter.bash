@@ -1,2 +1,0 @@
-# Completion for binfarce-filter: its one option.
-complete -W --full binfarce-filter

@@ -1,5 +1,0 @@
-use std::process::ExitCode;
-
-fn main() -> ExitCode {
-    binfarce::erased::binfarce_section::main(binfarce::shim::HostRuntime::new())
-}

@@ -1,0 +1,263 @@
+// From crates/binfarce_command/src/main.rt, by tools/erase.
+
+//! `binfarce COMMAND [OPTION..] ..`: reads executables, and makes mangled Rust names readable.
+
+mod at;
+mod fault;
+mod files;
+mod filter;
+mod headed;
+mod held;
+mod help;
+mod input;
+mod report;
+mod section;
+mod show;
+
+use crate::shim::{HostRuntime, Vec};
+use crate::erased::binfarce_command::at::{answer_all, answer_input, read_addresses};
+use crate::erased::binfarce_command::fault::Fault;
+use crate::erased::binfarce_command::files::{System, open_held, reported, show_files};
+use crate::erased::binfarce_command::filter::lines_of;
+use crate::erased::binfarce_command::headed::Headed;
+use crate::erased::binfarce_command::help::{VERSION, help};
+use crate::erased::binfarce_command::input::{Noted, Opened};
+use crate::erased::binfarce_command::report::{ended, refuse, report};
+use crate::erased::binfarce_command::section::write_or_list;
+use crate::erased::binfarce_command::show::Kind;
+use crate::erased::binfarce_filtering::stream::{StreamError, filter_stream};
+use crate::erased::binfarce_program::arguments;
+use crate::erased::binfarce_source::Source;
+use crate::erased::binfarce_tools::SymbolTable;
+use crate::erased::binfarce_words::words::{Call, Command, Given, Wrong, read_call};
+use crate::shim::alloc::Global;
+use crate::shim::fs::File;
+use crate::shim::io::{self, Error, Write};
+use std::process::ExitCode;
+
+pub fn main(rt: HostRuntime) -> ExitCode {
+    let status = match arguments(&rt) {
+        Ok(words) => match read_call(rt.alloc(), words.as_slice()) {
+            Ok(call) => run(&rt, &call),
+            Err(wrong) => refuse(&rt, &wrong),
+        },
+        Err(_) => refuse(&rt, &Wrong::NotUtf8),
+    };
+    ExitCode::from(status)
+}
+
+// Does what a call asks for, and gives the status that the program ends with.
+fn run(rt: &HostRuntime, call: &Call<'_>) -> u8 {
+    match addresses_of(rt.alloc(), call) {
+        Ok(addresses) => run_with(rt, call, &addresses),
+        Err(wrong) => refuse(rt, &wrong),
+    }
+}
+
+fn run_with(rt: &HostRuntime, call: &Call<'_>, addresses: &[u64]) -> u8 {
+    let mut out = Headed::new(rt.alloc(), io::writer(rt));
+    let done = answer(rt, call, addresses, &mut out);
+    ended(rt, done, out.into_reason())
+}
+
+// The addresses that a call gives.
+fn addresses_of<'a>(alloc: Global, call: &Call<'a>) -> Result<Vec<u64>, Wrong<'a>> {
+    match call {
+        Call::Run(Command::At, given) => read_addresses(alloc, others(given)),
+        _ => Ok(Vec::new(alloc)),
+    }
+}
+
+// The operands after the first one.
+fn others<'b, 'a>(given: &'b Given<'a>) -> &'b [&'a str] {
+    match given.operands.as_slice() {
+        [_, others @ ..] => others,
+        [] => &[],
+    }
+}
+
+// Does what a call asks for, and flushes the output. `false` where a file was refused.
+fn answer<W: Write>(
+    rt: &HostRuntime,
+    call: &Call<'_>,
+    addresses: &[u64],
+    out: &mut Headed<W>,
+) -> Result<bool, Fault> {
+    let is_done = match call {
+        Call::Help(topic) => print(help(*topic), out)?,
+        Call::Version => print(VERSION, out)?,
+        Call::Run(command, given) => work(rt, *command, given, addresses, out)?,
+    };
+    match out.flush() {
+        Ok(()) => Ok(is_done),
+        Err(_) => Err(Fault::Write),
+    }
+}
+
+fn print<W: Write>(text: &str, out: &mut Headed<W>) -> Result<bool, Fault> {
+    match out.write_all(text.as_bytes()) {
+        Ok(()) => Ok(true),
+        Err(_) => Err(Fault::Write),
+    }
+}
+
+fn work<W: Write>(
+    rt: &HostRuntime,
+    command: Command,
+    given: &Given<'_>,
+    addresses: &[u64],
+    out: &mut Headed<W>,
+) -> Result<bool, Fault> {
+    match command {
+        Command::List => show_all(rt, Kind::Listing, given, out),
+        Command::Size => show_all(rt, Kind::Sums, given, out),
+        Command::Map => show_all(rt, Kind::Picture, given, out),
+        Command::Filter => filter_text(rt, given, out),
+        Command::At => symbolize(rt, given, addresses, out),
+        Command::Section => write_section(rt, given, out),
+    }
+}
+
+// Shows the function symbols of all files that are given.
+fn show_all<W: Write>(
+    rt: &HostRuntime,
+    kind: Kind,
+    given: &Given<'_>,
+    out: &mut Headed<W>,
+) -> Result<bool, Fault> {
+    let files = given.operands.as_slice();
+    show_files(
+        rt.alloc(),
+        rt,
+        kind,
+        table_of(given),
+        given.section,
+        files,
+        out,
+    )
+}
+
+// Makes the names in standard input readable, or those that are given.
+fn filter_text<W: Write>(
+    rt: &HostRuntime,
+    given: &Given<'_>,
+    out: &mut Headed<W>,
+) -> Result<bool, Fault> {
+    if given.operands.is_empty() {
+        return filter_input(rt, given.full, out);
+    }
+    let text = lines_of(rt.alloc(), given.operands.as_slice())?;
+    filter_stream(rt.alloc(), given.full, &mut text.as_slice(), out)?;
+    Ok(true)
+}
+
+fn filter_input<W: Write>(
+    rt: &HostRuntime,
+    full: bool,
+    out: &mut Headed<W>,
+) -> Result<bool, Fault> {
+    let mut input = Noted::new(rt.stdin());
+    match filter_stream(rt.alloc(), full, &mut input, out) {
+        Ok(()) => Ok(true),
+        Err(StreamError::Read) => {
+            report(rt, "standard input", Fault::Unreadable, input.take_reason());
+            Ok(false)
+        }
+        Err(e) => Err(Fault::from(e)),
+    }
+}
+
+// Symbolizes addresses: those that are given, or those of standard input.
+fn symbolize<W: Write>(
+    rt: &HostRuntime,
+    given: &Given<'_>,
+    addresses: &[u64],
+    out: &mut Headed<W>,
+) -> Result<bool, Fault> {
+    let path = first(given);
+    match open_held(rt.alloc(), rt, path) {
+        Some(held) => {
+            let done = if addresses.is_empty() {
+                answer_lines(rt, &held, table_of(given), given.base, out)
+            } else {
+                answer_all(
+                    rt.alloc(),
+                    &held,
+                    table_of(given),
+                    given.base,
+                    addresses,
+                    out,
+                )
+            };
+            reported(rt, path, &held, done)
+        }
+        None => Ok(false),
+    }
+}
+
+// Symbolizes the addresses of standard input.
+fn answer_lines<S: Source, W: Write>(
+    rt: &HostRuntime,
+    source: &S,
+    which: SymbolTable,
+    base: u64,
+    out: &mut Headed<W>,
+) -> Result<(), Fault> {
+    let mut input = Noted::new(rt.reader());
+    match answer_input(rt.alloc(), source, which, base, &mut input, out) {
+        Ok(0) => Ok(()),
+        Ok(missing) => Err(Fault::Missing(missing)),
+        Err(Fault::Input) => {
+            report(rt, "standard input", Fault::Unreadable, input.take_reason());
+            Err(Fault::Input)
+        }
+        Err(fault) => Err(fault),
+    }
+}
+
+// Writes the bytes of the section that is named, or a line for each section.
+fn write_section<W: Write>(
+    rt: &HostRuntime,
+    given: &Given<'_>,
+    out: &mut Headed<W>,
+) -> Result<bool, Fault> {
+    let path = first(given);
+    match open_held(rt.alloc(), rt, path) {
+        Some(held) => {
+            let name = others(given).first().copied();
+            let written = write_or_list(rt.alloc(), &held, name, out).map_err(Fault::from);
+            reported(rt, path, &held, written)
+        }
+        None => Ok(false),
+    }
+}
+
+// The symbol table that is asked for.
+fn table_of(given: &Given<'_>) -> SymbolTable {
+    if given.dynamic {
+        SymbolTable::Dynsym
+    } else {
+        SymbolTable::Symtab
+    }
+}
+
+// The first operand.
+fn first<'a>(given: &Given<'a>) -> &'a str {
+    given.operands.first().copied().unwrap_or("")
+}
+
+impl System<Opened> for HostRuntime {
+    fn open(&self, path: &str) -> io::Result<Opened> {
+        if path == "-" {
+            return Ok(Opened::Standard(self.stdin()));
+        }
+        match File::open(self, path) {
+            Ok(file) => Ok(Opened::File(file)),
+            Err(e) => Err(e),
+        }
+    }
+
+    fn report(&self, path: &str, fault: Fault, reason: Option<Error>) {
+        report(self, path, fault, reason);
+    }
+}

@@ -1,0 +1,152 @@
+// From crates/binfarce_command/src/fault.rt, by tools/erase.
+
+//! Why a file's result was not written, or not all of it.
+
+use crate::erased::binfarce_addresses::stream::LinesError;
+use crate::erased::binfarce_bytes::ParseError;
+use crate::erased::binfarce_filtering::stream::StreamError;
+use crate::erased::binfarce_sections::error::SectionError;
+use crate::erased::binfarce_tables::ReadError;
+use crate::erased::binfarce_tools::list::ListError;
+use crate::erased::binfarce_tools::report::ReportError;
+use crate::shim::alloc::AllocError;
+use std::fmt;
+use crate::shim::io::{self, ErrorKind};
+
+/// Why a file's result was not written, or not all of it.
+#[derive(Debug, Clone, Copy, PartialEq)]
+pub enum Fault {
+    /// The file can't be opened or read.
+    Unreadable,
+    /// Standard input can't be read.
+    Input,
+    /// An allocation failed.
+    OutOfMemory,
+    /// A write failed.
+    Write,
+    /// The file's first bytes name no format that is read.
+    Unknown,
+    /// The reader of the file's format refused it.
+    Parse(ParseError),
+    /// The sum of all sizes doesn't fit.
+    TooLarge,
+    /// No section has this name.
+    NoSection,
+    /// The section has no bytes in the file.
+    NoBytes,
+    /// The section's bytes reach past the file's end.
+    PastEnd,
+    /// So many lines of standard input write no address; all were answered.
+    Missing(u64),
+}
+
+impl fmt::Display for Fault {
+    fn fmt(&self, f: &mut fmt::Formatter<'_>) -> fmt::Result {
+        match self {
+            Fault::Unreadable => write!(f, "cannot read file"),
+            Fault::Input => write!(f, "read failed"),
+            Fault::OutOfMemory => write!(f, "out of memory"),
+            Fault::Write => write!(f, "write failed"),
+            Fault::Unknown => write!(f, "unknown file format"),
+            Fault::Parse(ParseError::SectionIsMissing(".symtab")) => write!(
+                f,
+                "no symbol table (.symtab); --dynamic lists its dynamic symbols"
+            ),
+            Fault::Parse(ParseError::SectionIsMissing(".dynsym")) => write!(
+                f,
+                "no dynamic symbol table (.dynsym)"
+            ),
+            Fault::Parse(e) => write!(f, "{e}"),
+            Fault::TooLarge => write!(f, "sizes are too large"),
+            Fault::NoSection => write!(f, "no section of this name"),
+            Fault::NoBytes => write!(f, "section has no bytes in the file"),
+            Fault::PastEnd => write!(f, "section reaches past the end of the file"),
+            Fault::Missing(1) => write!(f, "1 line without an address"),
+            Fault::Missing(count) => write!(f, "{count} lines without an address"),
+        }
+    }
+}
+
+impl From<AllocError> for Fault {
+    fn from(_: AllocError) -> Self {
+        Fault::OutOfMemory
+    }
+}
+
+impl From<io::Error> for Fault {
+    /// A failed allocation is reported as such, and any other error as a file that can't be read.
+    fn from(e: io::Error) -> Self {
+        match e.kind() {
+            ErrorKind::OutOfMemory => Fault::OutOfMemory,
+            _ => Fault::Unreadable,
+        }
+    }
+}
+
+impl From<ReadError> for Fault {
+    fn from(e: ReadError) -> Self {
+        match e {
+            ReadError::Refused(e) => Fault::Parse(e),
+            ReadError::Unreadable => Fault::Unreadable,
+            ReadError::OutOfMemory => Fault::OutOfMemory,
+        }
+    }
+}
+
+impl From<ListError> for Fault {
+    fn from(e: ListError) -> Self {
+        match e {
+            ListError::Unknown => Fault::Unknown,
+            ListError::Parse(e) => Fault::Parse(e),
+            ListError::OutOfMemory => Fault::OutOfMemory,
+            ListError::Write => Fault::Write,
+        }
+    }
+}
+
+impl From<ReportError> for Fault {
+    fn from(e: ReportError) -> Self {
+        match e {
+            ReportError::Unknown => Fault::Unknown,
+            ReportError::Parse(e) => Fault::Parse(e),
+            ReportError::OutOfMemory => Fault::OutOfMemory,
+            ReportError::TooLarge => Fault::TooLarge,
+            ReportError::Write => Fault::Write,
+        }
+    }
+}
+
+impl From<SectionError> for Fault {
+    fn from(e: SectionError) -> Self {
+        match e {
+            SectionError::Unknown => Fault::Unknown,
+            SectionError::Parse(e) => Fault::Parse(e),
+            SectionError::NoSection => Fault::NoSection,
+            SectionError::NoBytes => Fault::NoBytes,
+            SectionError::PastEnd => Fault::PastEnd,
+            SectionError::OutOfMemory => Fault::OutOfMemory,
+            SectionError::Write => Fault::Write,
+            SectionError::Unreadable => Fault::Unreadable,
+        }
+    }
+}
+
+impl From<StreamError> for Fault {
+    fn from(e: StreamError) -> Self {
+        match e {
+            StreamError::Read => Fault::Input,
+            StreamError::Write => Fault::Write,
+            StreamError::OutOfMemory => Fault::OutOfMemory,
+        }
+    }
+}
+
+impl From<LinesError> for Fault {
+    fn from(e: LinesError) -> Self {
+        match e {
+            LinesError::Read => Fault::Input,
+            LinesError::OutOfMemory => Fault::OutOfMemory,
+            LinesError::Write => Fault::Write,
+        }
+    }
+}

@@ -1,0 +1,116 @@
+// From crates/binfarce_command/src/held.rt, by tools/erase.
+
+//! A file that is read at offsets, or the bytes that were read of another.
+
+use crate::shim::Vec;
+use crate::erased::binfarce_command::fault::Fault;
+use crate::erased::binfarce_format::{Format, detect_format};
+use crate::erased::binfarce_program::is_read_at_offsets;
+use crate::erased::binfarce_source::Source;
+use crate::shim::alloc::Global;
+use crate::shim::io::{self, ErrorKind, Read};
+
+// How many of a file's first bytes name its format.
+const MAGIC_LENGTH: usize = 8;
+
+/// A file, and its bytes where it can't be read at offsets.
+pub struct Held<F> {
+    file: F,
+    bytes: Option<Vec<u8>>,
+}
+
+impl<F: Read + Source> Held<F> {
+    /// This file, of which nothing was read.
+    pub fn new(file: F) -> Held<F> {
+        Held { file, bytes: None }
+    }
+
+    /// The file.
+    pub fn file(&self) -> &F {
+        &self.file
+    }
+
+    /// Reads the file, unless it can be read at offsets: to its end, or where its first 8 bytes name no format these alone.
+    ///
+    /// # Errors
+    ///
+    /// `Unreadable` where a read fails, and `OutOfMemory` where an allocation fails.
+    pub fn load(&mut self, alloc: Global) -> Result<(), Fault> {
+        if !is_read_at_offsets(&self.file) {
+            let bytes = read_judged(alloc, &mut self.file)?;
+            self.bytes = Some(bytes);
+        }
+        Ok(())
+    }
+}
+
+impl<F: Source> Source for Held<F> {
+    fn length(&self) -> io::Result<u64> {
+        match &self.bytes {
+            Some(bytes) => bytes.as_slice().length(),
+            None => self.file.length(),
+        }
+    }
+
+    fn fill_at(&self, offset: u64, buf: &mut [u8]) -> io::Result<()> {
+        match &self.bytes {
+            Some(bytes) => bytes.as_slice().fill_at(offset, buf),
+            None => self.file.fill_at(offset, buf),
+        }
+    }
+}
+
+/// The bytes up to the reader's end; where the first 8 name no format, these alone, and no more is read.
+///
+/// # Errors
+///
+/// As `hold`.
+pub fn read_judged<R: Read>(alloc: Global, reader: &mut R) -> Result<Vec<u8>, Fault> {
+    let mut bytes = Vec::new(alloc);
+    read_first(reader, &mut bytes)?;
+    match detect_format(&bytes) {
+        Format::Unknown => Ok(bytes),
+        _ => match read_rest(reader, bytes) {
+            Ok(all) => Ok(all),
+            Err(e) => Err(e),
+        },
+    }
+}
+
+// Reads what is left after these bytes.
+fn read_rest<R: Read>(reader: &mut R, mut bytes: Vec<u8>) -> Result<Vec<u8>, Fault> {
+    reader.read_to_end(&mut bytes)?;
+    Ok(bytes)
+}
+
+// Reads the first 8 bytes, or all where there are fewer.
+fn read_first<R: Read>(reader: &mut R, bytes: &mut Vec<u8>) -> Result<(), Fault> {
+    for _ in 0..u64::MAX {
+        if bytes.len() >= MAGIC_LENGTH {
+            return Ok(());
+        }
+        if !read_byte(reader, bytes)? {
+            return Ok(());
+        }
+    }
+    Err(Fault::Unreadable)
+}
+
+// Reads a byte, if no signal interrupts. `false` at the end.
+fn read_byte<R: Read>(reader: &mut R, bytes: &mut Vec<u8>) -> Result<bool, Fault> {
+    let mut byte = [0; 1];
+    match reader.read(&mut byte) {
+        Ok(0) => Ok(false),
+        Ok(_) => {
+            bytes.extend_from_slice(&byte)?;
+            Ok(true)
+        }
+        Err(e) => {
+            if e.kind() == ErrorKind::Interrupted {
+                Ok(true)
+            } else {
+                Err(Fault::from(e))
+            }
+        }
+    }
+}

@@ -1,0 +1,28 @@
+// From crates/binfarce_command/src/section.rt, by tools/erase.
+
+//! `binfarce section FILE [SECTION]`: the bytes of a section, or a line for each section.
+
+use crate::erased::binfarce_sections::bytes::write_section_of;
+use crate::erased::binfarce_sections::error::SectionError;
+use crate::erased::binfarce_sections::list::list_source;
+use crate::erased::binfarce_source::Source;
+use crate::erased::binfarce_tools::list::Sink;
+use crate::shim::alloc::Global;
+
+/// Writes the bytes of the first section of this name, or lists all sections where none is named. Of the source it reads the
+/// headers of the sections and their names, and the bytes of the one that is named.
+///
+/// # Errors
+///
+/// As `write_section_of` and `list_source`.
+pub fn write_or_list<S: Source, K: Sink>(
+    alloc: Global,
+    source: &S,
+    name: Option<&str>,
+    out: &mut K,
+) -> Result<(), SectionError> {
+    match name {
+        Some(name) => write_section_of(alloc, source, name, out),
+        None => list_source(alloc, source, out),
+    }
+}

@@ -1,0 +1,443 @@
+// From crates/binfarce_words/src/words.rt, by tools/erase.
+
+//! What the words of a call ask for.
+
+use crate::shim::{String, Vec};
+use crate::erased::binfarce_words::named::{Named, find_named, nearest};
+use crate::erased::binfarce_ranges::address::parse_address;
+use crate::shim::alloc::Global;
+use std::fmt;
+
+/// What the program does.
+#[derive(Debug, Clone, Copy, PartialEq)]
+pub enum Command {
+    /// Lists function symbols.
+    List,
+    /// Sums sizes by crate.
+    Size,
+    /// Draws sizes by crate.
+    Map,
+    /// Makes names in text readable.
+    Filter,
+    /// Symbolizes addresses.
+    At,
+    /// Writes a section's bytes, or lists sections.
+    Section,
+}
+
+/// All commands.
+pub const COMMANDS: [Command; 6] = [
+    Command::List,
+    Command::Size,
+    Command::Map,
+    Command::Filter,
+    Command::At,
+    Command::Section,
+];
+
+impl Named for Command {
+    fn name(self) -> &'static str {
+        match self {
+            Command::List => "list",
+            Command::Size => "size",
+            Command::Map => "map",
+            Command::Filter => "filter",
+            Command::At => "at",
+            Command::Section => "section",
+        }
+    }
+}
+
+/// An option of a command.
+#[derive(Debug, Clone, Copy, PartialEq)]
+pub enum Flag {
+    /// Shows help on the command.
+    Help,
+    /// Names a section of an ELF file.
+    Section,
+    /// Keeps hashes.
+    Full,
+    /// Is subtracted from each address.
+    Base,
+    /// Reads the dynamic symbol table of an ELF file.
+    Dynamic,
+}
+
+impl Named for Flag {
+    fn name(self) -> &'static str {
+        match self {
+            Flag::Help => "--help",
+            Flag::Section => "--section",
+            Flag::Full => "--full",
+            Flag::Base => "--base",
+            Flag::Dynamic => "--dynamic",
+        }
+    }
+}
+
+impl Flag {
+    /// Whether it has a value: `--base ADDRESS` or `--base=ADDRESS`.
+    pub fn takes_value(self) -> bool {
+        match self {
+            Flag::Help => false,
+            Flag::Section => true,
+            Flag::Full => false,
+            Flag::Base => true,
+            Flag::Dynamic => false,
+        }
+    }
+}
+
+impl Command {
+    /// Its options.
+    pub fn flags(self) -> &'static [Flag] {
+        match self {
+            Command::List | Command::Size | Command::Map => {
+                &[Flag::Help, Flag::Section, Flag::Dynamic]
+            }
+            Command::Filter => &[Flag::Help, Flag::Full],
+            Command::At => &[Flag::Help, Flag::Base, Flag::Dynamic],
+            Command::Section => &[Flag::Help],
+        }
+    }
+}
+
+/// Why a call is wrong.
+#[derive(Debug, Clone, Copy, PartialEq)]
+pub enum Wrong<'a> {
+    /// There is no command.
+    NoCommand,
+    /// No command has this name; the nearest one, if one is near.
+    UnknownCommand(&'a str, Option<Command>),
+    /// The command has no such option; the nearest one, if one is near.
+    UnknownOption(Command, &'a str, Option<Flag>),
+    /// The option has no value.
+    NoValue(Flag),
+    /// The word is no address.
+    NoAddress(&'a str),
+    /// The command has no file.
+    NoFile(Command),
+    /// A word more than the command takes.
+    TooMany(&'a str),
+    /// A word isn't UTF-8.
+    NotUtf8,
+    /// An allocation failed.
+    OutOfMemory,
+}
+
+impl<'a> fmt::Display for Wrong<'a> {
+    fn fmt(&self, f: &mut fmt::Formatter<'_>) -> fmt::Result {
+        match self {
+            Wrong::NoCommand => write!(f, "no command; binfarce --help shows them"),
+            Wrong::UnknownCommand(word, None) => write!(
+                f,
+                "no command {word}; binfarce --help shows them"
+            ),
+            Wrong::UnknownCommand(word, Some(near)) => {
+                let name = near.name();
+                write!(f, "no command {word}; the nearest is {name}")
+            }
+            Wrong::UnknownOption(command, word, None) => {
+                let name = command.name();
+                write!(
+                    f,
+                    "no option {word} of {name}; binfarce {name} --help shows them"
+                )
+            }
+            Wrong::UnknownOption(command, word, Some(near)) => {
+                let name = command.name();
+                let option = near.name();
+                write!(f, "no option {word} of {name}; the nearest is {option}")
+            }
+            Wrong::NoValue(flag) => {
+                let name = flag.name();
+                write!(f, "{name} has no value")
+            }
+            Wrong::NoAddress(word) => write!(f, "not an address: {word}"),
+            Wrong::NoFile(command) => {
+                let name = command.name();
+                write!(f, "no file; binfarce {name} --help shows how it is called")
+            }
+            Wrong::TooMany(word) => write!(f, "one argument too many: {word}"),
+            Wrong::NotUtf8 => write!(f, "an argument is not UTF-8"),
+            Wrong::OutOfMemory => write!(f, "out of memory"),
+        }
+    }
+}
+
+/// What the words after a command give.
+#[derive(Debug)]
+pub struct Given<'a> {
+    /// Help is asked for.
+    pub help: bool,
+    /// The section of an ELF file.
+    pub section: &'a str,
+    /// Names keep their hashes.
+    pub full: bool,
+    /// What is subtracted from each address.
+    pub base: u64,
+    /// The dynamic symbol table is read.
+    pub dynamic: bool,
+    /// The words that are no options.
+    pub operands: Vec<&'a str>,
+}
+
+/// What a call asks for.
+#[derive(Debug)]
+pub enum Call<'a> {
+    /// Help on the program, or on a command.
+    Help(Option<Command>),
+    /// The program's version.
+    Version,
+    /// A command's work.
+    Run(Command, Given<'a>),
+}
+
+/// What a call asks for by the words after the program's own name.
+///
+/// # Errors
+///
+/// A `Wrong` that names what is wrong; `OutOfMemory` where an allocation fails.
+pub fn read_call<'a>(alloc: Global, words: &'a [String]) -> Result<Call<'a>, Wrong<'a>> {
+    match words {
+        [] => Err(Wrong::NoCommand),
+        [word, others @ ..] => read_words(alloc, word.as_str(), others),
+    }
+}
+
+fn read_words<'a>(alloc: Global, word: &'a str, others: &'a [String]) -> Result<Call<'a>, Wrong<'a>> {
+    if asks_help(word) {
+        return read_help(others);
+    }
+    if asks_version(word) {
+        return Ok(Call::Version);
+    }
+    read_command(alloc, word, others)
+}
+
+fn asks_help(word: &str) -> bool {
+    word == "help" || word == "--help" || word == "-h"
+}
+
+fn asks_version(word: &str) -> bool {
+    word == "--version" || word == "-V"
+}
+
+// `help`, and the command that it is asked for.
+fn read_help<'a>(others: &'a [String]) -> Result<Call<'a>, Wrong<'a>> {
+    match others {
+        [] => Ok(Call::Help(None)),
+        [word, ..] => help_on(word.as_str()),
+    }
+}
+
+fn help_on(word: &str) -> Result<Call<'_>, Wrong<'_>> {
+    match find_named(&COMMANDS, word) {
+        None => Err(unknown_command(word)),
+        Some(command) => Ok(Call::Help(Some(command))),
+    }
+}
+
+// The command of this name, and what the other words give.
+fn read_command<'a>(
+    alloc: Global,
+    word: &'a str,
+    others: &'a [String],
+) -> Result<Call<'a>, Wrong<'a>> {
+    match find_named(&COMMANDS, word) {
+        None => Err(unknown_command(word)),
+        Some(command) => read_options(alloc, command, others),
+    }
+}
+
+fn read_options<'a>(
+    alloc: Global,
+    command: Command,
+    words: &'a [String],
+) -> Result<Call<'a>, Wrong<'a>> {
+    match read_given(alloc, command, words) {
+        Err(e) => Err(e),
+        Ok(given) => call_with(command, given),
+    }
+}
+
+// The command's work, or help on it, where that is asked for.
+fn call_with<'a>(command: Command, given: Given<'a>) -> Result<Call<'a>, Wrong<'a>> {
+    if given.help {
+        return Ok(Call::Help(Some(command)));
+    }
+    match operand_fault(command, given.operands.as_slice()) {
+        Some(wrong) => Err(wrong),
+        None => Ok(Call::Run(command, given)),
+    }
+}
+
+// What is wrong with a command's operands.
+fn operand_fault<'a>(command: Command, operands: &[&'a str]) -> Option<Wrong<'a>> {
+    match operands {
+        _ if command == Command::Filter => None,
+        [] => Some(Wrong::NoFile(command)),
+        [_, _, word, ..] if command == Command::Section => Some(Wrong::TooMany(word)),
+        _ => None,
+    }
+}
+
+// What the words after a command give.
+fn read_given<'a>(
+    alloc: Global,
+    command: Command,
+    words: &'a [String],
+) -> Result<Given<'a>, Wrong<'a>> {
+    let mut reading = Reading::new(alloc);
+    for word in words {
+        match reading.take(command, word.as_str()) {
+            Ok(()) => {}
+            Err(e) => return Err(e),
+        }
+    }
+    reading.finish()
+}
+
+// Words that were read up to here.
+struct Reading<'a> {
+    given: Given<'a>,
+    // The option whose value comes next.
+    waiting: Option<Flag>,
+    // `--` came: all further words are operands.
+    are_operands: bool,
+}
+
+impl<'a> Reading<'a> {
+    fn new(alloc: Global) -> Reading<'a> {
+        let given = Given {
+            help: false,
+            section: ".text",
+            full: false,
+            base: 0,
+            dynamic: false,
+            operands: Vec::new(alloc),
+        };
+        Reading {
+            given,
+            waiting: None,
+            are_operands: false,
+        }
+    }
+
+    // Takes the next word.
+    fn take(&mut self, command: Command, word: &'a str) -> Result<(), Wrong<'a>> {
+        if let Some(flag) = self.waiting {
+            self.waiting = None;
+            return self.given.set(flag, word);
+        }
+        if self.are_operands || !is_option(word) {
+            return self.given.push(word);
+        }
+        if word == "--" {
+            self.are_operands = true;
+            return Ok(());
+        }
+        self.take_option(command, word)
+    }
+
+    // Takes a word that is an option.
+    fn take_option(&mut self, command: Command, word: &'a str) -> Result<(), Wrong<'a>> {
+        match parts_of(word) {
+            None => self.take_name(command, word),
+            Some((name, value)) => self.take_value(command, word, name, value),
+        }
+    }
+
+    // Takes an option with its value.
+    fn take_value(
+        &mut self,
+        command: Command,
+        word: &'a str,
+        name: &'a str,
+        value: &'a str,
+    ) -> Result<(), Wrong<'a>> {
+        match flag_of(command, name) {
+            None => Err(unknown_option(command, word)),
+            Some(flag) => {
+                if flag.takes_value() {
+                    self.given.set(flag, value)
+                } else {
+                    Err(unknown_option(command, word))
+                }
+            }
+        }
+    }
+
+    // Takes an option without its value.
+    fn take_name(&mut self, command: Command, word: &'a str) -> Result<(), Wrong<'a>> {
+        match flag_of(command, word) {
+            None => Err(unknown_option(command, word)),
+            Some(flag) => {
+                if flag.takes_value() {
+                    self.waiting = Some(flag);
+                    Ok(())
+                } else {
+                    self.given.set(flag, "")
+                }
+            }
+        }
+    }
+
+    // What is given, once all words were read.
+    fn finish(self) -> Result<Given<'a>, Wrong<'a>> {
+        match self.waiting {
+            None => Ok(self.given),
+            Some(flag) => Err(Wrong::NoValue(flag)),
+        }
+    }
+}
+
+impl<'a> Given<'a> {
+    // Sets an option. The value of one that takes none isn't looked at.
+    fn set(&mut self, flag: Flag, value: &'a str) -> Result<(), Wrong<'a>> {
+        match flag {
+            Flag::Help => self.help = true,
+            Flag::Section => self.section = value,
+            Flag::Full => self.full = true,
+            Flag::Base => match parse_address(value.as_bytes()) {
+                Some(base) => self.base = base,
+                None => return Err(Wrong::NoAddress(value)),
+            },
+            Flag::Dynamic => self.dynamic = true,
+        }
+        Ok(())
+    }
+
+    fn push(&mut self, word: &'a str) -> Result<(), Wrong<'a>> {
+        match self.operands.push(word) {
+            Ok(()) => Ok(()),
+            Err(_) => Err(Wrong::OutOfMemory),
+        }
+    }
+}
+
+// Whether the word begins with `-`, and has more.
+fn is_option(word: &str) -> bool {
+    matches!(word.as_bytes(), [b'-', _, ..])
+}
+
+// The parts of the word before and after its first `=`.
+fn parts_of(word: &str) -> Option<(&str, &str)> {
+    word.split_once('=')
+}
+
+// The command's option of this name. `-h` is `--help`.
+fn flag_of(command: Command, name: &str) -> Option<Flag> {
+    if name == "-h" {
+        return Some(Flag::Help);
+    }
+    find_named(command.flags(), name)
+}
+
+fn unknown_command(word: &str) -> Wrong<'_> {
+    Wrong::UnknownCommand(word, nearest(&COMMANDS, word, 0))
+}
+
+fn unknown_option<'a>(command: Command, word: &'a str) -> Wrong<'a> {
+    Wrong::UnknownOption(command, word, nearest(command.flags(), word, 2))
+}

@@ -1,4 +1,4 @@
-use Rattle.std.proofs.Common.{◌≡◌, ◌<◌, Result, Ok, Err, length, ap, ◌∙◌, arith, MatchResult}
+use Rattle.std.proofs.Common.{◌≡◌, Result, Ok, Err, ap, ◌∙◌, arith, MatchResult}
 use Rattle.std.specs.Result.{IsErr}
 use Rattle.binfarce_elf.proofs.Headers.{header_is}
 use Rattle.binfarce_elf.proofs.header.parse_header.Goals as goal

@@ -19,9 +19,8 @@ ON_FILES = ["binfarce-list", "binfarce-size", "list", "size", "map", "at", "sect
 
 
 def program(folder, name):
-    for path in (pathlib.Path(folder) / PROGRAMS[name], pathlib.Path(folder) / name):
-        if path.is_file():
-            return str(path.resolve())
+    for path in filter(pathlib.Path.is_file, (pathlib.Path(folder) / PROGRAMS[name], pathlib.Path(folder) / name)):
+        return str(path.resolve())
     sys.exit(f"tests/erased.sh: {folder} has no {name}")
 
 

@@ -2,4 +2,3 @@
 
 pub mod copy_readable;
 pub mod readable;
-pub mod readable_halves;

@@ -1,5 +1,4 @@
-//! One use of each public call, as a caller writes it: the examples of `docs/API.md`, each with a contract that follows from
-//! the contracts of what it calls.
+//! The examples of `docs/API.md` as a caller writes them, each with a contract that follows from those of the calls in it.
 #![tactic(auto)]
 
 pub mod addresses;

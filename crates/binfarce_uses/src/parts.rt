@@ -1,4 +1,3 @@
 //! Which bytes of a file matter.
 
 pub mod cite;
-pub mod cite_each;

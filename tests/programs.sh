@@ -191,3 +191,10 @@ IFS= read -r line <&4
 exec 3>&-
 wait $!
 echo "binfarce at: a line is answered as it comes"
+# The dynamic symbols of a library's code, as readelf has them; stripped, it has no others.
+library=$(gcc -print-file-name=libc.so.6)
+strip -o "$scratch/stripped" "$library"
+code=$(readelf -SW "$library" | sed -n 's/^ *\[ *\([0-9]*\)\] \.text .*/\1/p')
+readelf -W --dyn-syms "$library" | awk -v code="$code" '$4 == "FUNC" && $3 != "0" && $7 == code { print $2 }' >"$scratch/dynamic"
+call binfarce list --dynamic "$scratch/stripped" | sed '$d' | cut -c1-16 | cmp - "$scratch/dynamic"
+ends 1 /dev/null "binfarce: $scratch/stripped: no symbol table (.symtab); --dynamic lists its dynamic symbols" binfarce list "$scratch/stripped"

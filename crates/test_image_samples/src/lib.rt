@@ -1,6 +1,8 @@
 //! Images of small ELF files, and the files that they are laid out in, for tests of what reads them.
 #![tactic(auto)]
 
+pub mod tally;
+
 use binfarce_image::image::{ElfLayout, Image, ImageError, Part, Row, lay_out};
 use std::alloc::{AllocError, Global};
 use test_samples::elf::Layout;

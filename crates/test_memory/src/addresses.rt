@@ -1,11 +1,11 @@
 //! What stands at addresses: all lines, or `OutOfMemory` and nothing or a beginning of them written.
 
 use crate::expected::Expected;
-use crate::tally::{Row, Tally};
 use binfarce_addresses::at::{Places, at};
 use binfarce_addresses::stream::{LinesError, answer_lines};
 use binfarce_tools::list::{ListError, Out};
 use std::alloc::{AllocError, Global};
+use test_image_samples::tally::{Row, Tally};
 use test_samples::elf::ELF64_LITTLE;
 use test_streams::Source;
 

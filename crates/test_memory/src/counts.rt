@@ -1,9 +1,9 @@
 //! The greatest numbers of sections and of load commands: what a search finds comes whichever allocation fails.
 
 use crate::readers::{File, bytes_of};
-use crate::tally::{Row, Tally};
 use binfarce::{ByteOrder, ParseError, elf32, elf64, macho, pe};
 use std::alloc::Global;
+use test_image_samples::tally::{Row, Tally};
 use test_samples::elf::Layout;
 use test_samples::{Patch, patched};
 

@@ -2,9 +2,9 @@
 //!
 //! `TooLarge` has no row: it takes bodies of 2^32 bytes together, or rows that have 2.8 GB in memory.
 
-use crate::tally::{Row, Tally};
 use binfarce_image::image::{ElfLayout, Image, ImageError, Part, lay_out};
 use std::alloc::{AllocError, Global};
+use test_image_samples::tally::{Row, Tally};
 use test_image_samples::{LAYOUTS, bytes, sample, sample_rows, table};
 
 fn is_laid_out(alloc: Global, layout: ElfLayout, file: &[u8]) -> Row {

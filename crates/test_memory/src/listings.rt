@@ -2,7 +2,6 @@
 
 use crate::expected::Expected;
 use crate::readers::{FILES, File, bytes_of, magic_of};
-use crate::tally::{Row, Tally};
 use binfarce::ParseError;
 use binfarce_image::image::ImageError;
 use binfarce_mapping::map;
@@ -10,6 +9,7 @@ use binfarce_tools::list::{ListError, Out, list};
 use binfarce_tools::report::{ReportError, report};
 use std::alloc::{AllocError, Global};
 use test_image_samples::file_beside;
+use test_image_samples::tally::{Row, Tally};
 use test_samples::macho::MACHO;
 use test_samples::{Patch, elf, macho, patched, pe};
 

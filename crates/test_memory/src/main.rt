@@ -19,14 +19,13 @@ mod refusals;
 mod sections;
 mod streams;
 mod symbols;
-mod tally;
 mod without_allocation;
 mod words;
 
-use self::tally::Tally;
 use std::alloc::{AllocError, Global};
 use std::io::Read;
 use std::process::ExitCode;
+use test_image_samples::tally::Tally;
 
 // The number of the allocation that fails.
 const FAILED: usize = 2000;

@@ -1,8 +1,8 @@
 //! Names: the answer, or `AllocError`; no name becomes Unknown since an allocation failed.
 
-use crate::tally::{Row, Tally};
 use binfarce::demangle::{Demangler, Kind, SymbolName, crate_of};
 use std::alloc::{AllocError, Global};
+use test_image_samples::tally::{Row, Tally};
 
 pub(crate) struct Name {
     pub(crate) name: &'static str,

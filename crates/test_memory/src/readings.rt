@@ -1,13 +1,12 @@
 //! Readings of files' parts, beside the bytes of the whole files.
 
-use crate::tally::{Row, Tally};
 use std::alloc::{AllocError, Global};
 use std::fs::File;
+use test_image_samples::tally::{Row, Tally};
 use test_reading::fronts::{Given, LAYOUTS, compared};
 use test_reading::{macho, pe};
 use test_samples::elf::Layout;
 use test_samples::macho::MACHO;
-use test_samples::patched;
 use test_samples::pe::PE;
 
 // A file that has the bytes of a sample.
@@ -32,14 +31,7 @@ pub(crate) fn add_readings(alloc: Global, tally: &mut Tally) {
     // The whole of a file whose header doesn't say how long its load commands are, and the parts of one that does.
     let file = MACHO.as_slice();
     tally.add("all of Mach-O", row_of(macho::compared(alloc, file, &file)));
-    tally.add("parts of Mach-O", row_of(given_by_macho(alloc)));
-}
-
-fn given_by_macho(alloc: Global) -> Given {
-    match patched(alloc, &MACHO, &[macho::SAID]) {
-        Ok(file) => macho::compared(alloc, &file, &file.as_slice()),
-        Err(_) => Given::OutOfMemory,
-    }
+    tally.add("parts of Mach-O", row_of(macho::compared_with_parts(alloc)));
 }
 
 /// Whether the file gives what the sample does. No clause says what an opened file gives, so this run alone refuses a `fill_at`

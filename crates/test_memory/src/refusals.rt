@@ -2,10 +2,10 @@
 
 use crate::expected::Expected;
 use crate::readers::{FILES, File, Symbols, bytes_of, magic_of, symbols};
-use crate::tally::{Row, Tally};
 use binfarce::ParseError;
 use binfarce_tools::list::{ListError, Out, list};
 use std::alloc::Global;
+use test_image_samples::tally::{Row, Tally};
 use test_samples::elf::Layout;
 use test_samples::{Patch, patched};
 

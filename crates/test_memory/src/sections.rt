@@ -1,7 +1,7 @@
 //! Lists of sections, and the bytes of one.
 
-use crate::tally::Tally;
 use std::alloc::Global;
+use test_image_samples::tally::Tally;
 use test_sections::rows::{ROWS, is_right};
 
 pub(crate) fn add_sections(alloc: Global, tally: &mut Tally) {

@@ -1,8 +1,8 @@
 //! The calls of a stream, and a text that ends with NUL.
 
-use crate::tally::Tally;
 use binfarce_bytes::ByteOrder;
 use binfarce_bytes::parser::{Stream, UnexpectedEof, parse_null_string};
+use test_image_samples::tally::Tally;
 
 const BYTES: [u8; 10] = [0xFF, 0x80, 1, 2, 3, 4, 5, 6, 7, 8];
 

@@ -1,12 +1,12 @@
 //! Lists of symbols that aren't empty: the whole list, or `OutOfMemory`.
 
 use crate::readers::{FILES, File, Symbols, bytes_of, symbols};
-use crate::tally::{Row, Tally};
 use binfarce::ParseError;
 use binfarce::demangle::SymbolData;
 use binfarce_image::image::ImageError;
 use std::alloc::{AllocError, Global};
 use test_image_samples::file_of;
+use test_image_samples::tally::{Row, Tally};
 use test_samples::elf::Layout;
 
 // A symbol's complete and trimmed text, its address and its size.

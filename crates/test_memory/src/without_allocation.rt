@@ -2,12 +2,12 @@
 
 use crate::expected::{Expected, is_shown};
 use crate::names::NAMES;
-use crate::tally::Tally;
 use crate::{streams, words};
 use binfarce::demangle::demangle;
 use binfarce::{ByteOrder, Format, ParseError, detect_format, elf32, elf64, macho, pe};
 use binfarce_tools::list::{Out, Sink};
 use std::io;
+use test_image_samples::tally::Tally;
 use test_samples::elf::Layout;
 use test_samples::macho::MACHO;
 use test_samples::pe::PE;

@@ -1,13 +1,13 @@
 //! Errors: their printed words, and what becomes a `ParseError`.
 
 use crate::expected::is_printed;
-use crate::tally::Tally;
 use binfarce::{ParseError, UnexpectedEof};
 use binfarce_image::image::ImageError;
 use binfarce_tools::list::ListError;
 use binfarce_tools::report::ReportError;
 use std::alloc::AllocError;
 use std::fmt;
+use test_image_samples::tally::Tally;
 
 const UNEXPECTED_TYPE: ParseError = ParseError::UnexpectedSectionType {
     expected: 3,

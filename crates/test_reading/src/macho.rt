@@ -6,7 +6,8 @@ use binfarce_reading::ReadError;
 use binfarce_source::Source;
 use binfarce_symbols::functions::FunctionSymbol;
 use std::alloc::Global;
-use test_samples::Patch;
+use test_samples::macho::MACHO;
+use test_samples::{Patch, patched};
 
 /// The size of the sample's load commands in its header, which has none.
 pub const SAID: Patch<'static> = (20, &[0xB0]);
@@ -25,6 +26,14 @@ pub fn compared<S: Source>(alloc: Global, file: &[u8], source: &S) -> Given {
             Err(e) => beside(&whole, &Err(ReadError::Refused(e))),
         },
         Err(e) => beside(&whole, &Err(e)),
+    }
+}
+
+/// The same of the sample with the size of its load commands, of which the parts alone are read.
+pub fn compared_with_parts(alloc: Global) -> Given {
+    match patched(alloc, &MACHO, &[SAID]) {
+        Ok(file) => compared(alloc, &file, &file.as_slice()),
+        Err(_) => Given::OutOfMemory,
     }
 }
 

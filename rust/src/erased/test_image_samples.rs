@@ -2,6 +2,8 @@
 
 //! Images of small ELF files, and the files that they are laid out in, for tests of what reads them.
 
+pub mod tally;
+
 use crate::shim::Vec;
 use crate::erased::binfarce_image::image::{ElfLayout, Image, ImageError, Part, Row, lay_out};
 use crate::shim::alloc::{AllocError, Global};

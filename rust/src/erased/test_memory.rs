@@ -20,15 +20,14 @@ mod refusals;
 mod sections;
 mod streams;
 mod symbols;
-mod tally;
 mod without_allocation;
 mod words;
 
 use crate::shim::{HostRuntime, Vec};
-use self::tally::Tally;
 use crate::shim::alloc::{AllocError, Global};
 use crate::shim::io::Read;
 use std::process::ExitCode;
+use crate::erased::test_image_samples::tally::Tally;
 
 // The number of the allocation that fails.
 const FAILED: usize = 2000;

@@ -3,9 +3,9 @@
 //! The greatest numbers of sections and of load commands: what a search finds comes whichever allocation fails.
 
 use crate::erased::test_memory::readers::{File, bytes_of};
-use crate::erased::test_memory::tally::{Row, Tally};
 use crate::erased::binfarce::{ByteOrder, ParseError, elf32, elf64, macho, pe};
 use crate::shim::alloc::Global;
+use crate::erased::test_image_samples::tally::{Row, Tally};
 use crate::erased::test_samples::elf::Layout;
 use crate::erased::test_samples::{Patch, patched};
 

@@ -5,9 +5,9 @@
 //! `TooLarge` has no row: it takes bodies of 2^32 bytes together, or rows that have 2.8 GB in memory.
 
 use crate::shim::Vec;
-use crate::erased::test_memory::tally::{Row, Tally};
 use crate::erased::binfarce_image::image::{ElfLayout, Image, ImageError, Part, lay_out};
 use crate::shim::alloc::{AllocError, Global};
+use crate::erased::test_image_samples::tally::{Row, Tally};
 use crate::erased::test_image_samples::{LAYOUTS, bytes, sample, sample_rows, table};
 
 fn is_laid_out(alloc: Global, layout: ElfLayout, file: &[u8]) -> Row {

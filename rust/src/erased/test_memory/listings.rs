@@ -4,7 +4,6 @@
 
 use crate::erased::test_memory::expected::Expected;
 use crate::erased::test_memory::readers::{FILES, File, bytes_of, magic_of};
-use crate::erased::test_memory::tally::{Row, Tally};
 use crate::erased::binfarce::ParseError;
 use crate::erased::binfarce_image::image::ImageError;
 use crate::erased::binfarce_mapping::map;
@@ -12,6 +11,7 @@ use crate::erased::binfarce_tools::list::{ListError, Out, list};
 use crate::erased::binfarce_tools::report::{ReportError, report};
 use crate::shim::alloc::{AllocError, Global};
 use crate::erased::test_image_samples::file_beside;
+use crate::erased::test_image_samples::tally::{Row, Tally};
 use crate::erased::test_samples::macho::MACHO;
 use crate::erased::test_samples::{Patch, elf, macho, patched, pe};
 

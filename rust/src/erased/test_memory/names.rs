@@ -3,9 +3,9 @@
 //! Names: the answer, or `AllocError`; no name becomes Unknown since an allocation failed.
 
 use crate::shim::String;
-use crate::erased::test_memory::tally::{Row, Tally};
 use crate::erased::binfarce::demangle::{Demangler, Kind, SymbolName, crate_of};
 use crate::shim::alloc::{AllocError, Global};
+use crate::erased::test_image_samples::tally::{Row, Tally};
 
 pub(crate) struct Name {
     pub(crate) name: &'static str,

@@ -2,8 +2,8 @@
 
 //! Lists of sections, and the bytes of one.
 
-use crate::erased::test_memory::tally::Tally;
 use crate::shim::alloc::Global;
+use crate::erased::test_image_samples::tally::Tally;
 use crate::erased::test_sections::rows::{ROWS, is_right};
 
 pub(crate) fn add_sections(alloc: Global, tally: &mut Tally) {

@@ -2,9 +2,9 @@
 
 //! The calls of a stream, and a text that ends with NUL.
 
-use crate::erased::test_memory::tally::Tally;
 use crate::erased::binfarce_bytes::ByteOrder;
 use crate::erased::binfarce_bytes::parser::{Stream, UnexpectedEof, parse_null_string};
+use crate::erased::test_image_samples::tally::Tally;
 
 const BYTES: [u8; 10] = [0xFF, 0x80, 1, 2, 3, 4, 5, 6, 7, 8];
 

@@ -3,12 +3,12 @@
 //! Lists of symbols that aren't empty: the whole list, or `OutOfMemory`.
 
 use crate::erased::test_memory::readers::{FILES, File, Symbols, bytes_of, symbols};
-use crate::erased::test_memory::tally::{Row, Tally};
 use crate::erased::binfarce::ParseError;
 use crate::erased::binfarce::demangle::SymbolData;
 use crate::erased::binfarce_image::image::ImageError;
 use crate::shim::alloc::{AllocError, Global};
 use crate::erased::test_image_samples::file_of;
+use crate::erased::test_image_samples::tally::{Row, Tally};
 use crate::erased::test_samples::elf::Layout;
 
 // A symbol's complete and trimmed text, its address and its size.

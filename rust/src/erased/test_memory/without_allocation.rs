@@ -4,7 +4,6 @@
 
 use crate::erased::test_memory::expected::{Expected, is_shown};
 use crate::erased::test_memory::names::NAMES;
-use crate::erased::test_memory::tally::Tally;
 use crate::erased::test_memory::{streams, words};
 use crate::erased::binfarce::demangle::demangle;
 use crate::erased::binfarce::{
@@ -12,6 +11,7 @@ use crate::erased::binfarce::{
 };
 use crate::erased::binfarce_tools::list::{Out, Sink};
 use crate::shim::io;
+use crate::erased::test_image_samples::tally::Tally;
 use crate::erased::test_samples::elf::Layout;
 use crate::erased::test_samples::macho::MACHO;
 use crate::erased::test_samples::pe::PE;

@@ -3,13 +3,13 @@
 //! Errors: their printed words, and what becomes a `ParseError`.
 
 use crate::erased::test_memory::expected::is_printed;
-use crate::erased::test_memory::tally::Tally;
 use crate::erased::binfarce::{ParseError, UnexpectedEof};
 use crate::erased::binfarce_image::image::ImageError;
 use crate::erased::binfarce_tools::list::ListError;
 use crate::erased::binfarce_tools::report::ReportError;
 use crate::shim::alloc::AllocError;
 use std::fmt;
+use crate::erased::test_image_samples::tally::Tally;
 
 const UNEXPECTED_TYPE: ParseError = ParseError::UnexpectedSectionType {
     expected: 3,

@@ -9,7 +9,8 @@ use crate::erased::binfarce_reading::ReadError;
 use crate::erased::binfarce_source::Source;
 use crate::erased::binfarce_symbols::functions::FunctionSymbol;
 use crate::shim::alloc::Global;
-use crate::erased::test_samples::Patch;
+use crate::erased::test_samples::macho::MACHO;
+use crate::erased::test_samples::{Patch, patched};
 
 /// The size of the sample's load commands in its header, which has none.
 pub const SAID: Patch<'static> = (20, &[0xB0]);
@@ -28,6 +29,14 @@ pub fn compared<S: Source>(alloc: Global, file: &[u8], source: &S) -> Given {
             Err(e) => beside(&whole, &Err(ReadError::Refused(e))),
         },
         Err(e) => beside(&whole, &Err(e)),
+    }
+}
+
+/// The same of the sample with the size of its load commands, of which the parts alone are read.
+pub fn compared_with_parts(alloc: Global) -> Given {
+    match patched(alloc, &MACHO, &[SAID]) {
+        Ok(file) => compared(alloc, &file, &file.as_slice()),
+        Err(_) => Given::OutOfMemory,
     }
 }
 

@@ -1,4 +1,4 @@
-// From crates/test_memory/src/tally.rt, by tools/erase.
+// From crates/test_image_samples/src/tally.rt, by tools/erase.
 
 //! What rows give, and whether that may be.
 
@@ -6,15 +6,15 @@ use crate::shim::alloc::AllocError;
 
 /// What a row gives: whether its answer is the whole one, or `AllocError` where an allocation failed for it. The failed
 /// allocation may be one of the row's own, as for the bytes of its file.
-pub(crate) type Row = Result<bool, AllocError>;
+pub type Row = Result<bool, AllocError>;
 
 /// A row that is wrong, and how.
-pub(crate) type Wrong = (&'static str, &'static str);
+pub type Wrong = (&'static str, &'static str);
 
 /// What the rows of a group gave.
-pub(crate) struct Tally {
+pub struct Tally {
     /// How many there are.
-    pub(crate) rows: usize,
+    pub rows: usize,
     // The first one that an allocation failed for.
     out_of_memory: Option<&'static str>,
     // The first one that is wrong.
@@ -23,7 +23,7 @@ pub(crate) struct Tally {
 
 impl Tally {
     /// Of no rows.
-    pub(crate) fn new() -> Tally {
+    pub fn new() -> Tally {
         Tally {
             rows: 0,
             out_of_memory: None,
@@ -32,7 +32,7 @@ impl Tally {
     }
 
     /// Counts a row. Since one allocation fails in a run, no more than one row may be out of memory.
-    pub(crate) fn add(&mut self, name: &'static str, row: Row) {
+    pub fn add(&mut self, name: &'static str, row: Row) {
         self.rows = self.rows.saturating_add(1);
         match row {
             Ok(true) => {}
@@ -51,7 +51,7 @@ impl Tally {
     }
 
     /// The first row that is wrong. Where no allocation failed, that is also one that is out of memory.
-    pub(crate) fn first_wrong(&self, has_failed: bool) -> Option<Wrong> {
+    pub fn first_wrong(&self, has_failed: bool) -> Option<Wrong> {
         match (self.wrong, self.out_of_memory) {
             (Some(wrong), _) => Some(wrong),
             (None, Some(name)) if !has_failed => {

@@ -1,5 +1,5 @@
 #!/usr/bin/env python3
-"""Compares what binfarce-at answers of random addresses with GNU readelf and addr2line -f: 10,000 in each ELF file.
+"""Compares what `binfarce at` answers of random addresses with GNU readelf and addr2line -f: 10,000 in each ELF file.
 
 The symbols are those of compare-elf.py, and their readable names those of the listing, which compare-elf.py compares. An
 address is shown by the symbol that begins last of those that hold it, and of several by the first in table order; a line

@@ -1,5 +1,5 @@
 #!/usr/bin/env python3
-"""Compares what a filter writes of logs with `rustfilt`'s rule: compare-filter.py FILTER LOG..
+"""Compares what `binfarce filter` writes of logs with `rustfilt`'s rule: compare-filter.py BINFARCE LOG..
 
 The rule: each match of `_(ZN|R)[$._[:alnum:]]*` is demangled whole, without a `.llvm.` and number at its end, and a rest that
 begins with `.` is kept. Texts are those of `c++filt` without the hash (legacy names) and of `llvm-cxxfilt` (v0 names).
@@ -47,7 +47,7 @@ def main():
         found = [p for m in MATCH.finditer(log) if (p := parts(m[0]))]
         shown = texts(sorted({name for name, _ in found}))
         want = MATCH.sub(lambda m: shown[p[0]] + p[1] if (p := parts(m[0])) else m[0], log).split(b"\n")
-        got = subprocess.run([sys.argv[1]], input=log, stdout=subprocess.PIPE, check=True).stdout.split(b"\n")
+        got = subprocess.run([sys.argv[1], "filter"], input=log, stdout=subprocess.PIPE, check=True).stdout.split(b"\n")
         other = [(line, a, b) for line, a, b in zip(log.split(b"\n"), want, got) if a != b]
         print(f"{path}: {len(got)} lines, {len(found)} names, {len(other)} lines differ")
         for line, a, b in other[:6]:

@@ -5,7 +5,7 @@
 //! - `peer names`: of each line of standard input the kind, the complete and the trimmed name and the crate, with tabs
 //!   between them, in which a tab, a line feed, a return and a backslash are `\t`, `\n`, `\r` and `\\`; `PANIC` where the
 //!   crate panics;
-//! - `peer filter`: standard input with its names made readable, as `binfarce-filter` does.
+//! - `peer filter`: standard input with its names made readable, as `binfarce filter` does.
 //!
 //! The status is 1 where a file is refused, and 2 for other arguments.
 

@@ -93,7 +93,7 @@ def names(rng):
     """Mangled names of the tests and random ones, most of them changed."""
     real = []
     for path in ("v0_real", "legacy_real"):
-        text = (TOP / f"crates/test_names/src/tests/{path}.rt").read_text()
+        text = (TOP / f"crates/test_names/src/names/{path}.rt").read_text()
         real += re.findall(r"^(_(?:R|ZN)[^|\n]*)\|", text, re.M)
     made = subprocess.run([sys.executable, TOP / "bench/random-names.py", "2000", "7"], capture_output=True, check=True)
     real += made.stdout.decode().split()

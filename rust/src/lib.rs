@@ -59,9 +59,9 @@ mod tests;
 pub use any::{Functions, Sections, functions, list, report, section_bytes, sections};
 pub use erased::binfarce_bytes::ByteOrder;
 pub use erased::binfarce_elf::symbol_table::SymbolTable;
-pub use erased::binfarce_format::{Format, detect_format};
+pub use erased::binfarce_bytes::format::{Format, detect_format};
 pub use erased::binfarce_sections::sections::Section;
-pub use erased::binfarce_symbols::functions::{FunctionSymbol, SectionFunction, symbol_at};
+pub use erased::binfarce_bytes::functions::{FunctionSymbol, SectionFunction, symbol_at};
 pub use error::{Error, OutOfMemory, ParseError, UnexpectedEof};
 pub use filter::{Form, filter, filter_stream};
 

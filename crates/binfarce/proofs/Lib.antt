@@ -1,1 +1,2 @@
 pub mod PeSizes
+pub mod Made

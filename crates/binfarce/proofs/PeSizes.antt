@@ -6,9 +6,9 @@ use Rattle.std.specs.List.{filter_map, cons_option}
 use Rattle.std.proofs.lemmas.List.Elements.{All-nil, All-cons, All-contains}
 use Rattle.binfarce_names.specs.declared.demangle.SymbolData.{SymbolData}
 use Rattle.binfarce_bytes.specs.Refusal.{◌>>=◌, Refusal}
-use Rattle.binfarce_symbols.specs.Sizes.{RowAddress, arranged}
-use Rattle.binfarce_symbols.specs.Entries.{Answers, ListsSome}
-use Rattle.binfarce_naming.specs.Symbol.{AreSymbolsOf, HoldsSymbols}
+use Rattle.binfarce_bytes.specs.Sizes.{RowAddress, arranged}
+use Rattle.binfarce_bytes.specs.Entries.{Answers, ListsSome}
+use Rattle.binfarce.specs.Symbol.{AreSymbolsOf, HoldsSymbols}
 use Rattle.binfarce_pe.specs.PeSymbols.{SymbolTable, symbol_of, name_of, kept_rows, size_among, size_members, entry_of, entries_of, Located, located, pe_answer}
 use Rattle.binfarce.specs.PeSizes.{EqualAddressesEqualSizes}
 

@@ -8,11 +8,10 @@ pub use Rattle.binfarce_bytes.specs.Text
 pub use Rattle.binfarce_bytes.specs.Steps
 pub use Rattle.binfarce_bytes.specs.Refusal
 pub use Rattle.binfarce_bytes.specs.Walk
-pub use Rattle.binfarce_naming.specs.Symbol
-pub use Rattle.binfarce_symbols.specs.SectionEntries
-pub use Rattle.binfarce_symbols.specs.SymbolViews
-pub use Rattle.binfarce_symbols.specs.Found
-pub use Rattle.binfarce_symbols.specs.Sizes
+pub use Rattle.binfarce_bytes.specs.SectionEntries
+pub use Rattle.binfarce_bytes.specs.SymbolViews
+pub use Rattle.binfarce_bytes.specs.Found
+pub use Rattle.binfarce_bytes.specs.Sizes
 pub use Rattle.binfarce_elf.specs.Elf
 pub use Rattle.binfarce_elf.specs.SymbolTables
 pub use Rattle.binfarce_elf.specs.ElfSymbols
@@ -27,5 +26,6 @@ pub use Rattle.binfarce_pe.specs.Pe
 pub use Rattle.binfarce_pe.specs.PeSymbols
 pub use Rattle.binfarce_pe.specs.PeViews
 pub use Rattle.binfarce_pe.specs.PeAll
-pub use Rattle.binfarce_format.specs.Format
+pub use Rattle.binfarce_bytes.specs.Format
 pub mod PeSizes
+pub mod Symbol

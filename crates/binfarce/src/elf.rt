@@ -4,13 +4,14 @@ ghost use Rattle.std.specs.Prelude.{◌≡◌, ◌<◌, ◌≤◌, length, nat_e
 ghost use Rattle.std.specs.Option.{option_map};
 ghost use Rattle.binfarce_bytes.specs.Refusal.{Gives, refusal_of, unexpected_eof};
 ghost use Rattle.binfarce_bytes.specs.Walk.{MayBeAsked, FirstAccepted, first};
-ghost use Rattle.binfarce_symbols.specs.Entries.{Answers, ListsSome};
-ghost use Rattle.binfarce_naming.specs.Symbol.{HoldsSymbols};
+ghost use Rattle.binfarce_bytes.specs.Entries.{Answers, ListsSome};
+ghost use Rattle.binfarce.specs.Symbol.{HoldsSymbols};
 ghost use Rattle.binfarce_elf.specs.Elf.{header_of, section_table, walk, name_of};
 ghost use Rattle.binfarce_elf.specs.ElfSymbols.{is_named, section_data, elf_answer, dynamic_answer};
 ghost use Rattle.binfarce_elf.specs.ElfAll.{all_answer, all_left};
 ghost use Rattle.binfarce_elf.specs.ElfViews.{header_view, section_view, functions_view};
 
+use crate::symbols::symbols_of;
 use binfarce_bytes::{ByteOrder, ParseError};
 use binfarce_elf::all::{self, AllFunctions};
 use binfarce_elf::class::Class;
@@ -19,7 +20,6 @@ use binfarce_elf::sections::{self, HasSections, Section, Sections, Table};
 use binfarce_elf::symbol_table::SymbolTable;
 use binfarce_elf::symbols::{self, Functions};
 use binfarce_names::demangle::SymbolData;
-use binfarce_naming::symbols::symbols_of;
 use std::alloc::Global;
 use std::marker::Model;
 
@@ -84,7 +84,8 @@ impl<'a, C: Class> Elf<'a, C> {
     ///
     /// `MalformedInput` where their end passes `usize`, `UnexpectedEof` where it passes the file's.
     pub fn section_bytes(&self, section: &Section<C>) -> Result<&'a [u8], ParseError>
-        ensures { Gives refusal_of (λ b. b.now) (section_data self.now.bytes (section_view C.number_of section.now)) result }
+        ensures { Gives refusal_of
+            (λ b. b.now) (section_data self.now.bytes (section_view C.number_of section.now)) result }
     {
         sections::section_data::<C>(self.data, *section)
     }
@@ -100,8 +101,10 @@ impl<'a, C: Class> Elf<'a, C> {
         &self,
         callback: F,
     ) -> Result<Option<Section<C>>, ParseError>
-        requires { All (MayBeAsked (section_view C.number_of) (F.pre callback)) (walk C.table (section_table C.table self.now)).items }
-        ensures { FirstAccepted refusal_of (section_view C.number_of) (F.post callback) (walk C.table (section_table C.table self.now)) result }
+        requires { All (MayBeAsked (section_view C.number_of) (F.pre callback))
+            (walk C.table (section_table C.table self.now)).items }
+        ensures { FirstAccepted refusal_of (section_view C.number_of) (F.post callback)
+            (walk C.table (section_table C.table self.now)) result }
     {
         Ok(sections::first_section::<C, F>(self.section_table(), callback)?)
     }
@@ -142,7 +145,8 @@ impl<'a, C: Class> Elf<'a, C> {
     /// where that isn't of kind 3 (`SHT_STRTAB`); `MalformedInput` and `UnexpectedEof` where the string table's and
     /// then the symbol table's bytes end past `usize` and past the file; `UnexpectedEof` for a truncated last row.
     pub fn functions(&self, section_name: &str) -> Result<(Functions<'a, C>, u64), ParseError>
-        ensures { Gives refusal_of (functions_view C.table) (elf_answer C.table (section_table C.table self.now) section_name.now) result }
+        ensures { Gives refusal_of (functions_view C.table)
+            (elf_answer C.table (section_table C.table self.now) section_name.now) result }
     {
         symbols::section_functions::<C>(self.section_table(), section_name)
     }
@@ -157,7 +161,8 @@ impl<'a, C: Class> Elf<'a, C> {
         &self,
         section_name: &str,
     ) -> Result<(Functions<'a, C>, u64), ParseError>
-        ensures { Gives refusal_of (functions_view C.table) (dynamic_answer C.table (section_table C.table self.now) section_name.now) result }
+        ensures { Gives refusal_of (functions_view C.table)
+            (dynamic_answer C.table (section_table C.table self.now) section_name.now) result }
     {
         symbols::dynamic_functions::<C>(self.section_table(), section_name)
     }
@@ -173,7 +178,8 @@ impl<'a, C: Class> Elf<'a, C> {
     /// In this order: `UnexpectedEof` where the section header table doesn't begin in the file, or a section header is
     /// truncated; those of `functions`, or `dynamic_functions`, from the missing symbol table on.
     pub fn all_functions(&self, which: SymbolTable) -> Result<AllFunctions<'a, C>, ParseError>
-        ensures { Gives refusal_of (all_left C.table) (all_answer which C.table (section_table C.table self.now)) result }
+        ensures { Gives refusal_of (all_left C.table)
+            (all_answer which C.table (section_table C.table self.now)) result }
     {
         all::all_functions::<C>(self.section_table(), which)
     }
@@ -188,7 +194,8 @@ impl<'a, C: Class> Elf<'a, C> {
         alloc: Global,
         section_name: &str,
     ) -> Result<(Vec<SymbolData>, u64), ParseError>
-        ensures { Answers HoldsSymbols ListsSome (elf_answer C.table (section_table C.table self.now) section_name.now) result }
+        ensures { Answers HoldsSymbols ListsSome
+            (elf_answer C.table (section_table C.table self.now) section_name.now) result }
     {
         let (functions, size) = self.functions(section_name)?;
         Ok((symbols_of(alloc, functions)?, size))
@@ -204,7 +211,8 @@ impl<'a, C: Class> Elf<'a, C> {
         alloc: Global,
         section_name: &str,
     ) -> Result<(Vec<SymbolData>, u64), ParseError>
-        ensures { Answers HoldsSymbols ListsSome (dynamic_answer C.table (section_table C.table self.now) section_name.now) result }
+        ensures { Answers HoldsSymbols ListsSome
+            (dynamic_answer C.table (section_table C.table self.now) section_name.now) result }
     {
         let (functions, size) = self.dynamic_functions(section_name)?;
         let symbols = symbols_of(alloc, functions)?;

@@ -7,13 +7,15 @@ ghost use Rattle.binfarce_bytes.specs.Walk.{MayBeAsked, FirstAccepted, first};
 ghost use Rattle.binfarce_macho.specs.Macho.{header_of, section_data, walk, is_named, least_length};
 ghost use Rattle.binfarce_macho.specs.MachoAll.{all_answer, HasSection, AllHasText};
 ghost use Rattle.binfarce_macho.specs.MachoSymbols.{ArrangesRows, SizesEntries, HasAddress, macho_answer};
-ghost use Rattle.binfarce_symbols.specs.Entries.{Answers};
-ghost use Rattle.binfarce_symbols.specs.SectionEntries.{AnswersAll};
-ghost use Rattle.binfarce_symbols.specs.SymbolViews.{HoldsFunctions, HoldsSectionFunctions};
+ghost use Rattle.binfarce_bytes.specs.Entries.{Answers};
+ghost use Rattle.binfarce_bytes.specs.SectionEntries.{AnswersAll};
+ghost use Rattle.binfarce_bytes.specs.SymbolViews.{HoldsFunctions, HoldsSectionFunctions};
 ghost use Rattle.binfarce_macho.specs.MachoViews.{header_view, section_view};
-ghost use Rattle.binfarce_naming.specs.Symbol.{HoldsSymbols};
+ghost use Rattle.binfarce.specs.Symbol.{HoldsSymbols};
 
+use crate::symbols::symbols_of;
 use binfarce_bytes::ParseError;
+use binfarce_bytes::functions::{FunctionSymbol, SectionFunction};
 use binfarce_macho::all::functions_of_sections;
 pub use binfarce_macho::header::MachoHeader;
 use binfarce_macho::header::parse_header;
@@ -21,8 +23,6 @@ use binfarce_macho::sections;
 pub use binfarce_macho::sections::{Section, Sections};
 use binfarce_macho::symbols::functions_of_file;
 use binfarce_names::demangle::SymbolData;
-use binfarce_naming::symbols::symbols_of;
-use binfarce_symbols::functions::{FunctionSymbol, SectionFunction};
 use std::alloc::Global;
 use std::marker::Model;
 

@@ -4,10 +4,10 @@ ghost use Rattle.std.specs.Prelude.{◌≡◌, ◌<◌, ◌≤◌, length, All, 
 ghost use Rattle.std.specs.Option.{option_map};
 ghost use Rattle.binfarce_bytes.specs.Refusal.{Gives, refusal_of, unexpected_eof};
 ghost use Rattle.binfarce_bytes.specs.Walk.{MayBeAsked, FirstAccepted, first};
-ghost use Rattle.binfarce_symbols.specs.Entries.{Answers, ListsSome};
-ghost use Rattle.binfarce_symbols.specs.SectionEntries.{AnswersAll};
-ghost use Rattle.binfarce_symbols.specs.SymbolViews.{HoldsFunctions, HoldsSectionFunctions};
-ghost use Rattle.binfarce_naming.specs.Symbol.{HoldsSymbols};
+ghost use Rattle.binfarce_bytes.specs.Entries.{Answers, ListsSome};
+ghost use Rattle.binfarce_bytes.specs.SectionEntries.{AnswersAll};
+ghost use Rattle.binfarce_bytes.specs.SymbolViews.{HoldsFunctions, HoldsSectionFunctions};
+ghost use Rattle.binfarce.specs.Symbol.{HoldsSymbols};
 ghost use Rattle.binfarce_pe.specs.Pe.{least_length, signature_offset, header_of, section_data, walk, is_named};
 ghost use Rattle.binfarce_pe.specs.PeAll.{all_answer, HasSection, AllHasText};
 ghost use Rattle.binfarce_pe.specs.PeParts.{places_of, places_view};
@@ -15,9 +15,10 @@ ghost use Rattle.binfarce_pe.specs.PeSymbols.{pe_answer, ArrangesRows};
 ghost use Rattle.binfarce_pe.specs.PeViews.{header_view, section_view};
 ghost use Rattle.binfarce.specs.PeSizes.{EqualAddressesEqualSizes};
 
+use crate::symbols::symbols_of;
 use binfarce_bytes::ParseError;
+use binfarce_bytes::functions::{FunctionSymbol, SectionFunction};
 use binfarce_names::demangle::SymbolData;
-use binfarce_naming::symbols::symbols_of;
 use binfarce_pe::all::functions_of_sections;
 pub use binfarce_pe::header::PeHeader;
 use binfarce_pe::header::parse_header;
@@ -25,7 +26,6 @@ use binfarce_pe::parts::{Places, places_after};
 pub use binfarce_pe::sections::{Section, Sections};
 use binfarce_pe::sections::{self, first_of_file};
 use binfarce_pe::symbols::functions_of_file;
-use binfarce_symbols::functions::{FunctionSymbol, SectionFunction};
 use std::alloc::Global;
 use std::marker::Model;
 
@@ -46,7 +46,8 @@ impl<'a> Model for Pe<'a> {
 
     ghost view = { λ p. p.data.now };
 
-    ghost invariant = { λ p. (header_view p.header ≡ header_of p.data.now) × (p.pe_pointer ≡ signature_offset p.data.now) × (least_length p.data.now ≤ length p.data.now) };
+    ghost invariant = { λ p. (header_view p.header ≡ header_of p.data.now)
+        × (p.pe_pointer ≡ signature_offset p.data.now) × (least_length p.data.now ≤ length p.data.now) };
 }
 
 /// Reads the file header, without a look at the signature.

@@ -6,3 +6,10 @@ pub mod Trimmed
 pub mod Streams
 pub mod Answering
 pub mod NameCells
+pub mod Links
+pub mod Rows
+pub mod Found
+pub mod HexNumbers
+pub mod Values
+pub mod HexLines
+pub mod Spans

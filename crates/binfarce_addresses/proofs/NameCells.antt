@@ -8,10 +8,10 @@ use Rattle.std.proofs.lemmas.List.{get_or_default}
 use Rattle.binfarce.specs.Symbol.{Entry}
 use Rattle.binfarce.specs.SymbolViews.{function_view}
 use Rattle.binfarce.specs.declared.FunctionSymbol.{FunctionSymbol}
-use Rattle.binfarce_ranges.specs.declared.ranges.AddressRange.{AddressRange}
-use Rattle.binfarce_ranges.specs.declared.ranges.Found.{Found}
-use Rattle.binfarce_ranges.specs.declared.ranges.Span.{Span}
-use Rattle.binfarce_ranges.specs.Range.{IsSpanOf}
+use Rattle.binfarce_addresses.specs.declared.ranges.AddressRange.{AddressRange}
+use Rattle.binfarce_addresses.specs.declared.ranges.Found.{Found}
+use Rattle.binfarce_addresses.specs.declared.ranges.Span.{Span}
+use Rattle.binfarce_addresses.specs.Range.{IsSpanOf}
 use Rattle.binfarce_addresses.specs.Lines.{in_file, found_at}
 use Rattle.binfarce_addresses.specs.declared.cells.Cell.{Cell}
 use Rattle.binfarce_addresses.specs.machine.Cells.{AreCellsOf, IsCellOf, IsNameAt, cell_at, no_cell}

@@ -6,12 +6,12 @@ use Rattle.std.proofs.lemmas.List.Elements.{All-head, All-tail}
 use Rattle.binfarce.specs.Symbol.{Entry}
 use Rattle.binfarce.specs.SymbolViews.{function_view}
 use Rattle.binfarce.specs.declared.FunctionSymbol.{FunctionSymbol}
-use Rattle.binfarce_ranges.specs.declared.ranges.AddressRange.{AddressRange}
-use Rattle.binfarce_ranges.specs.Range.{Holds, NoneHolds, IsFoundAt}
+use Rattle.binfarce_addresses.specs.declared.ranges.AddressRange.{AddressRange}
+use Rattle.binfarce_addresses.specs.Range.{Holds, NoneHolds, IsFoundAt}
 use Rattle.binfarce.specs.Found.{holds, higher_of, highest, entry_at}
 use Rattle.binfarce_addresses.specs.Lines.{in_file, found_at}
-use Rattle.binfarce_ranges.specs.declared.ranges.Found.{Found}
-use Rattle.binfarce_ranges.specs.Range.{Finds}
+use Rattle.binfarce_addresses.specs.declared.ranges.Found.{Found}
+use Rattle.binfarce_addresses.specs.Range.{Finds}
 use Rattle.binfarce_addresses.specs.machine.Places.{range_of, ranges_of, IsShownAt, StandsAt}
 
 lies_in : (low high address : ℕ) → low ≤ address → address < high → (nat_le low address && nat_lt address high) ≡ true

@@ -6,7 +6,7 @@ use Rattle.std.proofs.Math.Seq.{drop-append-add}
 use Rattle.std.proofs.lemmas.List.{drop-drop, take_all, length-drop, length-take-le, get_or-take, take-append-drop}
 use Rattle.std.proofs.lemmas.List.Elements.{All-from_get_or}
 use Rattle.std.proofs.lemmas.List.Sums.{sum_by_push}
-use Rattle.binfarce_ranges.specs.Address.{address_of}
+use Rattle.binfarce_addresses.specs.Address.{address_of}
 use Rattle.binfarce_addresses.specs.Stream.{missing, with_line_feeds, Begins, HasNoLineFeed, Writes}
 use Rattle.binfarce_addresses.specs.machine.Answering.{IsFirst}
 use Rattle.binfarce_addresses.proofs.AddressLines.{all_zip_push}

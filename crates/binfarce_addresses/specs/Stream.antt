@@ -5,7 +5,7 @@ use Rattle.std.specs.Io.KnownBytes.{Appends, Consumes, IsAtEnd}
 use Rattle.std.specs.List.{AllZip, concat, count_by, flat_map, prefix_len, suffix_len}
 use Rattle.binfarce.specs.Symbol.{Entry}
 use Rattle.binfarce_tools.specs.Writing.{AppendsBeginning}
-use Rattle.binfarce_ranges.specs.Address.{address_of}
+use Rattle.binfarce_addresses.specs.Address.{address_of}
 use Rattle.binfarce_addresses.specs.Lines.{IsLineAt}
 use Rattle.binfarce_addresses.specs.declared.stream.LinesError.{LinesError}
 use Rattle.binfarce_addresses.specs.declared.stream.LinesError.TheVariants.{Read, OutOfMemory, Write}

@@ -2,3 +2,5 @@
 pub mod Places
 pub mod Cells
 pub mod Answering
+pub mod Index
+pub mod Digits

@@ -22,8 +22,8 @@ ghost use Rattle.binfarce_addresses.specs.machine.Places.{ArePlacesOf, IsNamedAt
 use crate::cells::Cells;
 use crate::digits::{push_address, push_offset};
 use crate::names::{Names, name_of, names_of};
+use crate::ranges::{AddressRange, Found, Ranges};
 use binfarce::FunctionSymbol;
-use binfarce_ranges::ranges::{AddressRange, Found, Ranges};
 use binfarce_tools::functions::{Functions, functions_of_file};
 use binfarce_tools::list::{ListError, Sink};
 use binfarce_tools::tables::Tables;
@@ -47,7 +47,8 @@ impl<'a> Model for Places<'a> {
 
     ghost view = { λ s. map function_view s.functions.items };
 
-    ghost invariant = { λ s. ArePlacesOf s.functions.items s.ranges (string_bytes s.names.text) s.names.bounds.items s.cells.cells.items };
+    ghost invariant = { λ s. ArePlacesOf s.functions.items s.ranges
+        (string_bytes s.names.text) s.names.bounds.items s.cells.cells.items };
 }
 
 impl<'a> Places<'a> {
@@ -57,7 +58,8 @@ impl<'a> Places<'a> {
     ///
     /// As `list`, but for `Write`.
     pub fn of_file(alloc: Global, data: &'a [u8], section: &str) -> Result<Places<'a>, ListError>
-        ensures { IsMadeOf (NeedsMemory (format_of data.entry.now) data.entry.now) (symbols_answer (format_of data.entry.now) data.entry.now section.now) result }
+        ensures { IsMadeOf (NeedsMemory (format_of data.entry.now) data.entry.now)
+            (symbols_answer (format_of data.entry.now) data.entry.now section.now) result }
     {
         let (functions, _) = functions_of_file(alloc, data, section)?;
         let places = places_of(alloc, functions)?;
@@ -70,7 +72,8 @@ impl<'a> Places<'a> {
     ///
     /// As `of_file`.
     pub fn of_tables(alloc: Global, tables: &'a Tables) -> Result<Places<'a>, ListError>
-        ensures made { (which : SymbolTable) (file section : List ℕ) → AreTablesOf which file section tables.entry.now → IsMadeOf (NeedsMemory (format_of file) file) (answer_of which file section) result }
+        ensures made { (which : SymbolTable) (file section : List ℕ) → AreTablesOf which file section tables.entry.now
+            → IsMadeOf (NeedsMemory (format_of file) file) (answer_of which file section) result }
         ensures unwritten { IfErr result (λ e. e ≢ Write) }
     {
         let (functions, _) = tables.functions(alloc)?;
@@ -95,7 +98,8 @@ impl<'a> Places<'a> {
     /// The function symbol that an address is shown by once the base is taken off, and the offset into it.
     pub fn find(&self, base: u64, address: u64) -> Option<(FunctionSymbol<'a>, u64)>
         ensures { MatchOption result (found_at self.now (in_file base address) ≡ None)
-            (λ f. (found_at self.now (in_file base address) ≡ Some (function_view f.0)) × (f.1 ≡ address - base - f.0.address)) }
+            (λ f. (found_at self.now (in_file base address) ≡ Some (function_view f.0))
+            × (f.1 ≡ address - base - f.0.address)) }
     {
         let (_, function, offset) = self.find_place(base, address)?;
         Some((function, offset))
@@ -104,7 +108,8 @@ impl<'a> Places<'a> {
     // Its place, itself, and the offset into it.
     fn find_place(&self, base: u64, address: u64) -> Option<(usize, FunctionSymbol<'a>, u64)>
         ensures { MatchOption result (found_at self.now (in_file base address) ≡ None)
-            (λ f. (found_at self.now (in_file base address) ≡ Some (function_view f.1)) × (f.2 ≡ address - base - f.1.address) × StandsAt self.now f.0 (function_view f.1)) }
+            (λ f. (found_at self.now (in_file base address) ≡ Some (function_view f.1))
+            × (f.2 ≡ address - base - f.1.address) × StandsAt self.now f.0 (function_view f.1)) }
     {
         let in_file = address.checked_sub(base)?;
         let place = self.ranges.find(in_file)?;
@@ -125,7 +130,8 @@ impl<'a> Places<'a> {
         base: u64,
         address: u64,
     ) -> Result<(), AllocError>
-        ensures { OnOk result ((line : List ℕ) × IsLineAt self.now base address line × (text.new.items ≡ text.old.items ++ line)) }
+        ensures { OnOk result
+            ((line : List ℕ) × IsLineAt self.now base address line × (text.new.items ≡ text.old.items ++ line)) }
     {
         let shown = self.find_shown(base, address);
         self.push_shown(alloc, text, base, address, shown)
@@ -140,7 +146,9 @@ impl<'a> Places<'a> {
         base: u64,
         addresses: &[Option<u64>],
     ) -> Result<(), AllocError>
-        ensures { OnOk result ((answers : List ℕ) × AreAnswersOf self.now base addresses.now answers × (text.new.items ≡ text.old.items ++ answers)) }
+        ensures { OnOk result
+            ((answers : List ℕ) × AreAnswersOf self.now base addresses.now answers
+            × (text.new.items ≡ text.old.items ++ answers)) }
     {
         let nears = self.cells.nears(alloc, base, addresses)?;
         let names = self.names.text.as_bytes();
@@ -161,7 +169,9 @@ impl<'a> Places<'a> {
         address: Option<u64>,
         near: usize,
     ) -> Result<(), AllocError>
-        ensures { OnOk result ((answer : List ℕ) × IsAnswerOf self.now base address answer × (text.new.items ≡ text.old.items ++ answer)) }
+        ensures { OnOk result
+            ((answer : List ℕ) × IsAnswerOf self.now base address answer
+            × (text.new.items ≡ text.old.items ++ answer)) }
     {
         match address {
             Some(address) => self.push_near(alloc, text, base, address, near),
@@ -178,7 +188,8 @@ impl<'a> Places<'a> {
         address: u64,
         near: usize,
     ) -> Result<(), AllocError>
-        ensures { OnOk result ((line : List ℕ) × IsLineAt self.now base address line × (text.new.items ≡ text.old.items ++ line)) }
+        ensures { OnOk result
+            ((line : List ℕ) × IsLineAt self.now base address line × (text.new.items ≡ text.old.items ++ line)) }
     {
         if let Some((name, offset)) = self.near_name(base, address, near) {
             push_address(text, address)?;
@@ -249,7 +260,8 @@ impl<'a> Places<'a> {
         shown: Option<Found>,
     ) -> Result<(), AllocError>
         requires { IsShownAt self.now base address shown }
-        ensures { OnOk result ((line : List ℕ) × IsLineAt self.now base address line × (text.new.items ≡ text.old.items ++ line)) }
+        ensures { OnOk result
+            ((line : List ℕ) × IsLineAt self.now base address line × (text.new.items ≡ text.old.items ++ line)) }
     {
         push_address(text, address)?;
         match shown {
@@ -268,7 +280,8 @@ impl<'a> Places<'a> {
     // Writes the trimmed name of the function symbol at a place after the text.
     fn push_name(&self, alloc: Global, text: &mut Vec<u8>, place: usize) -> Result<(), AllocError>
         requires { place < length self.now }
-        ensures { OnOk result ((name : List ℕ) × IsNamedAt self.now place name × (text.new.items ≡ text.old.items ++ name)) }
+        ensures { OnOk result
+            ((name : List ℕ) × IsNamedAt self.now place name × (text.new.items ≡ text.old.items ++ name)) }
     {
         match self.kept_name(place) {
             Some(name) => {
@@ -341,8 +354,10 @@ pub fn at<S: Sink>(
     addresses: &[u64],
     out: &mut S,
 ) -> Result<(), ListError>
-    ensures tells { Tells ListingFits (NeedsMemory (format_of data.now) data.now) (symbols_answer (format_of data.now) data.now section.now) (outcome_of result) }
-    ensures takes { Takes (AreLinesAt base addresses.now) (symbols_answer (format_of data.now) data.now section.now) (S.taken out.old) (S.taken out.new) (outcome_of result) }
+    ensures tells { Tells ListingFits (NeedsMemory (format_of data.now) data.now)
+        (symbols_answer (format_of data.now) data.now section.now) (outcome_of result) }
+    ensures takes { Takes (AreLinesAt base addresses.now) (symbols_answer (format_of data.now) data.now section.now)
+        (S.taken out.old) (S.taken out.new) (outcome_of result) }
     ensures fails { Fails (S.has_failed out.old) (S.has_failed out.new) (outcome_of result) }
     ensures leaves { Leaves out.old out.new (outcome_of result) }
 {
@@ -363,8 +378,11 @@ pub fn at_tables<S: Sink>(
     addresses: &[u64],
     out: &mut S,
 ) -> Result<(), ListError>
-    ensures tells { (which : SymbolTable) (file section : List ℕ) → AreTablesOf which file section tables.now → Tells ListingFits (NeedsMemory (format_of file) file) (answer_of which file section) (outcome_of result) }
-    ensures takes { (which : SymbolTable) (file section : List ℕ) → AreTablesOf which file section tables.now → Takes (AreLinesAt base addresses.now) (answer_of which file section) (S.taken out.old) (S.taken out.new) (outcome_of result) }
+    ensures tells { (which : SymbolTable) (file section : List ℕ) → AreTablesOf which file section tables.now
+        → Tells ListingFits (NeedsMemory (format_of file) file) (answer_of which file section) (outcome_of result) }
+    ensures takes { (which : SymbolTable) (file section : List ℕ) → AreTablesOf which file section tables.now
+        → Takes (AreLinesAt base addresses.now) (answer_of which file section) (S.taken out.old) (S.taken out.new)
+        (outcome_of result) }
     ensures fails { Fails (S.has_failed out.old) (S.has_failed out.new) (outcome_of result) }
     ensures leaves { Leaves out.old out.new (outcome_of result) }
 {

@@ -3,8 +3,8 @@
 ghost use Rattle.std.specs.Prelude.{◌≡◌, ◌+◌, ◌≤◌, max, length, IfOk, IfSome};
 ghost use Rattle.binfarce_addresses.specs.machine.Cells.{AreCellsOf, IsCellOf};
 
-use binfarce_ranges::marks::Marks;
-use binfarce_ranges::ranges::Ranges;
+use crate::marks::Marks;
+use crate::ranges::Ranges;
 use std::alloc::{AllocError, Global};
 
 // How many cells are looked at where slices of the marks have several.

@@ -1,10 +1,13 @@
 //! What stands at addresses in an executable: the function symbol that holds each, and the offset into it.
 #![tactic(auto)]
 
+pub mod address;
 pub mod at;
 mod cells;
 mod digits;
+pub mod marks;
 mod names;
+pub mod ranges;
 pub mod stream;
 
-pub use binfarce_ranges::address::parse_address;
+pub use crate::address::parse_address;

@@ -22,7 +22,8 @@ pub(crate) fn names_of(
     alloc: Global,
     functions: &Vec<FunctionSymbol<'_>>,
 ) -> Result<Names, AllocError>
-    ensures { IfOk result (λ n. AreNamesOf (map function_view functions.now.items) (string_bytes n.text) n.bounds.items) }
+    ensures { IfOk result
+        (λ n. AreNamesOf (map function_view functions.now.items) (string_bytes n.text) n.bounds.items) }
 {
     let mut demangler = Demangler::new(alloc);
     let mut text = String::new(alloc);

@@ -5,8 +5,8 @@ ghost use Rattle.binfarce_addresses.specs.Answered.{AnswersOf};
 ghost use Rattle.binfarce_addresses.specs.Stream.{line_address, HasNoLineFeed, Streams};
 ghost use Rattle.binfarce_addresses.specs.machine.Answering.{AreAddressesOf, AnswersAll, AnswersLast, AnswersPart, AnswersUpTo, IsFirst, IsKeptOf, WritesAll};
 
+use crate::address::{hex_line, parse_address};
 use crate::at::Places;
-use binfarce_ranges::address::{hex_line, parse_address};
 use binfarce_tools::list::Sink;
 use binfarce_tools::writing::write_whole;
 use std::alloc::{AllocError, Global};
@@ -126,7 +126,8 @@ fn parse_line(line: &[u8]) -> Option<u64>
 
 // The bytes before the first line feed.
 fn first_line(bytes: &[u8]) -> Option<&[u8]>
-    ensures { MatchOption result (HasNoLineFeed bytes.now) (λ line. HasNoLineFeed line.now × ((others : List ℕ) × (bytes.now ≡ line.now ++ 10 ∷ others))) }
+    ensures { MatchOption result (HasNoLineFeed bytes.now)
+        (λ line. HasNoLineFeed line.now × ((others : List ℕ) × (bytes.now ≡ line.now ++ 10 ∷ others))) }
 {
     for (len, byte) in bytes.iter().enumerate() {
         if *byte == b'\n' {
@@ -151,7 +152,8 @@ pub fn answer_lines<R: Read, S: Sink>(
     input: &mut R,
     out: &mut S,
 ) -> Result<u64, LinesError>
-    ensures { Streams places.now base (R.remaining input.old) (R.remaining input.new) (S.taken out.old) (S.taken out.new) result }
+    ensures { Streams places.now base (R.remaining input.old) (R.remaining input.new) (S.taken out.old)
+        (S.taken out.new) result }
 {
     let mut chunk = new_chunk(alloc)?;
     let mut line = Vec::new(alloc);
@@ -186,7 +188,8 @@ fn answer_whole<R: Read, S: Sink>(
 ) -> Result<u64, LinesError>
     requires empty { line.old.items ≡ [] }
     requires room { 0 < length chunk.now }
-    ensures { AnswersAll places.now base line.new.items (R.remaining input.old) (R.remaining input.new) (S.taken out.old) (S.taken out.new) result }
+    ensures { AnswersAll places.now base line.new.items (R.remaining input.old) (R.remaining input.new)
+        (S.taken out.old) (S.taken out.new) result }
 {
     let mut missing = 0;
     for _ in 0..u64::MAX {
@@ -215,7 +218,8 @@ fn answer_part<S: Sink>(
     part: &[u8],
     out: &mut S,
 ) -> Result<u64, LinesError>
-    ensures { AnswersPart places.now base (line.old.items ++ part.now) line.new.items (S.taken out.old) (S.taken out.new) result }
+    ensures { AnswersPart places.now base (line.old.items ++ part.now) line.new.items (S.taken out.old)
+        (S.taken out.new) result }
 {
     line.extend_from_slice(part)?;
     let answered = answer(alloc, places, base, line.as_slice(), out)?;

@@ -3,3 +3,13 @@ pub mod Firsts
 pub mod Signed
 pub mod Nuls
 pub mod Computing
+pub mod Rows
+pub mod Drained
+pub mod FoundLaws
+pub mod Arranging
+pub mod Arrangement
+pub mod Above
+pub mod Sweeping
+pub mod Views
+pub mod AllAnswers
+pub mod OfSection

@@ -4,3 +4,11 @@ pub mod Text
 pub mod Steps
 pub mod Refusal
 pub mod Walk
+pub mod Format
+pub mod Entries
+pub mod SectionEntries
+pub mod SymbolViews
+pub mod Found
+pub mod Sizes
+pub mod RowViews
+pub mod Source

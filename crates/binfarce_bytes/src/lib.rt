@@ -2,8 +2,12 @@
 #![tactic(auto)]
 
 pub mod error;
+pub mod format;
+pub mod functions;
 mod laws;
 pub mod parser;
+pub mod sizes;
+pub mod source;
 mod text;
 
 pub use crate::error::ParseError;

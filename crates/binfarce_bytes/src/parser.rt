@@ -41,7 +41,8 @@ pub trait RawNumber: Sized {
         ensures unchanged { s.new ≡ s.old }
         ensures number { MatchOption result
             (length s.old.bytes.now < s.old.offset + SIZE)
-            (λ v. (s.old.offset + SIZE ≤ length s.old.bytes.now) × (v ≡ value s.old.byte_order (bytes_at s.old.bytes.now s.old.offset SIZE))) };
+            (λ v. (s.old.offset + SIZE ≤ length s.old.bytes.now)
+            × (v ≡ value s.old.byte_order (bytes_at s.old.bytes.now s.old.offset SIZE))) };
 }
 
 impl RawNumber for u8 {
@@ -184,7 +185,8 @@ impl<'a> Stream<'a> {
         byte_order: ByteOrder,
     ) -> Result<Self, UnexpectedEof>
         ensures { MatchResult result
-            (λ s. (offset < length bytes.entry.now) × (s.bytes.now ≡ bytes.entry.now) × (s.offset ≡ offset) × (s.byte_order ≡ byte_order))
+            (λ s. (offset < length bytes.entry.now) × (s.bytes.now ≡ bytes.entry.now) × (s.offset ≡ offset)
+            × (s.byte_order ≡ byte_order))
             (λ _. length bytes.entry.now ≤ offset) }
     {
         if offset < bytes.len() {
@@ -251,7 +253,8 @@ impl<'a> Stream<'a> {
     #[inline]
     pub fn read<T: RawNumber>(&mut self) -> Result<T, UnexpectedEof>
         ensures number { MatchResult result
-            (λ v. (self.old.offset + T.SIZE ≤ length self.old.bytes.now) × (v ≡ T.value self.old.byte_order (bytes_at self.old.bytes.now self.old.offset T.SIZE)))
+            (λ v. (self.old.offset + T.SIZE ≤ length self.old.bytes.now)
+            × (v ≡ T.value self.old.byte_order (bytes_at self.old.bytes.now self.old.offset T.SIZE)))
             (λ _. length self.old.bytes.now < self.old.offset + T.SIZE) }
         ensures offset { MatchResult result
             (λ _. self.new ≡ record self.old { offset = self.old.offset + T.SIZE })
@@ -269,7 +272,8 @@ impl<'a> Stream<'a> {
     #[inline]
     pub fn read_bytes(&mut self, len: usize) -> Result<&'a [u8], UnexpectedEof>
         ensures bytes { MatchResult result
-            (λ b. (self.old.offset + len ≤ length self.old.bytes.now) × (b.now ≡ bytes_at self.old.bytes.now self.old.offset len))
+            (λ b. (self.old.offset + len ≤ length self.old.bytes.now)
+            × (b.now ≡ bytes_at self.old.bytes.now self.old.offset len))
             (λ _. length self.old.bytes.now < self.old.offset + len) }
         ensures offset { MatchResult result
             (λ _. self.new ≡ record self.old { offset = self.old.offset + len })

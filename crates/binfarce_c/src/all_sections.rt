@@ -32,7 +32,8 @@ pub extern "C" fn binfarce_elf32_sections(
     out: &mut [Section],
 ) -> Sections
     ensures { let table = elf_table elf.elf32 (order_of big_endian) file.now in
-        GivesWalk (elf_told elf.elf32 table) (walk_of elf.elf32.header_length file.now (elf.walk elf.elf32 table)) out.old out.new result }
+        GivesWalk (elf_told elf.elf32 table) (walk_of elf.elf32.header_length file.now (elf.walk elf.elf32 table))
+        out.old out.new result }
 {
     match elf32::parse(file, order_of(big_endian)) {
         Ok(file) => fill_32(&file, out),
@@ -52,7 +53,8 @@ pub extern "C" fn binfarce_elf64_sections(
     out: &mut [Section],
 ) -> Sections
     ensures { let table = elf_table elf.elf64 (order_of big_endian) file.now in
-        GivesWalk (elf_told elf.elf64 table) (walk_of elf.elf64.header_length file.now (elf.walk elf.elf64 table)) out.old out.new result }
+        GivesWalk (elf_told elf.elf64 table) (walk_of elf.elf64.header_length file.now (elf.walk elf.elf64 table))
+        out.old out.new result }
 {
     match elf64::parse(file, order_of(big_endian)) {
         Ok(file) => fill_64(&file, out),
@@ -80,7 +82,8 @@ pub extern "C" fn binfarce_macho_sections(file: &[u8], out: &mut [Section]) -> S
 /// All sections of a PE file.
 #[unsafe(no_mangle)]
 pub extern "C" fn binfarce_pe_sections(file: &[u8], out: &mut [Section]) -> Sections
-    ensures { GivesWalk pe_told (walk_of (pe.least_length file.now) file.now (pe.walk file.now)) out.old out.new result }
+    ensures { GivesWalk pe_told (walk_of (pe.least_length file.now) file.now (pe.walk file.now)) out.old
+        out.new result }
 {
     match pe::parse(file) {
         Ok(file) => fill_pe(&file, out),
@@ -92,7 +95,8 @@ pub extern "C" fn binfarce_pe_sections(file: &[u8], out: &mut [Section]) -> Sect
 }
 
 fn fill_32(file: &elf32::Elf32<'_>, out: &mut [Section]) -> Sections
-    ensures { let table = elf.section_table elf.elf32 file.now in GivesWalk (elf_told elf.elf32 table) (elf.walk elf.elf32 table) out.old out.new result }
+    ensures { let table = elf.section_table elf.elf32 file.now in
+        GivesWalk (elf_told elf.elf32 table) (elf.walk elf.elf32 table) out.old out.new result }
 {
     let mut count = 0;
     for section in file.sections() {
@@ -110,7 +114,8 @@ fn fill_32(file: &elf32::Elf32<'_>, out: &mut [Section]) -> Sections
 }
 
 fn fill_64(file: &elf64::Elf64<'_>, out: &mut [Section]) -> Sections
-    ensures { let table = elf.section_table elf.elf64 file.now in GivesWalk (elf_told elf.elf64 table) (elf.walk elf.elf64 table) out.old out.new result }
+    ensures { let table = elf.section_table elf.elf64 file.now in
+        GivesWalk (elf_told elf.elf64 table) (elf.walk elf.elf64 table) out.old out.new result }
 {
     let mut count = 0;
     for section in file.sections() {

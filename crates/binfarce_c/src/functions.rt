@@ -59,7 +59,8 @@ pub extern "C" fn binfarce_elf32_functions(
     section: &[u8],
     out: &mut [Function],
 ) -> Functions
-    ensures { GivesFunctions section.now (elf_file_answer elf32 (order_of big_endian) file.now section.now) out.old out.new result }
+    ensures { GivesFunctions section.now (elf_file_answer elf32 (order_of big_endian) file.now section.now) out.old
+        out.new result }
 {
     match str::from_utf8(section) {
         Ok(section) => give(of_elf32(alloc, file, order_of(big_endian), section), out),
@@ -76,7 +77,8 @@ pub extern "C" fn binfarce_elf64_functions(
     section: &[u8],
     out: &mut [Function],
 ) -> Functions
-    ensures { GivesFunctions section.now (elf_file_answer elf64 (order_of big_endian) file.now section.now) out.old out.new result }
+    ensures { GivesFunctions section.now (elf_file_answer elf64 (order_of big_endian) file.now section.now) out.old
+        out.new result }
 {
     match str::from_utf8(section) {
         Ok(section) => give(of_elf64(alloc, file, order_of(big_endian), section), out),
@@ -138,7 +140,8 @@ fn stored_in_elf32<'a>(
     byte_order: ByteOrder,
     section: &str,
 ) -> Result<(elf32::Functions<'a>, u64), ParseError>
-    ensures { Gives refusal_of (functions_view elf32) (elf_file_answer elf32 byte_order file.entry.now section.now) result }
+    ensures { Gives refusal_of (functions_view elf32)
+        (elf_file_answer elf32 byte_order file.entry.now section.now) result }
 {
     elf32::parse(file, byte_order)?.functions(section)
 }
@@ -149,7 +152,8 @@ fn stored_in_elf64<'a>(
     byte_order: ByteOrder,
     section: &str,
 ) -> Result<(elf64::Functions<'a>, u64), ParseError>
-    ensures { Gives refusal_of (functions_view elf64) (elf_file_answer elf64 byte_order file.entry.now section.now) result }
+    ensures { Gives refusal_of (functions_view elf64)
+        (elf_file_answer elf64 byte_order file.entry.now section.now) result }
 {
     elf64::parse(file, byte_order)?.functions(section)
 }
@@ -199,7 +203,9 @@ fn all_of<'a, I: Iterator<Item = FunctionSymbol<'a>> + Drop>(
 ) -> Result<Vec<Function>, AllocError>
     requires can { I.can_next functions }
     requires ends { IsFinite (I.remaining functions) }
-    ensures { IfOk result (λ v. (given : List FunctionSymbol) × Drains I.next_gives functions given × AreFunctionsOf (map function_view given) v.items) }
+    ensures { IfOk result
+        (λ v. (given : List FunctionSymbol) × Drains I.next_gives functions given
+        × AreFunctionsOf (map function_view given) v.items) }
 {
     let mut all = Vec::new(alloc);
     for function in functions {

@@ -84,7 +84,8 @@ pub extern "C" fn binfarce_demangle(
     trimmed: &mut [u8],
     crate_name: &mut [u8],
 ) -> SymbolName
-    ensures { Demangles name.now complete.old complete.new trimmed.old trimmed.new crate_name.old crate_name.new result }
+    ensures { Demangles name.now complete.old complete.new trimmed.old trimmed.new crate_name.old
+        crate_name.new result }
 {
     match symbol_name(alloc, name) {
         Ok(found) => {
@@ -183,7 +184,8 @@ fn trimmed_text(alloc: Global, name: &[u8]) -> Result<String, NameError>
 }
 
 fn crate_text(alloc: Global, name: &[u8]) -> Result<Option<String>, NameError>
-    ensures { ReadsName name.now (λ found. (n : Name) × IsNamed name.now n × (option_map string_bytes found ≡ crate_of n)) result }
+    ensures { ReadsName name.now
+        (λ found. (n : Name) × IsNamed name.now n × (option_map string_bytes found ≡ crate_of n)) result }
 {
     let text = str::from_utf8(name)?;
     Ok(crate_of(alloc, text)?)

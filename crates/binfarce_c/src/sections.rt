@@ -59,7 +59,9 @@ pub extern "C" fn binfarce_elf32_section(
     name: &[u8],
     out: &mut Section,
 ) -> u32
-    ensures { OfUtf8 name.now (GivesSection (elf_section elf.elf32 (order_of big_endian) file.now name.now) out.old out.new result) out.old out.new result }
+    ensures { OfUtf8 name.now
+        (GivesSection (elf_section elf.elf32 (order_of big_endian) file.now name.now) out.old out.new result) out.old
+        out.new result }
 {
     match str::from_utf8(name) {
         Ok(name) => give(named_32(file, order_of(big_endian), name), out),
@@ -90,7 +92,9 @@ pub extern "C" fn binfarce_elf64_section(
     name: &[u8],
     out: &mut Section,
 ) -> u32
-    ensures { OfUtf8 name.now (GivesSection (elf_section elf.elf64 (order_of big_endian) file.now name.now) out.old out.new result) out.old out.new result }
+    ensures { OfUtf8 name.now
+        (GivesSection (elf_section elf.elf64 (order_of big_endian) file.now name.now) out.old out.new result) out.old
+        out.new result }
 {
     match str::from_utf8(name) {
         Ok(name) => give(named_64(file, order_of(big_endian), name), out),
@@ -121,7 +125,9 @@ pub extern "C" fn binfarce_macho_section(
     name: &[u8],
     out: &mut Section,
 ) -> u32
-    ensures { OfUtf8 segment.now (OfUtf8 name.now (GivesSection (macho_section file.now segment.now name.now) out.old out.new result) out.old out.new result) out.old out.new result }
+    ensures { OfUtf8 segment.now
+        (OfUtf8 name.now (GivesSection (macho_section file.now segment.now name.now) out.old out.new result) out.old
+        out.new result) out.old out.new result }
 {
     let segment = match str::from_utf8(segment) {
         Ok(segment) => segment,
@@ -146,7 +152,8 @@ pub extern "C" fn binfarce_macho_section_at(file: &[u8], index: usize, out: &mut
 #[unsafe(no_mangle)]
 #[tactic(auto, using(crate::proofs::Sought::given))]
 pub extern "C" fn binfarce_pe_section(file: &[u8], name: &[u8], out: &mut Section) -> u32
-    ensures { OfUtf8 name.now (GivesSection (pe_section file.now name.now) out.old out.new result) out.old out.new result }
+    ensures { OfUtf8 name.now (GivesSection (pe_section file.now name.now) out.old out.new result) out.old
+        out.new result }
 {
     match str::from_utf8(name) {
         Ok(name) => give(named_pe(file, name), out),
@@ -200,7 +207,8 @@ fn numbered_in_32(file: &elf32::Elf32<'_>, index: usize) -> Result<Option<Sectio
 }
 
 fn nth_32(file: &elf32::Elf32<'_>, index: usize) -> Result<Option<elf32::Section>, ParseError>
-    ensures { Gives refusal_of (option_map (elf_view.section_view (λ n. n))) (numbered index (elf.walk elf.elf32 (elf.section_table elf.elf32 file.now))) result }
+    ensures { Gives refusal_of (option_map (elf_view.section_view (λ n. n)))
+        (numbered index (elf.walk elf.elf32 (elf.section_table elf.elf32 file.now))) result }
 {
     match file.sections().nth(index) {
         Some(Ok(section)) => Ok(Some(section)),
@@ -210,7 +218,8 @@ fn nth_32(file: &elf32::Elf32<'_>, index: usize) -> Result<Option<elf32::Section
 }
 
 pub(crate) fn shown_32(file: &elf32::Elf32<'_>, section: elf32::Section) -> Section
-    ensures { IsSection (elf_told elf.elf32 (elf.section_table elf.elf32 file.now) (elf_view.section_view (λ n. n) section)) result }
+    ensures { IsSection (elf_told elf.elf32 (elf.section_table elf.elf32 file.now)
+        (elf_view.section_view (λ n. n) section)) result }
 {
     section_of(
         section.name(file),
@@ -259,7 +268,8 @@ fn numbered_in_64(file: &elf64::Elf64<'_>, index: usize) -> Result<Option<Sectio
 }
 
 fn nth_64(file: &elf64::Elf64<'_>, index: usize) -> Result<Option<elf64::Section>, ParseError>
-    ensures { Gives refusal_of (option_map (elf_view.section_view (λ n. n))) (numbered index (elf.walk elf.elf64 (elf.section_table elf.elf64 file.now))) result }
+    ensures { Gives refusal_of (option_map (elf_view.section_view (λ n. n)))
+        (numbered index (elf.walk elf.elf64 (elf.section_table elf.elf64 file.now))) result }
 {
     match file.sections().nth(index) {
         Some(Ok(section)) => Ok(Some(section)),
@@ -269,7 +279,8 @@ fn nth_64(file: &elf64::Elf64<'_>, index: usize) -> Result<Option<elf64::Section
 }
 
 pub(crate) fn shown_64(file: &elf64::Elf64<'_>, section: elf64::Section) -> Section
-    ensures { IsSection (elf_told elf.elf64 (elf.section_table elf.elf64 file.now) (elf_view.section_view (λ n. n) section)) result }
+    ensures { IsSection (elf_told elf.elf64 (elf.section_table elf.elf64 file.now)
+        (elf_view.section_view (λ n. n) section)) result }
 {
     section_of(
         section.name(file),

@@ -21,7 +21,8 @@ use std::str;
 #[unsafe(no_mangle)]
 #[tactic(auto, unfolding(crate::specs::Texts::GivesText))]
 pub extern "C" fn binfarce_list(alloc: Global, file: &[u8], section: &[u8], out: &mut [u8]) -> Text
-    ensures { GivesText ListingFits (NeedsMemory (format_of file.now) file.now) IsListingOf section.now (symbols_answer (format_of file.now) file.now section.now) out.old out.new result }
+    ensures { GivesText ListingFits (NeedsMemory (format_of file.now) file.now) IsListingOf section.now
+        (symbols_answer (format_of file.now) file.now section.now) out.old out.new result }
 {
     let section = match str::from_utf8(section) {
         Ok(section) => section,
@@ -43,7 +44,8 @@ pub extern "C" fn binfarce_report(
     section: &[u8],
     out: &mut [u8],
 ) -> Text
-    ensures { GivesText ReportFits (NeedsMemory (format_of file.now) file.now) IsReportOf section.now (symbols_answer (format_of file.now) file.now section.now) out.old out.new result }
+    ensures { GivesText ReportFits (NeedsMemory (format_of file.now) file.now) IsReportOf section.now
+        (symbols_answer (format_of file.now) file.now section.now) out.old out.new result }
 {
     let section = match str::from_utf8(section) {
         Ok(section) => section,

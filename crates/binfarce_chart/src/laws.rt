@@ -10,8 +10,12 @@ use crate::bars::Bar;
 
 /// The lengths of bars add up to the whole and each is within one unit of its share, where any bar has a size.
 pub fn lengths_add_up(bars: &[Bar<'_>])
-    ensures sum { 0 < total (map bar_view bars.now) → Rattle.std.specs.List.sum_by (λ n. n) (lengths (total (map bar_view bars.now)) 0 (map bar_view bars.now)) ≡ whole }
-    ensures shares { 0 < total (map bar_view bars.now) → AllZip (IsWithinOne (total (map bar_view bars.now))) (map bar_view bars.now) (lengths (total (map bar_view bars.now)) 0 (map bar_view bars.now)) }
+    ensures sum { 0 < total (map bar_view bars.now)
+        → Rattle.std.specs.List.sum_by
+        (λ n. n) (lengths (total (map bar_view bars.now)) 0 (map bar_view bars.now)) ≡ whole }
+    ensures shares { 0 < total (map bar_view bars.now)
+        → AllZip (IsWithinOne (total (map bar_view bars.now))) (map bar_view bars.now)
+        (lengths (total (map bar_view bars.now)) 0 (map bar_view bars.now)) }
 {
     let _ = bars;
 }

@@ -26,7 +26,8 @@ pub fn chart(alloc: Global, bars: &[Bar<'_>], section_size: u64) -> Result<Strin
 // The picture of bars in the order in which they are shown.
 fn picture_of(alloc: Global, bars: &[Bar<'_>], section_size: u64) -> Result<String, AllocError>
     requires { total (map bar_view bars.now) < 2 ^ 64 }
-    ensures { IfOk result (λ t. string_bytes t ≡ picture (shown (map bar_view bars.now)) (total (map bar_view bars.now)) section_size) }
+    ensures { IfOk result
+        (λ t. string_bytes t ≡ picture (shown (map bar_view bars.now)) (total (map bar_view bars.now)) section_size) }
 {
     let sum = size_of_all(bars);
     let mut text = String::new(alloc);
@@ -73,7 +74,8 @@ fn push_shown(
     sum: u64,
 ) -> Result<(), AllocError>
     requires { total (map bar_view bars.now) ≡ sum }
-    ensures { OnOk result (string_bytes text.new ≡ string_bytes text.old ++ rows sum 0 40 (shown (map bar_view bars.now))) }
+    ensures { OnOk result
+        (string_bytes text.new ≡ string_bytes text.old ++ rows sum 0 40 (shown (map bar_view bars.now))) }
 {
     if bars.len() <= MOST_BARS {
         return push_rows(text, bars, sum);

@@ -5,8 +5,8 @@ use Rattle.std.specs.Option.{option_map}
 use Rattle.std.specs.Io.KnownBytes.{Appends, Consumes, Keeps, IsAtEnd}
 use Rattle.std.proofs.lemmas.List.{take-append-drop, take_all}
 use Rattle.std.proofs.Math.Seq.{drop-drop, take-append_seam, take-append-le}
-use Rattle.binfarce_format.specs.Format.{format_of}
-use Rattle.binfarce_format.specs.declared.Format.TheVariants.{Unknown}
+use Rattle.binfarce_bytes.specs.Format.{format_of}
+use Rattle.binfarce_bytes.specs.declared.format.Format.TheVariants.{Unknown}
 use Rattle.binfarce_tools.proofs.TablesRead.{format_of_first}
 use Rattle.binfarce_command.specs.Input.{IsReadOf}
 

@@ -3,8 +3,8 @@ use Rattle.std.specs.Prelude.{◌≡◌, ◌⊎◌, ◌≤◌, ℕ, Bool, true, 
 use Rattle.std.specs.Global.{Vec}
 use Rattle.std.specs.Io.{appended_bytes}
 use Rattle.std.specs.Io.KnownBytes.{Consumes, IsAtEnd}
-use Rattle.binfarce_format.specs.Format.{format_of}
-use Rattle.binfarce_format.specs.declared.Format.TheVariants.{Unknown}
+use Rattle.binfarce_bytes.specs.Format.{format_of}
+use Rattle.binfarce_bytes.specs.declared.format.Format.TheVariants.{Unknown}
 use Rattle.binfarce_command.specs.declared.fault.Fault.{Fault}
 use Rattle.binfarce_command.specs.declared.fault.Fault.TheVariants.{Unreadable, OutOfMemory}
 use Rattle.binfarce_command.specs.declared.input.Noted.{Noted}

@@ -1,7 +1,7 @@
 -- How function symbols are shown.
 use Rattle.std.specs.Prelude.{ℕ, List}
-use Rattle.binfarce_symbols.specs.Entries.{Listed}
-use Rattle.binfarce_mapping.specs.Map.{IsMapOf}
+use Rattle.binfarce_bytes.specs.Entries.{Listed}
+use Rattle.binfarce_tools.specs.Map.{IsMapOf}
 use Rattle.binfarce_tools.specs.Listing.{IsListingOf, ListingFits}
 use Rattle.binfarce_tools.specs.Report.{IsReportOf, ReportFits}
 use Rattle.binfarce_command.specs.declared.show.Kind.{Kind}

@@ -17,7 +17,7 @@ use crate::fault::Fault;
 use binfarce_addresses::at::{Places, at_tables};
 use binfarce_addresses::parse_address;
 use binfarce_addresses::stream::answer_lines;
-use binfarce_source::Source;
+use binfarce_bytes::source::Source;
 use binfarce_tools::SymbolTable;
 use binfarce_tools::list::{ListError, Sink};
 use binfarce_tools::tables::{Tables, read_by};
@@ -63,7 +63,8 @@ pub fn answer_all<S: Source, K: Sink>(
     addresses: &[u64],
     out: &mut K,
 ) -> Result<(), Fault>
-    ensures tells { (file : List ℕ) → S.bytes source.now ≡ Some file → ProgramTells (S.may_fail source.now ≡ true) ListingFits
+    ensures tells { (file : List ℕ) → S.bytes source.now ≡ Some file
+        → ProgramTells (S.may_fail source.now ≡ true) ListingFits
         (NeedsMemory (format_of file) file) (answer_of which file (codes ".text")) (outcome_of result) }
     ensures takes { (file : List ℕ) → S.bytes source.now ≡ Some file → Takes (AreLinesAt base addresses.now)
         (answer_of which file (codes ".text")) (K.taken out.old) (K.taken out.new) (outcome_of result) }
@@ -82,9 +83,11 @@ fn answer_tables<K: Sink>(
     addresses: &[u64],
     out: &mut K,
 ) -> Result<(), Fault>
-    ensures tells { (which : SymbolTable) (file section : List ℕ) → AreTablesOf which file section tables.now → Tells ListingFits
+    ensures tells { (which : SymbolTable) (file section : List ℕ) → AreTablesOf which file section tables.now
+        → Tells ListingFits
         (NeedsMemory (format_of file) file) (answer_of which file section) (outcome_of result) }
-    ensures takes { (which : SymbolTable) (file section : List ℕ) → AreTablesOf which file section tables.now → Takes (AreLinesAt base addresses.now)
+    ensures takes { (which : SymbolTable) (file section : List ℕ) → AreTablesOf which file section tables.now
+        → Takes (AreLinesAt base addresses.now)
         (answer_of which file section) (K.taken out.old) (K.taken out.new) (outcome_of result) }
     ensures fails { Fails (K.has_failed out.old) (K.has_failed out.new) (outcome_of result) }
     ensures leaves { Leaves out.old out.new (outcome_of result) }
@@ -133,7 +136,8 @@ fn answer_in_tables<I: Read, K: Sink>(
 
 // The places of the function symbols, with their names.
 fn named_places(alloc: Global, tables: &Tables) -> Result<Places<'_>, ListError>
-    ensures { (which : SymbolTable) (file : List ℕ) → AreTablesOf which file (codes ".text") tables.entry.now → IsMadeOf (NeedsMemory (format_of file) file)
+    ensures { (which : SymbolTable) (file : List ℕ) → AreTablesOf which file (codes ".text") tables.entry.now
+        → IsMadeOf (NeedsMemory (format_of file) file)
         (answer_of which file (codes ".text")) result }
 {
     let mut places = Places::of_tables(alloc, tables)?;

@@ -5,7 +5,7 @@ use crate::headed::Headed;
 use crate::held::Held;
 use crate::input::Noted;
 use crate::show::{Kind, show};
-use binfarce_source::Source;
+use binfarce_bytes::source::Source;
 use binfarce_tools::SymbolTable;
 use std::alloc::{AllocError, Global};
 use std::io::{self, Error, Read, Write};

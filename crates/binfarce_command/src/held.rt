@@ -4,9 +4,9 @@ ghost use Rattle.std.specs.Prelude.{◌≡◌, ℕ, List, [], Some};
 ghost use Rattle.binfarce_command.specs.Input.{ReadsJudged, ReadsFirst, ReadsByte, ReadsRest};
 
 use crate::fault::Fault;
-use binfarce_format::{Format, detect_format};
+use binfarce_bytes::format::{Format, detect_format};
+use binfarce_bytes::source::Source;
 use binfarce_program::is_read_at_offsets;
-use binfarce_source::Source;
 use std::alloc::Global;
 use std::io::{self, ErrorKind, Read};
 
@@ -46,8 +46,10 @@ impl<F: Read + Source> Held<F> {
     /// `Unreadable` where a read fails, and `OutOfMemory` where an allocation fails.
     pub fn load(&mut self, alloc: Global) -> Result<(), Fault>
         requires { held_bytes F.bytes self.old ≡ F.bytes (file_of self.old) }
-        ensures { (bytes : List ℕ) → F.bytes (file_of self.old) ≡ Some bytes → F.remaining (file_of self.old) ≡ Some bytes
-            → Holds (F.may_fail (file_of self.old)) bytes (held_bytes F.bytes self.new) (held_may_fail F.may_fail self.new) result }
+        ensures { (bytes : List ℕ) → F.bytes (file_of self.old) ≡ Some bytes
+            → F.remaining (file_of self.old) ≡ Some bytes
+            → Holds (F.may_fail (file_of self.old)) bytes (held_bytes F.bytes self.new)
+            (held_may_fail F.may_fail self.new) result }
     {
         if !is_read_at_offsets(&self.file) {
             let bytes = read_judged(alloc, &mut self.file)?;

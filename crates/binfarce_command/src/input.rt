@@ -3,7 +3,7 @@
 ghost use Rattle.std.specs.Prelude.{◌≡◌};
 ghost use Rattle.std.specs.IoError.{error_kind};
 
-use binfarce_source::Source;
+use binfarce_bytes::source::Source;
 use std::cell::Cell;
 use std::fs::File;
 use std::io::{self, Error, ErrorKind, Read, Stdin};

@@ -5,10 +5,10 @@ ghost use Rattle.std.specs.Option.{option_map};
 ghost use Rattle.binfarce_sections.specs.Telling.{Fails};
 ghost use Rattle.binfarce_command.specs.Section.{TakesAsked};
 
+use binfarce_bytes::source::Source;
 use binfarce_sections::bytes::write_section_of;
 use binfarce_sections::error::SectionError;
 use binfarce_sections::list::list_source;
-use binfarce_source::Source;
 use binfarce_tools::list::Sink;
 use std::alloc::Global;
 
@@ -24,7 +24,8 @@ pub fn write_or_list<S: Source, K: Sink>(
     name: Option<&str>,
     out: &mut K,
 ) -> Result<(), SectionError>
-    ensures takes { (file : List ℕ) → S.bytes source.now ≡ Some file → TakesAsked (S.may_fail source.now) file (option_map (λ t. t.now) name.entry)
+    ensures takes { (file : List ℕ) → S.bytes source.now ≡ Some file
+        → TakesAsked (S.may_fail source.now) file (option_map (λ t. t.now) name.entry)
         (K.taken out.old) (K.taken out.new) result }
     ensures fails { Fails (K.has_failed out.old) (K.has_failed out.new) result }
 {

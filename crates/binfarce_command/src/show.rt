@@ -1,7 +1,7 @@
 //! Shows the function symbols of a file: as a listing, as sums by crate, or as a picture.
 
 ghost use Rattle.std.specs.Prelude.{◌≡◌, ℕ, List, true, Some};
-ghost use Rattle.binfarce_format.specs.Format.{format_of};
+ghost use Rattle.binfarce_bytes.specs.Format.{format_of};
 ghost use Rattle.binfarce_tools.specs.Answer.{answer_of, NeedsMemory};
 ghost use Rattle.binfarce_tools.specs.Tables.{AreTablesOf};
 ghost use Rattle.binfarce_tools.specs.declared.SymbolTable.{SymbolTable};
@@ -10,11 +10,11 @@ ghost use Rattle.binfarce_command.specs.Faults.{outcome_of};
 ghost use Rattle.binfarce_command.specs.Show.{Fits, IsTextOf};
 
 use crate::fault::Fault;
-use binfarce_mapping::map_tables;
-use binfarce_source::Source;
-use binfarce_tools::list::{Sink, list_tables};
-use binfarce_tools::report::report_tables;
+use binfarce_bytes::source::Source;
 use binfarce_tools::SymbolTable;
+use binfarce_tools::list::{Sink, list_tables};
+use binfarce_tools::map::map_tables;
+use binfarce_tools::report::report_tables;
 use binfarce_tools::tables::{Tables, read_by};
 use std::alloc::Global;
 
@@ -45,7 +45,8 @@ pub fn show<S: Source, K: Sink>(
     section: &str,
     out: &mut K,
 ) -> Result<(), Fault>
-    ensures tells { (file : List ℕ) → S.bytes source.now ≡ Some file → ProgramTells (S.may_fail source.now ≡ true) (Fits kind)
+    ensures tells { (file : List ℕ) → S.bytes source.now ≡ Some file
+        → ProgramTells (S.may_fail source.now ≡ true) (Fits kind)
         (NeedsMemory (format_of file) file) (answer_of which file section.now) (outcome_of result) }
     ensures takes { (file : List ℕ) → S.bytes source.now ≡ Some file → Takes (IsTextOf kind)
         (answer_of which file section.now) (K.taken out.old) (K.taken out.new) (outcome_of result) }
@@ -63,9 +64,11 @@ fn show_tables<K: Sink>(
     tables: &Tables,
     out: &mut K,
 ) -> Result<(), Fault>
-    ensures tells { (which : SymbolTable) (file section : List ℕ) → AreTablesOf which file section tables.now → Tells (Fits kind)
+    ensures tells { (which : SymbolTable) (file section : List ℕ) → AreTablesOf which file section tables.now
+        → Tells (Fits kind)
         (NeedsMemory (format_of file) file) (answer_of which file section) (outcome_of result) }
-    ensures takes { (which : SymbolTable) (file section : List ℕ) → AreTablesOf which file section tables.now → Takes (IsTextOf kind)
+    ensures takes { (which : SymbolTable) (file section : List ℕ) → AreTablesOf which file section tables.now
+        → Takes (IsTextOf kind)
         (answer_of which file section) (K.taken out.old) (K.taken out.new) (outcome_of result) }
     ensures fails { Fails (K.has_failed out.old) (K.has_failed out.new) (outcome_of result) }
     ensures leaves { Leaves out.old out.new (outcome_of result) }

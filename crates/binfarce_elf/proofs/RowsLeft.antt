@@ -8,12 +8,12 @@ use Rattle.binfarce_elf.specs.Elf.{ElfClass, SymbolRow}
 use Rattle.binfarce_elf.specs.ElfSymbols.{symbol_at, entry_of, function_name}
 use Rattle.binfarce_elf.specs.ElfViews.{functions_left}
 use Rattle.binfarce_elf.specs.declared.symbols.Functions.{Functions}
-use Rattle.binfarce_symbols.specs.declared.functions.FunctionSymbol.{FunctionSymbol}
-use Rattle.binfarce_symbols.specs.Entries.{Entry}
-use Rattle.binfarce_symbols.specs.SymbolViews.{function_view}
-use Rattle.binfarce_symbols.specs.Found.{entry_at}
-use Rattle.binfarce_symbols.proofs.FoundLaws as FoundLaws
-use Rattle.binfarce_symbols.proofs.Drained.{drained}
+use Rattle.binfarce_bytes.specs.declared.functions.FunctionSymbol.{FunctionSymbol}
+use Rattle.binfarce_bytes.specs.Entries.{Entry}
+use Rattle.binfarce_bytes.specs.SymbolViews.{function_view}
+use Rattle.binfarce_bytes.specs.Found.{entry_at}
+use Rattle.binfarce_bytes.proofs.FoundLaws as FoundLaws
+use Rattle.binfarce_bytes.proofs.Drained.{drained}
 
 -- row k has none
 pub passed : {X : Type 0} (f : ℕ → Option X) (k n : ℕ) → k < n → f k ≡ None → filter_map f (range_with_len k (n - k)) ≡ filter_map f (range_with_len (k + 1) (n - (k + 1)))

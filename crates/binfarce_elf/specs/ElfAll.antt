@@ -4,7 +4,7 @@ use Rattle.std.specs.Option.{option_map}
 use Rattle.std.specs.List.{range_with_len, filter_map}
 use Rattle.binfarce_bytes.specs.declared.ByteOrder.{ByteOrder}
 use Rattle.binfarce_bytes.specs.Refusal.{◌>>=◌, Refusal}
-use Rattle.binfarce_symbols.specs.SectionEntries.{SectionEntry, unless}
+use Rattle.binfarce_bytes.specs.SectionEntries.{SectionEntry, unless}
 use Rattle.binfarce_elf.specs.Elf.{ElfClass, SectionTable, SymbolRow, walk}
 use Rattle.binfarce_elf.specs.ElfSymbols.{symbol_at, entry_of, rows_in}
 use Rattle.binfarce_elf.specs.declared.all.AllFunctions.{AllFunctions}

@@ -12,7 +12,7 @@ use Rattle.binfarce_elf.specs.Elf.{ElfClass, SectionTable, Section, SymbolRow, w
 use Rattle.binfarce_elf.specs.SymbolTables.{section_type, table_name, strings_name}
 use Rattle.binfarce_elf.specs.declared.symbol_table.SymbolTable.{SymbolTable}
 use Rattle.binfarce_elf.specs.declared.symbol_table.SymbolTable.TheVariants.{Symtab, Dynsym}
-use Rattle.binfarce_symbols.specs.Entries.{Entry, Listed}
+use Rattle.binfarce_bytes.specs.Entries.{Entry, Listed}
 
 -- the row that begins at start
 unfoldable pub symbol_at : ElfClass → ByteOrder → List ℕ → ℕ → SymbolRow ℕ

@@ -3,7 +3,7 @@ use Rattle.std.specs.Prelude.{ℕ, List}
 use Rattle.binfarce_elf.specs.declared.sections.Section.{Section}
 use Rattle.binfarce_elf.specs.declared.header.Header.{Header}
 use Rattle.binfarce_elf.specs.declared.symbols.Functions.{Functions}
-use Rattle.binfarce_symbols.specs.Entries.{Entry, Listed}
+use Rattle.binfarce_bytes.specs.Entries.{Entry, Listed}
 use Rattle.binfarce_elf.specs.ElfSymbols.{entries_from}
 use Rattle.binfarce_elf.specs.Elf as elf
 

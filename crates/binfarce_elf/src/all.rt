@@ -3,7 +3,7 @@
 ghost use Rattle.std.specs.Prelude.{◌≡◌, [], ◌∷◌, Some, None, MatchOption, MatchResult};
 ghost use Rattle.std.specs.Option.{option_map};
 ghost use Rattle.binfarce_bytes.specs.Refusal.{Gives, refusal_of, unexpected_eof};
-ghost use Rattle.binfarce_symbols.specs.SymbolViews.{section_function_view};
+ghost use Rattle.binfarce_bytes.specs.SymbolViews.{section_function_view};
 ghost use Rattle.binfarce_elf.specs.Elf.{walk};
 ghost use Rattle.binfarce_elf.specs.ElfAll.{is_of_section, section_entry_of, section_entries_from, all_answer, all_left};
 ghost use Rattle.binfarce_elf.specs.machine.RawElf.{symbol_view, table_view};
@@ -12,9 +12,9 @@ use crate::class::{Class, Half, SymbolRow};
 use crate::sections::Table;
 use crate::symbol_table::SymbolTable;
 use crate::symbols::{Rows, function_name, rows_of};
+use binfarce_bytes::functions::{FunctionSymbol, SectionFunction};
 use binfarce_bytes::parser::UnexpectedEof;
 use binfarce_bytes::{ByteOrder, ParseError};
-use binfarce_symbols::functions::{FunctionSymbol, SectionFunction};
 use std::marker::PhantomData;
 
 /// The function symbols of all sections, by this symbol table.
@@ -61,7 +61,8 @@ pub struct AllFunctions<'a, C> {
 impl<'a, C: Class> AllFunctions<'a, C> {
     // The functions of so many sections in whole rows.
     pub(crate) fn new(rows: &'a [u8], strings: &'a [u8], byte_order: ByteOrder, count: Half) -> Self
-        ensures { all_left C.table result ≡ section_entries_from C.table byte_order strings.entry.now count rows.entry.now 0 }
+        ensures { all_left C.table result
+            ≡ section_entries_from C.table byte_order strings.entry.now count rows.entry.now 0 }
     {
         AllFunctions {
             rows,
@@ -78,7 +79,8 @@ impl<'a, C: Class> AllFunctions<'a, C> {
     #[tactic(auto, using(crate::proofs::RowsLeft::ended))]
     fn first_left(&self) -> Option<(SectionFunction<'a>, usize)>
         ensures { MatchOption result (all_left C.table self.now ≡ [])
-            (λ r. all_left C.table self.now ≡ section_function_view r.0 ∷ all_left C.table (record self.now { next = r.1 })) }
+            (λ r. all_left C.table self.now ≡ section_function_view r.0 ∷ all_left C.table
+            (record self.now { next = r.1 })) }
     {
         for k in self.next..self.rows.len() / C::SYMBOL_LENGTH {
             let row = C::symbol(self.rows, k * C::SYMBOL_LENGTH, self.byte_order).unwrap();
@@ -93,7 +95,7 @@ impl<'a, C: Class> AllFunctions<'a, C> {
 
 impl<'a, C: Class> Iterator for AllFunctions<'a, C> {
     ghost use Rattle.std.specs.Iterator.{YieldsFirstBy, item_count};
-    ghost use Rattle.binfarce_symbols.specs.SymbolViews.{section_function_view};
+    ghost use Rattle.binfarce_bytes.specs.SymbolViews.{section_function_view};
     ghost use Rattle.binfarce_elf.specs.ElfAll.{all_left};
 
     type Item = SectionFunction<'a>;

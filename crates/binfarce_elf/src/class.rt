@@ -63,7 +63,8 @@ pub trait Class: RawNumber + Copy + Drop {
     /// The row at `start`; refused where it is truncated.
     fn symbol(bytes: &[u8], start: usize, byte_order: ByteOrder) -> Result<SymbolRow, UnexpectedEof>
         ensures { MatchResult result
-            (λ r. (start + table.symbol_length ≤ length bytes.now) × (symbol_view r ≡ symbol_at table byte_order bytes.now start))
+            (λ r. (start + table.symbol_length ≤ length bytes.now)
+            × (symbol_view r ≡ symbol_at table byte_order bytes.now start))
             (λ _. length bytes.now < start + table.symbol_length) };
 
     ghost word: { (order : ByteOrder) (bytes : List ℕ) → number_of (Self.value order bytes) ≡ number order bytes };

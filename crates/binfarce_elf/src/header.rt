@@ -66,7 +66,8 @@ pub fn parse_header<C: Class>(
     byte_order: ByteOrder,
 ) -> Result<Header<C>, UnexpectedEof>
     ensures { MatchResult result
-        (λ h. (C.table.header_length ≤ length data.now) × (header_view C.number_of h ≡ header_of C.table byte_order data.now))
+        (λ h. (C.table.header_length ≤ length data.now)
+        × (header_view C.number_of h ≡ header_of C.table byte_order data.now))
         (λ _. length data.now < C.table.header_length) }
 {
     let word = C::SIZE;

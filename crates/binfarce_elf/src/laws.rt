@@ -8,16 +8,30 @@ ghost use Rattle.binfarce_elf.specs.ElfSymbols.{entries_from};
 /// A section header of 32 bits in big endian: `PROGBITS`, at 0x34, of 0x20 bytes, of which an entry has 4.
 #[tactic(auto, unfolding(crate::specs::Elf::elf32, crate::specs::Elf::section_at, binfarce_bytes::proofs::Computing::computing))]
 fn worked_section()
-    ensures { section_at elf32 BigEndian (0 ∷ 0 ∷ 0 ∷ 11 ∷ 0 ∷ 0 ∷ 0 ∷ 1 ∷ 0 ∷ 0 ∷ 0 ∷ 6 ∷ 0 ∷ 0 ∷ 0x10 ∷ 0 ∷ 0 ∷ 0 ∷ 0 ∷ 0x34 ∷ 0 ∷ 0 ∷ 0 ∷ 0x20 ∷ 0 ∷ 0 ∷ 0 ∷ 7 ∷ 0 ∷ 0 ∷ 0 ∷ 0 ∷ 0 ∷ 0 ∷ 0 ∷ 1 ∷ 0 ∷ 0 ∷ 0 ∷ 4 ∷ []) 0 5
-        ≡ record { index = 5; name_offset = 11; kind = 1; address = 0x1000; link = 7; offset = 0x34; size = 0x20; entry_size = 4 } }
+    ensures { section_at elf32 BigEndian
+        (0 ∷ 0 ∷ 0 ∷ 11 ∷ 0 ∷ 0 ∷ 0 ∷ 1 ∷ 0 ∷ 0 ∷ 0 ∷ 6 ∷ 0 ∷ 0 ∷ 0x10 ∷ 0 ∷ 0 ∷ 0 ∷ 0 ∷ 0x34 ∷ 0 ∷ 0 ∷ 0 ∷ 0x20 ∷ 0 ∷ 0
+        ∷ 0 ∷ 7 ∷ 0 ∷ 0 ∷ 0 ∷ 0 ∷ 0 ∷ 0 ∷ 0 ∷ 1 ∷ 0 ∷ 0 ∷ 0 ∷ 4 ∷ []) 0 5
+        ≡ record {
+          index = 5;
+          name_offset = 11;
+          kind = 1;
+          address = 0x1000;
+          link = 7;
+          offset = 0x34;
+          size = 0x20;
+          entry_size = 4;
+        } }
 {}
 
 /// A row of the function `f` at 0x1000, of 16 bytes, in section 1: as it stands in both classes, and as an object.
 #[tactic(auto, unfolding(crate::specs::Elf::elf32, crate::specs::Elf::elf64, crate::specs::ElfSymbols::symbol_at, crate::specs::ElfSymbols::function_name, binfarce_bytes::proofs::Computing::computing))]
 fn worked_rows()
-    ensures of_32_bits { entries_from elf32 BigEndian (0 ∷ 0x66 ∷ 0 ∷ []) 1 (0 ∷ 0 ∷ 0 ∷ 1 ∷ 0 ∷ 0 ∷ 0x10 ∷ 0 ∷ 0 ∷ 0 ∷ 0 ∷ 16 ∷ 0x12 ∷ 0 ∷ 0 ∷ 1 ∷ []) 0
+    ensures of_32_bits { entries_from elf32 BigEndian (0 ∷ 0x66 ∷ 0 ∷ []) 1
+        (0 ∷ 0 ∷ 0 ∷ 1 ∷ 0 ∷ 0 ∷ 0x10 ∷ 0 ∷ 0 ∷ 0 ∷ 0 ∷ 16 ∷ 0x12 ∷ 0 ∷ 0 ∷ 1 ∷ []) 0
         ≡ record { name = 0x66 ∷ []; address = 0x1000; size = 16 } ∷ [] }
-    ensures of_64_bits { entries_from elf64 LittleEndian (0 ∷ 0x66 ∷ 0 ∷ []) 1 (1 ∷ 0 ∷ 0 ∷ 0 ∷ 0x12 ∷ 0 ∷ 1 ∷ 0 ∷ 0 ∷ 0x10 ∷ 0 ∷ 0 ∷ 0 ∷ 0 ∷ 0 ∷ 0 ∷ 16 ∷ 0 ∷ 0 ∷ 0 ∷ 0 ∷ 0 ∷ 0 ∷ 0 ∷ []) 0
+    ensures of_64_bits { entries_from elf64 LittleEndian (0 ∷ 0x66 ∷ 0 ∷ []) 1
+        (1 ∷ 0 ∷ 0 ∷ 0 ∷ 0x12 ∷ 0 ∷ 1 ∷ 0 ∷ 0 ∷ 0x10 ∷ 0 ∷ 0 ∷ 0 ∷ 0 ∷ 0 ∷ 0 ∷ 16 ∷ 0 ∷ 0 ∷ 0 ∷ 0 ∷ 0 ∷ 0 ∷ 0 ∷ []) 0
         ≡ record { name = 0x66 ∷ []; address = 0x1000; size = 16 } ∷ [] }
-    ensures object { entries_from elf32 BigEndian (0 ∷ 0x66 ∷ 0 ∷ []) 1 (0 ∷ 0 ∷ 0 ∷ 1 ∷ 0 ∷ 0 ∷ 0x10 ∷ 0 ∷ 0 ∷ 0 ∷ 0 ∷ 16 ∷ 0x11 ∷ 0 ∷ 0 ∷ 1 ∷ []) 0 ≡ [] }
+    ensures object { entries_from elf32 BigEndian (0 ∷ 0x66 ∷ 0 ∷ []) 1
+        (0 ∷ 0 ∷ 0 ∷ 1 ∷ 0 ∷ 0 ∷ 0x10 ∷ 0 ∷ 0 ∷ 0 ∷ 0 ∷ 16 ∷ 0x11 ∷ 0 ∷ 0 ∷ 1 ∷ []) 0 ≡ [] }
 {}

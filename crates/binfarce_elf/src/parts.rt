@@ -36,7 +36,8 @@ pub fn needed_sections<C: Class>(
     section_name: &str,
 ) -> Result<Needed<C>, ParseError>
     ensures { Gives refusal_of (needed_view C.number_of)
-        (needed which C.table (headers_alone byte_order headers.now count) (option_map (λ b. b.now) names.entry) section_name.now) result }
+        (needed which C.table (headers_alone byte_order headers.now count) (option_map (λ b. b.now) names.entry)
+        section_name.now) result }
 {
     needed_of::<C>(
         headers_alone(headers, byte_order, count),
@@ -55,7 +56,9 @@ pub fn sections_in<C: Class>(headers: &[u8], byte_order: ByteOrder, count: Half)
 
 /// The section's name among these section names.
 pub fn name_in<'a, C: Class>(names: Option<&'a [u8]>, section: &Section<C>) -> Option<&'a str>
-    ensures { option_map (λ t. t.now) result ≡ name_among (option_map (λ b. b.now) names.entry) (section_view C.number_of section.now).name_offset }
+    ensures { option_map
+        (λ t. t.now) result ≡ name_among (option_map (λ b. b.now) names.entry)
+        (section_view C.number_of section.now).name_offset }
 {
     name_at(names, section.name_offset)
 }
@@ -100,7 +103,9 @@ fn named_section<C: Class>(
     name: &str,
 ) -> Result<Section<C>, ParseError>
     ensures { Gives refusal_of (section_view C.number_of)
-        (sought symbols_section_is_missing (λ s. is_named name.now (name_among (option_map (λ b. b.now) names.entry) s.name_offset)) (walk C.table (table_view table.entry))) result }
+        (sought symbols_section_is_missing
+        (λ s. is_named name.now (name_among (option_map (λ b. b.now) names.entry) s.name_offset))
+        (walk C.table (table_view table.entry))) result }
 {
     section_named::<C>(table, names, name)?.ok_or(ParseError::SymbolsSectionIsMissing)
 }
@@ -111,7 +116,8 @@ fn section_named<C: Class>(
     name: &str,
 ) -> Result<Option<Section<C>>, UnexpectedEof>
     ensures { Gives (λ _. unexpected_eof) (option_map (section_view C.number_of))
-        (first (λ s. is_named name.now (name_among (option_map (λ b. b.now) names.entry) s.name_offset)) (walk C.table (table_view table.entry))) result }
+        (first (λ s. is_named name.now (name_among (option_map (λ b. b.now) names.entry) s.name_offset))
+        (walk C.table (table_view table.entry))) result }
 {
     first_section::<C, _>(table, |section| {
         is_named(name_at(names, section.name_offset), name)
@@ -126,7 +132,11 @@ pub fn functions_in<'a, C: Class>(
     section: Section<C>,
 ) -> (Functions<'a, C>, u64)
     ensures { let s = section_view C.number_of section in functions_view C.table result
-        ≡ record { entries = entries_from C.table byte_order strings.entry.now s.index rows.entry.now 0; section_size = s.size } }
+        ≡ record {
+          entries = entries_from C.table byte_order strings.entry.now s.index
+              rows.entry.now 0;
+          section_size = s.size;
+        } }
 {
     let functions = Functions::new(rows, strings, byte_order, section.index);
     (functions, section.size.widened())

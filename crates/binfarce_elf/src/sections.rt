@@ -57,8 +57,11 @@ impl<C: Class> Section<C> {
     /// ends with a NUL (gABI, "String Table").
     #[tactic(auto, using(crate::proofs::Names::name_reported))]
     pub fn name<'a, P: HasSections<'a, C>>(&self, parent: &P) -> Option<&'a str>
-        ensures name { option_map (λ t. t.now) result ≡ name_of C.table (section_table C.table (P.file parent.now)) (section_view C.number_of self.now) }
-        ensures part { IfSome (option_map (λ t. t.now) result) (NameIsInFile C.table (section_table C.table (P.file parent.now)) (section_view C.number_of self.now)) }
+        ensures name { option_map
+            (λ t. t.now) result ≡ name_of C.table (section_table C.table (P.file parent.now))
+            (section_view C.number_of self.now) }
+        ensures part { IfSome (option_map (λ t. t.now) result)
+            (NameIsInFile C.table (section_table C.table (P.file parent.now)) (section_view C.number_of self.now)) }
     {
         section_name::<C>(parent.section_table(), *self)
     }
@@ -113,7 +116,8 @@ pub fn section_at<C: Class>(
     index: Half,
 ) -> Result<Section<C>, UnexpectedEof>
     ensures { MatchResult result
-        (λ s. (start + C.table.section_length ≤ length bytes.now) × (section_view C.number_of s ≡ section_at C.table byte_order bytes.now start index))
+        (λ s. (start + C.table.section_length ≤ length bytes.now)
+        × (section_view C.number_of s ≡ section_at C.table byte_order bytes.now start index))
         (λ _. length bytes.now < start + C.table.section_length) }
 {
     let mut s = Stream::new_at(bytes, start, byte_order)?;
@@ -210,7 +214,9 @@ fn section_left<C: Class>(
     requires { index ≤ section_count C.table (table_view table) }
     ensures { let left = walk_from C.table (table_view table.entry) (Some index) in MatchResult result
         (λ found. MatchOption found (left ≡ ended None)
-        (λ s. (index < section_count C.table (table_view table.entry)) × (left ≡ ahead_of (section_view C.number_of s) (walk_from C.table (table_view table.entry) (Some (index + 1))))))
+        (λ s. (index < section_count C.table (table_view table.entry))
+        × (left ≡ ahead_of (section_view C.number_of s)
+        (walk_from C.table (table_view table.entry) (Some (index + 1))))))
         (λ _. left ≡ ended (Some unexpected_eof)) }
 {
     if table.shoff >= table.data.len() {
@@ -234,7 +240,9 @@ pub fn first_section<C: Class, F: Fn(Section<C>) -> bool>(
     callback: F,
 ) -> Result<Option<Section<C>>, UnexpectedEof>
     requires { All (MayBeAsked (section_view C.number_of) (F.pre callback)) (walk C.table (table_view table)).items }
-    ensures { FirstAccepted (λ _. unexpected_eof) (section_view C.number_of) (F.post callback) (walk C.table (table_view table.entry)) result }
+    ensures { FirstAccepted
+        (λ _. unexpected_eof) (section_view C.number_of) (F.post callback)
+        (walk C.table (table_view table.entry)) result }
 {
     let mut start = table.shoff;
     if start >= table.data.len() {
@@ -256,7 +264,8 @@ pub fn section_with_name<C: Class>(
     name: &str,
 ) -> Result<Option<Section<C>>, UnexpectedEof>
     ensures { Gives (λ _. unexpected_eof) (option_map (section_view C.number_of))
-        (first (λ s. is_named name.now (name_of C.table (table_view table.entry) s)) (walk C.table (table_view table.entry))) result }
+        (first (λ s. is_named name.now (name_of C.table (table_view table.entry) s))
+        (walk C.table (table_view table.entry))) result }
 {
     let names = names_bytes::<C>(table);
     first_section::<C, _>(table, |section| {
@@ -276,7 +285,8 @@ pub(crate) fn is_named(found: Option<&str>, name: &str) -> bool
 /// A section's name, a part of the file.
 #[tactic(auto, unfolding(crate::specs::Elf::name_of))]
 pub(crate) fn section_name<'a, C: Class>(table: Table<'a>, section: Section<C>) -> Option<&'a str>
-    ensures { option_map (λ t. t.now) result ≡ name_of C.table (table_view table.entry) (section_view C.number_of section) }
+    ensures { option_map
+        (λ t. t.now) result ≡ name_of C.table (table_view table.entry) (section_view C.number_of section) }
 {
     name_at(names_bytes::<C>(table), section.name_offset)
 }

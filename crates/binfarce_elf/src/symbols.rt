@@ -4,8 +4,8 @@ ghost use Rattle.std.specs.Prelude.{◌≡◌, [], ◌∷◌, MatchOption, nat_e
 ghost use Rattle.std.specs.Option.{option_map};
 ghost use Rattle.binfarce_bytes.specs.Refusal.{Gives, refusal_of, unexpected_eof, symbols_section_is_missing, section_is_missing};
 ghost use Rattle.binfarce_bytes.specs.Walk.{first};
-ghost use Rattle.binfarce_symbols.specs.SymbolViews.{function_view};
-ghost use Rattle.binfarce_symbols.specs.Found.{entry_at};
+ghost use Rattle.binfarce_bytes.specs.SymbolViews.{function_view};
+ghost use Rattle.binfarce_bytes.specs.Found.{entry_at};
 ghost use Rattle.binfarce_elf.specs.Elf.{walk, name_of};
 ghost use Rattle.binfarce_elf.specs.ElfSymbols.{is_named, sought, string_table_kind, whole_rows, rows_in, located_in, elf_answer, answer_in, dynamic_answer, entries_from, function_name};
 ghost use Rattle.binfarce_elf.specs.SymbolTables.{section_type, table_name, strings_name};
@@ -15,9 +15,9 @@ ghost use Rattle.binfarce_elf.specs.machine.RawElf.{symbol_view, table_view, row
 use crate::class::{Class, Half, SymbolRow, Word};
 use crate::sections::{Section, Table, first_section, section_data, section_with_name};
 use crate::symbol_table::SymbolTable;
+use binfarce_bytes::functions::{FunctionSymbol, found_with};
 use binfarce_bytes::parser::{UnexpectedEof, parse_null_string};
 use binfarce_bytes::{ByteOrder, ParseError};
-use binfarce_symbols::functions::{FunctionSymbol, found_with};
 use std::marker::PhantomData;
 
 /// `SHT_STRTAB`.
@@ -44,7 +44,8 @@ pub fn section_functions<'a, C: Class>(
     table: Table<'a>,
     section_name: &str,
 ) -> Result<(Functions<'a, C>, u64), ParseError>
-    ensures { Gives refusal_of (functions_view C.table) (elf_answer C.table (table_view table.entry) section_name.now) result }
+    ensures { Gives refusal_of (functions_view C.table)
+        (elf_answer C.table (table_view table.entry) section_name.now) result }
 {
     functions_of(table, SymbolTable::Symtab, section_name)
 }
@@ -54,7 +55,8 @@ pub fn dynamic_functions<'a, C: Class>(
     table: Table<'a>,
     section_name: &str,
 ) -> Result<(Functions<'a, C>, u64), ParseError>
-    ensures { Gives refusal_of (functions_view C.table) (dynamic_answer C.table (table_view table.entry) section_name.now) result }
+    ensures { Gives refusal_of (functions_view C.table)
+        (dynamic_answer C.table (table_view table.entry) section_name.now) result }
 {
     functions_of(table, SymbolTable::Dynsym, section_name)
 }
@@ -66,7 +68,8 @@ fn functions_of<'a, C: Class>(
     which: SymbolTable,
     section_name: &str,
 ) -> Result<(Functions<'a, C>, u64), ParseError>
-    ensures { Gives refusal_of (functions_view C.table) (answer_in which C.table (table_view table.entry) section_name.now) result }
+    ensures { Gives refusal_of (functions_view C.table)
+        (answer_in which C.table (table_view table.entry) section_name.now) result }
 {
     let Located {
         section,
@@ -84,7 +87,8 @@ fn locate<'a, C: Class>(
     which: SymbolTable,
     section_name: &str,
 ) -> Result<Located<'a, C>, ParseError>
-    ensures { Gives refusal_of (located_view C.number_of) (located_in which C.table (table_view table.entry) section_name.now) result }
+    ensures { Gives refusal_of (located_view C.number_of)
+        (located_in which C.table (table_view table.entry) section_name.now) result }
 {
     let section = named_section::<C>(table, section_name)?;
     let Rows { strings, rows } = rows_of::<C>(table, which)?;
@@ -114,7 +118,9 @@ pub(crate) fn rows_of<'a, C: Class>(
 
 fn named_section<C: Class>(table: Table<'_>, name: &str) -> Result<Section<C>, ParseError>
     ensures { Gives refusal_of (section_view C.number_of)
-        (sought symbols_section_is_missing (λ s. is_named name.now (name_of C.table (table_view table.entry) s)) (walk C.table (table_view table.entry))) result }
+        (sought symbols_section_is_missing
+        (λ s. is_named name.now (name_of C.table (table_view table.entry) s))
+        (walk C.table (table_view table.entry))) result }
 {
     section_with_name::<C>(table, name)?.ok_or(ParseError::SymbolsSectionIsMissing)
 }
@@ -124,7 +130,8 @@ pub(crate) fn symbol_table<C: Class>(
     which: SymbolTable,
 ) -> Result<Section<C>, ParseError>
     ensures { Gives refusal_of (section_view C.number_of)
-        (sought (section_is_missing (table_name which)) (λ s. nat_eq s.kind (section_type which)) (walk C.table (table_view table.entry))) result }
+        (sought (section_is_missing (table_name which))
+        (λ s. nat_eq s.kind (section_type which)) (walk C.table (table_view table.entry))) result }
 {
     section_of_kind::<C>(table, which.section_type())?.ok_or(ParseError::SectionIsMissing(
         which.name(),
@@ -147,7 +154,8 @@ pub(crate) fn linked_section<C: Class>(
     link: Word,
 ) -> Result<Section<C>, ParseError>
     ensures { Gives refusal_of (section_view C.number_of)
-        (sought (section_is_missing (strings_name which)) (λ s. nat_eq s.index link) (walk C.table (table_view table.entry))) result }
+        (sought (section_is_missing (strings_name which))
+        (λ s. nat_eq s.index link) (walk C.table (table_view table.entry))) result }
 {
     section_of_index::<C>(table, link)?.ok_or(ParseError::SectionIsMissing(which.strings_name()))
 }
@@ -164,7 +172,8 @@ pub fn section_of_index<C: Class>(
 }
 
 pub(crate) fn string_table<C: Class>(section: Section<C>) -> Result<Section<C>, ParseError>
-    ensures { Gives refusal_of (section_view C.number_of) (string_table_kind (section_view C.number_of section)) result }
+    ensures { Gives refusal_of (section_view C.number_of)
+        (string_table_kind (section_view C.number_of section)) result }
 {
     if section.kind == STRING_TABLE {
         Ok(section)
@@ -220,7 +229,8 @@ impl<'a, C: Class> Functions<'a, C> {
 
     // The functions of the section `index` in whole rows.
     pub(crate) fn new(rows: &'a [u8], strings: &'a [u8], byte_order: ByteOrder, index: Half) -> Self
-        ensures { functions_left C.table result ≡ entries_from C.table byte_order strings.entry.now index rows.entry.now 0 }
+        ensures { functions_left C.table result
+            ≡ entries_from C.table byte_order strings.entry.now index rows.entry.now 0 }
     {
         Functions {
             rows,
@@ -237,7 +247,8 @@ impl<'a, C: Class> Functions<'a, C> {
     #[tactic(auto, using(crate::proofs::RowsLeft::passed, crate::proofs::RowsLeft::kept, crate::proofs::RowsLeft::ended))]
     fn first_left(&self) -> Option<(FunctionSymbol<'a>, usize)>
         ensures { MatchOption result (functions_left C.table self.now ≡ [])
-            (λ r. functions_left C.table self.now ≡ function_view r.0 ∷ functions_left C.table (record self.now { next = r.1 })) }
+            (λ r. functions_left C.table self.now ≡ function_view r.0 ∷ functions_left C.table
+            (record self.now { next = r.1 })) }
     {
         for k in self.next..self.rows.len() / C::SYMBOL_LENGTH {
             let row = C::symbol(self.rows, k * C::SYMBOL_LENGTH, self.byte_order).unwrap();
@@ -259,7 +270,7 @@ impl<'a, C: Class> Functions<'a, C> {
 
 impl<'a, C: Class> Iterator for Functions<'a, C> {
     ghost use Rattle.std.specs.Iterator.{YieldsFirstBy, item_count};
-    ghost use Rattle.binfarce_symbols.specs.SymbolViews.{function_view};
+    ghost use Rattle.binfarce_bytes.specs.SymbolViews.{function_view};
     ghost use Rattle.binfarce_elf.specs.ElfViews.{functions_left};
 
     type Item = FunctionSymbol<'a>;

@@ -77,7 +77,8 @@ impl TextFilter {
     ///
     /// `AllocError` where an allocation failed. The filter must not be used any more then.
     pub fn push(&mut self, alloc: Global, part: &[u8], out: &mut Vec<u8>) -> Result<(), AllocError>
-        ensures { OnOk result ((more : List ℕ) × Goes self.old self.new part.now more × (out.new.items ≡ out.old.items ++ more)) }
+        ensures { OnOk result
+            ((more : List ℕ) × Goes self.old self.new part.now more × (out.new.items ≡ out.old.items ++ more)) }
     {
         if self.run.is_empty() {
             return self.push_text(alloc, part, out);
@@ -104,7 +105,8 @@ impl TextFilter {
     // The text goes on with this part between two runs.
     fn push_text(&mut self, alloc: Global, part: &[u8], out: &mut Vec<u8>) -> Result<(), AllocError>
         requires { IsBetweenRuns self.now }
-        ensures { OnOk result ((more : List ℕ) × Goes self.old self.new part.now more × (out.new.items ≡ out.old.items ++ more)) }
+        ensures { OnOk result
+            ((more : List ℕ) × Goes self.old self.new part.now more × (out.new.items ≡ out.old.items ++ more)) }
     {
         let at = push_ended(alloc, self.full, part, out)?;
         self.grow(&part[at..], out)
@@ -113,7 +115,8 @@ impl TextFilter {
     // The run goes on with these bytes.
     fn grow(&mut self, bytes: &[u8], out: &mut Vec<u8>) -> Result<(), AllocError>
         requires { is_run (self.now.run.items ++ bytes.now) ≡ true }
-        ensures { OnOk result ((more : List ℕ) × Goes self.old self.new bytes.now more × (out.new.items ≡ out.old.items ++ more)) }
+        ensures { OnOk result
+            ((more : List ℕ) × Goes self.old self.new bytes.now more × (out.new.items ≡ out.old.items ++ more)) }
     {
         if is_too_long(self.run.as_slice()) {
             return out.extend_from_slice(bytes);
@@ -135,7 +138,9 @@ impl TextFilter {
     ) -> Result<(), AllocError>
         requires run { is_run (self.now.run.items ++ bytes.now) ≡ true }
         requires other { is_run_byte other ≡ false }
-        ensures goes { OnOk result ((more : List ℕ) × Goes self.old self.new (bytes.now ++ other ∷ []) more × (out.new.items ≡ out.old.items ++ more)) }
+        ensures goes { OnOk result
+            ((more : List ℕ) × Goes self.old self.new (bytes.now ++ other ∷ []) more
+            × (out.new.items ≡ out.old.items ++ more)) }
         ensures between { OnOk result (IsBetweenRuns self.new) }
     {
         self.show_run(alloc, bytes, out)?;
@@ -147,7 +152,8 @@ impl TextFilter {
     // Writes what is left to be shown of the run, which ends with these bytes.
     fn show_run(&mut self, alloc: Global, bytes: &[u8], out: &mut Vec<u8>) -> Result<(), AllocError>
         requires { is_run (self.now.run.items ++ bytes.now) ≡ true }
-        ensures shown { OnOk result ((more : List ℕ) × Shows self.old bytes.now more × (out.new.items ≡ out.old.items ++ more)) }
+        ensures shown { OnOk result
+            ((more : List ℕ) × Shows self.old bytes.now more × (out.new.items ≡ out.old.items ++ more)) }
         ensures full { self.new.full ≡ self.old.full }
     {
         if is_too_long(self.run.as_slice()) {
@@ -167,7 +173,8 @@ fn push_ended(
 ) -> Result<usize, AllocError>
     ensures within { IfOk result (λ at. at ≤ length text.now) }
     ensures run { IfOk result (λ at. is_run (drop at text.now) ≡ true) }
-    ensures shown { IfOk result (λ at. (shown : List ℕ) × Continues full (take at text.now) shown × (out.new.items ≡ out.old.items ++ shown)) }
+    ensures shown { IfOk result
+        (λ at. (shown : List ℕ) × Continues full (take at text.now) shown × (out.new.items ≡ out.old.items ++ shown)) }
 {
     let mut at = 0;
     loop {
@@ -311,7 +318,8 @@ fn push_run(alloc: Global, full: bool, run: &[u8], out: &mut Vec<u8>) -> Result<
 // Writes what is shown of a run that isn't too long.
 fn push_names(alloc: Global, full: bool, run: &[u8], out: &mut Vec<u8>) -> Result<(), AllocError>
     requires { list_all is_run_byte run.now ≡ true }
-    ensures { OnOk result ((shown : List ℕ) × IsRead full true run.now shown × (out.new.items ≡ out.old.items ++ shown)) }
+    ensures { OnOk result
+        ((shown : List ℕ) × IsRead full true run.now shown × (out.new.items ≡ out.old.items ++ shown)) }
 {
     let mut at = 0;
     while at < run.len() {
@@ -452,7 +460,8 @@ fn digits_len(text: &[u8]) -> usize
 // Writes what is shown of a name.
 fn push_name(alloc: Global, full: bool, name: &[u8], out: &mut Vec<u8>) -> Result<(), AllocError>
     requires { list_all is_run_byte name.now ≡ true }
-    ensures { OnOk result ((shown : List ℕ) × IsReadable full name.now shown × (out.new.items ≡ out.old.items ++ shown)) }
+    ensures { OnOk result
+        ((shown : List ℕ) × IsReadable full name.now shown × (out.new.items ≡ out.old.items ++ shown)) }
 {
     let text = text_of(alloc, full, std::str::from_utf8(name).unwrap())?;
     if has_control(text.as_str()) {

@@ -66,7 +66,8 @@ pub fn filter_stream<R: Read, W: Write>(
     input: &mut R,
     output: &mut W,
 ) -> Result<(), StreamError>
-    ensures { Streams full (R.remaining input.old) (R.remaining input.new) (W.contents output.old) (W.contents output.new) result }
+    ensures { Streams full (R.remaining input.old) (R.remaining input.new) (W.contents output.old)
+        (W.contents output.new) result }
 {
     let mut filter = TextFilter::new(alloc, full);
     let mut out = Vec::new(alloc);
@@ -87,7 +88,8 @@ fn pass_all<R: Read, W: Write>(
     input: &mut R,
     output: &mut W,
 ) -> Result<bool, StreamError>
-    ensures { Takes filter.old filter.new (R.remaining input.old) (R.remaining input.new) (W.contents output.old) (W.contents output.new) result }
+    ensures { Takes filter.old filter.new (R.remaining input.old) (R.remaining input.new) (W.contents output.old)
+        (W.contents output.new) result }
 {
     let mut chunk = new_chunk(alloc)?;
     pass_chunks(alloc, filter, out, chunk.as_mut_slice(), input, output)
@@ -110,7 +112,8 @@ fn pass_chunks<R: Read, W: Write>(
     output: &mut W,
 ) -> Result<bool, StreamError>
     requires { 0 < length chunk.now }
-    ensures { Takes filter.old filter.new (R.remaining input.old) (R.remaining input.new) (W.contents output.old) (W.contents output.new) result }
+    ensures { Takes filter.old filter.new (R.remaining input.old) (R.remaining input.new) (W.contents output.old)
+        (W.contents output.new) result }
 {
     for _ in 0..u64::MAX {
         match input.read(chunk) {

@@ -129,7 +129,8 @@ fn is_last_part(part: &[u8], name: &[u8], end: usize) -> bool
 fn push_path(text: &mut String, part: &str, trimmed: bool) -> Result<bool, AllocError>
     requires { IsAscii part.now }
     ensures bytes { IfOk result (λ left_out. (elements : List Element) (rest : List ℕ)
-        → Reads part.now elements rest → string_bytes text.new ≡ string_bytes text.old ++ encode_utf8_all (path_chars left_out elements)) }
+        → Reads part.now elements rest
+        → string_bytes text.new ≡ string_bytes text.old ++ encode_utf8_all (path_chars left_out elements)) }
     ensures asked { IfOk result (λ left_out. IsTrue left_out → IsTrue trimmed) }
     ensures grows { Grows (string_bytes text.old) (string_bytes text.new) }
 {
@@ -167,7 +168,8 @@ pub fn complete(alloc: Global, part: &str) -> Result<String, AllocError>
 pub fn push_front(text: &mut String, part: &str) -> Result<(), AllocError>
     requires { IsAscii part.now }
     ensures front { OnOk result ((elements : List Element) (rest : List ℕ) → Reads part.now elements rest
-        → (front : List ℕ) × (string_bytes text.new ≡ string_bytes text.old ++ front) × IsFront front (encode_utf8_all (legacy_chars elements))) }
+        → (front : List ℕ) × (string_bytes text.new ≡ string_bytes text.old ++ front)
+        × IsFront front (encode_utf8_all (legacy_chars elements))) }
     ensures grows { Grows (string_bytes text.old) (string_bytes text.new) }
 {
     let bytes = part.as_bytes();
@@ -190,7 +192,9 @@ pub fn push_front(text: &mut String, part: &str) -> Result<(), AllocError>
 pub fn push_trimmed(text: &mut String, part: &str) -> Result<(), AllocError>
     requires { IsAscii part.now }
     ensures bytes { OnOk result ((elements : List Element) (rest : List ℕ)
-        → Reads part.now elements rest → string_bytes text.new ≡ string_bytes text.old ++ encode_utf8_all (without_last_part (legacy_chars elements))) }
+        → Reads part.now elements rest
+        → string_bytes text.new
+        ≡ string_bytes text.old ++ encode_utf8_all (without_last_part (legacy_chars elements))) }
     ensures unchanged { OnErr result (string_bytes text.new ≡ string_bytes text.old) }
 {
     let start = text.as_str().len();
@@ -212,7 +216,8 @@ pub fn push_trimmed(text: &mut String, part: &str) -> Result<(), AllocError>
 // where it has no `:`. Nothing is copied.
 fn without_last_part(complete: &str) -> &str
     ensures front { result.now ≡ take (length result.now) complete.now }
-    ensures text { (chars : List ℕ) → complete.now ≡ encode_utf8_all chars → result.now ≡ encode_utf8_all (without_last_part chars) }
+    ensures text { (chars : List ℕ) → complete.now ≡ encode_utf8_all chars
+        → result.now ≡ encode_utf8_all (without_last_part chars) }
 {
     match complete.rfind(':') {
         None => complete,

@@ -2,7 +2,7 @@
 
 ghost use Rattle.std.specs.Prelude.{◌≡◌, ◌⊎◌, ℕ, List, [], true, map, Some, None, MatchResult, IfSome};
 ghost use Rattle.std.specs.String.{string_bytes};
-ghost use Rattle.binfarce_format.specs.Format.{format_of};
+ghost use Rattle.binfarce_bytes.specs.Format.{format_of};
 ghost use Rattle.binfarce_tools.specs.Answer.{symbols_answer, NeedsMemory};
 ghost use Rattle.binfarce_tools.specs.Listing.{IsListingOf, ListingFits};
 ghost use Rattle.binfarce_tools.specs.Sink.{writer_of, has_failed};
@@ -12,8 +12,8 @@ ghost use Rattle.binfarce_program.specs.Status.{status_of};
 ghost use Rattle.binfarce_list.specs.Program.{outcome_of, is_usage};
 ghost use Rattle.binfarce_list.specs.declared.program.Fault.TheVariants.{Usage};
 
+use binfarce_bytes::source::Source;
 use binfarce_program::{Failure, file_and_section, is_read_at_offsets, read_whole};
-use binfarce_source::Source;
 use binfarce_tables::ReadError;
 use binfarce_tools::list::{ListError, Out, list, list_tables};
 use binfarce_tools::tables::read;
@@ -94,8 +94,12 @@ pub fn run<R: Read, W: Write>(
     section: &str,
     out: &mut Out<W>,
 ) -> Result<(), Fault>
-    ensures tells { IfSome (R.remaining file.old) (λ bytes. ProgramTells (Unit {0}) ListingFits (NeedsMemory (format_of bytes) bytes) (symbols_answer (format_of bytes) bytes section.now) (outcome_of result)) }
-    ensures takes { IfSome (R.remaining file.old) (λ bytes. Takes IsListingOf (symbols_answer (format_of bytes) bytes section.now)
+    ensures tells { IfSome
+        (R.remaining file.old)
+        (λ bytes. ProgramTells (Unit {0}) ListingFits (NeedsMemory (format_of bytes) bytes)
+        (symbols_answer (format_of bytes) bytes section.now) (outcome_of result)) }
+    ensures takes { IfSome
+        (R.remaining file.old) (λ bytes. Takes IsListingOf (symbols_answer (format_of bytes) bytes section.now)
         (W.contents (writer_of out.old)) (W.contents (writer_of out.new)) (outcome_of result)) }
     ensures fails { Fails (has_failed out.old) (has_failed out.new) (outcome_of result) }
     ensures leaves { Leaves out.old out.new (outcome_of result) }
@@ -113,8 +117,11 @@ pub fn run_at<S: Source, W: Write>(
     section: &str,
     out: &mut Out<W>,
 ) -> Result<(), Fault>
-    ensures tells { (bytes : List ℕ) → S.bytes source.now ≡ Some bytes → ProgramTells (S.may_fail source.now ≡ true) ListingFits (NeedsMemory (format_of bytes) bytes) (symbols_answer (format_of bytes) bytes section.now) (outcome_of result) }
-    ensures takes { (bytes : List ℕ) → S.bytes source.now ≡ Some bytes → Takes IsListingOf (symbols_answer (format_of bytes) bytes section.now)
+    ensures tells { (bytes : List ℕ) → S.bytes source.now ≡ Some bytes
+        → ProgramTells (S.may_fail source.now ≡ true) ListingFits (NeedsMemory (format_of bytes) bytes)
+        (symbols_answer (format_of bytes) bytes section.now) (outcome_of result) }
+    ensures takes { (bytes : List ℕ) → S.bytes source.now ≡ Some bytes
+        → Takes IsListingOf (symbols_answer (format_of bytes) bytes section.now)
         (W.contents (writer_of out.old)) (W.contents (writer_of out.new)) (outcome_of result) }
     ensures fails { Fails (has_failed out.old) (has_failed out.new) (outcome_of result) }
     ensures leaves { Leaves out.old out.new (outcome_of result) }
@@ -133,8 +140,11 @@ pub fn run_file<F: Read + Source, W: Write>(
     section: &str,
     out: &mut Out<W>,
 ) -> Result<(), Fault>
-    ensures tells { (bytes : List ℕ) → F.bytes file.old ≡ Some bytes → F.remaining file.old ≡ Some bytes → ProgramTells ((F.may_fail file.old ≡ true) ⊎ (bytes ≡ [])) ListingFits (NeedsMemory (format_of bytes) bytes) (symbols_answer (format_of bytes) bytes section.now) (outcome_of result) }
-    ensures takes { (bytes : List ℕ) → F.bytes file.old ≡ Some bytes → F.remaining file.old ≡ Some bytes → Takes IsListingOf (symbols_answer (format_of bytes) bytes section.now)
+    ensures tells { (bytes : List ℕ) → F.bytes file.old ≡ Some bytes → F.remaining file.old ≡ Some bytes
+        → ProgramTells ((F.may_fail file.old ≡ true) ⊎ (bytes ≡ [])) ListingFits (NeedsMemory (format_of bytes) bytes)
+        (symbols_answer (format_of bytes) bytes section.now) (outcome_of result) }
+    ensures takes { (bytes : List ℕ) → F.bytes file.old ≡ Some bytes → F.remaining file.old ≡ Some bytes
+        → Takes IsListingOf (symbols_answer (format_of bytes) bytes section.now)
         (W.contents (writer_of out.old)) (W.contents (writer_of out.new)) (outcome_of result) }
     ensures fails { Fails (has_failed out.old) (has_failed out.new) (outcome_of result) }
     ensures leaves { Leaves out.old out.new (outcome_of result) }

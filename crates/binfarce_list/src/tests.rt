@@ -4,11 +4,11 @@
 use crate::program::{Fault, run, run_at, run_file, status, words};
 use binfarce_tools::list::Out;
 use std::alloc::AllocError;
-use test_samples::{elf, macho, pe};
-use test_streams::{
+use test_samples::streams::{
     HELD, Held, Interrupted, READERS, Source, ended_with, failed_with, files_of, large_file,
     samples,
 };
+use test_samples::{elf, macho, pe};
 
 // The listings of the sample files.
 const LISTINGS: [&str; 3] = [elf::LISTING, macho::LISTING, pe::LISTING];

@@ -4,10 +4,10 @@ use Rattle.std.specs.List.{cons_option}
 use Rattle.std.proofs.lemmas.Bool.{cases_eq, eq-eqb, ne_eqb}
 use Rattle.binfarce_bytes.specs.Refusal.{◌>>=◌, Refusal, malformed_input}
 use Rattle.binfarce_bytes.specs.Text.{text_at}
-use Rattle.binfarce_symbols.specs.Entries.{Entry}
-use Rattle.binfarce_symbols.specs.SectionEntries.{SectionEntry, of_section}
-use Rattle.binfarce_symbols.specs.Sizes.{RowAddress, arranged, addresses_of}
-use Rattle.binfarce_symbols.proofs.OfSection.{of_pieces}
+use Rattle.binfarce_bytes.specs.Entries.{Entry}
+use Rattle.binfarce_bytes.specs.SectionEntries.{SectionEntry, of_section}
+use Rattle.binfarce_bytes.specs.Sizes.{RowAddress, arranged, addresses_of}
+use Rattle.binfarce_bytes.proofs.OfSection.{of_pieces}
 use Rattle.binfarce_macho.specs.Macho.{Command, Section}
 use Rattle.binfarce_macho.specs.MachoAll.{Symbols, symbols_by, symbols_of, section_ends, end_of, is_defined, checked_end, numbered, entry_in, section_entry, by_section, all_of, all_answer, AllHasText}
 use Rattle.binfarce_macho.specs.MachoParts.{named_table}

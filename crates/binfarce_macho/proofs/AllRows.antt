@@ -7,10 +7,10 @@ use Rattle.std.proofs.lemmas.List.Elements.{All-nil, All-cons, All-head, All-tai
 use Rattle.binfarce_bytes.specs.declared.error.ParseError.{ParseError}
 use Rattle.binfarce_bytes.specs.Refusal.{◌>>=◌, Refusal, refusal_of, out_of_memory}
 use Rattle.binfarce_bytes.specs.Text.{text_at}
-use Rattle.binfarce_symbols.specs.declared.functions.SectionFunction.{SectionFunction}
-use Rattle.binfarce_symbols.specs.SectionEntries.{SectionEntry, AnswersAll, unless}
-use Rattle.binfarce_symbols.specs.SymbolViews.{section_function_view, HoldsSectionFunctions}
-use Rattle.binfarce_symbols.specs.Sizes.{RowAddress, arranged, addresses_of}
+use Rattle.binfarce_bytes.specs.declared.functions.SectionFunction.{SectionFunction}
+use Rattle.binfarce_bytes.specs.SectionEntries.{SectionEntry, AnswersAll, unless}
+use Rattle.binfarce_bytes.specs.SymbolViews.{section_function_view, HoldsSectionFunctions}
+use Rattle.binfarce_bytes.specs.Sizes.{RowAddress, arranged, addresses_of}
 use Rattle.binfarce_macho.specs.declared.all.Extent.{Extent}
 use Rattle.binfarce_macho.specs.Macho.{commands, walk}
 use Rattle.binfarce_macho.specs.MachoAll.{Symbols, section_ends, ends_among, HasSection, symbols_of, all_answer, is_defined, end_of, checked_end, entry_in, section_entry, by_section, all_of, numbered, extent_end}

@@ -7,9 +7,9 @@ use Rattle.std.proofs.lemmas.Bool.Decides.{nat_tests}
 use Rattle.std.proofs.lemmas.List.{map-append}
 use Rattle.std.proofs.lemmas.List.Elements.{All-nil, All-cons, All-head, All-tail, All-weaker}
 use Rattle.std.proofs.lemmas.List.Sorted.{All-permutation, IsNonDecreasingBy-from_sort}
-use Rattle.binfarce_symbols.specs.declared.functions.SectionFunction.{SectionFunction}
-use Rattle.binfarce_symbols.specs.SectionEntries.{SectionEntry}
-use Rattle.binfarce_symbols.specs.SymbolViews.{section_function_view}
+use Rattle.binfarce_bytes.specs.declared.functions.SectionFunction.{SectionFunction}
+use Rattle.binfarce_bytes.specs.SectionEntries.{SectionEntry}
+use Rattle.binfarce_bytes.specs.SymbolViews.{section_function_view}
 use Rattle.binfarce_macho.specs.MachoAll.{by_section}
 
 -- the pieces of equal functions

@@ -5,12 +5,12 @@ use Rattle.std.proofs.lemmas.List.{append-nil, take_more, take-append-drop}
 use Rattle.std.proofs.lemmas.Bool.{not-true, not-false}
 use Rattle.binfarce_bytes.specs.Refusal.{◌>>=◌, Refusal}
 use Rattle.binfarce_macho.specs.MachoSymbols.{kept, symbol_of, address_of, row_addresses}
-use Rattle.binfarce_symbols.specs.Sizes.{RowAddress}
-use Rattle.binfarce_symbols.specs.declared.sizes.RowAddress as code
-use Rattle.binfarce_symbols.specs.RowViews.{row_view, rows_view}
+use Rattle.binfarce_bytes.specs.Sizes.{RowAddress}
+use Rattle.binfarce_bytes.specs.declared.sizes.RowAddress as code
+use Rattle.binfarce_bytes.specs.RowViews.{row_view, rows_view}
 use Rattle.std.proofs.lemmas.List.Elements.{All-nil, All-cons, All-head, All-tail, All-append, All-same}
 use Rattle.binfarce_macho.proofs.Walks.{kept_after}
-use Rattle.binfarce_symbols.proofs.Rows.{one_more}
+use Rattle.binfarce_bytes.proofs.Rows.{one_more}
 
 -- some row below n is kept
 pub some_kept : {X : Type 0} (f : ℕ → Option X) (n k : ℕ) (x : X) → f k ≡ Some x → k < n → filter_map f (range_with_len 0 n) ≢ []

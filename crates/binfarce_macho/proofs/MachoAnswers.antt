@@ -9,10 +9,10 @@ use Rattle.std.specs.Slice.Iter.{iter_rest, iter_steps}
 use Rattle.binfarce_bytes.specs.declared.error.ParseError.{ParseError}
 use Rattle.binfarce_bytes.specs.declared.error.ParseError.TheVariants.{OutOfMemory}
 use Rattle.binfarce_bytes.specs.Refusal.{◌>>=◌, Refusal, refusal_of}
-use Rattle.binfarce_symbols.specs.declared.functions.FunctionSymbol.{FunctionSymbol}
-use Rattle.binfarce_symbols.specs.Entries.{Entry, Listed, Answers}
-use Rattle.binfarce_symbols.specs.SymbolViews.{function_view, HoldsFunctions}
-use Rattle.binfarce_symbols.specs.Sizes.{RowAddress, arranged}
+use Rattle.binfarce_bytes.specs.declared.functions.FunctionSymbol.{FunctionSymbol}
+use Rattle.binfarce_bytes.specs.Entries.{Entry, Listed, Answers}
+use Rattle.binfarce_bytes.specs.SymbolViews.{function_view, HoldsFunctions}
+use Rattle.binfarce_bytes.specs.Sizes.{RowAddress, arranged}
 use Rattle.binfarce_macho.specs.MachoSymbols.{Located, located, answer_of, listed_of, macho_answer, entry_of, kept, row_addresses, HasAddress}
 
 module _ {X : Type 0} (Holds : Listed → X → Type 0) where

@@ -3,12 +3,12 @@ use Rattle.std.proofs.Common.{◌≡◌, ℕ, zero, suc, ◌+◌, ◌-◌, ◌/�
 use Rattle.std.specs.List.{range_with_len, filter_map, cons_option}
 use Rattle.std.proofs.lemmas.List.Elements.{All-nil, All-cons, All-weaker}
 use Rattle.binfarce_bytes.specs.Refusal.{◌>>=◌, Refusal}
-use Rattle.binfarce_symbols.specs.Entries.{Entry, Listed}
+use Rattle.binfarce_bytes.specs.Entries.{Entry, Listed}
 use Rattle.binfarce_bytes.specs.Text.{text_at}
-use Rattle.binfarce_symbols.specs.Sizes.{RowAddress, ListsArranged, addresses_of, arranged, least_above}
+use Rattle.binfarce_bytes.specs.Sizes.{RowAddress, ListsArranged, addresses_of, arranged, least_above}
 use Rattle.binfarce_macho.specs.MachoSymbols.{Located, located, symbol_of, is_candidate, size_up_to, macho_size, sized_entry, entry_of, kept, address_of, row_addresses, answer_of, macho_answer, AreSized}
-use Rattle.binfarce_symbols.proofs.Above.{LeastAbove, least_above_is}
-use Rattle.binfarce_symbols.proofs.Arrangement.{Rising, arrangement_of}
+use Rattle.binfarce_bytes.proofs.Above.{LeastAbove, least_above_is}
+use Rattle.binfarce_bytes.proofs.Arrangement.{Rising, arrangement_of}
 use Rattle.binfarce_macho.proofs.Kept.{address_row}
 
 -- the entry has the size that the rule gives at its address

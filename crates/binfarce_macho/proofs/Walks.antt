@@ -10,7 +10,7 @@ use Rattle.binfarce_bytes.specs.Refusal.{Refusal, unexpected_eof}
 use Rattle.binfarce_bytes.specs.Walk.{Walk, Answered, MayBeAsked, IsFirstAccepted, NoneAccepted, FirstAccepted, ended, ahead_of, and_then}
 use Rattle.binfarce_bytes.specs.Field.{field, number_in}
 use Rattle.binfarce_macho.specs.Macho.{Command, Section, section_at, section_offset, whole_headers, sections_below, segment, sections_of, body_of, walk, commands}
-use Rattle.binfarce_symbols.proofs.Rows.{one_more}
+use Rattle.binfarce_bytes.proofs.Rows.{one_more}
 
 All-from_contains : {X : Type 0} {P : X → Type 0} (xs : List X) → ((x : X) → Contains xs x → P x) → All P xs
 All-from_contains xs here k d lt = here (get_or xs k d) (Contains-get_or xs k d lt)

@@ -5,9 +5,9 @@ use Rattle.std.specs.List.{range_with_len, flat_map}
 use Rattle.binfarce_bytes.specs.Text.{text_at}
 use Rattle.binfarce_bytes.specs.Refusal.{◌>>=◌, Refusal, malformed_input}
 use Rattle.binfarce_bytes.specs.Field.{number_in}
-use Rattle.binfarce_symbols.specs.Entries.{Entry, Listed}
-use Rattle.binfarce_symbols.specs.SectionEntries.{SectionEntry, of_section, unless}
-use Rattle.binfarce_symbols.specs.Sizes.{RowAddress, arranged, addresses_of}
+use Rattle.binfarce_bytes.specs.Entries.{Entry, Listed}
+use Rattle.binfarce_bytes.specs.SectionEntries.{SectionEntry, of_section, unless}
+use Rattle.binfarce_bytes.specs.Sizes.{RowAddress, arranged, addresses_of}
 use Rattle.binfarce_macho.specs.declared.all.Extent.{Extent}
 use Rattle.binfarce_macho.specs.declared.all.SymbolBytes as code
 use Rattle.binfarce_macho.specs.Macho.{Command, commands, body_of, is_segment, section_count, section_offset, section_fields, walk}

@@ -7,8 +7,8 @@ use Rattle.binfarce_bytes.specs.Refusal.{◌>>=◌, Refusal, required, symbols_s
 use Rattle.binfarce_bytes.specs.Walk.{first}
 use Rattle.binfarce_bytes.specs.Field.{Field, field, number_in}
 use Rattle.binfarce_macho.specs.Macho.{Command, body_of, commands, Section, walk, is_named}
-use Rattle.binfarce_symbols.specs.Sizes.{RowAddress, arranged, addresses_of, least_above, ListsArranged}
-use Rattle.binfarce_symbols.specs.Entries.{Entry, Listed}
+use Rattle.binfarce_bytes.specs.Sizes.{RowAddress, arranged, addresses_of, least_above, ListsArranged}
+use Rattle.binfarce_bytes.specs.Entries.{Entry, Listed}
 
 -- symtab_command, in its body of 16 bytes: one A for each field
 pub record SymbolTable (A : Type 0) : Type 0 where

@@ -3,10 +3,10 @@
 ghost use Rattle.std.specs.Prelude.{◌≡◌, ◌≢◌, ℕ, ◌+◌, ◌*◌, ◌<◌, ◌≤◌, ◌^◌, ◌++◌, ◌⊎◌, [], length, map, take, slice_get, All, Some, None, Ok, Err, IfOk, OnErr, MatchResult, MatchOption};
 ghost use Rattle.std.specs.Option.{option_map};
 ghost use Rattle.binfarce_bytes.specs.Refusal.{Gives, refusal_of, out_of_memory, unexpected_eof};
-ghost use Rattle.binfarce_symbols.specs.RowViews.{row_view, rows_view};
-ghost use Rattle.binfarce_symbols.specs.SectionEntries.{AnswersAll};
-ghost use Rattle.binfarce_symbols.specs.Sizes.{addresses_of, least_above};
-ghost use Rattle.binfarce_symbols.specs.SymbolViews.{function_view, section_function_view, HoldsSectionFunctions};
+ghost use Rattle.binfarce_bytes.specs.RowViews.{row_view, rows_view};
+ghost use Rattle.binfarce_bytes.specs.SectionEntries.{AnswersAll};
+ghost use Rattle.binfarce_bytes.specs.Sizes.{addresses_of, least_above};
+ghost use Rattle.binfarce_bytes.specs.SymbolViews.{function_view, section_function_view, HoldsSectionFunctions};
 ghost use Rattle.binfarce_macho.specs.Macho.{header_of, segment, whole_headers};
 ghost use Rattle.binfarce_macho.specs.MachoAll.{greatest_section, end_at, end_of, ends_in, first_ends, section_ends, HasSection, symbols_of, symbols_by, symbols_view, extent_end, checked_end, numbered, section_entry, all_of, all_answer};
 ghost use Rattle.binfarce_macho.specs.MachoParts.{table_view};
@@ -21,10 +21,10 @@ use crate::symbols::{
     SYMBOL_LENGTH, SymbolTable, is_defined, row_addresses, size_up_to, sized_entry, symbol_at,
     symbol_command,
 };
+use binfarce_bytes::functions::{FunctionSymbol, SectionFunction};
 use binfarce_bytes::parser::{number_at, parse_null_string, slice_at};
+use binfarce_bytes::sizes::{RowAddress, arrange};
 use binfarce_bytes::{ByteOrder, ParseError};
-use binfarce_symbols::functions::{FunctionSymbol, SectionFunction};
-use binfarce_symbols::sizes::{RowAddress, arrange};
 use std::alloc::{AllocError, Global};
 
 // The greatest number of a section that a row can state (`MAX_SECT`).
@@ -84,8 +84,11 @@ fn push_sections(sections: &mut Vec<Extent>, file: &[u8], body: usize) -> Result
     requires few { length sections.old.items ≤ greatest_section }
     requires inside { body ≤ length file.now }
     ensures { MatchResult result
-        (λ _. ((segment file.now body).refusal ≡ None) × (map extent_end sections.new.items ≡ take greatest_section (map extent_end sections.old.items ++ ends_in file.now body)))
-        (λ e. ((segment file.now body).refusal ≡ Some (refusal_of e)) ⊎ ((refusal_of e ≡ out_of_memory) × (ends_in file.now body ≢ []))) }
+        (λ _. ((segment file.now body).refusal ≡ None)
+        × (map extent_end sections.new.items
+        ≡ take greatest_section (map extent_end sections.old.items ++ ends_in file.now body)))
+        (λ e. ((segment file.now body).refusal ≡ Some (refusal_of e))
+        ⊎ ((refusal_of e ≡ out_of_memory) × (ends_in file.now body ≢ []))) }
 {
     if !holds_sections(file, body) {
         return Err(ParseError::UnexpectedEof);
@@ -104,7 +107,8 @@ fn push_extents(
     count: usize,
 ) -> Result<(), AllocError>
     requires { count ≤ whole_headers file.now body }
-    ensures pushed { IfOk result (λ _. map extent_end sections.new.items ≡ map extent_end sections.old.items ++ first_ends file.now body count) }
+    ensures pushed { IfOk result
+        (λ _. map extent_end sections.new.items ≡ map extent_end sections.old.items ++ first_ends file.now body count) }
     ensures memory { OnErr result (0 < count) }
 {
     for index in 0..count {
@@ -163,7 +167,8 @@ pub fn functions_of_extents<'a>(
     sections: &[Extent],
     symbols: SymbolBytes<'a>,
 ) -> Result<Vec<SectionFunction<'a>>, ParseError>
-    ensures { AnswersAll HoldsSectionFunctions (sections.now ≢ []) (all_of (map extent_end sections.now) (Some (symbols_view symbols.entry))) result }
+    ensures { AnswersAll HoldsSectionFunctions (sections.now ≢ [])
+        (all_of (map extent_end sections.now) (Some (symbols_view symbols.entry))) result }
 {
     if sections.is_empty() {
         return Ok(Vec::new(alloc));
@@ -183,9 +188,11 @@ fn list_all<'a>(
     rows: &[RowAddress],
     above: &[Option<u64>],
 ) -> Result<Vec<SectionFunction<'a>>, ParseError>
-    requires above { above.now ≡ map (λ r. least_above (addresses_of (row_addresses symbols.rows.now)) r.address) rows.now }
+    requires above { above.now
+        ≡ map (λ r. least_above (addresses_of (row_addresses symbols.rows.now)) r.address) rows.now }
     requires inside { All (λ r. r.index * 16 + 16 ≤ length symbols.rows.now) rows.now }
-    ensures { AnswersAll HoldsSectionFunctions (rows.now ≢ []) (kept (section_entry (map extent_end sections.now) (symbols_view symbols.entry)) (rows_view rows.now)) result }
+    ensures { AnswersAll HoldsSectionFunctions (rows.now ≢ [])
+        (kept (section_entry (map extent_end sections.now) (symbols_view symbols.entry)) (rows_view rows.now)) result }
 {
     let mut functions = Vec::with_capacity(alloc, rows.len())?;
     for k in 0..rows.len() {
@@ -207,7 +214,8 @@ fn section_entry<'a>(
 ) -> Result<Option<SectionFunction<'a>>, ParseError>
     requires above { above ≡ least_above (addresses_of (row_addresses symbols.rows.now)) at.address }
     requires inside { at.index * 16 + 16 ≤ length symbols.rows.now }
-    ensures { Gives refusal_of (option_map section_function_view) (section_entry (map extent_end sections.now) (symbols_view symbols.entry) (row_view at)) result }
+    ensures { Gives refusal_of (option_map section_function_view)
+        (section_entry (map extent_end sections.now) (symbols_view symbols.entry) (row_view at)) result }
 {
     let row = symbol_at(symbols.rows, at.index * SYMBOL_LENGTH).unwrap();
     if !is_defined(row) {

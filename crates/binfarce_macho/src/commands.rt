@@ -74,7 +74,8 @@ impl Iterator for MachoCommandsIterator<'_> {
 
     type Item = Result<Command, Damage>;
 
-    ghost next_gives = { λ before result after. (after.bytes.now ≡ before.bytes.now) × Takes (commands_left before) result (commands_left after) };
+    ghost next_gives = { λ before result after. (after.bytes.now ≡ before.bytes.now)
+        × Takes (commands_left before) result (commands_left after) };
 
     ghost remaining = { λ it. at_most it.left };
 
@@ -103,7 +104,8 @@ pub(crate) fn commands(file: &[u8], header: MachoHeader) -> MachoCommandsIterato
     ensures bytes { result.bytes.now ≡ file.now }
     ensures left { commands_left result ≡ commands file.now }
     // No more items come than the header has commands, and then they end.
-    ensures at_most { UpTo (⟦<MachoCommandsIterator<'static> as Iterator>⟧.remaining result) (header_of file.now).ncmds }
+    ensures at_most { UpTo (⟦<MachoCommandsIterator<'static> as Iterator>⟧.remaining result)
+        (header_of file.now).ncmds }
 {
     MachoCommandsIterator {
         bytes: file,

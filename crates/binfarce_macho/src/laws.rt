@@ -18,7 +18,13 @@ fn worked_commands()
 fn worked_section()
     ensures { section_at (codes "__text" ++ (replicate 10 0 ++ (codes "__TEXT" ++ (replicate 10 0
         ++ (0 ∷ 0x10 ∷ 0 ∷ 0 ∷ 0 ∷ 0 ∷ 0 ∷ 0 ∷ 0 ∷ 1 ∷ 0 ∷ 0 ∷ 0 ∷ 0 ∷ 0 ∷ 0 ∷ 0 ∷ 2 ∷ 0 ∷ 0 ∷ []))))) 0
-        ≡ Some (record { segment_name = codes "__TEXT"; section_name = codes "__text"; address = 0x1000; offset = 0x200; size = 0x100 }) }
+        ≡ Some (record {
+          segment_name = codes "__TEXT";
+          section_name = codes "__text";
+          address = 0x1000;
+          offset = 0x200;
+          size = 0x100;
+        }) }
 {}
 
 /// A row: its name at offset 1, of type 0x0F, in section 1, at 0x1000.
@@ -29,7 +35,7 @@ fn worked_row()
 {}
 
 /// Sizes in a text that ends at 0x1100, where the last address is that end, and where one more stands in section 2.
-#[tactic(auto, unfolding(crate::specs::MachoSymbols::macho_size, binfarce_symbols::specs::Sizes::least_above))]
+#[tactic(auto, unfolding(crate::specs::MachoSymbols::macho_size, binfarce_bytes::specs::Sizes::least_above))]
 fn worked_sizes()
     ensures equal_addresses { macho_size (0x1000 ∷ 0x1000 ∷ 0x1040 ∷ 0x1100 ∷ []) 0x1100 0x1000 ≡ Ok (Some 64) }
     ensures up_to_the_next { macho_size (0x1000 ∷ 0x1000 ∷ 0x1040 ∷ 0x1100 ∷ []) 0x1100 0x1040 ≡ Ok (Some 192) }

@@ -41,7 +41,8 @@ pub(crate) fn named_table(
     bytes: &[u8],
     command: Option<Command>,
 ) -> Result<Option<SymbolTable>, ParseError>
-    ensures { Gives refusal_of (option_map table_view) (named_table bytes.now (option_map command_view command)) result }
+    ensures { Gives refusal_of (option_map table_view)
+        (named_table bytes.now (option_map command_view command)) result }
 {
     match command {
         None => Ok(None),
@@ -95,7 +96,8 @@ fn holds_body(bytes: &[u8], command: Command) -> bool
 // Whether all sections of a segment command lie in the bytes.
 pub(crate) fn holds_sections(bytes: &[u8], body: usize) -> bool
     requires { body ≤ length bytes.now }
-    ensures { result ≡ (nat_le (body + segment_read) (length bytes.now) && nat_le (section_count bytes.now body) (whole_headers bytes.now body)) }
+    ensures { result ≡ (nat_le (body + segment_read) (length bytes.now) && nat_le (section_count bytes.now body)
+        (whole_headers bytes.now body)) }
 {
     match number_at::<u32>(bytes, body + 56, ByteOrder::LittleEndian) {
         Err(_) => false,

@@ -165,7 +165,8 @@ fn section_left(bytes: &[u8], segment: Segment) -> Result<Option<(Section<'_>, u
     requires within { segment.next ≤ section_count bytes.now segment }
     ensures { let left = segment_from bytes.entry.now segment in MatchResult result
         (λ found. MatchOption found (left ≡ ended None)
-        (λ f. (f.1 ≤ section_count bytes.entry.now segment) × (left ≡ ahead_of (section_view f.0) (segment_from bytes.entry.now (record segment { next = f.1 })))))
+        (λ f. (f.1 ≤ section_count bytes.entry.now segment)
+        × (left ≡ ahead_of (section_view f.0) (segment_from bytes.entry.now (record segment { next = f.1 })))))
         (λ _. left ≡ ended (Some unexpected_eof)) }
 {
     for index in segment.next..segment.count {
@@ -183,7 +184,8 @@ fn section_left(bytes: &[u8], segment: Segment) -> Result<Option<(Section<'_>, u
 fn next_segment(commands: &mut MachoCommandsIterator<'_>) -> Option<Result<Segment, Damage>>
     ensures bytes { commands.new.bytes.now ≡ commands.old.bytes.now }
     ensures fewer { OnSome result (commands.new.left < commands.old.left) }
-    ensures steps { StepsSegment commands.old.bytes.now (commands_left commands.old) result (commands_left commands.new) }
+    ensures steps { StepsSegment commands.old.bytes.now (commands_left commands.old) result
+        (commands_left commands.new) }
 {
     while let Some(item) = commands.next() {
         match item {
@@ -202,7 +204,8 @@ fn next_segment(commands: &mut MachoCommandsIterator<'_>) -> Option<Result<Segme
 fn first_of_segment(bytes: &[u8], command: Command) -> Result<Segment, Damage>
     requires { command.offset + 8 ≤ length bytes.now }
     ensures { MatchResult result
-        (λ s. (s.body ≡ command.offset + 8) × (s.next ≡ 0) × (segment_from bytes.now s ≡ segment bytes.now (command.offset + 8)))
+        (λ s. (s.body ≡ command.offset + 8) × (s.next ≡ 0)
+        × (segment_from bytes.now s ≡ segment bytes.now (command.offset + 8)))
         (λ d. segment bytes.now (command.offset + 8) ≡ ended (Some (damage_refusal d))) }
 {
     let body = command.offset + 8;
@@ -275,7 +278,8 @@ fn first_in_segment<'a, F: Fn(Section<'_>) -> bool>(
 ) -> Result<Option<Section<'a>>, UnexpectedEof>
     requires asked { All (MayBeAsked section_view (F.pre callback.now)) (segment bytes.now body).items }
     requires inside { body ≤ length bytes.now }
-    ensures { FirstAccepted (λ _. unexpected_eof) section_view (F.post callback.now) (segment bytes.entry.now body) result }
+    ensures { FirstAccepted
+        (λ _. unexpected_eof) section_view (F.post callback.now) (segment bytes.entry.now body) result }
 {
     let count: u32 = number_at(bytes, body + 56, ByteOrder::LittleEndian)?;
     for index in 0..count {

@@ -7,10 +7,10 @@ ghost use Rattle.binfarce_macho.specs.Macho.{header_of, body_of};
 ghost use Rattle.binfarce_macho.specs.MachoAll.{is_defined};
 ghost use Rattle.binfarce_macho.specs.MachoParts.{located_in, located_view, table_view};
 ghost use Rattle.binfarce_macho.specs.MachoSymbols.{HasAddress, macho_answer, answer_of, listed_of, located, text_section, some_size, symbol_command, symbol_table_at, text_end_of, row_addresses, symbol_at, is_candidate, size_up_to, sized_entry, entry_of};
-ghost use Rattle.binfarce_symbols.specs.Sizes.{addresses_of, least_above};
-ghost use Rattle.binfarce_symbols.specs.RowViews.{row_view, rows_view};
-ghost use Rattle.binfarce_symbols.specs.Entries.{Answers};
-ghost use Rattle.binfarce_symbols.specs.SymbolViews.{function_view, HoldsFunctions};
+ghost use Rattle.binfarce_bytes.specs.Sizes.{addresses_of, least_above};
+ghost use Rattle.binfarce_bytes.specs.RowViews.{row_view, rows_view};
+ghost use Rattle.binfarce_bytes.specs.Entries.{Answers};
+ghost use Rattle.binfarce_bytes.specs.SymbolViews.{function_view, HoldsFunctions};
 ghost use Rattle.binfarce_macho.specs.MachoViews.{header_view, section_view};
 ghost use Rattle.binfarce_macho.specs.machine.RawMacho.{command_view, symbol_view};
 
@@ -18,10 +18,10 @@ use crate::commands::{Command, LC_SYMTAB, commands};
 use crate::header::MachoHeader;
 use crate::parts::needed_tables;
 use crate::sections::{Section, section_with_name};
+use binfarce_bytes::functions::FunctionSymbol;
 use binfarce_bytes::parser::{Stream, UnexpectedEof, parse_null_string, slice_at};
+use binfarce_bytes::sizes::{RowAddress, arrange};
 use binfarce_bytes::{ByteOrder, ParseError};
-use binfarce_symbols::functions::FunctionSymbol;
-use binfarce_symbols::sizes::{RowAddress, arrange};
 use std::alloc::{AllocError, Global};
 
 /// The length of a row of the symbol table in bytes.
@@ -104,7 +104,8 @@ fn located_in<'a>(
     text: Section<'_>,
     table: SymbolTable,
 ) -> Result<Located<'a>, ParseError>
-    ensures { Gives refusal_of located_view (located_in bytes.entry.now (section_view text.entry) (table_view table)) result }
+    ensures { Gives refusal_of located_view
+        (located_in bytes.entry.now (section_view text.entry) (table_view table)) result }
 {
     let strings = slice_at(
         bytes,
@@ -200,7 +201,8 @@ pub fn functions_of<'a>(
     alloc: Global,
     found: Located<'a>,
 ) -> Result<(Vec<FunctionSymbol<'a>>, u64), ParseError>
-    ensures { Answers HoldsFunctions (λ _. row_addresses found.entry.rows.now ≢ []) (answer_of (Some (located_view found.entry))) result }
+    ensures { Answers HoldsFunctions
+        (λ _. row_addresses found.entry.rows.now ≢ []) (answer_of (Some (located_view found.entry))) result }
 {
     let rows = row_addresses(alloc, found.rows)?;
     if rows.is_empty() {
@@ -235,9 +237,11 @@ fn list_functions<'a>(
     rows: &[RowAddress],
     above: &[Option<u64>],
 ) -> Result<(Vec<FunctionSymbol<'a>>, u64), ParseError>
-    requires above { above.now ≡ map (λ r. least_above (addresses_of (row_addresses found.rows.now)) r.address) rows.now }
+    requires above { above.now
+        ≡ map (λ r. least_above (addresses_of (row_addresses found.rows.now)) r.address) rows.now }
     requires inside { All (λ r. r.index * 16 + 16 ≤ length found.rows.now) rows.now }
-    ensures { Answers HoldsFunctions (λ _. rows.now ≢ []) (listed_of (located_view found.entry) (rows_view rows.now)) result }
+    ensures { Answers HoldsFunctions
+        (λ _. rows.now ≢ []) (listed_of (located_view found.entry) (rows_view rows.now)) result }
 {
     let mut functions = Vec::with_capacity(alloc, rows.len())?;
     for k in 0..rows.len() {

@@ -4,7 +4,7 @@ use Rattle.std.proofs.lemmas.Bool.Decides.{nat_tests}
 use Rattle.binfarce_text.specs.Steps.{◌>>=◌}
 use Rattle.binfarce_v0_grammar.specs.Base62.{base_62_number, back_reference}
 use Rattle.binfarce_v0_grammar.specs.Tree.{path_height, path_steps, path_root}
-use Rattle.binfarce_v0_text.specs.TreeTexts.{name_text, InValue}
+use Rattle.binfarce_v0_state.specs.TreeTexts.{name_text, InValue}
 use Rattle.binfarce_names.specs.Laws.{UnfoldsOneWay, ReadsOneWay, NamesAnEarlierPosition, KnowsNoLimit}
 use Rattle.binfarce_v0_state.specs.machine.Printing.{State}
 use Rattle.binfarce_v0_state.proofs.Complete.{path_complete}

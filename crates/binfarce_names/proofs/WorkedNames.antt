@@ -11,16 +11,16 @@ use Rattle.binfarce_v0_grammar.specs.Base62.{digit_62, base_62_number, optional_
 use Rattle.binfarce_text.specs.Suffixes.{without_llvm, is_allowed_rest}
 use Rattle.binfarce_v0_grammar.specs.Forms.{path_form, lifetime, basic_type, abi, type_form_by, type_form, const_type, has_sign, value_of, const_value, const_form}
 use Rattle.binfarce_v0_grammar.specs.Identifiers.{length_at, identifier_of, identifier_bytes, undisambiguated_identifier, identifier}
-use Rattle.binfarce_v0_text.specs.LeafTexts.{identifier_text}
+use Rattle.binfarce_v0_state.specs.LeafTexts.{identifier_text}
 use Rattle.binfarce_legacy.specs.Legacy as legacy_names
 use Rattle.binfarce_v0.specs.Mangling.{part_after_prefix, is_upper_at, IsMangling, IsV0}
 use Rattle.binfarce_names.specs.Name.{Name}
 use Rattle.binfarce_names.specs.Named.{IsNotLegacy, IsNamed, unknown}
 use Rattle.binfarce_v0_grammar.specs.Tree.{path_height, path_steps}
-use Rattle.binfarce_v0_text.specs.LeafTexts.{lifetime_text, binder_text, nested_text, signature_text, number_text, character_text, value_text}
-use Rattle.binfarce_v0_text.specs.TreeTexts.{InValue}
+use Rattle.binfarce_v0_state.specs.LeafTexts.{lifetime_text, binder_text, nested_text, signature_text, number_text, character_text, value_text}
+use Rattle.binfarce_v0_state.specs.TreeTexts.{InValue}
 use Rattle.binfarce_v0_grammar.specs.Unfolding.{UnfoldsTo, bound_end}
-use Rattle.binfarce_punycode.specs.Punycode.{digit_of, weight, integer, scaled_bias, adapted_bias, decoder_after, text_of, punycode_decoded}
+use Rattle.binfarce_v0_grammar.specs.Punycode.{digit_of, weight, integer, scaled_bias, adapted_bias, decoder_after, text_of, punycode_decoded}
 use Rattle.binfarce_names.specs.Laws.{Counts}
 use Rattle.binfarce_v0_grammar.specs.machine.Ends.{const_end, bindings_end, item_end, items_end, type_end, path_end, ends}
 use Rattle.binfarce_v0_grammar.specs.declared.limits.TheConstants.{MAX_LEVELS, MAX_STEPS}

@@ -3,7 +3,7 @@ use Rattle.std.specs.Prelude.{◌≡◌, ℕ, ◌<◌, List, Option, Some, Bool}
 use Rattle.binfarce_names.specs.declared.demangle.Kind.TheVariants.{V0}
 use Rattle.binfarce_v0_grammar.specs.Base62.{back_reference}
 use Rattle.binfarce_v0_grammar.specs.Tree.{PathTree, path_height, path_steps, path_root}
-use Rattle.binfarce_v0_text.specs.TreeTexts.{name_text}
+use Rattle.binfarce_v0_state.specs.TreeTexts.{name_text}
 use Rattle.binfarce_v0_grammar.specs.Reading.{ReadsPath}
 use Rattle.binfarce_v0_grammar.specs.Unfolding.{IsPath, UnfoldsWithin, UnfoldsTo}
 use Rattle.binfarce_names.specs.Name.{Name}

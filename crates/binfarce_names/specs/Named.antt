@@ -4,11 +4,11 @@ use Rattle.std.specs.Str.{encode_utf8_all}
 use Rattle.binfarce_names.specs.declared.demangle.Kind.TheVariants.{Unknown, Legacy, V0}
 use Rattle.binfarce_text.specs.Suffixes.{without_llvm}
 use Rattle.binfarce_legacy.specs.Legacy.{Element, IsLegacy, legacy_chars, without_last_part}
-use Rattle.binfarce_v0_text.specs.LeafTexts.{identifier_text}
+use Rattle.binfarce_v0_state.specs.LeafTexts.{identifier_text}
 use Rattle.binfarce_v0.specs.Mangling.{IsV0, HasNoTree}
 use Rattle.binfarce_names.specs.Name.{Name, Mangled}
 use Rattle.binfarce_v0_grammar.specs.Tree.{PathTree, path_root}
-use Rattle.binfarce_v0_text.specs.TreeTexts.{name_text}
+use Rattle.binfarce_v0_state.specs.TreeTexts.{name_text}
 use Rattle.binfarce_v0_grammar.specs.Unfolding.{UnfoldsTo}
 
 -- the name of a legacy mangling: complete, and without the last part of its path

@@ -161,7 +161,8 @@ impl Demangler {
     ///
     /// `AllocError` where an allocation failed. `text` is then as it was.
     pub fn push_trimmed(&mut self, text: &mut String, name: &str) -> Result<(), AllocError>
-        ensures trimmed { OnOk result ((n : Name) × IsNamed name.now n × (string_bytes text.new ≡ string_bytes text.old ++ n.trimmed)) }
+        ensures trimmed { OnOk result
+            ((n : Name) × IsNamed name.now n × (string_bytes text.new ≡ string_bytes text.old ++ n.trimmed)) }
         ensures unchanged { OnErr result (string_bytes text.new ≡ string_bytes text.old) }
     {
         let stripped = without_llvm(name);
@@ -185,7 +186,8 @@ impl Demangler {
     ) -> Result<(), AllocError>
         requires not_legacy { IsNotLegacy name.now }
         requires candidate { IsCandidate (without_llvm name.now) part.now }
-        ensures trimmed { OnOk result ((n : Name) × IsNamed name.now n × (string_bytes text.new ≡ string_bytes text.old ++ n.trimmed)) }
+        ensures trimmed { OnOk result
+            ((n : Name) × IsNamed name.now n × (string_bytes text.new ≡ string_bytes text.old ++ n.trimmed)) }
         ensures unchanged { OnErr result (string_bytes text.new ≡ string_bytes text.old) }
     {
         let mut printer = Printer::new(self.memory.take(), part, false, false);
@@ -216,7 +218,8 @@ impl Demangler {
 ///
 /// `AllocError` where an allocation failed. `text` is then as it was.
 pub fn push_trimmed(alloc: Global, text: &mut String, name: &str) -> Result<(), AllocError>
-    ensures trimmed { OnOk result ((n : Name) × IsNamed name.now n × (string_bytes text.new ≡ string_bytes text.old ++ n.trimmed)) }
+    ensures trimmed { OnOk result
+        ((n : Name) × IsNamed name.now n × (string_bytes text.new ≡ string_bytes text.old ++ n.trimmed)) }
     ensures unchanged { OnErr result (string_bytes text.new ≡ string_bytes text.old) }
 {
     Demangler::new(alloc).push_trimmed(text, name)
@@ -246,7 +249,9 @@ pub fn crate_of(alloc: Global, name: &str) -> Result<Option<String>, AllocError>
 ///
 /// `AllocError` where an allocation failed. `text` is then as it was.
 pub fn push_crate(alloc: Global, text: &mut String, name: &str) -> Result<bool, AllocError>
-    ensures told { IfOk result (λ told. (n : Name) × IsNamed name.now n × GrowsByCrate (crate_of n) told (string_bytes text.old) (string_bytes text.new)) }
+    ensures told { IfOk result
+        (λ told. (n : Name) × IsNamed name.now n × GrowsByCrate (crate_of n) told (string_bytes text.old)
+        (string_bytes text.new)) }
     ensures unchanged { OnErr result (string_bytes text.new ≡ string_bytes text.old) }
 {
     let stripped = without_llvm(name);
@@ -262,7 +267,8 @@ pub fn push_crate(alloc: Global, text: &mut String, name: &str) -> Result<bool, 
 fn push_path_crate(text: &mut String, part: &str) -> Result<bool, AllocError>
     requires { IsAscii part.now }
     ensures told { IfOk result (λ told. (elements : List Element) (rest : List ℕ) → Reads part.now elements rest
-        → GrowsByCrate (path_crate (encode_utf8_all (legacy_chars elements))) told (string_bytes text.old) (string_bytes text.new)) }
+        → GrowsByCrate (path_crate (encode_utf8_all (legacy_chars elements))) told (string_bytes text.old)
+        (string_bytes text.new)) }
     ensures unchanged { OnErr result (string_bytes text.new ≡ string_bytes text.old) }
 {
     let start = text.as_str().len();
@@ -297,7 +303,9 @@ fn first_part(path: &str) -> &str
 // The name of a legacy mangling, of which `part` stands after the prefix.
 fn legacy_name(alloc: Global, part: &str) -> Result<SymbolName, AllocError>
     requires { IsAscii part.now }
-    ensures { IfOk result (λ n. (elements : List Element) (rest : List ℕ) → Reads part.now elements rest → name_view n ≡ legacy elements) }
+    ensures { IfOk result
+        (λ n. (elements : List Element) (rest : List ℕ) → Reads part.now elements rest
+        → name_view n ≡ legacy elements) }
 {
     let complete = legacy::complete(alloc, part)?;
     let trimmed = legacy::trimmed(alloc, complete.as_str())?;

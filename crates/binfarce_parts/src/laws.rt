@@ -28,8 +28,12 @@ pub fn parts_decide(file: &[u8], other: &[u8])
 
 /// The same of what the readers of both classes answer, in either order.
 pub fn elf_parts_decide(file: &[u8], other: &[u8], byte_order: ByteOrder, section: &str)
-    ensures of_32_bits { SameParts (elf_parts elf32 byte_order file.now) file.now other.now → elf_file_answer elf32 byte_order other.now section.now ≡ elf_file_answer elf32 byte_order file.now section.now }
-    ensures of_64_bits { SameParts (elf_parts elf64 byte_order file.now) file.now other.now → elf_file_answer elf64 byte_order other.now section.now ≡ elf_file_answer elf64 byte_order file.now section.now }
+    ensures of_32_bits { SameParts (elf_parts elf32 byte_order file.now) file.now other.now
+        → elf_file_answer elf32 byte_order other.now section.now
+        ≡ elf_file_answer elf32 byte_order file.now section.now }
+    ensures of_64_bits { SameParts (elf_parts elf64 byte_order file.now) file.now other.now
+        → elf_file_answer elf64 byte_order other.now section.now
+        ≡ elf_file_answer elf64 byte_order file.now section.now }
 {
     let _ = file;
     let _ = other;
@@ -56,15 +60,19 @@ pub fn pe_parts_decide(file: &[u8], other: &[u8])
 /// The section headers of a table at 2 that has three by its count: all three, and two where the file ends in the third.
 #[tactic(auto, unfolding(binfarce_elf::specs::Elf::elf32))]
 fn worked_sizes()
-    ensures whole { headers_size elf32 (record { order = LittleEndian; file = replicate 130 0; shoff = 2; shnum = 3; shstrndx = 0 }) ≡ 120 }
-    ensures truncated { headers_size elf32 (record { order = LittleEndian; file = replicate 121 0; shoff = 2; shnum = 3; shstrndx = 0 }) ≡ 80 }
+    ensures whole { headers_size elf32
+        (record { order = LittleEndian; file = replicate 130 0; shoff = 2; shnum = 3; shstrndx = 0 }) ≡ 120 }
+    ensures truncated { headers_size elf32
+        (record { order = LittleEndian; file = replicate 121 0; shoff = 2; shnum = 3; shstrndx = 0 }) ≡ 80 }
 {}
 
 /// Every byte of a part counts: two headers that differ in the last byte of `shoff` alone.
 #[tactic(auto, unfolding(binfarce_elf::specs::Elf::elf32, binfarce_elf::specs::Elf::section_table, binfarce_elf::specs::Elf::header_of, binfarce_elf::specs::Elf::walk, binfarce_elf::specs::ElfSymbols::elf_answer, binfarce_elf::specs::ElfSymbols::located, binfarce_elf::specs::ElfSymbols::located_in, binfarce_elf::specs::ElfSymbols::rows_in, binfarce_bytes::proofs::Computing::computing))]
 fn worked_answers()
-    ensures no_sections { elf_file_answer elf32 LittleEndian (replicate 52 0) (0x66 ∷ []) ≡ Err symbols_section_is_missing }
-    ensures past_the_end { elf_file_answer elf32 LittleEndian (replicate 35 0 ++ 1 ∷ replicate 16 0) (0x66 ∷ []) ≡ Err unexpected_eof }
+    ensures no_sections { elf_file_answer elf32 LittleEndian (replicate 52 0) (0x66 ∷ [])
+        ≡ Err symbols_section_is_missing }
+    ensures past_the_end { elf_file_answer elf32 LittleEndian (replicate 35 0 ++ 1 ∷ replicate 16 0) (0x66 ∷ [])
+        ≡ Err unexpected_eof }
 {}
 
 /// The same of Mach-O and PE: two counts of load commands, and two headers that differ in the last byte of the size of the
@@ -81,9 +89,16 @@ fn worked_other_answers()
 /// of two sections, of which the file has room for one; one that is refused for its size, and is a part all the same.
 #[tactic(auto, unfolding(crate::specs::MachoParts::macho_parts, crate::specs::MachoParts::heads_from, binfarce_macho::specs::Macho::header_fields, binfarce_macho::specs::Macho::header_of, binfarce_macho::specs::Macho::commands_from, binfarce_macho::specs::MachoSymbols::symbol_table_fields, binfarce_macho::specs::MachoSymbols::symbol_table_at, binfarce_bytes::proofs::Computing::computing))]
 fn worked_macho_parts()
-    ensures symbol_table { macho_parts (replicate 16 0 ++ 1 ∷ replicate 15 0 ++ 2 ∷ 0 ∷ 0 ∷ 0 ∷ 24 ∷ 0 ∷ 0 ∷ 0 ∷ 56 ∷ 0 ∷ 0 ∷ 0 ∷ 1 ∷ 0 ∷ 0 ∷ 0 ∷ 72 ∷ 0 ∷ 0 ∷ 0 ∷ 4 ∷ 0 ∷ 0 ∷ 0 ∷ replicate 20 0) ≡ part 16 4 ∷ part 32 8 ∷ part 40 16 ∷ part 72 4 ∷ part 56 16 ∷ [] }
-    ensures truncated_strings { macho_parts (replicate 16 0 ++ 1 ∷ replicate 15 0 ++ 2 ∷ 0 ∷ 0 ∷ 0 ∷ 24 ∷ 0 ∷ 0 ∷ 0 ∷ 56 ∷ 0 ∷ 0 ∷ 0 ∷ 1 ∷ 0 ∷ 0 ∷ 0 ∷ 72 ∷ 0 ∷ 0 ∷ 0 ∷ 4 ∷ 0 ∷ 0 ∷ 0 ∷ replicate 19 0) ≡ part 16 4 ∷ part 32 8 ∷ part 40 16 ∷ part 56 16 ∷ [] }
-    ensures segment { macho_parts (replicate 16 0 ++ 1 ∷ replicate 15 0 ++ 0x19 ∷ 0 ∷ 0 ∷ 0 ∷ 232 ∷ replicate 59 0 ++ 2 ∷ replicate 138 0) ≡ part 16 4 ∷ part 32 8 ∷ part 96 4 ∷ part 104 52 ∷ [] }
+    ensures symbol_table { macho_parts
+        (replicate 16 0 ++ 1 ∷ replicate 15 0 ++ 2 ∷ 0 ∷ 0 ∷ 0 ∷ 24 ∷ 0 ∷ 0 ∷ 0 ∷ 56 ∷ 0 ∷ 0 ∷ 0 ∷ 1 ∷ 0 ∷ 0 ∷ 0 ∷ 72
+        ∷ 0 ∷ 0 ∷ 0 ∷ 4 ∷ 0 ∷ 0 ∷ 0 ∷ replicate 20 0)
+        ≡ part 16 4 ∷ part 32 8 ∷ part 40 16 ∷ part 72 4 ∷ part 56 16 ∷ [] }
+    ensures truncated_strings { macho_parts
+        (replicate 16 0 ++ 1 ∷ replicate 15 0 ++ 2 ∷ 0 ∷ 0 ∷ 0 ∷ 24 ∷ 0 ∷ 0 ∷ 0 ∷ 56 ∷ 0 ∷ 0 ∷ 0 ∷ 1 ∷ 0 ∷ 0 ∷ 0 ∷ 72
+        ∷ 0 ∷ 0 ∷ 0 ∷ 4 ∷ 0 ∷ 0 ∷ 0 ∷ replicate 19 0) ≡ part 16 4 ∷ part 32 8 ∷ part 40 16 ∷ part 56 16 ∷ [] }
+    ensures segment { macho_parts
+        (replicate 16 0 ++ 1 ∷ replicate 15 0 ++ 0x19 ∷ 0 ∷ 0 ∷ 0 ∷ 232 ∷ replicate 59 0 ++ 2 ∷ replicate 138 0)
+        ≡ part 16 4 ∷ part 32 8 ∷ part 96 4 ∷ part 104 52 ∷ [] }
     ensures refused_command { macho_parts (replicate 16 0 ++ 1 ∷ replicate 23 0) ≡ part 16 4 ∷ part 32 8 ∷ [] }
 {}
 
@@ -91,6 +106,10 @@ fn worked_macho_parts()
 /// with a string byte after it, or cut off in it.
 #[tactic(auto, unfolding(crate::specs::PeParts::pe_parts, binfarce_pe::specs::Pe::header_fields, binfarce_pe::specs::Pe::header_after, binfarce_bytes::proofs::Computing::computing))]
 fn worked_pe_parts()
-    ensures whole { pe_parts (replicate 60 0 ++ 64 ∷ replicate 9 0 ++ 1 ∷ replicate 5 0 ++ 112 ∷ 0 ∷ 0 ∷ 0 ∷ 1 ∷ replicate 50 0) ≡ part 60 4 ∷ part 68 18 ∷ part 88 24 ∷ part 112 19 ∷ [] }
-    ensures truncated { pe_parts (replicate 60 0 ++ 64 ∷ replicate 9 0 ++ 1 ∷ replicate 5 0 ++ 112 ∷ 0 ∷ 0 ∷ 0 ∷ 1 ∷ replicate 48 0) ≡ part 60 4 ∷ part 68 18 ∷ part 88 24 ∷ [] }
+    ensures whole { pe_parts
+        (replicate 60 0 ++ 64 ∷ replicate 9 0 ++ 1 ∷ replicate 5 0 ++ 112 ∷ 0 ∷ 0 ∷ 0 ∷ 1 ∷ replicate 50 0)
+        ≡ part 60 4 ∷ part 68 18 ∷ part 88 24 ∷ part 112 19 ∷ [] }
+    ensures truncated { pe_parts
+        (replicate 60 0 ++ 64 ∷ replicate 9 0 ++ 1 ∷ replicate 5 0 ++ 112 ∷ 0 ∷ 0 ∷ 0 ∷ 1 ∷ replicate 48 0)
+        ≡ part 60 4 ∷ part 68 18 ∷ part 88 24 ∷ [] }
 {}

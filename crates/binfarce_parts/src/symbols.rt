@@ -12,8 +12,10 @@ use binfarce::demangle::SymbolData;
 /// file's report.
 #[tactic(auto, using(crate::proofs::SymbolLaws::listing_of_symbols))]
 pub fn symbols_list_and_report(symbols: &[SymbolData], size: u64)
-    ensures listing { (listed : Listed) → AreSymbolsOf listed.entries symbols.now → size ≡ listed.section_size → IsListingOf listed (symbols_listing symbols.now size) }
-    ensures report { (listed : Listed) (text : List ℕ) → AreSymbolsOf listed.entries symbols.now → size ≡ listed.section_size → IsReportOfSymbols symbols.now size text → IsReportOf listed text }
+    ensures listing { (listed : Listed) → AreSymbolsOf listed.entries symbols.now → size ≡ listed.section_size
+        → IsListingOf listed (symbols_listing symbols.now size) }
+    ensures report { (listed : Listed) (text : List ℕ) → AreSymbolsOf listed.entries symbols.now
+        → size ≡ listed.section_size → IsReportOfSymbols symbols.now size text → IsReportOf listed text }
 {
     let _ = symbols;
     let _ = size;

@@ -8,9 +8,9 @@ use Rattle.binfarce_bytes.specs.Number.{bytes_at}
 use Rattle.binfarce_bytes.specs.Refusal.{◌>>=◌, Refusal, required, symbols_section_is_missing}
 use Rattle.binfarce_bytes.specs.Text.{padded_text}
 use Rattle.binfarce_bytes.specs.Walk.{found_or_end}
-use Rattle.binfarce_symbols.specs.Entries.{Listed}
-use Rattle.binfarce_symbols.specs.SectionEntries.{SectionEntry, of_section, unless}
-use Rattle.binfarce_symbols.proofs.OfSection.{of_pieces, of_own, of_other}
+use Rattle.binfarce_bytes.specs.Entries.{Listed}
+use Rattle.binfarce_bytes.specs.SectionEntries.{SectionEntry, of_section, unless}
+use Rattle.binfarce_bytes.proofs.OfSection.{of_pieces, of_own, of_other}
 use Rattle.binfarce_pe.specs.Pe.{Section, header_of, section_fields, section_at, section_of, sections_offset, section_length, walk, is_named}
 use Rattle.binfarce_pe.specs.PeAll.{size_in, section_entries, all_entries, all_answer, AllHasText}
 use Rattle.binfarce_pe.specs.PeParts.{section_table, table_walk}

@@ -6,15 +6,15 @@ use Rattle.std.proofs.lemmas.Grind.{get_or-set_at}
 use Rattle.std.proofs.lemmas.List.{length-map, map-append, take_more, flat_map_more}
 use Rattle.std.proofs.lemmas.List.Elements.{All-nil, All-cons}
 use Rattle.std.proofs.lemmas.Slice.Zip.{AllZip-long}
-use Rattle.binfarce_symbols.specs.declared.sizes.RowAddress as code
-use Rattle.binfarce_symbols.specs.Sizes.{RowAddress, addresses_of}
-use Rattle.binfarce_symbols.specs.RowViews.{row_view, rows_view}
-use Rattle.binfarce_symbols.proofs.Rows.{range_more}
-use Rattle.binfarce_symbols.specs.declared.functions.FunctionSymbol.{FunctionSymbol}
-use Rattle.binfarce_symbols.specs.declared.functions.SectionFunction.{SectionFunction}
-use Rattle.binfarce_symbols.specs.Entries.{Entry}
-use Rattle.binfarce_symbols.specs.SectionEntries.{SectionEntry, in_section}
-use Rattle.binfarce_symbols.specs.SymbolViews.{function_view, section_function_view}
+use Rattle.binfarce_bytes.specs.declared.sizes.RowAddress as code
+use Rattle.binfarce_bytes.specs.Sizes.{RowAddress, addresses_of}
+use Rattle.binfarce_bytes.specs.RowViews.{row_view, rows_view}
+use Rattle.binfarce_bytes.proofs.Rows.{range_more}
+use Rattle.binfarce_bytes.specs.declared.functions.FunctionSymbol.{FunctionSymbol}
+use Rattle.binfarce_bytes.specs.declared.functions.SectionFunction.{SectionFunction}
+use Rattle.binfarce_bytes.specs.Entries.{Entry}
+use Rattle.binfarce_bytes.specs.SectionEntries.{SectionEntry, in_section}
+use Rattle.binfarce_bytes.specs.SymbolViews.{function_view, section_function_view}
 use Rattle.binfarce_pe.specs.declared.symbols.Kept.{Kept}
 use Rattle.binfarce_pe.specs.PeSymbols.{SymbolTable, SymbolRow, record_count, symbol_of, name_of, function_name, kept_rows}
 use Rattle.binfarce_pe.specs.machine.RawPe.{numbered, IsNameOf, HoldsSection, HoldsSections}

@@ -7,14 +7,14 @@ use Rattle.std.proofs.lemmas.Bool.{lt-ltb, le-ltb, cases_lt}
 use Rattle.std.proofs.lemmas.List.{take_more, get_or-map, length-map, map-append}
 use Rattle.std.proofs.lemmas.List.Elements.{All-nil, All-cons}
 use Rattle.std.proofs.lemmas.Slice.Zip.{AllZip-long}
-use Rattle.binfarce_symbols.specs.declared.sizes.RowAddress as code
-use Rattle.binfarce_symbols.specs.Sizes.{RowAddress, comes_before, put_in, arranged, addresses_of, least, least_of, least_above}
-use Rattle.binfarce_symbols.specs.Entries.{Entry}
-use Rattle.binfarce_symbols.specs.RowViews.{row_view, rows_view}
+use Rattle.binfarce_bytes.specs.declared.sizes.RowAddress as code
+use Rattle.binfarce_bytes.specs.Sizes.{RowAddress, comes_before, put_in, arranged, addresses_of, least, least_of, least_above}
+use Rattle.binfarce_bytes.specs.Entries.{Entry}
+use Rattle.binfarce_bytes.specs.RowViews.{row_view, rows_view}
 use Rattle.binfarce_pe.specs.PeSymbols.{SymbolTable, symbol_of, name_of, kept_rows, size_among, size_members, entry_of, entries_of}
 use Rattle.binfarce_pe.specs.machine.RawPe.{numbered, IsNameOf, HoldsKept, function_at}
-use Rattle.binfarce_symbols.proofs.Above.{LeastAbove, arranged_above, least_above_is}
-use Rattle.binfarce_symbols.proofs.Arrangement.{Rising}
+use Rattle.binfarce_bytes.proofs.Above.{LeastAbove, arranged_above, least_above_is}
+use Rattle.binfarce_bytes.proofs.Arrangement.{Rising}
 use Rattle.binfarce_pe.proofs.Strictly.{kept_rise}
 
 -- what is read past the end

@@ -4,7 +4,7 @@ use Rattle.std.specs.List.{range_with_len, filter_map, Contains}
 use Rattle.std.proofs.lemmas.List.{append-nil}
 use Rattle.std.proofs.lemmas.List.Elements.{All-same, All-push, All-contains, Contains-append_right}
 use Rattle.binfarce_bytes.specs.Walk.{MayBeAsked, Answered}
-use Rattle.binfarce_symbols.proofs.Rows.{one_more}
+use Rattle.binfarce_bytes.proofs.Rows.{one_more}
 
 -- what the numbers below n hold
 abbrev pub held_below : {S : Type 0} → (ℕ → Option S) → ℕ → List S

@@ -8,12 +8,12 @@ use Rattle.std.proofs.lemmas.List.{append-nil, length-map, map-append}
 use Rattle.std.proofs.lemmas.List.Elements.{All-nil, All-cons, All-head}
 use Rattle.std.proofs.lemmas.List.Sorted.{All-permutation, length_permutation}
 use Rattle.std.proofs.lemmas.Slice.Zip.{AllZip-long}
-use Rattle.binfarce_symbols.specs.declared.sizes.RowAddress as code
-use Rattle.binfarce_symbols.specs.Sizes.{RowAddress, arranged, addresses_of}
-use Rattle.binfarce_symbols.specs.RowViews.{row_view, rows_view}
+use Rattle.binfarce_bytes.specs.declared.sizes.RowAddress as code
+use Rattle.binfarce_bytes.specs.Sizes.{RowAddress, arranged, addresses_of}
+use Rattle.binfarce_bytes.specs.RowViews.{row_view, rows_view}
 use Rattle.binfarce_pe.specs.PeSymbols.{SymbolTable, SymbolRow, record_count, symbol_of, rows_from, name_of, function_name, is_function_of, kept_row, kept_rows, size_among, size_members, entry_of, entries_in, entries_of}
 use Rattle.binfarce_pe.specs.machine.RawPe.{numbered, IsNameOf, HoldsKept}
-use Rattle.binfarce_symbols.proofs.Arranging.{arranged_same}
+use Rattle.binfarce_bytes.proofs.Arranging.{arranged_same}
 
 -- the number of the row after row k
 abbrev pub after : SymbolTable → ℕ → ℕ

@@ -4,10 +4,10 @@ use Rattle.std.specs.List.{filter_map, cons_option}
 use Rattle.std.specs.Option.{option_map}
 use Rattle.std.proofs.lemmas.List.Elements.{All-nil, All-cons, All-weaker}
 use Rattle.binfarce_bytes.specs.Refusal.{◌>>=◌, Refusal}
-use Rattle.binfarce_symbols.specs.Sizes.{RowAddress, arranged}
-use Rattle.binfarce_symbols.specs.Entries.{Listed}
+use Rattle.binfarce_bytes.specs.Sizes.{RowAddress, arranged}
+use Rattle.binfarce_bytes.specs.Entries.{Listed}
 use Rattle.binfarce_pe.specs.PeSymbols.{SymbolTable, Located, record_count, symbol_of, rows_from, kept_row, kept_rows, function_name, entries_of, pe_answer, ArrangesRows}
-use Rattle.binfarce_symbols.proofs.Arrangement.{Rising, arrangement_of}
+use Rattle.binfarce_bytes.proofs.Arrangement.{Rising, arrangement_of}
 use Rattle.binfarce_pe.proofs.Rows.{after}
 
 row_number : (table : SymbolTable) (index k : ℕ) (r : RowAddress) → kept_row table index k ≡ Some r → r.row ≡ k

@@ -3,8 +3,8 @@ use Rattle.std.specs.Prelude.{◌≡◌, ◌≢◌, ℕ, ◌+◌, ◌*◌, List,
 use Rattle.std.specs.List.{range_with_len, flat_map}
 use Rattle.binfarce_bytes.specs.Refusal.{◌>>=◌, Refusal}
 use Rattle.binfarce_bytes.specs.Field.{number_in}
-use Rattle.binfarce_symbols.specs.Entries.{Listed}
-use Rattle.binfarce_symbols.specs.SectionEntries.{SectionEntry, in_section, of_section, unless}
+use Rattle.binfarce_bytes.specs.Entries.{Listed}
+use Rattle.binfarce_bytes.specs.SectionEntries.{SectionEntry, in_section, of_section, unless}
 use Rattle.binfarce_pe.specs.Pe.{Section, header_of, section_fields, section_length}
 use Rattle.binfarce_pe.specs.PeParts.{SectionTable, section_table, table_walk}
 use Rattle.binfarce_pe.specs.PeSymbols.{SymbolTable, symbol_table, text_section, pe_answer, entries_of}

@@ -8,8 +8,8 @@ use Rattle.binfarce_bytes.specs.Refusal.{◌>>=◌, Refusal, required, symbols_s
 use Rattle.binfarce_bytes.specs.Walk.{first}
 use Rattle.binfarce_bytes.specs.Field.{Field, field, number_in}
 use Rattle.binfarce_pe.specs.Pe.{header_of, Section, walk, is_named}
-use Rattle.binfarce_symbols.specs.Sizes.{RowAddress, arranged, addresses_of, least_above, ListsArranged}
-use Rattle.binfarce_symbols.specs.Entries.{Entry, Listed}
+use Rattle.binfarce_bytes.specs.Sizes.{RowAddress, arranged, addresses_of, least_above, ListsArranged}
+use Rattle.binfarce_bytes.specs.Entries.{Entry, Listed}
 
 -- Standard Symbol Definition: one A for each number. The first 8 bytes are the short name or, where the first four are zeroes, the other four an offset in the string table
 pub record SymbolRow (A : Type 0) : Type 0 where

@@ -2,8 +2,8 @@
 
 ghost use Rattle.std.specs.Prelude.{◌≡◌, ◌≢◌, ℕ, ◌+◌, ◌<◌, ◌≤◌, ◌++◌, [], ◌∷◌, length, map, All, IfOk, OnErr, MatchOption};
 ghost use Rattle.binfarce_bytes.specs.Refusal.{Gives, refusal_of};
-ghost use Rattle.binfarce_symbols.specs.SectionEntries.{AnswersAll, in_section};
-ghost use Rattle.binfarce_symbols.specs.SymbolViews.{function_view, section_function_view, HoldsSectionFunctions};
+ghost use Rattle.binfarce_bytes.specs.SectionEntries.{AnswersAll, in_section};
+ghost use Rattle.binfarce_bytes.specs.SymbolViews.{function_view, section_function_view, HoldsSectionFunctions};
 ghost use Rattle.binfarce_pe.specs.PeAll.{size_in, all_entries, whole_sections, all_answer, HasSection};
 ghost use Rattle.binfarce_pe.specs.PeParts.{places_of, places_view, whole_in};
 ghost use Rattle.binfarce_pe.specs.machine.RawPe.{headers_view, table_view, symbol_view, HoldsSections};
@@ -14,10 +14,10 @@ use crate::symbols::{
     Kept, SYMBOL_LENGTH, SymbolRow, SymbolTable, function_name, kept_functions, symbol_of,
     symbol_table,
 };
+use binfarce_bytes::functions::{FunctionSymbol, SectionFunction};
 use binfarce_bytes::parser::number_at;
+use binfarce_bytes::sizes::RowAddress;
 use binfarce_bytes::{ByteOrder, ParseError};
-use binfarce_symbols::functions::{FunctionSymbol, SectionFunction};
-use binfarce_symbols::sizes::RowAddress;
 use std::alloc::{AllocError, Global};
 use std::mem;
 
@@ -58,7 +58,9 @@ fn functions_in<'a>(
     symbols: SymbolTable<'a>,
 ) -> Result<Vec<SectionFunction<'a>>, AllocError>
     requires { sections.count ≤ whole_in (headers_view sections) }
-    ensures functions { IfOk result (λ v. map section_function_view v.items ≡ all_entries (headers_view sections.entry) (table_view symbols.entry)) }
+    ensures functions { IfOk result
+        (λ v. map section_function_view v.items
+        ≡ all_entries (headers_view sections.entry) (table_view symbols.entry)) }
     ensures memory { OnErr result (sections.entry.count ≢ 0) }
 {
     let mut kept = kept_by_section(alloc, symbols, sections.count)?;
@@ -141,7 +143,8 @@ fn index_of(row: SymbolRow, count: u16) -> Option<u16>
 
 // No rows so far, for each of as many sections.
 fn nothing_kept_of<'a>(alloc: Global, count: u16) -> Result<Vec<Kept<'a>>, AllocError>
-    ensures nothing { IfOk result (λ v. (length v.items ≡ count) × All (λ k. (k.rows.items ≡ []) × (k.names.items ≡ [])) v.items) }
+    ensures nothing { IfOk result
+        (λ v. (length v.items ≡ count) × All (λ k. (k.rows.items ≡ []) × (k.names.items ≡ [])) v.items) }
     ensures memory { OnErr result (count ≢ 0) }
 {
     let mut kept = Vec::new(alloc);
@@ -163,7 +166,9 @@ fn nothing_kept<'a>(alloc: Global) -> Kept<'a>
 
 // Keeps a row of this address and name.
 fn push_kept<'a>(kept: &mut Kept<'a>, address: u64, name: &'a str) -> Result<(), AllocError>
-    ensures rows { IfOk result (λ _. kept.new.rows.items ≡ kept.old.rows.items ++ record { address = address; index = length kept.old.names.items } ∷ []) }
+    ensures rows { IfOk result
+        (λ _. kept.new.rows.items
+        ≡ kept.old.rows.items ++ record { address = address; index = length kept.old.names.items } ∷ []) }
     ensures names { IfOk result (λ _. kept.new.names.items ≡ kept.old.names.items ++ name.entry ∷ []) }
 {
     kept.rows.push(RowAddress {

@@ -23,7 +23,8 @@ pub struct PeHeader {
 /// The signature's offset, and the file header.
 pub fn parse_header(data: &[u8]) -> Result<(u32, PeHeader), UnexpectedEof>
     ensures { MatchResult result
-        (λ p. (least_length data.now ≤ length data.now) × (p.0 ≡ signature_offset data.now) × (header_view p.1 ≡ header_of data.now))
+        (λ p. (least_length data.now ≤ length data.now) × (p.0 ≡ signature_offset data.now)
+        × (header_view p.1 ≡ header_of data.now))
         (λ _. length data.now < least_length data.now) }
 {
     let pe_pointer: u32 = number_at(data, SIGNATURE_POINTER, ByteOrder::LittleEndian)?;

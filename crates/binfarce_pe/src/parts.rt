@@ -4,7 +4,7 @@ ghost use Rattle.std.specs.Prelude.{◌≡◌, ◌≢◌, ◌<◌, ◌≤◌, le
 ghost use Rattle.binfarce_bytes.specs.declared.ByteOrder.TheVariants.{LittleEndian};
 ghost use Rattle.binfarce_bytes.specs.Number.{number, bytes_at};
 ghost use Rattle.binfarce_bytes.specs.Refusal.{Gives, refusal_of, unexpected_eof};
-ghost use Rattle.binfarce_symbols.specs.SymbolViews.{function_view};
+ghost use Rattle.binfarce_bytes.specs.SymbolViews.{function_view};
 ghost use Rattle.binfarce_pe.specs.Pe.{header_after};
 ghost use Rattle.binfarce_pe.specs.PeParts.{places_after, places_view, headers_alone, text_place, text_view};
 ghost use Rattle.binfarce_pe.specs.PeSymbols.{entries_of};
@@ -13,9 +13,9 @@ ghost use Rattle.binfarce_pe.specs.PeViews.{header_view};
 use crate::header::{PeHeader, header_after};
 use crate::sections::Table;
 use crate::symbols::{SYMBOL_LENGTH, SymbolTable, functions_of, text_among};
+use binfarce_bytes::functions::FunctionSymbol;
 use binfarce_bytes::parser::number_at;
 use binfarce_bytes::{ByteOrder, ParseError};
-use binfarce_symbols::functions::FunctionSymbol;
 use std::alloc::{AllocError, Global};
 
 /// Where the offset of the signature stands in the MS-DOS stub.
@@ -104,8 +104,11 @@ pub fn functions_in<'a>(
     strings: &'a [u8],
     text: Text,
 ) -> Result<Vec<FunctionSymbol<'a>>, AllocError>
-    ensures functions { IfOk result (λ v. map function_view v.items ≡ entries_of (record { rows = rows.entry.now; strings = strings.entry.now }) text.index text.size) }
-    ensures memory { OnErr result (entries_of (record { rows = rows.entry.now; strings = strings.entry.now }) text.index text.size ≢ []) }
+    ensures functions { IfOk result
+        (λ v. map function_view v.items
+        ≡ entries_of (record { rows = rows.entry.now; strings = strings.entry.now }) text.index text.size) }
+    ensures memory { OnErr result
+        (entries_of (record { rows = rows.entry.now; strings = strings.entry.now }) text.index text.size ≢ []) }
 {
     functions_of(alloc, SymbolTable { rows, strings }, text.index, text.size)
 }

@@ -182,7 +182,8 @@ fn first_section<'a, F: Fn(Section<'a>) -> bool>(
     callback: F,
 ) -> Result<Option<Section<'a>>, UnexpectedEof>
     requires { All (MayBeAsked section_view (F.pre callback)) (table_walk (headers_view table)).items }
-    ensures { FirstAccepted (λ _. unexpected_eof) section_view (F.post callback) (table_walk (headers_view table.entry)) result }
+    ensures { FirstAccepted
+        (λ _. unexpected_eof) section_view (F.post callback) (table_walk (headers_view table.entry)) result }
 {
     let mut start = table.offset;
     if start >= table.bytes.len() {
@@ -209,7 +210,8 @@ pub fn section_with_name<'a>(
     name: &str,
 ) -> Result<Option<Section<'a>>, UnexpectedEof>
     requires { places_view places ≡ places_of file.now }
-    ensures { Gives (λ _. unexpected_eof) (option_map section_view) (first (λ s. is_named name.now s) (walk file.now)) result }
+    ensures { Gives (λ _. unexpected_eof) (option_map section_view)
+        (first (λ s. is_named name.now s) (walk file.now)) result }
 {
     section_named(section_table(file, places), name)
 }
@@ -219,7 +221,8 @@ pub(crate) fn section_named<'a>(
     table: Table<'a>,
     name: &str,
 ) -> Result<Option<Section<'a>>, UnexpectedEof>
-    ensures { Gives (λ _. unexpected_eof) (option_map section_view) (first (λ s. is_named name.now s) (table_walk (headers_view table.entry))) result }
+    ensures { Gives (λ _. unexpected_eof) (option_map section_view)
+        (first (λ s. is_named name.now s) (table_walk (headers_view table.entry))) result }
 {
     first_section(table, |section| section.name == name)
 }

@@ -3,21 +3,21 @@
 ghost use Rattle.std.specs.Prelude.{◌≡◌, ◌+◌, ◌<◌, ◌≤◌, length, All, MatchResult, IfOk, ◌≢◌, [], ◌-◌, map, OnErr, IfSome, unwrap_or, nat_lt, if◌then◌else◌};
 ghost use Rattle.std.specs.Option.{option_map};
 ghost use Rattle.binfarce_bytes.specs.Refusal.{Gives, refusal_of};
-ghost use Rattle.binfarce_symbols.specs.Entries.{Answers, ListsSome};
-ghost use Rattle.binfarce_symbols.specs.SymbolViews.{function_view, HoldsFunctions};
+ghost use Rattle.binfarce_bytes.specs.Entries.{Answers, ListsSome};
+ghost use Rattle.binfarce_bytes.specs.SymbolViews.{function_view, HoldsFunctions};
 ghost use Rattle.binfarce_pe.specs.PeSymbols.{pe_answer, text_section, symbol_table, located, symbol_at, record_count, symbol_of, name_of, function_name, kept_rows, size_members, entries_of};
 ghost use Rattle.binfarce_pe.specs.PeParts.{text_among, places_of, places_view};
 ghost use Rattle.binfarce_pe.specs.PeViews.{section_view};
 ghost use Rattle.binfarce_pe.specs.machine.RawPe.{headers_view, table_view, located_view, symbol_view, HoldsKept, ListsKept, function_at};
-ghost use Rattle.binfarce_symbols.specs.Sizes.{addresses_of, least_above, least_of};
-ghost use Rattle.binfarce_symbols.specs.RowViews.{rows_view};
+ghost use Rattle.binfarce_bytes.specs.Sizes.{addresses_of, least_above, least_of};
+ghost use Rattle.binfarce_bytes.specs.RowViews.{rows_view};
 
 use crate::parts::Places;
 use crate::sections::{Section, Table, section_named, section_table, short_name};
+use binfarce_bytes::functions::FunctionSymbol;
 use binfarce_bytes::parser::{Stream, UnexpectedEof, parse_null_string, slice_at};
+use binfarce_bytes::sizes::{RowAddress, arrange};
 use binfarce_bytes::{ByteOrder, ParseError};
-use binfarce_symbols::functions::FunctionSymbol;
-use binfarce_symbols::sizes::{RowAddress, arrange};
 use std::alloc::{AllocError, Global};
 
 pub(crate) const SYMBOL_LENGTH: usize = 18;
@@ -127,7 +127,8 @@ pub(crate) fn functions_of<'a>(
     index: u16,
     text_size: u32,
 ) -> Result<Vec<FunctionSymbol<'a>>, AllocError>
-    ensures functions { IfOk result (λ v. map function_view v.items ≡ entries_of (table_view table.entry) index text_size) }
+    ensures functions { IfOk result
+        (λ v. map function_view v.items ≡ entries_of (table_view table.entry) index text_size) }
     ensures memory { OnErr result (entries_of (table_view table.entry) index text_size ≢ []) }
 {
     let kept = kept_rows(alloc, table, index)?;
@@ -159,7 +160,9 @@ pub(crate) fn kept_functions<'a>(
 
 // The rows that are kept, in table order.
 fn kept_rows<'a>(alloc: Global, table: SymbolTable<'a>, index: u16) -> Result<Kept<'a>, AllocError>
-    ensures kept { IfOk result (λ k. HoldsKept (table_view table.entry) (kept_rows (table_view table.entry) index) (rows_view k.rows.items) (map (λ t. t.now) k.names.items)) }
+    ensures kept { IfOk result
+        (λ k. HoldsKept (table_view table.entry) (kept_rows (table_view table.entry) index) (rows_view k.rows.items)
+        (map (λ t. t.now) k.names.items)) }
     ensures memory { OnErr result (kept_rows (table_view table.entry) index ≢ []) }
 {
     let count = table.rows.len() / SYMBOL_LENGTH;
@@ -194,7 +197,8 @@ fn list_functions<'a>(
     requires named { All (λ r. r.index < length names.now) rows.now }
     requires above { above.now ≡ map (λ r. least_above (addresses_of (rows_view rows.now)) r.address) rows.now }
     ensures { IfOk result (λ v. map function_view v.items
-        ≡ map (function_at (map (λ t. t.now) names.now) (size_members text_size (rows_view rows.now))) (rows_view rows.now)) }
+        ≡ map (function_at (map (λ t. t.now) names.now) (size_members text_size (rows_view rows.now)))
+        (rows_view rows.now)) }
 {
     let mut functions = Vec::with_capacity(alloc, rows.len())?;
     for at in 0..rows.len() {
@@ -211,7 +215,9 @@ fn list_functions<'a>(
 // The distance to the least greater one among the text's size and `above`; 0 where none is greater.
 fn size_up_to(address: u64, above: Option<u64>, text_size: u64) -> u64
     requires { IfSome above (λ a. address < a) }
-    ensures { result ≡ unwrap_or (option_map (λ a. a - address) (if nat_lt address text_size then Some (least_of text_size above) else above)) 0 }
+    ensures { result ≡ unwrap_or
+        (option_map (λ a. a - address)
+        (if nat_lt address text_size then Some (least_of text_size above) else above)) 0 }
 {
     let end = match above {
         None => text_size,

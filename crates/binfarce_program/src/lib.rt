@@ -9,7 +9,7 @@ ghost use Rattle.binfarce_program.specs.Given.{words_of, failure_of};
 ghost use Rattle.binfarce_program.specs.Status.{status_of};
 ghost use Rattle.binfarce_program.specs.declared.Failure.TheVariants.{Usage, File as Unreadable, OutOfMemory, Write as Unwritten};
 
-use binfarce_source::Source;
+use binfarce_bytes::source::Source;
 use std::alloc::Global;
 use std::fs::File;
 use std::io::{self, ErrorKind, Read, Write};

@@ -1,6 +1,6 @@
 -- What a reading of a PE file's parts gives.
 pub use Rattle.binfarce_tables.specs.PeReading.{file_answer}
-use Rattle.binfarce_symbols.specs.Entries.{Listed}
+use Rattle.binfarce_bytes.specs.Entries.{Listed}
 use Rattle.binfarce_tables.specs.PeReading as tables
 use Rattle.binfarce_reading.specs.declared.pe.Parts.{Parts}
 

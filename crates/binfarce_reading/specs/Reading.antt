@@ -1,7 +1,7 @@
 -- What a reading of a file's parts gives.
 pub use Rattle.binfarce_tables.specs.Reading.{Reads, Known, file_answer, file_answer_in}
 use Rattle.std.specs.Prelude.{ℕ}
-use Rattle.binfarce_symbols.specs.Entries.{Listed}
+use Rattle.binfarce_bytes.specs.Entries.{Listed}
 use Rattle.binfarce_elf.specs.Elf.{ElfClass}
 use Rattle.binfarce_tables.specs.Reading as tables
 use Rattle.binfarce_reading.specs.declared.elf.Parts.{Parts}

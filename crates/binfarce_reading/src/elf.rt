@@ -2,16 +2,16 @@
 
 ghost use Rattle.std.specs.Prelude.{◌≡◌, Ok};
 ghost use Rattle.binfarce_elf.specs.ElfViews.{functions_view};
-ghost use Rattle.binfarce_symbols.specs.Entries.{Answers, ListsSome};
-ghost use Rattle.binfarce_naming.specs.Symbol.{HoldsSymbols};
+ghost use Rattle.binfarce_bytes.specs.Entries.{Answers, ListsSome};
+ghost use Rattle.binfarce.specs.Symbol.{HoldsSymbols};
 ghost use Rattle.binfarce_tables.specs.Reading as reading;
 ghost use Rattle.binfarce_reading.specs.Reading.{parts_view};
 
+use binfarce::symbols::symbols_of;
 use binfarce_bytes::ParseError;
 use binfarce_elf::class::Class;
 use binfarce_elf::symbols::Functions;
 use binfarce_names::demangle::SymbolData;
-use binfarce_naming::symbols::symbols_of;
 use binfarce_tables::elf;
 use std::alloc::Global;
 

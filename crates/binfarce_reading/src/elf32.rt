@@ -7,8 +7,8 @@ ghost use Rattle.binfarce_reading.specs.Reading.{Reads, file_answer, file_answer
 
 use crate::elf;
 use binfarce_bytes::ByteOrder;
+use binfarce_bytes::source::Source;
 use binfarce_elf::symbol_table::SymbolTable;
-use binfarce_source::Source;
 pub use binfarce_tables::elf32::{SectionParts, read_sections};
 use binfarce_tables::{ReadError, elf32};
 use std::alloc::Global;
@@ -33,7 +33,8 @@ pub fn read<S: Source>(
     section_name: &str,
 ) -> Result<Parts, ReadError>
     ensures { (file : List ℕ) → S.bytes source.now ≡ Some file
-        → Reads (S.may_fail source.now) (parts_view elf32 (λ n. n)) (file_answer elf32 byte_order file section_name.now) result }
+        → Reads (S.may_fail source.now) (parts_view elf32 (λ n. n))
+        (file_answer elf32 byte_order file section_name.now) result }
 {
     let tables = elf32::read(alloc, source, byte_order, section_name)?;
     Ok(elf::of_tables(tables))
@@ -52,7 +53,8 @@ pub fn read_dynamic<S: Source>(
     section_name: &str,
 ) -> Result<Parts, ReadError>
     ensures { (file : List ℕ) → S.bytes source.now ≡ Some file
-        → Reads (S.may_fail source.now) (parts_view elf32 (λ n. n)) (file_answer_in Dynsym elf32 byte_order file section_name.now) result }
+        → Reads (S.may_fail source.now) (parts_view elf32 (λ n. n))
+        (file_answer_in Dynsym elf32 byte_order file section_name.now) result }
 {
     let which = SymbolTable::Dynsym;
     let tables = elf32::read_by(alloc, source, byte_order, which, section_name)?;

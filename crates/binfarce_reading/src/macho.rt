@@ -3,17 +3,17 @@
 ghost use Rattle.std.specs.Prelude.{◌≡◌, List, ℕ, Some};
 ghost use Rattle.binfarce_macho.specs.MachoParts.{SomeAddress};
 ghost use Rattle.binfarce_macho.specs.MachoSymbols.{answer_of};
-ghost use Rattle.binfarce_symbols.specs.Entries.{Answers};
-ghost use Rattle.binfarce_symbols.specs.SymbolViews.{HoldsFunctions};
-ghost use Rattle.binfarce_naming.specs.Symbol.{HoldsSymbols};
+ghost use Rattle.binfarce_bytes.specs.Entries.{Answers};
+ghost use Rattle.binfarce_bytes.specs.SymbolViews.{HoldsFunctions};
+ghost use Rattle.binfarce.specs.Symbol.{HoldsSymbols};
 ghost use Rattle.binfarce_reading.specs.MachoReading.{located_answer, parts_view};
 ghost use Rattle.binfarce_reading.specs.Reading.{Reads};
 
+use binfarce::symbols::symbols_of;
 use binfarce_bytes::ParseError;
+use binfarce_bytes::functions::FunctionSymbol;
+use binfarce_bytes::source::Source;
 use binfarce_names::demangle::SymbolData;
-use binfarce_naming::symbols::symbols_of;
-use binfarce_source::Source;
-use binfarce_symbols::functions::FunctionSymbol;
 pub use binfarce_tables::macho::read_sections;
 use binfarce_tables::{ReadError, macho};
 use std::alloc::Global;
@@ -33,7 +33,8 @@ impl Parts {
     /// `MalformedInput` where a row that would be kept lies past the text's end with no address above it. `OutOfMemory`
     /// comes only where the table has a value that isn't 0, and may stand in place of that refusal.
     pub fn functions(&self, alloc: Global) -> Result<(Vec<FunctionSymbol<'_>>, u64), ParseError>
-        ensures { Answers HoldsFunctions (λ _. SomeAddress (parts_view self.now)) (answer_of (parts_view self.now)) result }
+        ensures { Answers HoldsFunctions
+            (λ _. SomeAddress (parts_view self.now)) (answer_of (parts_view self.now)) result }
     {
         self.tables.functions(alloc)
     }
@@ -44,7 +45,8 @@ impl Parts {
     ///
     /// Those of `functions`.
     pub fn symbols(&self, alloc: Global) -> Result<(Vec<SymbolData>, u64), ParseError>
-        ensures { Answers HoldsSymbols (λ _. SomeAddress (parts_view self.now)) (answer_of (parts_view self.now)) result }
+        ensures { Answers HoldsSymbols
+            (λ _. SomeAddress (parts_view self.now)) (answer_of (parts_view self.now)) result }
     {
         let (functions, text_size) = self.functions(alloc)?;
         let symbols = symbols_of(alloc, functions.iter().copied())?;
@@ -64,7 +66,8 @@ impl Parts {
 /// rows; `Unreadable` where the source can't be read at offsets, or a read of it fails, and never of a source that can't
 /// fail, as bytes in memory are; `OutOfMemory` where an allocation fails.
 pub fn read<S: Source>(alloc: Global, source: &S) -> Result<Parts, ReadError>
-    ensures { (file : List ℕ) → S.bytes source.now ≡ Some file → Reads (S.may_fail source.now) parts_view (located_answer file) result }
+    ensures { (file : List ℕ) → S.bytes source.now ≡ Some file
+        → Reads (S.may_fail source.now) parts_view (located_answer file) result }
 {
     let tables = macho::read(alloc, source)?;
     Ok(Parts { tables })

@@ -1,17 +1,17 @@
 //! PE files, read where their tables are (Microsoft PE Format).
 
 ghost use Rattle.std.specs.Prelude.{◌≡◌, List, ℕ, Ok, Some};
-ghost use Rattle.binfarce_symbols.specs.Entries.{Answers, ListsSome};
-ghost use Rattle.binfarce_symbols.specs.SymbolViews.{HoldsFunctions};
-ghost use Rattle.binfarce_naming.specs.Symbol.{HoldsSymbols};
+ghost use Rattle.binfarce_bytes.specs.Entries.{Answers, ListsSome};
+ghost use Rattle.binfarce_bytes.specs.SymbolViews.{HoldsFunctions};
+ghost use Rattle.binfarce.specs.Symbol.{HoldsSymbols};
 ghost use Rattle.binfarce_reading.specs.PeReading.{file_answer, parts_view};
 ghost use Rattle.binfarce_reading.specs.Reading.{Reads};
 
+use binfarce::symbols::symbols_of;
 use binfarce_bytes::ParseError;
+use binfarce_bytes::functions::FunctionSymbol;
+use binfarce_bytes::source::Source;
 use binfarce_names::demangle::SymbolData;
-use binfarce_naming::symbols::symbols_of;
-use binfarce_source::Source;
-use binfarce_symbols::functions::FunctionSymbol;
 pub use binfarce_tables::pe::read_sections;
 use binfarce_tables::{ReadError, pe};
 use std::alloc::Global;
@@ -62,7 +62,8 @@ impl Parts {
 /// be read at offsets, or a read of it fails, and never of a source that can't fail, as bytes in memory are;
 /// `OutOfMemory` where an allocation fails.
 pub fn read<S: Source>(alloc: Global, source: &S) -> Result<Parts, ReadError>
-    ensures { (file : List ℕ) → S.bytes source.now ≡ Some file → Reads (S.may_fail source.now) parts_view (file_answer file) result }
+    ensures { (file : List ℕ) → S.bytes source.now ≡ Some file
+        → Reads (S.may_fail source.now) parts_view (file_answer file) result }
 {
     let tables = pe::read(alloc, source)?;
     Ok(Parts { tables })

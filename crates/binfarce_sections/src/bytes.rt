@@ -16,7 +16,7 @@ use crate::error::SectionError;
 use crate::sections::{Section, Sections, sections_of};
 use crate::tables::read_named;
 use binfarce::ParseError;
-use binfarce_source::Source;
+use binfarce_bytes::source::Source;
 use binfarce_tools::list::Sink;
 use binfarce_tools::writing::write_whole;
 use std::alloc::Global;
@@ -34,7 +34,8 @@ use std::alloc::Global;
 /// in Mach-O an offset of 0, in PE no raw data); `PastEnd` where its bytes end past the file.
 #[tactic(auto, unfolding(crate::specs::Named::bytes_named))]
 pub fn section_bytes<'a>(data: &'a [u8], name: &str) -> Result<&'a [u8], SectionError>
-    ensures { Hands (λ b. b.now) (bytes_named (sections_of (format_of data.entry.now) data.entry.now) data.entry.now name.now) result }
+    ensures { Hands (λ b. b.now) (bytes_named (sections_of (format_of data.entry.now) data.entry.now) data.entry.now
+        name.now) result }
 {
     match first_section(data, name)? {
         Some(section) => bytes_of(data, section),
@@ -49,7 +50,8 @@ pub fn section_bytes<'a>(data: &'a [u8], name: &str) -> Result<&'a [u8], Section
 /// As `section_bytes`, before anything is written; `Write` where a write failed, which alone can leave a beginning of the
 /// bytes written.
 pub fn write_section<S: Sink>(data: &[u8], name: &str, out: &mut S) -> Result<(), SectionError>
-    ensures takes { TakesBytes (bytes_named (sections_of (format_of data.now) data.now) data.now name.now) (S.taken out.old) (S.taken out.new) result }
+    ensures takes { TakesBytes (bytes_named (sections_of (format_of data.now) data.now) data.now name.now)
+        (S.taken out.old) (S.taken out.new) result }
     ensures fails { Fails (S.has_failed out.old) (S.has_failed out.new) result }
 {
     let bytes = section_bytes(data, name)?;
@@ -78,7 +80,8 @@ pub fn write_section_of<F: Source, S: Sink>(
     out: &mut S,
 ) -> Result<(), SectionError>
     ensures takes { (file : List ℕ) → F.bytes source.now ≡ Some file
-        → TakesRead (F.may_fail source.now) (bytes_named (sections_of (format_of file) file) file name.now) (S.taken out.old) (S.taken out.new) result }
+        → TakesRead (F.may_fail source.now) (bytes_named (sections_of (format_of file) file) file name.now)
+        (S.taken out.old) (S.taken out.new) result }
     ensures fails { Fails (S.has_failed out.old) (S.has_failed out.new) result }
 {
     let bytes = read_named(alloc, source, name)?;
@@ -98,7 +101,8 @@ pub(crate) fn first_in<'a>(
     sections: Sections<'a>,
     name: &str,
 ) -> Result<Option<Section<'a>>, ParseError>
-    ensures { Gives refusal_of (option_map section_view) (first (is_named name.now) (sections_left sections.entry)) result }
+    ensures { Gives refusal_of (option_map section_view)
+        (first (is_named name.now) (sections_left sections.entry)) result }
 {
     for section in sections {
         let section = section?;

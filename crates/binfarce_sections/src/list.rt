@@ -14,7 +14,7 @@ use crate::error::SectionError;
 use crate::sections::{Section, Sections, sections_of};
 use crate::tables::read;
 use binfarce::ParseError;
-use binfarce_source::Source;
+use binfarce_bytes::source::Source;
 use binfarce_tools::list::Sink;
 use binfarce_tools::writing::write_whole;
 use std::alloc::{AllocError, Global};
@@ -55,7 +55,8 @@ pub fn list_source<F: Source, S: Sink>(
     out: &mut S,
 ) -> Result<(), SectionError>
     ensures takes { (file : List ℕ) → F.bytes source.now ≡ Some file
-        → TakesReadLines (F.may_fail source.now) (sections_of (format_of file) file) (S.taken out.old) (S.taken out.new) result }
+        → TakesReadLines (F.may_fail source.now) (sections_of (format_of file) file) (S.taken out.old)
+        (S.taken out.new) result }
     ensures fails { Fails (S.has_failed out.old) (S.has_failed out.new) result }
 {
     let tables = read(alloc, source)?;
@@ -116,7 +117,10 @@ fn push_head(text: &mut String, address: u64, offset: u64, size: u64) -> Result<
 
 // Writes a section's name, in Mach-O behind its segment's.
 fn push_name(text: &mut String, segment: Option<&str>, name: Option<&str>) -> Result<(), AllocError>
-    ensures { OnOk result (string_bytes text.new ≡ string_bytes text.old ++ name_text (option_map (λ t. t.now) segment.entry) (option_map (λ t. t.now) name.entry)) }
+    ensures { OnOk result
+        (string_bytes text.new
+        ≡ string_bytes text.old
+        ++ name_text (option_map (λ t. t.now) segment.entry) (option_map (λ t. t.now) name.entry)) }
 {
     match name {
         None => Ok(()),

@@ -84,7 +84,8 @@ impl<'a> Iterator for Sections<'a> {
 
     type Item = Result<Section<'a>, ParseError>;
 
-    ghost next_gives = { λ before item after. YieldsNext refusal_of section_view (sections_left before) item (sections_left after) };
+    ghost next_gives = { λ before item after. YieldsNext refusal_of section_view (sections_left before) item
+        (sections_left after) };
 
     ghost remaining = { λ s. walk_count (sections_left s) };
 
@@ -128,7 +129,8 @@ fn open_elf32(data: &[u8], byte_order: ByteOrder) -> Result<Sections<'_>, ParseE
 
 // The sections of a file, by what was read of it.
 pub(crate) fn elf32_sections(parts: &binfarce_tables::elf32::SectionParts) -> Sections<'_>
-    ensures { let seen = sections_view elf.elf32 parts.entry.now in sections_left result ≡ mapped (elf_named seen.name) seen.sections }
+    ensures { let seen = sections_view elf.elf32 parts.entry.now in
+        sections_left result ≡ mapped (elf_named seen.name) seen.sections }
 {
     let left = parts.sections();
     let names = Elf32Names::Parts(parts);
@@ -147,7 +149,8 @@ fn open_elf64(data: &[u8], byte_order: ByteOrder) -> Result<Sections<'_>, ParseE
 
 // The sections of a file, by what was read of it.
 pub(crate) fn elf64_sections(parts: &binfarce_tables::elf64::SectionParts) -> Sections<'_>
-    ensures { let seen = sections_view elf.elf64 parts.entry.now in sections_left result ≡ mapped (elf_named seen.name) seen.sections }
+    ensures { let seen = sections_view elf.elf64 parts.entry.now in
+        sections_left result ≡ mapped (elf_named seen.name) seen.sections }
 {
     let left = parts.sections();
     let names = Elf64Names::Parts(parts);
@@ -195,7 +198,8 @@ impl<'a> Elf64Sections<'a> {
 }
 
 fn next_macho<'a>(left: &mut macho::Sections<'a>) -> Option<Result<Section<'a>, ParseError>>
-    ensures { YieldsNext refusal_of section_view (mapped macho_section left.old) result (mapped macho_section left.new) }
+    ensures { YieldsNext refusal_of section_view (mapped macho_section left.old) result
+        (mapped macho_section left.new) }
 {
     match left.next() {
         Some(Ok(section)) => Some(Ok(macho_section(section))),

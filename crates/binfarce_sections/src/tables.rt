@@ -13,7 +13,7 @@ use crate::bytes::first_in;
 use crate::error::SectionError;
 use crate::sections::{Section, Sections, elf32_sections, elf64_sections, open_macho, open_pe};
 use binfarce::Format;
-use binfarce_source::Source;
+use binfarce_bytes::source::Source;
 use binfarce_tables::{Beginning, ReadError, elf32, elf64, macho, part, pe};
 use binfarce_tools::tables::read_format;
 use std::alloc::Global;
@@ -31,7 +31,8 @@ pub(crate) enum Tables {
 impl Tables {
     // The sections of the file.
     pub(crate) fn sections(&self) -> Result<Sections<'_>, SectionError>
-        ensures opens { (file : List ℕ) → AreTablesOf file self.entry.now → Opens (sections_of (format_of file) file) result }
+        ensures opens { (file : List ℕ) → AreTablesOf file self.entry.now
+            → Opens (sections_of (format_of file) file) result }
         ensures unwritten { IfErr result (λ e. e ≢ Write) }
     {
         match self {
@@ -91,7 +92,8 @@ pub(crate) fn read_named<F: Source>(
     name: &str,
 ) -> Result<Vec<u8>, SectionError>
     ensures unwritten { IfErr result (λ e. e ≢ Write) }
-    ensures reads { (file : List ℕ) → F.bytes source.now ≡ Some file → ReadsBytes (F.may_fail source.now) (bytes_named (sections_of (format_of file) file) file name.now) result }
+    ensures reads { (file : List ℕ) → F.bytes source.now ≡ Some file
+        → ReadsBytes (F.may_fail source.now) (bytes_named (sections_of (format_of file) file) file name.now) result }
 {
     let tables = read(alloc, source)?;
     let sections = tables.sections()?;
@@ -111,7 +113,8 @@ fn read_bytes<F: Source>(
     section: Section<'_>,
 ) -> Result<Vec<u8>, SectionError>
     ensures unwritten { IfErr result (λ e. e ≢ Write) }
-    ensures reads { (file : List ℕ) → F.bytes source.now ≡ Some file → len ≡ length file → ReadsBytes (F.may_fail source.now) (bytes_of file (section_view section.entry)) result }
+    ensures reads { (file : List ℕ) → F.bytes source.now ≡ Some file → len ≡ length file
+        → ReadsBytes (F.may_fail source.now) (bytes_of file (section_view section.entry)) result }
 {
     if !section.has_bytes {
         return Err(SectionError::NoBytes);

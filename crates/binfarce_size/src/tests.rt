@@ -4,7 +4,7 @@
 use crate::program::{Fault, run, run_at, run_file, status, words};
 use binfarce_tools::list::Out;
 use std::alloc::AllocError;
-use test_streams::{
+use test_samples::streams::{
     HELD, Held, Interrupted, READERS, Source, ended_with, failed_with, files_of, large_file,
     samples,
 };

@@ -6,7 +6,7 @@ use Rattle.std.proofs.lemmas.Bool.{le-ltb, lt-ltb, le-leb}
 use Rattle.binfarce_bytes.specs.declared.ByteOrder.{ByteOrder}
 use Rattle.binfarce_bytes.specs.Refusal.{◌>>=◌, Refusal, symbols_section_is_missing, section_is_missing, unexpected_eof}
 use Rattle.binfarce_bytes.specs.Walk.{Walk, ended}
-use Rattle.binfarce_symbols.specs.Entries.{Listed}
+use Rattle.binfarce_bytes.specs.Entries.{Listed}
 use Rattle.binfarce_elf.specs.Elf.{ElfClass, SectionTable, Section, section_table, walk, whole_headers, name_of, names_bytes, name_among}
 use Rattle.binfarce_elf.specs.ElfParts.{NeededSections, headers_alone, needed}
 use Rattle.binfarce_elf.specs.ElfSymbols.{Located, sought, is_named, section_data, string_table_kind, whole_rows, located_in, answer_in, entries_from}

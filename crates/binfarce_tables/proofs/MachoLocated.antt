@@ -6,9 +6,9 @@ use Rattle.binfarce_macho.specs.Macho.{Section}
 use Rattle.binfarce_macho.specs.MachoParts.{NeededTables, needed, located_in, tables_in}
 use Rattle.binfarce_macho.specs.MachoSymbols.{SymbolTable, slice_at, symbol_length, text_end_of, Located, located, answer_of}
 use Rattle.binfarce_macho.proofs.Needs.{located_refused, located_at}
-use Rattle.binfarce_symbols.specs.declared.functions.FunctionSymbol.{FunctionSymbol}
-use Rattle.binfarce_symbols.specs.Entries.{Listed, Answers}
-use Rattle.binfarce_symbols.specs.SymbolViews.{HoldsFunctions}
+use Rattle.binfarce_bytes.specs.declared.functions.FunctionSymbol.{FunctionSymbol}
+use Rattle.binfarce_bytes.specs.Entries.{Listed, Answers}
+use Rattle.binfarce_bytes.specs.SymbolViews.{HoldsFunctions}
 use Rattle.binfarce_tables.specs.MachoReading.{located_answer}
 use Rattle.binfarce_tables.specs.machine.MachoPlaces.{command_bytes}
 use Rattle.binfarce_tables.proofs.MachoPrefix.{command_bytes_long, needed_of_bytes}

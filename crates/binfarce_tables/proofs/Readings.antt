@@ -5,7 +5,7 @@ use Rattle.std.specs.Result.{IsErr, IsErrAnd}
 use Rattle.binfarce_bytes.specs.Number.{bytes_at}
 use Rattle.std.specs.declared.io.ErrorKind.{ErrorKind}
 use Rattle.std.specs.declared.io.ErrorKind.TheVariants as kinds
-use Rattle.binfarce_source.specs.Source.{IsPart, MayMiss}
+use Rattle.binfarce_bytes.specs.Source.{IsPart, MayMiss}
 use Rattle.binfarce_bytes.specs.declared.error.ParseError.{ParseError}
 use Rattle.binfarce_bytes.specs.Refusal.{◌>>=◌, Refusal, refusal_of}
 use Rattle.binfarce_tables.specs.declared.error.ReadError.{ReadError}

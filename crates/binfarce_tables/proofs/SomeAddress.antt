@@ -3,10 +3,10 @@ use Rattle.std.proofs.Common.{◌≡◌, ◌≢◌, List, [], ◌∷◌, ℕ, ma
 use Rattle.std.specs.Global.{Vec}
 use Rattle.binfarce_macho.specs.MachoParts.{SomeAddress}
 use Rattle.binfarce_macho.specs.MachoSymbols.{Located, row_addresses, answer_of, listed_of, kept}
-use Rattle.binfarce_symbols.specs.Sizes.{RowAddress, arranged}
-use Rattle.binfarce_symbols.specs.Entries.{Answers}
-use Rattle.binfarce_symbols.specs.SymbolViews.{function_view, HoldsFunctions}
-use Rattle.binfarce_symbols.specs.declared.functions.FunctionSymbol.{FunctionSymbol}
+use Rattle.binfarce_bytes.specs.Sizes.{RowAddress, arranged}
+use Rattle.binfarce_bytes.specs.Entries.{Answers}
+use Rattle.binfarce_bytes.specs.SymbolViews.{function_view, HoldsFunctions}
+use Rattle.binfarce_bytes.specs.declared.functions.FunctionSymbol.{FunctionSymbol}
 
 -- where function symbols are held, the table has an address
 pub functions_need_address : (found : Option Located) (functions : Vec FunctionSymbol) (size : ℕ) (first : FunctionSymbol) (others : List FunctionSymbol)

@@ -1,7 +1,7 @@
 -- What a reading of a PE file's parts gives.
 use Rattle.std.specs.Prelude.{List, ℕ, length, Result, Err, nat_lt, if◌then◌else◌}
 use Rattle.binfarce_bytes.specs.Refusal.{Refusal, unexpected_eof}
-use Rattle.binfarce_symbols.specs.Entries.{Listed}
+use Rattle.binfarce_bytes.specs.Entries.{Listed}
 use Rattle.binfarce_pe.specs.Pe.{least_length}
 use Rattle.binfarce_pe.specs.PeSymbols.{pe_answer, entries_of}
 use Rattle.binfarce_tables.specs.declared.pe.Parts.{Parts}

@@ -2,7 +2,7 @@
 use Rattle.std.specs.Prelude.{◌≡◌, ℕ, Bool, true, List, length, Option, Some, Result, Ok, Err, nat_lt, if◌then◌else◌}
 use Rattle.binfarce_bytes.specs.declared.ByteOrder.{ByteOrder}
 use Rattle.binfarce_bytes.specs.Refusal.{Refusal, refusal_of, unexpected_eof}
-use Rattle.binfarce_symbols.specs.Entries.{Listed}
+use Rattle.binfarce_bytes.specs.Entries.{Listed}
 use Rattle.binfarce_elf.specs.Elf.{ElfClass, section_table}
 use Rattle.binfarce_elf.specs.ElfSymbols.{elf_answer, answer_in, entries_from}
 use Rattle.binfarce_elf.specs.ElfViews.{section_view}

@@ -14,6 +14,7 @@ ghost use Rattle.binfarce_tables.specs.declared.error.ReadError.TheVariants.{Unr
 ghost use Rattle.binfarce_tables.specs.machine.Places.{table_at, table_step, headers_of};
 
 use crate::error::ReadError;
+use binfarce_bytes::source::{Source, read_part};
 use binfarce_bytes::{ByteOrder, ParseError};
 use binfarce_elf::class::{Class, Half};
 use binfarce_elf::header::{Header, parse_header};
@@ -21,7 +22,6 @@ use binfarce_elf::parts::{Needed, functions_in, needed_sections};
 use binfarce_elf::sections::{Section, section_at};
 use binfarce_elf::symbol_table::SymbolTable;
 use binfarce_elf::symbols::{Functions, whole_rows};
-use binfarce_source::{Source, read_part};
 use std::alloc::Global;
 
 /// The parts of a file that the function symbols of a section are read from.
@@ -61,7 +61,9 @@ pub(crate) fn read_parts<C: Class, S: Source>(
     which: SymbolTable,
     section_name: &str,
 ) -> Result<Parts<C>, ReadError>
-    ensures { (file : List ℕ) → S.bytes source.now ≡ Some file → Reads (S.may_fail source.now) (parts_view C.table C.number_of) (file_answer_in which C.table byte_order file section_name.now) result }
+    ensures { (file : List ℕ) → S.bytes source.now ≡ Some file
+        → Reads (S.may_fail source.now) (parts_view C.table C.number_of)
+        (file_answer_in which C.table byte_order file section_name.now) result }
 {
     let len = source.length()? as usize;
     let place = read_place::<C, S>(alloc, source, len, byte_order)?;
@@ -83,7 +85,8 @@ pub(crate) fn read_place<C: Class, S: Source>(
     len: usize,
     byte_order: ByteOrder,
 ) -> Result<Place, ReadError>
-    ensures { (file : List ℕ) → Known (S.bytes source.now) len file → Reads (S.may_fail source.now) (table_at file) (table_step C.table byte_order file) result }
+    ensures { (file : List ℕ) → Known (S.bytes source.now) len file
+        → Reads (S.may_fail source.now) (table_at file) (table_step C.table byte_order file) result }
 {
     let size = 40 + 3 * C::SIZE;
     if len < size {
@@ -102,7 +105,8 @@ pub(crate) fn read_place<C: Class, S: Source>(
 // The file header in a file's first bytes; refused where it is truncated.
 fn header_in<C: Class>(bytes: &[u8], byte_order: ByteOrder) -> Result<Header<C>, ParseError>
     ensures { MatchResult result
-        (λ h. (C.table.header_length ≤ length bytes.now) × (header_view C.number_of h ≡ header_of C.table byte_order bytes.now))
+        (λ h. (C.table.header_length ≤ length bytes.now)
+        × (header_view C.number_of h ≡ header_of C.table byte_order bytes.now))
         (λ e. (length bytes.now < C.table.header_length) × (refusal_of e ≡ unexpected_eof)) }
 {
     Ok(parse_header(bytes, byte_order)?)
@@ -117,7 +121,8 @@ fn read_needed<C: Class, S: Source>(
     section_name: &str,
 ) -> Result<Needed<C>, ReadError>
     ensures { (file : List ℕ) → Known (S.bytes source.now) len file → let table = table_at file place in
-        Reads (S.may_fail source.now) (needed_view C.number_of) (needed which C.table table (names_bytes C.table table) section_name.now) result }
+        Reads (S.may_fail source.now) (needed_view C.number_of)
+        (needed which C.table table (names_bytes C.table table) section_name.now) result }
 {
     if place.shoff >= len {
         return Err(ReadError::Refused(ParseError::UnexpectedEof));
@@ -139,7 +144,8 @@ fn needed_in<C: Class>(
     section_name: &str,
 ) -> Result<Needed<C>, ParseError>
     ensures { Gives refusal_of (needed_view C.number_of)
-        (needed which C.table (headers_alone place.byte_order headers.now place.shnum) (option_map (λ v. v.items) names.now) section_name.now) result }
+        (needed which C.table (headers_alone place.byte_order headers.now place.shnum)
+        (option_map (λ v. v.items) names.now) section_name.now) result }
 {
     let names = slice_of(names);
     needed_sections::<C>(
@@ -168,7 +174,8 @@ pub(crate) fn read_headers<C: Class, S: Source>(
     len: usize,
     place: Place,
 ) -> Result<Vec<u8>, ReadError>
-    ensures { (file : List ℕ) → Known (S.bytes source.now) len file → place.shoff ≤ len → Reads (S.may_fail source.now) (λ v. v.items) (Ok (headers_of C.table (table_at file place))) result }
+    ensures { (file : List ℕ) → Known (S.bytes source.now) len file → place.shoff ≤ len
+        → Reads (S.may_fail source.now) (λ v. v.items) (Ok (headers_of C.table (table_at file place))) result }
 {
     let whole = len.saturating_sub(place.shoff) / C::SECTION_LENGTH;
     let count = whole.min(place.shnum as usize);
@@ -182,7 +189,9 @@ pub(crate) fn read_names<C: Class, S: Source>(
     len: usize,
     place: Place,
 ) -> Result<Option<Vec<u8>>, ReadError>
-    ensures { (file : List ℕ) → Known (S.bytes source.now) len file → Reads (S.may_fail source.now) (option_map (λ v. v.items)) (Ok (names_bytes C.table (table_at file place))) result }
+    ensures { (file : List ℕ) → Known (S.bytes source.now) len file
+        → Reads (S.may_fail source.now) (option_map (λ v. v.items))
+        (Ok (names_bytes C.table (table_at file place))) result }
 {
     let whole = len.saturating_sub(place.shoff) / C::SECTION_LENGTH;
     if place.shstrndx as usize >= whole {
@@ -203,7 +212,9 @@ fn read_contents<C: Class, S: Source>(
     len: usize,
     section: Section<C>,
 ) -> Result<Option<Vec<u8>>, ReadError>
-    ensures { (file : List ℕ) → Known (S.bytes source.now) len file → Reads (S.may_fail source.now) (option_map (λ v. v.items)) (Ok (contents file (section_view C.number_of section))) result }
+    ensures { (file : List ℕ) → Known (S.bytes source.now) len file
+        → Reads (S.may_fail source.now) (option_map (λ v. v.items))
+        (Ok (contents file (section_view C.number_of section))) result }
 {
     match read_section::<C, S>(alloc, source, len, section) {
         Ok(bytes) => Ok(Some(bytes)),
@@ -219,7 +230,8 @@ fn read_section<C: Class, S: Source>(
     len: usize,
     section: Section<C>,
 ) -> Result<Vec<u8>, ReadError>
-    ensures { (file : List ℕ) → Known (S.bytes source.now) len file → Reads (S.may_fail source.now) (λ v. v.items) (section_data file (section_view C.number_of section)) result }
+    ensures { (file : List ℕ) → Known (S.bytes source.now) len file
+        → Reads (S.may_fail source.now) (λ v. v.items) (section_data file (section_view C.number_of section)) result }
 {
     let range = section.range()?;
     if range.end > len {
@@ -240,7 +252,8 @@ pub fn part<S: Source>(
     offset: usize,
     size: usize,
 ) -> Result<Vec<u8>, ReadError>
-    ensures part { (file : List ℕ) → S.bytes source.now ≡ Some file → offset + size ≤ length file → Reads (S.may_fail source.now) (λ v. v.items) (Ok (bytes_at file offset size)) result }
+    ensures part { (file : List ℕ) → S.bytes source.now ≡ Some file → offset + size ≤ length file
+        → Reads (S.may_fail source.now) (λ v. v.items) (Ok (bytes_at file offset size)) result }
     ensures past_end { (file : List ℕ) → S.bytes source.now ≡ Some file → length file < offset + size → IsErr result }
     ensures failed { IfErr result (λ e. (e ≡ Unreadable) ⊎ (e ≡ OutOfMemory)) }
 {

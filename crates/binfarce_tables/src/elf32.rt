@@ -8,8 +8,8 @@ ghost use Rattle.binfarce_tables.specs.SectionReading.{file_sections, sections_v
 use crate::error::ReadError;
 use crate::{elf, sections};
 use binfarce_bytes::ByteOrder;
+use binfarce_bytes::source::Source;
 use binfarce_elf::symbol_table::SymbolTable;
-use binfarce_source::Source;
 use std::alloc::Global;
 
 /// The parts of a 32-bit file that the function symbols of a section are read from, in memory.
@@ -36,7 +36,8 @@ pub fn read<S: Source>(
     section_name: &str,
 ) -> Result<Parts, ReadError>
     ensures { (file : List ℕ) → S.bytes source.now ≡ Some file
-        → Reads (S.may_fail source.now) (parts_view elf32 (λ n. n)) (file_answer elf32 byte_order file section_name.now) result }
+        → Reads (S.may_fail source.now) (parts_view elf32 (λ n. n))
+        (file_answer elf32 byte_order file section_name.now) result }
 {
     read_by(alloc, source, byte_order, SymbolTable::Symtab, section_name)
 }
@@ -54,7 +55,8 @@ pub fn read_by<S: Source>(
     section_name: &str,
 ) -> Result<Parts, ReadError>
     ensures { (file : List ℕ) → S.bytes source.now ≡ Some file
-        → Reads (S.may_fail source.now) (parts_view elf32 (λ n. n)) (file_answer_in which elf32 byte_order file section_name.now) result }
+        → Reads (S.may_fail source.now) (parts_view elf32 (λ n. n))
+        (file_answer_in which elf32 byte_order file section_name.now) result }
 {
     elf::read_parts::<u32, S>(alloc, source, byte_order, which, section_name)
 }

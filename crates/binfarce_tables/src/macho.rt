@@ -6,8 +6,8 @@ ghost use Rattle.binfarce_macho.specs.Macho.{least_length, header_of};
 ghost use Rattle.binfarce_macho.specs.MachoParts.{SomeAddress, needed, needed_view, table_view, located_in, tables_in, holds_commands};
 ghost use Rattle.binfarce_macho.specs.MachoSymbols.{answer_of, slice_at};
 ghost use Rattle.binfarce_macho.specs.MachoViews.{header_view, section_view};
-ghost use Rattle.binfarce_symbols.specs.Entries.{Answers};
-ghost use Rattle.binfarce_symbols.specs.SymbolViews.{HoldsFunctions};
+ghost use Rattle.binfarce_bytes.specs.Entries.{Answers};
+ghost use Rattle.binfarce_bytes.specs.SymbolViews.{HoldsFunctions};
 ghost use Rattle.binfarce_tables.specs.BeginningReading.{ReadsBeginning, macho_sections};
 ghost use Rattle.binfarce_tables.specs.MachoReading.{located_answer, parts_view, tables_view};
 ghost use Rattle.binfarce_tables.specs.Reading.{Reads, Known};
@@ -17,11 +17,11 @@ use crate::beginning::Beginning;
 use crate::elf::part;
 use crate::error::ReadError;
 use binfarce_bytes::ParseError;
+use binfarce_bytes::functions::FunctionSymbol;
+use binfarce_bytes::source::Source;
 use binfarce_macho::header::{MachoHeader, parse_header};
 use binfarce_macho::parts::{self, Located, Needed, SYMBOL_LENGTH, SymbolTable};
 use binfarce_macho::sections::Section;
-use binfarce_source::Source;
-use binfarce_symbols::functions::FunctionSymbol;
 use std::alloc::Global;
 
 // The header's bytes that are read.
@@ -51,7 +51,8 @@ impl Parts {
     /// `MalformedInput` where a row that would be kept lies past the text's end with no address above it. `OutOfMemory`
     /// comes only where the table has a value that isn't 0, and may stand in place of that refusal.
     pub fn functions(&self, alloc: Global) -> Result<(Vec<FunctionSymbol<'_>>, u64), ParseError>
-        ensures { Answers HoldsFunctions (λ _. SomeAddress (parts_view self.now)) (answer_of (parts_view self.now)) result }
+        ensures { Answers HoldsFunctions
+            (λ _. SomeAddress (parts_view self.now)) (answer_of (parts_view self.now)) result }
     {
         match &self.tables {
             None => Ok((Vec::new(alloc), 0)),
@@ -61,7 +62,8 @@ impl Parts {
 }
 
 fn listed(alloc: Global, tables: &Tables) -> Result<(Vec<FunctionSymbol<'_>>, u64), ParseError>
-    ensures { let found = Some (tables_view tables.entry.now) in Answers HoldsFunctions (λ _. SomeAddress found) (answer_of found) result }
+    ensures { let found = Some (tables_view tables.entry.now) in
+        Answers HoldsFunctions (λ _. SomeAddress found) (answer_of found) result }
 {
     let found = Located {
         text_end: tables.text_end,
@@ -84,7 +86,8 @@ fn listed(alloc: Global, tables: &Tables) -> Result<(Vec<FunctionSymbol<'_>>, u6
 /// rows; `Unreadable` where the source can't be read at offsets, or a read of it fails, and never of a source that can't
 /// fail, as bytes in memory are; `OutOfMemory` where an allocation fails.
 pub fn read<S: Source>(alloc: Global, source: &S) -> Result<Parts, ReadError>
-    ensures { (file : List ℕ) → S.bytes source.now ≡ Some file → Reads (S.may_fail source.now) parts_view (located_answer file) result }
+    ensures { (file : List ℕ) → S.bytes source.now ≡ Some file
+        → Reads (S.may_fail source.now) parts_view (located_answer file) result }
 {
     let len = source.length()? as usize;
     if len < HEADER {
@@ -104,7 +107,8 @@ pub fn read<S: Source>(alloc: Global, source: &S) -> Result<Parts, ReadError>
 /// `Refused` with `UnexpectedEof` for fewer than 28 bytes; `Unreadable` where the source can't be read at offsets, or a
 /// read of it fails, and never of a source that can't fail, as bytes in memory are; `OutOfMemory` where an allocation fails.
 pub fn read_sections<S: Source>(alloc: Global, source: &S) -> Result<Beginning, ReadError>
-    ensures { (file : List ℕ) → S.bytes source.now ≡ Some file → ReadsBeginning (S.may_fail source.now) macho_sections file result }
+    ensures { (file : List ℕ) → S.bytes source.now ≡ Some file
+        → ReadsBeginning (S.may_fail source.now) macho_sections file result }
 {
     let file_length = source.length()?;
     let len = file_length as usize;
@@ -118,7 +122,8 @@ pub fn read_sections<S: Source>(alloc: Global, source: &S) -> Result<Beginning, 
 // The bytes that the load commands are in, from the file's first on.
 fn read_commands<S: Source>(alloc: Global, source: &S, len: usize) -> Result<Vec<u8>, ReadError>
     requires { least_length ≤ len }
-    ensures { (file : List ℕ) → Known (S.bytes source.now) len file → Reads (S.may_fail source.now) (λ v. v.items) (Ok (command_bytes file)) result }
+    ensures { (file : List ℕ) → Known (S.bytes source.now) len file
+        → Reads (S.may_fail source.now) (λ v. v.items) (Ok (command_bytes file)) result }
 {
     let end = read_end(alloc, source, len)?;
     let commands = part(alloc, source, 0, end)?;
@@ -132,7 +137,8 @@ fn read_commands<S: Source>(alloc: Global, source: &S, len: usize) -> Result<Vec
 // Where the load commands end, as the header says, in the file.
 fn read_end<S: Source>(alloc: Global, source: &S, len: usize) -> Result<usize, ReadError>
     requires { least_length ≤ len }
-    ensures { (file : List ℕ) → Known (S.bytes source.now) len file → Reads (S.may_fail source.now) (λ n. n) (Ok (said_end file)) result }
+    ensures { (file : List ℕ) → Known (S.bytes source.now) len file
+        → Reads (S.may_fail source.now) (λ n. n) (Ok (said_end file)) result }
 {
     let bytes = part(alloc, source, 0, HEADER)?;
     let header = header_in(&bytes)?;
@@ -170,7 +176,8 @@ fn read_tables<S: Source>(
     len: usize,
     needed: Needed<'_>,
 ) -> Result<Parts, ReadError>
-    ensures { (file : List ℕ) → Known (S.bytes source.now) len file → Reads (S.may_fail source.now) parts_view (tables_in file (needed_view needed.entry)) result }
+    ensures { (file : List ℕ) → Known (S.bytes source.now) len file
+        → Reads (S.may_fail source.now) parts_view (tables_in file (needed_view needed.entry)) result }
 {
     match needed.table {
         None => Ok(Parts { tables: None }),
@@ -190,7 +197,9 @@ fn read_located<S: Source>(
     text: Section<'_>,
     table: SymbolTable,
 ) -> Result<Tables, ReadError>
-    ensures { (file : List ℕ) → Known (S.bytes source.now) len file → Reads (S.may_fail source.now) tables_view (located_in file (section_view text.entry) (table_view table)) result }
+    ensures { (file : List ℕ) → Known (S.bytes source.now) len file
+        → Reads (S.may_fail source.now) tables_view
+        (located_in file (section_view text.entry) (table_view table)) result }
 {
     let strings_at = table.strings_offset as usize;
     let strings = read_table(alloc, source, len, strings_at, table.strings_size as usize)?;
@@ -213,7 +222,8 @@ fn read_table<S: Source>(
     offset: usize,
     size: usize,
 ) -> Result<Vec<u8>, ReadError>
-    ensures { (file : List ℕ) → Known (S.bytes source.now) len file → Reads (S.may_fail source.now) (λ v. v.items) (slice_at file offset size) result }
+    ensures { (file : List ℕ) → Known (S.bytes source.now) len file
+        → Reads (S.may_fail source.now) (λ v. v.items) (slice_at file offset size) result }
 {
     if offset > len || size > len - offset {
         return Err(ReadError::Refused(ParseError::UnexpectedEof));

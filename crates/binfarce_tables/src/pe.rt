@@ -1,8 +1,8 @@
 //! PE files, read where their tables are (Microsoft PE Format).
 
 ghost use Rattle.std.specs.Prelude.{◌≡◌, List, ℕ, Ok, Some};
-ghost use Rattle.binfarce_symbols.specs.Entries.{Answers, ListsSome};
-ghost use Rattle.binfarce_symbols.specs.SymbolViews.{HoldsFunctions};
+ghost use Rattle.binfarce_bytes.specs.Entries.{Answers, ListsSome};
+ghost use Rattle.binfarce_bytes.specs.SymbolViews.{HoldsFunctions};
 ghost use Rattle.binfarce_pe.specs.PeParts.{places_view, text_view};
 ghost use Rattle.binfarce_tables.specs.BeginningReading.{ReadsBeginning, pe_sections};
 ghost use Rattle.binfarce_tables.specs.PeReading.{file_answer, parts_view};
@@ -13,12 +13,12 @@ use crate::beginning::Beginning;
 use crate::elf::part;
 use crate::error::ReadError;
 use binfarce_bytes::ParseError;
+use binfarce_bytes::functions::FunctionSymbol;
+use binfarce_bytes::source::Source;
 use binfarce_pe::parts::{
     HEADERS_LENGTH, Places, SECTION_LENGTH, SIGNATURE_POINTER, Text, functions_in, places_in,
     signature_in, text_in,
 };
-use binfarce_source::Source;
-use binfarce_symbols::functions::FunctionSymbol;
 use std::alloc::Global;
 
 // How many bytes the MS-DOS stub has.
@@ -59,7 +59,8 @@ impl Parts {
 /// be read at offsets, or a read of it fails, and never of a source that can't fail, as bytes in memory are;
 /// `OutOfMemory` where an allocation fails.
 pub fn read<S: Source>(alloc: Global, source: &S) -> Result<Parts, ReadError>
-    ensures { (file : List ℕ) → S.bytes source.now ≡ Some file → Reads (S.may_fail source.now) parts_view (file_answer file) result }
+    ensures { (file : List ℕ) → S.bytes source.now ≡ Some file
+        → Reads (S.may_fail source.now) parts_view (file_answer file) result }
 {
     let len = source.length()? as usize;
     let places = read_places(alloc, source, len)?;
@@ -77,7 +78,8 @@ pub fn read<S: Source>(alloc: Global, source: &S) -> Result<Parts, ReadError>
 /// read at offsets, or a read of it fails, and never of a source that can't fail, as bytes in memory are; `OutOfMemory`
 /// where an allocation fails.
 pub fn read_sections<S: Source>(alloc: Global, source: &S) -> Result<Beginning, ReadError>
-    ensures { (file : List ℕ) → S.bytes source.now ≡ Some file → ReadsBeginning (S.may_fail source.now) pe_sections file result }
+    ensures { (file : List ℕ) → S.bytes source.now ≡ Some file
+        → ReadsBeginning (S.may_fail source.now) pe_sections file result }
 {
     let file_length = source.length()?;
     let len = file_length as usize;
@@ -92,7 +94,8 @@ pub fn read_sections<S: Source>(alloc: Global, source: &S) -> Result<Beginning, 
 }
 
 fn read_places<S: Source>(alloc: Global, source: &S, len: usize) -> Result<Places, ReadError>
-    ensures { (file : List ℕ) → Known (S.bytes source.now) len file → Reads (S.may_fail source.now) places_view (places_step file) result }
+    ensures { (file : List ℕ) → Known (S.bytes source.now) len file
+        → Reads (S.may_fail source.now) places_view (places_step file) result }
 {
     let signature = read_signature(alloc, source, len)?;
     let offset = signature as usize;
@@ -104,7 +107,8 @@ fn read_places<S: Source>(alloc: Global, source: &S, len: usize) -> Result<Place
 }
 
 fn read_signature<S: Source>(alloc: Global, source: &S, len: usize) -> Result<u32, ReadError>
-    ensures { (file : List ℕ) → Known (S.bytes source.now) len file → Reads (S.may_fail source.now) (λ n. n) (signature_step file) result }
+    ensures { (file : List ℕ) → Known (S.bytes source.now) len file
+        → Reads (S.may_fail source.now) (λ n. n) (signature_step file) result }
 {
     if len < SIGNATURE_POINTER + 4 {
         return Err(ReadError::Refused(ParseError::UnexpectedEof));
@@ -120,7 +124,8 @@ fn read_text<S: Source>(
     len: usize,
     places: Places,
 ) -> Result<Text, ReadError>
-    ensures { (file : List ℕ) → Known (S.bytes source.now) len file → Reads (S.may_fail source.now) text_view (text_at file (places_view places)) result }
+    ensures { (file : List ℕ) → Known (S.bytes source.now) len file
+        → Reads (S.may_fail source.now) text_view (text_at file (places_view places)) result }
 {
     let offset = places.sections;
     if offset >= len {
@@ -142,7 +147,8 @@ fn read_symbols<S: Source>(
     places: Places,
     text: Text,
 ) -> Result<Parts, ReadError>
-    ensures { (file : List ℕ) → Known (S.bytes source.now) len file → Reads (S.may_fail source.now) parts_view (answer_at file (places_view places) (text_view text)) result }
+    ensures { (file : List ℕ) → Known (S.bytes source.now) len file
+        → Reads (S.may_fail source.now) parts_view (answer_at file (places_view places) (text_view text)) result }
 {
     let offset = places.symbols;
     if offset >= len || places.symbols_size > len - offset {

@@ -12,10 +12,10 @@ ghost use Rattle.binfarce_tables.specs.machine.Places.{table_at};
 use crate::elf::{Place, part, read_headers, read_names, read_place, slice_of};
 use crate::error::ReadError;
 use binfarce_bytes::ByteOrder;
+use binfarce_bytes::source::Source;
 use binfarce_elf::class::{Class, Half};
 use binfarce_elf::parts::{name_in, sections_in};
 use binfarce_elf::sections::{Section, Sections};
-use binfarce_source::Source;
 use std::alloc::Global;
 use std::marker::PhantomData;
 
@@ -40,7 +40,8 @@ impl<C: Class> SectionParts<C> {
 
     /// The name of one of them, as `name` of a section gives it, a part of what was read; nothing is copied.
     pub fn name(&self, section: &Section<C>) -> Option<&str>
-        ensures { option_map (λ t. t.now) result ≡ (sections_view C.table self.entry.now).name (section_view C.number_of section.now) }
+        ensures { option_map
+            (λ t. t.now) result ≡ (sections_view C.table self.entry.now).name (section_view C.number_of section.now) }
     {
         name_in(slice_of(&self.names), section)
     }
@@ -59,7 +60,8 @@ pub(crate) fn read_sections<C: Class, S: Source>(
     source: &S,
     byte_order: ByteOrder,
 ) -> Result<SectionParts<C>, ReadError>
-    ensures { (file : List ℕ) → S.bytes source.now ≡ Some file → Reads (S.may_fail source.now) (sections_view C.table) (file_sections C.table byte_order file) result }
+    ensures { (file : List ℕ) → S.bytes source.now ≡ Some file
+        → Reads (S.may_fail source.now) (sections_view C.table) (file_sections C.table byte_order file) result }
 {
     let len = source.length()? as usize;
     let place = read_place::<C, S>(alloc, source, len, byte_order)?;
@@ -84,7 +86,9 @@ fn read_table<C: Class, S: Source>(
     place: Place,
 ) -> Result<Vec<u8>, ReadError>
     ensures { (file : List ℕ) → Known (S.bytes source.now) len file
-        → Reads (S.may_fail source.now) (λ v. walk C.table (headers_alone place.byte_order v.items place.shnum)) (Ok (walk C.table (table_at file place))) result }
+        → Reads (S.may_fail source.now)
+        (λ v. walk C.table (headers_alone place.byte_order v.items place.shnum))
+        (Ok (walk C.table (table_at file place))) result }
 {
     if place.shoff >= len {
         return Ok(Vec::new(alloc));

@@ -8,7 +8,8 @@ ghost use Rattle.binfarce_text.specs.Prefixes.{after_prefix};
 // What stands after a prefix.
 #[tactic(auto, using(crate::proofs::PrefixLemmas::stripped))]
 fn after<'a>(text: &'a str, prefix: &str) -> Option<&'a str>
-    ensures { option_copied result ≡ (if starts_with nat_eq text.now prefix.now then Some (drop (length prefix.now) text.now) else None) }
+    ensures { option_copied result
+        ≡ (if starts_with nat_eq text.now prefix.now then Some (drop (length prefix.now) text.now) else None) }
 {
     text.strip_prefix(prefix)
 }

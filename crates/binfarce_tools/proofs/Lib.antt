@@ -9,3 +9,5 @@ pub mod CrateLines
 pub mod Reports
 pub mod TablesRead
 pub mod TablesGive
+pub mod Totals
+pub mod Maps

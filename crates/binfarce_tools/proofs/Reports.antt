@@ -4,7 +4,7 @@ use Rattle.std.specs.Prelude.{MatchResult}
 use Rattle.std.specs.Result.{IsErrAnd}
 use Rattle.std.specs.List.{AllZip, sum_by}
 use Rattle.binfarce_bytes.specs.Refusal.{Refusal}
-use Rattle.binfarce_symbols.specs.Entries.{Entry, Listed}
+use Rattle.binfarce_bytes.specs.Entries.{Entry, Listed}
 use Rattle.binfarce_tools.specs.declared.functions.Functions.{Functions}
 use Rattle.binfarce_tools.specs.declared.list.ListError.{ListError}
 use Rattle.binfarce_tools.specs.declared.list.ListError.TheVariants as errors

@@ -11,7 +11,7 @@ use Rattle.binfarce_elf.specs.declared.symbol_table.SymbolTable.{SymbolTable}
 use Rattle.binfarce_elf.specs.declared.symbol_table.SymbolTable.TheVariants.{Symtab}
 use Rattle.std.specs.Str.{bytes_eq}
 use Rattle.binfarce_bytes.specs.Number.{bytes_at}
-use Rattle.binfarce_symbols.specs.Sizes.{arranged, least_above}
+use Rattle.binfarce_bytes.specs.Sizes.{arranged, least_above}
 use Rattle.binfarce_pe.specs.Pe as pe_file
 use Rattle.binfarce_pe.specs.Pe.{least_length, walk as pe_walk}
 use Rattle.binfarce_pe.specs.PeSymbols as pe

@@ -9,3 +9,4 @@ pub mod ReportWords
 pub mod Sums
 pub mod Tables
 pub mod machine
+pub mod Map

@@ -1,8 +1,8 @@
 -- What was read of a file to list its function symbols, and what such a reading gives.
 use Rattle.std.specs.Prelude.{◌≡◌, ℕ, List, Some, Result, Ok, Err}
-use Rattle.binfarce_format.specs.declared.Format.TheVariants as formats
+use Rattle.binfarce_bytes.specs.declared.format.Format.TheVariants as formats
 use Rattle.binfarce_elf.specs.Elf.{elf32, elf64}
-use Rattle.binfarce_format.specs.Format.{format_of}
+use Rattle.binfarce_bytes.specs.Format.{format_of}
 use Rattle.binfarce_bytes.specs.Refusal.{refusal_of}
 use Rattle.binfarce_tables.specs.MachoReading as macho
 use Rattle.binfarce_tables.specs.PeReading as pe

@@ -1,23 +1,23 @@
 //! The function symbols of a file of any format.
 
 ghost use Rattle.std.specs.Iterator.{YieldsFirstBy};
-ghost use Rattle.binfarce_format.specs.Format.{format_of};
+ghost use Rattle.binfarce_bytes.specs.Format.{format_of};
 ghost use Rattle.binfarce_elf.specs.Elf.{elf32, elf64};
 ghost use Rattle.binfarce_macho.specs.MachoSymbols.{HasAddress};
-ghost use Rattle.binfarce_symbols.specs.Entries.{ListsSome, Answers};
-ghost use Rattle.binfarce_symbols.specs.SymbolViews.{function_view};
+ghost use Rattle.binfarce_bytes.specs.Entries.{ListsSome, Answers};
+ghost use Rattle.binfarce_bytes.specs.SymbolViews.{function_view};
 ghost use Rattle.binfarce_tools.specs.Answer.{elf_file_answer, macho_file_answer, pe_file_answer, symbols_answer, NeedsMemory};
 ghost use Rattle.binfarce_tools.specs.Entries.{arranged_left, HoldsLeft, IsArranged, Gets};
 
 use crate::list::ListError;
+use binfarce_bytes::format::{Format, detect_format};
+use binfarce_bytes::functions::FunctionSymbol;
 use binfarce_bytes::{ByteOrder, ParseError};
 use binfarce_elf::header::parse_header;
 use binfarce_elf::sections::section_table;
 use binfarce_elf::symbols::{self, section_functions};
-use binfarce_format::{Format, detect_format};
 use binfarce_macho as macho;
 use binfarce_pe as pe;
-use binfarce_symbols::functions::FunctionSymbol;
 use std::alloc::Global;
 
 /// The function symbols of a file that are left, in the order of its listing.
@@ -37,7 +37,7 @@ pub struct Arranged<'a> {
 
 impl<'a> Iterator for Functions<'a> {
     ghost use Rattle.std.specs.Iterator.{YieldsFirstBy, item_count};
-    ghost use Rattle.binfarce_symbols.specs.SymbolViews.{function_view};
+    ghost use Rattle.binfarce_bytes.specs.SymbolViews.{function_view};
     ghost use Rattle.binfarce_tools.specs.Entries.{functions_left};
 
     type Item = FunctionSymbol<'a>;
@@ -78,7 +78,8 @@ pub fn functions_of_file<'a>(
     data: &'a [u8],
     section: &str,
 ) -> Result<(Functions<'a>, u64), ListError>
-    ensures { Gets (NeedsMemory (format_of data.entry.now) data.entry.now) (symbols_answer (format_of data.entry.now) data.entry.now section.now) result }
+    ensures { Gets (NeedsMemory (format_of data.entry.now) data.entry.now)
+        (symbols_answer (format_of data.entry.now) data.entry.now section.now) result }
 {
     match detect_format(data) {
         Format::Elf32 { byte_order } => Ok(read_elf32(data, byte_order, section)?),

@@ -3,9 +3,9 @@
 ghost use Rattle.std.specs.Prelude.{◌≡◌, ◌++◌, ◌<◌, ◌≤◌, ℕ, List, Bool, true, false, length, take, Option, Some, None, IfSome, IfNone, IfOk, OnOk};
 ghost use Rattle.std.specs.String.{string_bytes};
 ghost use Rattle.std.specs.Io.KnownBytes.{Keeps, Appends};
-ghost use Rattle.binfarce_format.specs.Format.{format_of};
-ghost use Rattle.binfarce_symbols.specs.Entries.{Listed};
-ghost use Rattle.binfarce_symbols.specs.SymbolViews.{function_view};
+ghost use Rattle.binfarce_bytes.specs.Format.{format_of};
+ghost use Rattle.binfarce_bytes.specs.Entries.{Listed};
+ghost use Rattle.binfarce_bytes.specs.SymbolViews.{function_view};
 ghost use Rattle.binfarce_elf.specs.declared.symbol_table.SymbolTable.{SymbolTable};
 ghost use Rattle.binfarce_tools.specs.Answer.{symbols_answer, answer_of, NeedsMemory};
 ghost use Rattle.binfarce_tools.specs.Listing.{IsLineOf, IsListingOf, ListingFits};
@@ -19,8 +19,8 @@ use crate::head::push_head;
 use crate::tables::Tables;
 use crate::writing::write_whole;
 use binfarce_bytes::ParseError;
+use binfarce_bytes::functions::FunctionSymbol;
 use binfarce_names::demangle::Demangler;
-use binfarce_symbols::functions::FunctionSymbol;
 use std::alloc::{AllocError, Global};
 use std::error::Error;
 use std::fmt;
@@ -174,8 +174,10 @@ pub fn list<S: Sink>(
     section: &str,
     out: &mut S,
 ) -> Result<(), ListError>
-    ensures tells { Tells ListingFits (NeedsMemory (format_of data.now) data.now) (symbols_answer (format_of data.now) data.now section.now) (outcome_of result) }
-    ensures takes { Takes IsListingOf (symbols_answer (format_of data.now) data.now section.now) (S.taken out.old) (S.taken out.new) (outcome_of result) }
+    ensures tells { Tells ListingFits (NeedsMemory (format_of data.now) data.now)
+        (symbols_answer (format_of data.now) data.now section.now) (outcome_of result) }
+    ensures takes { Takes IsListingOf (symbols_answer (format_of data.now) data.now section.now) (S.taken out.old)
+        (S.taken out.new) (outcome_of result) }
     ensures fails { Fails (S.has_failed out.old) (S.has_failed out.new) (outcome_of result) }
     ensures leaves { Leaves out.old out.new (outcome_of result) }
 {
@@ -190,8 +192,10 @@ pub fn list<S: Sink>(
 ///
 /// As `list`.
 pub fn list_tables<S: Sink>(alloc: Global, tables: &Tables, out: &mut S) -> Result<(), ListError>
-    ensures tells { (which : SymbolTable) (file section : List ℕ) → AreTablesOf which file section tables.now → Tells ListingFits (NeedsMemory (format_of file) file) (answer_of which file section) (outcome_of result) }
-    ensures takes { (which : SymbolTable) (file section : List ℕ) → AreTablesOf which file section tables.now → Takes IsListingOf (answer_of which file section) (S.taken out.old) (S.taken out.new) (outcome_of result) }
+    ensures tells { (which : SymbolTable) (file section : List ℕ) → AreTablesOf which file section tables.now
+        → Tells ListingFits (NeedsMemory (format_of file) file) (answer_of which file section) (outcome_of result) }
+    ensures takes { (which : SymbolTable) (file section : List ℕ) → AreTablesOf which file section tables.now
+        → Takes IsListingOf (answer_of which file section) (S.taken out.old) (S.taken out.new) (outcome_of result) }
     ensures fails { Fails (S.has_failed out.old) (S.has_failed out.new) (outcome_of result) }
     ensures leaves { Leaves out.old out.new (outcome_of result) }
 {
@@ -202,7 +206,8 @@ pub fn list_tables<S: Sink>(alloc: Global, tables: &Tables, out: &mut S) -> Resu
 
 // The whole listing.
 fn listing(alloc: Global, functions: Functions<'_>, size: u64) -> Result<String, AllocError>
-    ensures { IfOk result (λ t. (listed : Listed) → HoldsLeft listed (functions.entry, size) → IsListingOf listed (string_bytes t)) }
+    ensures { IfOk result
+        (λ t. (listed : Listed) → HoldsLeft listed (functions.entry, size) → IsListingOf listed (string_bytes t)) }
 {
     let mut text = String::new(alloc);
     let mut demangler = Demangler::new(alloc);
@@ -219,7 +224,9 @@ fn push_line(
     text: &mut String,
     function: FunctionSymbol<'_>,
 ) -> Result<(), AllocError>
-    ensures { OnOk result ((line : List ℕ) × IsLineOf (function_view function.entry) line × (string_bytes text.new ≡ string_bytes text.old ++ line)) }
+    ensures { OnOk result
+        ((line : List ℕ) × IsLineOf (function_view function.entry) line
+        × (string_bytes text.new ≡ string_bytes text.old ++ line)) }
 {
     push_head(text, function.address, function.size)?;
     demangler.push_trimmed(text, function.name)?;

@@ -3,10 +3,10 @@
 ghost use Rattle.std.specs.Prelude.{◌≡◌, ◌≢◌, ◌⊎◌, ◌+◌, ◌^◌, ◌<◌, ◌≤◌, ◌++◌, ℕ, List, Some, MatchResult, IfOk, IfErr, OnOk};
 ghost use Rattle.std.specs.List.{AllZip, sum_by};
 ghost use Rattle.std.specs.String.{string_bytes};
-ghost use Rattle.binfarce_format.specs.Format.{format_of};
+ghost use Rattle.binfarce_bytes.specs.Format.{format_of};
 ghost use Rattle.binfarce_names.specs.Name.{Name};
 ghost use Rattle.binfarce_names.specs.Named.{IsNamed};
-ghost use Rattle.binfarce_symbols.specs.SymbolViews.{function_view};
+ghost use Rattle.binfarce_bytes.specs.SymbolViews.{function_view};
 ghost use Rattle.binfarce_elf.specs.declared.symbol_table.SymbolTable.{SymbolTable};
 ghost use Rattle.binfarce_tools.specs.Answer.{symbols_answer, answer_of, NeedsMemory};
 ghost use Rattle.binfarce_tools.specs.Report.{Share, IsShareOf, IsReportOf, IsReportOfShares, ReportFits, crate_text, crate_line};
@@ -23,8 +23,8 @@ use crate::list::{ListError, Sink};
 use crate::tables::Tables;
 use crate::writing::write_whole;
 use binfarce_bytes::ParseError;
+use binfarce_bytes::functions::FunctionSymbol;
 use binfarce_names::demangle::push_crate;
-use binfarce_symbols::functions::FunctionSymbol;
 use std::alloc::{AllocError, Global};
 use std::collections::BTreeMap;
 use std::error::Error;
@@ -111,8 +111,10 @@ pub fn report<S: Sink>(
     section: &str,
     out: &mut S,
 ) -> Result<(), ReportError>
-    ensures tells { Tells ReportFits (NeedsMemory (format_of data.now) data.now) (symbols_answer (format_of data.now) data.now section.now) (outcome_of result) }
-    ensures takes { Takes IsReportOf (symbols_answer (format_of data.now) data.now section.now) (S.taken out.old) (S.taken out.new) (outcome_of result) }
+    ensures tells { Tells ReportFits (NeedsMemory (format_of data.now) data.now)
+        (symbols_answer (format_of data.now) data.now section.now) (outcome_of result) }
+    ensures takes { Takes IsReportOf (symbols_answer (format_of data.now) data.now section.now) (S.taken out.old)
+        (S.taken out.new) (outcome_of result) }
     ensures fails { Fails (S.has_failed out.old) (S.has_failed out.new) (outcome_of result) }
     ensures leaves { Leaves out.old out.new (outcome_of result) }
 {
@@ -132,8 +134,10 @@ pub fn report_tables<S: Sink>(
     tables: &Tables,
     out: &mut S,
 ) -> Result<(), ReportError>
-    ensures tells { (which : SymbolTable) (file section : List ℕ) → AreTablesOf which file section tables.now → Tells ReportFits (NeedsMemory (format_of file) file) (answer_of which file section) (outcome_of result) }
-    ensures takes { (which : SymbolTable) (file section : List ℕ) → AreTablesOf which file section tables.now → Takes IsReportOf (answer_of which file section) (S.taken out.old) (S.taken out.new) (outcome_of result) }
+    ensures tells { (which : SymbolTable) (file section : List ℕ) → AreTablesOf which file section tables.now
+        → Tells ReportFits (NeedsMemory (format_of file) file) (answer_of which file section) (outcome_of result) }
+    ensures takes { (which : SymbolTable) (file section : List ℕ) → AreTablesOf which file section tables.now
+        → Takes IsReportOf (answer_of which file section) (S.taken out.old) (S.taken out.new) (outcome_of result) }
     ensures fails { Fails (S.has_failed out.old) (S.has_failed out.new) (outcome_of result) }
     ensures leaves { Leaves out.old out.new (outcome_of result) }
 {
@@ -160,7 +164,8 @@ pub struct CrateSums {
 ///
 /// As `report`, but for `Write`.
 pub fn sums_of_file(alloc: Global, data: &[u8], section: &str) -> Result<CrateSums, ReportError>
-    ensures { GetsSums (NeedsMemory (format_of data.now) data.now) (symbols_answer (format_of data.now) data.now section.now) result }
+    ensures { GetsSums (NeedsMemory (format_of data.now) data.now)
+        (symbols_answer (format_of data.now) data.now section.now) result }
 {
     let (functions, size) = functions_of_file(alloc, data, section)?;
     crate_sums(alloc, functions, size)
@@ -172,7 +177,8 @@ pub fn sums_of_file(alloc: Global, data: &[u8], section: &str) -> Result<CrateSu
 ///
 /// As `report_tables`, but for `Write`.
 pub fn sums_of_tables(alloc: Global, tables: &Tables) -> Result<CrateSums, ReportError>
-    ensures sums { (which : SymbolTable) (file section : List ℕ) → AreTablesOf which file section tables.now → GetsSums (NeedsMemory (format_of file) file) (answer_of which file section) result }
+    ensures sums { (which : SymbolTable) (file section : List ℕ) → AreTablesOf which file section tables.now
+        → GetsSums (NeedsMemory (format_of file) file) (answer_of which file section) result }
     ensures made { IfOk result (λ s. (shares : List Share) × AreSumsOf shares s) }
     ensures unwritten { IfErr result (λ e. e ≢ Write) }
 {
@@ -187,7 +193,8 @@ fn crate_sums(
     section_size: u64,
 ) -> Result<CrateSums, ReportError>
     ensures { MatchResult result
-        (λ s. (s.section_size ≡ section_size) × ((shares : List Share) × AllZip IsShareOf (functions_left functions.entry) shares × AreSumsOf shares s))
+        (λ s. (s.section_size ≡ section_size) × ((shares : List Share)
+        × AllZip IsShareOf (functions_left functions.entry) shares × AreSumsOf shares s))
         (λ e. (e ≡ OutOfMemory) ⊎ ((e ≡ TooLarge) × (2 ^ 64 ≤ sum_by (λ f. f.size) (functions_left functions.entry)))) }
 {
     let mut crates = BTreeMap::new(alloc);
@@ -215,7 +222,8 @@ fn add_function(
     function: FunctionSymbol<'_>,
 ) -> Result<(), AllocError>
     requires { (name : List ℕ) → sum_at crates.old name + function.size < 2 ^ 64 }
-    ensures { OnOk result ((share : Share) × IsShareOf (function_view function.entry) share × Adds crates.old share crates.new) }
+    ensures { OnOk result
+        ((share : Share) × IsShareOf (function_view function.entry) share × Adds crates.old share crates.new) }
 {
     put_crate(alloc, text, function.name)?;
     add_size(alloc, crates, text.as_str(), function.size)
@@ -254,7 +262,9 @@ fn put_crate(alloc: Global, text: &mut String, name: &str) -> Result<(), AllocEr
 
 // The whole report.
 fn report_text(alloc: Global, sums: &CrateSums) -> Result<String, AllocError>
-    ensures { IfOk result (λ t. (shares : List Share) → AreSumsOf shares sums.now → IsReportOfShares shares sums.now.section_size (string_bytes t)) }
+    ensures { IfOk result
+        (λ t. (shares : List Share) → AreSumsOf shares sums.now
+        → IsReportOfShares shares sums.now.section_size (string_bytes t)) }
 {
     let mut text = String::new(alloc);
     for (name, sum) in sums.crates.iter() {

@@ -4,7 +4,7 @@ ghost use Rattle.std.specs.Prelude.{◌≡◌, ◌≢◌, ℕ, List, take, true,
 ghost use Rattle.binfarce_bytes.specs.Refusal.{refusal_of, section_is_missing};
 ghost use Rattle.binfarce_elf.specs.declared.symbol_table.SymbolTable.{SymbolTable};
 ghost use Rattle.binfarce_elf.specs.declared.symbol_table.SymbolTable.TheVariants.{Symtab, Dynsym};
-ghost use Rattle.binfarce_format.specs.Format.{format_of};
+ghost use Rattle.binfarce_bytes.specs.Format.{format_of};
 ghost use Rattle.binfarce_tables.specs.Reading.{Reads, Known};
 ghost use Rattle.binfarce_tools.specs.Answer.{answer_of, NeedsMemory};
 ghost use Rattle.binfarce_tools.specs.Entries.{Gets};
@@ -14,9 +14,9 @@ ghost use Rattle.binfarce_tools.specs.Tables.{AreTablesOf, ReadsTables};
 use crate::functions::{Functions, all_of};
 use crate::list::ListError;
 use binfarce_bytes::ParseError;
+use binfarce_bytes::format::{Format, detect_format};
+use binfarce_bytes::source::{Source, read_part};
 use binfarce_elf::symbol_table::SymbolTable;
-use binfarce_format::{Format, detect_format};
-use binfarce_source::{Source, read_part};
 use binfarce_tables::{ReadError, elf32, elf64, macho, pe};
 use std::alloc::Global;
 
@@ -47,7 +47,8 @@ impl Tables {
     /// As `functions_of_file`.
     #[tactic(auto, unfolding(crate::specs::Tables::AreTablesOf))]
     pub fn functions(&self, alloc: Global) -> Result<(Functions<'_>, u64), ListError>
-        ensures gets { (which : SymbolTable) (file section : List ℕ) → AreTablesOf which file section self.entry.now → Gets (NeedsMemory (format_of file) file) (answer_of which file section) result }
+        ensures gets { (which : SymbolTable) (file section : List ℕ) → AreTablesOf which file section self.entry.now
+            → Gets (NeedsMemory (format_of file) file) (answer_of which file section) result }
         ensures unwritten { IfErr result (λ e. e ≢ Write) }
     {
         match self {
@@ -82,7 +83,8 @@ impl Tables {
 /// or a read of it fails, and never of a source that can't fail, as bytes in memory are; `OutOfMemory` where an
 /// allocation fails.
 pub fn read<S: Source>(alloc: Global, source: &S, section: &str) -> Result<Tables, ReadError>
-    ensures { (file : List ℕ) → S.bytes source.now ≡ Some file → ReadsTables (S.may_fail source.now ≡ true) Symtab file section.now result }
+    ensures { (file : List ℕ) → S.bytes source.now ≡ Some file
+        → ReadsTables (S.may_fail source.now ≡ true) Symtab file section.now result }
 {
     read_by(alloc, source, SymbolTable::Symtab, section)
 }
@@ -101,7 +103,8 @@ pub fn read_by<S: Source>(
     which: SymbolTable,
     section: &str,
 ) -> Result<Tables, ReadError>
-    ensures { (file : List ℕ) → S.bytes source.now ≡ Some file → ReadsTables (S.may_fail source.now ≡ true) which file section.now result }
+    ensures { (file : List ℕ) → S.bytes source.now ≡ Some file
+        → ReadsTables (S.may_fail source.now ≡ true) which file section.now result }
 {
     let len = source.length()? as usize;
     match read_format(alloc, source, len)? {
@@ -145,7 +148,8 @@ fn has_table(which: SymbolTable) -> Result<(), ParseError>
 ///
 /// `Unreadable` where a read fails, and `OutOfMemory` where an allocation fails.
 pub fn read_format<S: Source>(alloc: Global, source: &S, len: usize) -> Result<Format, ReadError>
-    ensures { (file : List ℕ) → Known (S.bytes source.now) len file → Reads (S.may_fail source.now) (λ f. f) (Ok (format_of file)) result }
+    ensures { (file : List ℕ) → Known (S.bytes source.now) len file
+        → Reads (S.may_fail source.now) (λ f. f) (Ok (format_of file)) result }
 {
     let magic = read_magic(alloc, source, len)?;
     Ok(detect_format(&magic))
@@ -153,7 +157,8 @@ pub fn read_format<S: Source>(alloc: Global, source: &S, len: usize) -> Result<F
 
 // The file's first bytes, which name its format.
 fn read_magic<S: Source>(alloc: Global, source: &S, len: usize) -> Result<Vec<u8>, ReadError>
-    ensures { (file : List ℕ) → Known (S.bytes source.now) len file → Reads (S.may_fail source.now) (λ v. v.items) (Ok (take 8 file)) result }
+    ensures { (file : List ℕ) → Known (S.bytes source.now) len file
+        → Reads (S.may_fail source.now) (λ v. v.items) (Ok (take 8 file)) result }
 {
     Ok(read_part(alloc, source, 0, len.min(MAGIC_LENGTH))?)
 }

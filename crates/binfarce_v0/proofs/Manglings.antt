@@ -1,9 +1,9 @@
 -- What the reading and the printer do with a whole name.
 use Rattle.std.proofs.Common.{◌≡◌, ℕ, ◌≤◌, ◌-◌, min, Bool, true, false, if◌then◌else◌, List, [], Option, Some, None, cond, refl, ap, sym, ◌∙◌, subst, arith}
 use Rattle.std.specs.Option.{option_map}
-use Rattle.binfarce_v0_text.specs.LeafTexts.{identifier_text}
+use Rattle.binfarce_v0_state.specs.LeafTexts.{identifier_text}
 use Rattle.binfarce_v0_grammar.specs.Tree.{PathTree, path_height, path_steps}
-use Rattle.binfarce_v0_text.specs.TreeTexts.{InValue}
+use Rattle.binfarce_v0_state.specs.TreeTexts.{InValue}
 use Rattle.binfarce_v0_grammar.specs.Unfolding.{IsPath, UnfoldsTo}
 use Rattle.binfarce_v0_grammar.specs.declared.limits.TheConstants.{MAX_LEVELS, MAX_STEPS}
 use Rattle.binfarce_v0.specs.Mangling.{is_upper_at, PathStands, SecondPath, ReadsPaths, IsMangling, IsV0, part_after_prefix}

@@ -4,7 +4,7 @@ ghost use Rattle.std.specs.Prelude.{◌≡◌, ◌++◌, ℕ, List, [], IfOk, On
 ghost use Rattle.std.specs.Option.{option_copied};
 ghost use Rattle.std.specs.Str.{IsAscii};
 ghost use Rattle.std.specs.String.{string_bytes};
-ghost use Rattle.binfarce_v0_text.specs.LeafTexts.{identifier_text};
+ghost use Rattle.binfarce_v0_state.specs.LeafTexts.{identifier_text};
 ghost use Rattle.binfarce_v0_grammar.specs.Tree.{PathTree};
 ghost use Rattle.binfarce_v0_grammar.specs.Unfolding.{UnfoldsTo};
 ghost use Rattle.binfarce_v0_grammar.specs.machine.View.{undisambiguated_view};
@@ -12,17 +12,17 @@ ghost use Rattle.binfarce_v0.specs.Mangling.{part_after_prefix, is_upper_at, IsM
 ghost use Rattle.binfarce_v0.specs.machine.Mangling.{paths_end};
 ghost use Rattle.binfarce_v0.specs.machine.Outcome.{ReadsUpTo, HasBegun, IsCandidate, IsOutcomeOf, IsCrateName, AreTexts};
 
+use crate::paths::print_path;
 use binfarce_text::prefixes::after_prefix;
 use binfarce_text::suffixes::is_allowed_rest;
 use binfarce_v0_grammar::identifiers::UndisambiguatedIdentifier;
 use binfarce_v0_grammar::limits::MAX_LEVELS;
 use binfarce_v0_grammar::numbers::byte_at;
 use binfarce_v0_grammar::reading::read_path;
-use binfarce_v0_print::paths::print_path;
 use binfarce_v0_state::memory::Memory;
+use binfarce_v0_state::position::Position;
 use binfarce_v0_state::state::{Buffers, Printer};
-use binfarce_v0_text::position::Position;
-use binfarce_v0_text::text::Leaf;
+use binfarce_v0_state::text::Leaf;
 use std::alloc::{AllocError, Global};
 
 // What stands after the prefix of a v0 mangling.
@@ -62,7 +62,8 @@ fn paths_end(part: &str, first: Option<usize>) -> Option<usize>
 /// names that aren't mangled no more than the first bytes are looked at. No memory is taken.
 #[inline(always)]
 pub fn candidate(text: &str) -> Option<&str>
-    ensures { MatchOption result ((part : List ℕ) (after : ℕ) → IsMangling text.now part after → ⊥) (λ part. IsCandidate text.now part.now) }
+    ensures { MatchOption result ((part : List ℕ) (after : ℕ) → IsMangling text.now part after → ⊥)
+        (λ part. IsCandidate text.now part.now) }
 {
     let part = part_after_prefix(text)?;
     if is_upper_at(part.as_bytes(), 0) && part.is_ascii() {
@@ -75,7 +76,8 @@ pub fn candidate(text: &str) -> Option<&str>
 /// The v0 mangling that `text` begins with: what stands after its prefix, and the position there after its paths.
 /// None where `text` begins with no v0 mangling whose reading has at most `MAX_LEVELS` levels. No memory is taken.
 pub fn read(text: &str) -> Option<(&str, usize)>
-    ensures { MatchOption result ((part : List ℕ) (after : ℕ) → IsMangling text.now part after → ⊥) (λ r. IsMangling text.now r.0.now r.1) }
+    ensures { MatchOption result ((part : List ℕ) (after : ℕ) → IsMangling text.now part after → ⊥)
+        (λ r. IsMangling text.now r.0.now r.1) }
 {
     let part = candidate(text)?;
     let after = paths_end(part, None)?;
@@ -88,7 +90,9 @@ pub fn read(text: &str) -> Option<(&str, usize)>
 #[inline(always)]
 pub fn print(printer: &mut Printer<'_>) -> Result<bool, AllocError>
     requires { HasBegun printer.now }
-    ensures { IfOk result (λ within. MatchBool within (IsOutcomeOf printer.old printer.new) ((tree : PathTree) → UnfoldsTo printer.old.part tree → ⊥)) }
+    ensures { IfOk result
+        (λ within. MatchBool within (IsOutcomeOf printer.old printer.new)
+        ((tree : PathTree) → UnfoldsTo printer.old.part tree → ⊥)) }
 {
     printer.prepare()?;
     print_path(printer, MAX_LEVELS, 0, Position::InValue)?;
@@ -123,7 +127,9 @@ fn rest_from(part: &[u8], at: usize) -> &[u8]
 #[inline(always)]
 pub fn print_mangling(printer: &mut Printer<'_>) -> Result<bool, AllocError>
     requires { HasBegun printer.now }
-    ensures { IfOk result (λ found. (text : List ℕ) → IsCandidate text printer.old.part → MatchBool found (IsV0 text printer.old.part × IsOutcomeOf printer.old printer.new) (HasNoTree text)) }
+    ensures { IfOk result
+        (λ found. (text : List ℕ) → IsCandidate text printer.old.part
+        → MatchBool found (IsV0 text printer.old.part × IsOutcomeOf printer.old printer.new) (HasNoTree text)) }
 {
     if !print(printer)? {
         return Ok(false);
@@ -147,7 +153,8 @@ fn root_text(
     alloc: Global,
     root: Option<UndisambiguatedIdentifier<'_>>,
 ) -> Result<Option<String>, AllocError>
-    ensures { IfOk result (λ t. option_map string_bytes t ≡ option_map identifier_text (option_map undisambiguated_view root.entry)) }
+    ensures { IfOk result
+        (λ t. option_map string_bytes t ≡ option_map identifier_text (option_map undisambiguated_view root.entry)) }
 {
     let Some(name) = root else {
         return Ok(None);
@@ -158,14 +165,17 @@ fn root_text(
 }
 
 // Writes a crate's name after the text: whether there is one. An allocation that was refused leaves the text as it was.
-#[tactic(auto, unfolding(binfarce_v0_text::specs::LeafTexts::identifier_text))]
+#[tactic(auto, unfolding(binfarce_v0_state::specs::LeafTexts::identifier_text))]
 fn push_root(
     alloc: Global,
     text: &mut String,
     root: Option<UndisambiguatedIdentifier<'_>>,
 ) -> Result<bool, AllocError>
     ensures told { IfOk result (λ told. told ≡ is_some root.entry) }
-    ensures grown { OnOk result (string_bytes text.new ≡ string_bytes text.old ++ unwrap_or (option_map identifier_text (option_map undisambiguated_view root.entry)) []) }
+    ensures grown { OnOk result
+        (string_bytes text.new
+        ≡ string_bytes text.old
+        ++ unwrap_or (option_map identifier_text (option_map undisambiguated_view root.entry)) []) }
     ensures unchanged { OnErr result (string_bytes text.new ≡ string_bytes text.old) }
 {
     let Some(name) = root else {
@@ -205,7 +215,9 @@ pub fn push_crate_name(alloc: Global, text: &mut String, name: &str) -> Result<b
 ///
 /// The name is printed once. The texts are copies of what was printed, whose memory fits them.
 pub fn both_texts(memory: &mut Memory, text: &str) -> Result<Option<Texts>, AllocError>
-    ensures { IfOk result (λ t. MatchOption t (HasNoTree text.now) (λ t. AreTexts text.now (string_bytes t.complete) (string_bytes t.trimmed) (option_map string_bytes t.crate_name))) }
+    ensures { IfOk result
+        (λ t. MatchOption t (HasNoTree text.now) (λ t. AreTexts text.now (string_bytes t.complete)
+        (string_bytes t.trimmed) (option_map string_bytes t.crate_name))) }
 {
     let Some(part) = candidate(text) else {
         return Ok(None);

@@ -8,3 +8,4 @@ pub mod ReadingTrees
 pub mod SkipLemmas
 pub mod TextLemmas
 pub mod Values
+pub mod PunycodeLemmas

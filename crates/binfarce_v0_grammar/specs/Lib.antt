@@ -5,3 +5,4 @@ pub mod Tree
 pub mod Reading
 pub mod Unfolding
 pub mod machine
+pub mod Punycode

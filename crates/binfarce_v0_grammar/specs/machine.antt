@@ -2,3 +2,4 @@
 pub mod Numbers
 pub mod View
 pub mod Ends
+pub mod Decoded

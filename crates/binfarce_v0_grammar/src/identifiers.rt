@@ -85,7 +85,8 @@ fn identifier_bytes<'a>(
     size: u64,
 ) -> Option<(UndisambiguatedIdentifier<'a>, usize)>
     requires ascii { IsAscii part.now }
-    ensures value { option_map (λ i. (undisambiguated_view i.0, i.1)) result ≡ identifier_bytes part.now is_punycode start size }
+    ensures value { option_map
+        (λ i. (undisambiguated_view i.0, i.1)) result ≡ identifier_bytes part.now is_punycode start size }
     ensures ascii { IfSome result (λ i. IsAscii i.0.ascii.now) }
 {
     let end = start.checked_add(size as usize)?;
@@ -141,7 +142,8 @@ pub fn identifier_name_at<'a>(
     at: usize,
 ) -> Option<(UndisambiguatedIdentifier<'a>, usize)>
     requires ascii { IsAscii part.now }
-    ensures { option_map (λ i. (undisambiguated_view i.0, i.1)) result ≡ without_disambiguator (identifier part.now at) }
+    ensures { option_map
+        (λ i. (undisambiguated_view i.0, i.1)) result ≡ without_disambiguator (identifier part.now at) }
 {
     let start = skip_optional_base_62_number(part.as_bytes(), b's', at)?;
     undisambiguated_at(part, start)

@@ -7,4 +7,5 @@ pub mod identifiers;
 pub mod limits;
 pub mod numbers;
 pub mod positions;
+pub mod punycode;
 pub mod reading;

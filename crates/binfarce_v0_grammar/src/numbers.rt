@@ -213,7 +213,8 @@ fn are_small(first: u8, second: u8) -> bool
 fn write_small(part: &[u8], start: usize, end: usize) -> bool
     requires run { end ≡ start + prefix_len is_ascii_alphanumeric (drop start part.now) }
     requires within { end ≤ length part.now }
-    ensures { IsTrue result → value_62 (take (prefix_len is_ascii_alphanumeric (drop start part.now)) (drop start part.now)) < 2 ^ 64 - 2 }
+    ensures { IsTrue result
+        → value_62 (take (prefix_len is_ascii_alphanumeric (drop start part.now)) (drop start part.now)) < 2 ^ 64 - 2 }
 {
     let count = end - start;
     count <= 10 || (count == 11 && are_small(part[start], part[start + 1]))

@@ -13,7 +13,8 @@ use crate::numbers::byte_at;
 #[inline(always)]
 pub fn eat(part: &[u8], byte: u8, at: Option<usize>) -> Option<usize>
     requires { 0 < byte }
-    ensures { MatchOption result (stands part.now byte at ≡ false) (λ after. (stands part.now byte at ≡ true) × (after_byte at ≡ Some after)) }
+    ensures { MatchOption result (stands part.now byte at ≡ false)
+        (λ after. (stands part.now byte at ≡ true) × (after_byte at ≡ Some after)) }
 {
     let at = at?;
     if byte_at(part, at) == byte {
@@ -26,7 +27,8 @@ pub fn eat(part: &[u8], byte: u8, at: Option<usize>) -> Option<usize>
 /// The position after a list, where the list ends there: at an `E`, and after invalid syntax.
 #[inline(always)]
 pub fn list_end(part: &[u8], at: Option<usize>) -> Option<Option<usize>>
-    ensures { MatchOption result (list_goes_on part.now at ≡ true) (λ after. (list_goes_on part.now at ≡ false) × (after_byte at ≡ after)) }
+    ensures { MatchOption result (list_goes_on part.now at ≡ true)
+        (λ after. (list_goes_on part.now at ≡ false) × (after_byte at ≡ after)) }
 {
     let Some(at) = at else {
         return Some(None);

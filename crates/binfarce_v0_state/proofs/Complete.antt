@@ -2,11 +2,11 @@
 use Rattle.std.proofs.Common.{◌≡◌, ℕ, zero, suc, ◌+◌, ◌-◌, ◌≤◌, ◌<◌, Bool, true, false, ◌&&◌, List, [], ◌++◌, Option, Some, None, nat_le, if◌then◌else◌, refl, ap, sym, ◌∙◌, arith}
 use Rattle.std.proofs.lemmas.Bool.Decides.{nat_tests}
 use Rattle.std.specs.Prelude.{codes}
-use Rattle.binfarce_v0_text.specs.LeafTexts.{identifier_text}
+use Rattle.binfarce_v0_state.specs.LeafTexts.{identifier_text}
 use Rattle.binfarce_v0_grammar.specs.Forms.{Lifetime, NoLifetime, stands, after_byte, lifetime, path_form, type_form, const_form, PathForm, NoPathForm, CrateRoot, NestedIn, InherentImpl, TraitImpl, TraitDefinition, WithArguments, BackToPath, TypeForm, NoTypeForm, BasicType, ReferenceTo, InvalidReference, PointerTo, SliceOf, ArrayOf, TupleOf, FunctionOf, InvalidAbi, DynOf, InvalidDyn, BackToType, PathType, ConstForm, NoConstForm, UntypedPlaceholderConst, PlaceholderConst, ValueConst, InvalidConst, BackToConst}
 use Rattle.binfarce_v0_grammar.specs.Tree.{PathTree, TypeTree, ConstTree, Item, Items, Bindings, NoConst, UntypedPlaceholder, Placeholder, Value, InvalidValue, BackConst, ConstTarget, NoPath, Crate, Nested, InvalidNested, OfType, OfImpl, OfTrait, Generic, BackPath, PathTarget, NoType, Basic, Reference, InvalidReferenceType, Pointer, Slice, Array, Tuple, Function, FunctionTo, InvalidFunction, Dyn, InvalidDynType, Named, BackType, TypeTarget, LifetimeItem, TypeItem, ConstItem, TraitItem, NoItems, ItemThen, NoBindings, Binding, InvalidBinding, lifetime_steps, path_height, type_height, const_height, item_height, items_height, bindings_height, path_steps, type_steps, const_steps, item_steps, items_steps, bindings_steps, path_root, type_root, item_root, items_root, bindings_root, Listed, Arguments, Types, Traits}
-use Rattle.binfarce_v0_text.specs.TreeTexts.{path_text, type_text, const_text, item_text, items_text, bindings_text, Position, InType, OpenTrait, parent_position, value_mark, closing, is_left_open, separator, single_mark, open_mark, close_mark}
-use Rattle.binfarce_v0_text.specs.LeafTexts.{binder_text, signature_text, nested_text, sign_text, value_text, reference_lifetime, argument_lifetime, dyn_lifetime, mutable_text}
+use Rattle.binfarce_v0_state.specs.TreeTexts.{path_text, type_text, const_text, item_text, items_text, bindings_text, Position, InType, OpenTrait, parent_position, value_mark, closing, is_left_open, separator, single_mark, open_mark, close_mark}
+use Rattle.binfarce_v0_state.specs.LeafTexts.{binder_text, signature_text, nested_text, sign_text, value_text, reference_lifetime, argument_lifetime, dyn_lifetime, mutable_text}
 use Rattle.binfarce_v0_grammar.specs.Unfolding.{bound_end, required_end, IsConst, IsPath, IsType, IsItem, AreItems, AreBindings}
 use Rattle.binfarce_v0_state.specs.machine.Printing.{State, write, seek, stopped, take, entered, into, set_muted, unmuted, taking, const_rule, const_item, type_item, lifetime_item, argument_rule, binding_then, binding_rule, bound_type, named_binding, bindings_rule, trait_item, trait_rule, item_rule, item_then, list_rule, items_after, items_rule, type_then, type_as, array_rule, array_end, tuple_end, returned, function_end, function_rule, dyn_life, dyn_lifetime_rule, dyn_end, dyn_rule, reference_rule, invalid_reference, invalid_function, back_type, back_const, back_path, named_type, type_rule, nested_rule, of_type_rule, of_type_end, of_impl_rule, as_trait, path_then, generic_rule, generic_end, path_rule, readers}
 use Rattle.binfarce_v0_state.proofs.Sound.{lifetime_step}

@@ -7,7 +7,7 @@ use Rattle.std.proofs.lemmas.List.Elements.{All-append, All-cons, All-nil}
 use Rattle.binfarce_v0_state.specs.declared.fragments.Fragment as fragment
 use Rattle.std.specs.Prelude.{slice_range}
 use Rattle.binfarce_v0_grammar.specs.Identifiers.{UndisambiguatedIdentifier}
-use Rattle.binfarce_v0_text.specs.TreeTexts.{Position}
+use Rattle.binfarce_v0_state.specs.TreeTexts.{Position}
 use Rattle.binfarce_v0_grammar.specs.Tree.{path_root, type_root}
 use Rattle.binfarce_v0_state.specs.machine.Printing.{State, Printing, with_state, heard, readers, into, back_to}
 use Rattle.binfarce_v0_state.specs.machine.Kept.{Production, PathProduction, TypeProduction, ConstProduction, TreeOf, Unfolds, text_of, steps_of, height_of, left_open_of, read, Kept, IsKept, IsMark, MayKeep, raised, lowered}

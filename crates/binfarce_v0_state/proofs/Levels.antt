@@ -2,7 +2,7 @@
 use Rattle.std.proofs.Common.{◌≡◌, ℕ, zero, suc, ◌-◌, true, List, nat_le, if◌then◌else◌, ◌&&◌, refl, arith}
 use Rattle.std.proofs.lemmas.Bool.Decides.{nat_tests}
 use Rattle.binfarce_v0_grammar.specs.Forms.{path_form, type_form, const_form}
-use Rattle.binfarce_v0_text.specs.TreeTexts.{Position}
+use Rattle.binfarce_v0_state.specs.TreeTexts.{Position}
 use Rattle.binfarce_v0_grammar.specs.Tree.{NoPath, NoType, NoConst}
 use Rattle.binfarce_v0_state.specs.machine.Printing.{State, readers, path_rule, type_rule, const_rule, entered, stopped}
 

@@ -5,3 +5,5 @@ pub mod Lowered
 pub mod Sound
 pub mod SoundForms
 pub mod States
+pub mod HexDigits
+pub mod Texts

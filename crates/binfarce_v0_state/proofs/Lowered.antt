@@ -2,11 +2,11 @@
 use Rattle.std.proofs.Common.{◌≡◌, ℕ, zero, suc, ◌-◌, Bool, true, false, List, Option, Some, None, cond, nat_le, min, refl, ap, ◌∙◌, arith, ◌+◌, []}
 use Rattle.std.specs.Prelude.{codes}
 use Rattle.binfarce_v0_grammar.specs.Identifiers.{UndisambiguatedIdentifier, Identifier}
-use Rattle.binfarce_v0_text.specs.LeafTexts.{identifier_text}
+use Rattle.binfarce_v0_state.specs.LeafTexts.{identifier_text}
 use Rattle.binfarce_v0_grammar.specs.Forms.{NoLifetime, Signature, stands, after_byte, identifier_at, undisambiguated_at, lifetime, path_form, type_form, const_form, PathForm, NoPathForm, CrateRoot, NestedIn, InherentImpl, TraitImpl, TraitDefinition, WithArguments, BackToPath, TypeForm, NoTypeForm, BasicType, ReferenceTo, InvalidReference, PointerTo, SliceOf, ArrayOf, TupleOf, FunctionOf, InvalidAbi, DynOf, InvalidDyn, BackToType, PathType, ConstForm, NoConstForm, UntypedPlaceholderConst, PlaceholderConst, ValueConst, InvalidConst, BackToConst}
 use Rattle.binfarce_v0_grammar.specs.Tree.{Listed, Arguments, Types, Traits, PathTree, TypeTree, Items, Bindings, NoPath, NoType, NoConst, LifetimeItem, Slice, Pointer, Reference, OfTrait, OfImpl, FunctionTo, lifetime_steps}
-use Rattle.binfarce_v0_text.specs.TreeTexts.{Position, InType, OpenTrait, parent_position, separator, open_mark, value_mark, is_left_open}
-use Rattle.binfarce_v0_text.specs.LeafTexts.{binder_text, signature_text, mutable_text, reference_lifetime}
+use Rattle.binfarce_v0_state.specs.TreeTexts.{Position, InType, OpenTrait, parent_position, separator, open_mark, value_mark, is_left_open}
+use Rattle.binfarce_v0_state.specs.LeafTexts.{binder_text, signature_text, mutable_text, reference_lifetime}
 use Rattle.binfarce_v0_grammar.specs.Unfolding.{bound_end, list_goes_on}
 use Rattle.binfarce_v0_state.specs.machine.Printing.{State, Readers, write, seek, stopped, take, entered, into, set_muted, unmuted, taking, entering, const_rule, back_const, const_item, type_item, lifetime_item, argument_rule, binding_then, bound_type, named_binding, binding_rule, bindings_rule, trait_item, trait_rule, item_rule, item_then, items_after, list_rule, items_rule, items_from, type_then, type_as, array_end, array_rule, tuple_end, returned, function_end, function_rule, dyn_lifetime_rule, dyn_end, dyn_rule, reference_rule, back_type, named_type, invalid_reference, invalid_function, type_rule, nested_rule, named_state, named_tree, of_type_end, of_type_rule, path_then, as_trait, of_impl_rule, generic_end, generic_rule, back_path, path_rule, readers}
 use Rattle.binfarce_v0_state.specs.machine.Kept.{lowered}

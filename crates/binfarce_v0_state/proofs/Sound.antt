@@ -6,7 +6,7 @@ use Rattle.binfarce_v0_grammar.specs.Forms.{NoLifetime, stands, after_byte, undi
 use Rattle.binfarce_v0_grammar.specs.Base62.{base_62_number}
 use Rattle.binfarce_v0_grammar.proofs.ReadingForward.{indexed_lifetime}
 use Rattle.binfarce_v0_grammar.specs.Tree.{PathTree, TypeTree, ConstTree, Item, Items, Bindings, LifetimeItem, lifetime_steps, path_height, type_height, const_height, item_height, items_height, bindings_height, path_steps, type_steps, const_steps, item_steps, items_steps, bindings_steps, Listed, Arguments, Types, Traits}
-use Rattle.binfarce_v0_text.specs.TreeTexts.{Position, OpenTrait, separator}
+use Rattle.binfarce_v0_state.specs.TreeTexts.{Position, OpenTrait, separator}
 use Rattle.binfarce_v0_grammar.specs.Unfolding.{list_goes_on, IsConst, IsPath, IsType, IsItem, AreItems, AreBindings}
 use Rattle.binfarce_v0_state.specs.machine.Printing.{State, Readers, write, seek, stopped, take, into, taking, const_rule, lifetime_item, argument_rule, binding_rule, named_binding, bindings_rule, item_rule, list_rule, items_rule}
 

@@ -5,7 +5,7 @@ use Rattle.std.specs.Prelude.{codes}
 use Rattle.binfarce_v0_grammar.specs.Identifiers.{Identifier}
 use Rattle.binfarce_v0_grammar.specs.Forms.{Lifetime, Signature, stands, identifier_at, lifetime, path_form, type_form, const_form, PathForm, NoPathForm, CrateRoot, NestedIn, InherentImpl, TraitImpl, TraitDefinition, WithArguments, BackToPath, TypeForm, NoTypeForm, BasicType, ReferenceTo, InvalidReference, PointerTo, SliceOf, ArrayOf, TupleOf, FunctionOf, InvalidAbi, DynOf, InvalidDyn, BackToType, PathType}
 use Rattle.binfarce_v0_grammar.specs.Tree.{PathTree, Items, NoPath, NoType, NoConst, lifetime_steps, path_height, type_height, path_steps, type_steps, Arguments, Types, Traits}
-use Rattle.binfarce_v0_text.specs.TreeTexts.{Position, InType, parent_position}
+use Rattle.binfarce_v0_state.specs.TreeTexts.{Position, InType, parent_position}
 use Rattle.binfarce_v0_grammar.specs.Unfolding.{IsPath, IsType}
 use Rattle.binfarce_v0_state.specs.machine.Printing.{State, Readers, write, seek, stopped, take, entered, into, set_muted, entering, named_tree, named_state, returned, function_rule, dyn_lifetime_rule, dyn_end, dyn_rule, reference_rule, invalid_reference, invalid_function, type_rule, path_rule, const_rule, readers}
 use Rattle.binfarce_v0_state.proofs.Sound.{Sound, PathFound, TypeFound, ConstFound, ItemsFound, taken, true_not_false, back_target, const_sound, items_sound}

@@ -3,7 +3,7 @@ use Rattle.std.proofs.Common.{◌≡◌, ℕ, suc, ◌+◌, ◌-◌, ◌≤◌, 
 use Rattle.std.specs.Prelude.{codes}
 use Rattle.binfarce_v0_grammar.specs.Identifiers.{UndisambiguatedIdentifier}
 use Rattle.std.specs.Option.{option_or}
-use Rattle.binfarce_v0_text.specs.LeafTexts.{disambiguator_text}
+use Rattle.binfarce_v0_state.specs.LeafTexts.{disambiguator_text}
 use Rattle.binfarce_v0_state.specs.machine.Printing.{State, heard, write, disambiguate, seek, after_invalid_syntax, take, entered, rooted, kept_root, into, back_to, set_muted}
 
 -- a tree of a text (with the disambiguators of crates or without), a root, a height and steps was shown with some levels left, and the position after it is `after`

@@ -3,3 +3,4 @@ pub mod Printing
 pub mod Kept
 pub mod Outcome
 pub mod MemoryKept
+pub mod View

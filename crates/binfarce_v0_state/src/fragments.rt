@@ -7,9 +7,9 @@ ghost use Rattle.binfarce_v0_state.specs.machine.Printing.{with_state, readers, 
 ghost use Rattle.binfarce_v0_state.specs.machine.MemoryKept.{fragments_bytes};
 ghost use Rattle.binfarce_v0_state.specs.machine.Kept.{production_view, left_open_of, read, IsFragmentFor, IsMark, MayKeep, again, raised, lowered};
 
+use crate::position::Position;
 use crate::state::Printer;
 use crate::targets::Targets;
-use binfarce_v0_text::position::Position;
 use std::alloc::{AllocError, Global};
 use std::collections::BTreeMap;
 
@@ -173,7 +173,8 @@ impl Fragments {
 
     // Keeps a fragment.
     fn keep(&mut self, fragment: Fragment) -> Result<(), AllocError>
-        ensures { self.new.fragments.items ≡ (if is_ok result then self.old.fragments.items ++ (fragment ∷ []) else self.old.fragments.items) }
+        ensures { self.new.fragments.items
+            ≡ (if is_ok result then self.old.fragments.items ++ (fragment ∷ []) else self.old.fragments.items) }
     {
         let number = self.fragments.len();
         if number >= LINEAR_SEARCH {
@@ -242,7 +243,8 @@ impl<'a> Printer<'a> {
         production: Production,
         left_open: bool,
     ) -> Result<(), AllocError>
-        requires { MayKeep self.old.part self.old.state mark levels_left binder_depth (production_view production) left_open }
+        requires { MayKeep self.old.part self.old.state mark levels_left binder_depth
+            (production_view production) left_open }
         ensures { OnOk result (self.new ≡ with_state (lowered mark.least_levels_left self.old.state) self.old) }
     {
         let least_levels_left = self.least_levels_left;
@@ -315,7 +317,9 @@ impl<'a> Printer<'a> {
     // Writes what a fragment holds of both texts again, where that begins and ends with characters.
     #[tactic(auto, using(crate::proofs::KeptLemmas::grown_alike))]
     fn write_again(&mut self, fragment: Fragment) -> Result<bool, AllocError>
-        ensures { IfOk result (λ written. self.new ≡ with_state (if written then again fragment self.old.state else self.old.state) self.old) }
+        ensures { IfOk result
+            (λ written. self.new
+            ≡ with_state (if written then again fragment self.old.state else self.old.state) self.old) }
     {
         if self.muted {
             return Ok(true);
@@ -339,7 +343,9 @@ impl<'a> Printer<'a> {
     fn write_both_again(&mut self, fragment: Fragment) -> Result<bool, AllocError>
         requires full { self.old.state.full ≡ true }
         requires muted { self.old.state.muted ≡ false }
-        ensures { IfOk result (λ written. self.new ≡ with_state (if written then again fragment self.old.state else self.old.state) self.old) }
+        ensures { IfOk result
+            (λ written. self.new
+            ≡ with_state (if written then again fragment self.old.state else self.old.state) self.old) }
     {
         let shared = share(&mut self.complete, &mut self.trimmed, &mut self.text);
         or_forget(&mut self.kept.fragments, shared)?;
@@ -372,7 +378,15 @@ impl<'a> Printer<'a> {
         key: FragmentKey,
         after: usize,
     ) -> Result<Option<bool>, AllocError>
-        ensures { IfOk result (λ r. MatchOption r (self.new ≡ self.old) (λ opened. (self.new ≡ with_state (back_to after self.old.state.in_back_reference (read (readers self.old.part levels_left) (production_view key.production) key.binder_depth (into key.at self.old.state)).1) self.old) × (opened ≡ left_open_of (production_view key.production) (read (readers self.old.part levels_left) (production_view key.production) key.binder_depth (into key.at self.old.state)).0))) }
+        ensures { IfOk result
+            (λ r. MatchOption r (self.new ≡ self.old)
+            (λ opened. (self.new
+            ≡ with_state (back_to after self.old.state.in_back_reference
+            (read (readers self.old.part levels_left) (production_view key.production) key.binder_depth
+            (into key.at self.old.state)).1) self.old)
+            × (opened ≡ left_open_of (production_view key.production)
+            (read (readers self.old.part levels_left) (production_view key.production) key.binder_depth
+            (into key.at self.old.state)).0))) }
     {
         if self.limit_exceeded {
             return Ok(None);

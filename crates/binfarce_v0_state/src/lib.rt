@@ -2,7 +2,10 @@
 //! what it may write again.
 #![tactic(auto)]
 
+mod disambiguators;
 pub mod fragments;
 pub mod memory;
+pub mod position;
 pub mod state;
 pub mod targets;
+pub mod text;

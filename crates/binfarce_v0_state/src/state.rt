@@ -9,11 +9,11 @@ ghost use Rattle.binfarce_v0_state.specs.machine.MemoryKept.{buffers_bytes};
 ghost use Rattle.binfarce_v0_state.specs.machine.Printing.{with_state, first_printing, write, disambiguate, seek, after_invalid_syntax, stopped, take, entered, rooted, into, back_to, set_muted};
 
 use crate::fragments::{Fragments, or_forget, share};
+use crate::text::{Disambiguator, Leaf};
 use binfarce_v0_grammar::forms::Lifetime;
 use binfarce_v0_grammar::identifiers::UndisambiguatedIdentifier;
 use binfarce_v0_grammar::limits::{MAX_LEVELS, MAX_STEPS};
 use binfarce_v0_grammar::positions::lifetime_steps;
-use binfarce_v0_text::text::{Disambiguator, Leaf};
 use std::alloc::{AllocError, Global};
 use std::marker::Model;
 
@@ -105,9 +105,29 @@ impl<'a> Model for Printer<'a> {
 
     ghost Value = { Printing };
 
-    ghost view = { λ p. record { part = p.part.now; state = record { at = p.at; steps_left = p.steps_left; least_levels_left = p.least_levels_left; limit_exceeded = p.limit_exceeded; text = string_bytes p.complete ++ string_bytes p.text; trimmed = string_bytes p.trimmed ++ string_bytes p.text; muted = p.muted; full = p.full; in_back_reference = p.in_back_reference; root = option_map undisambiguated_view p.root } } };
+    ghost view = { λ p. record {
+      part =
+          p.part.now;
+      state = record {
+        at = p.at;
+        steps_left = p.steps_left;
+        least_levels_left = p.least_levels_left;
+        limit_exceeded = p.limit_exceeded;
+        text = string_bytes p.complete
+            ++ string_bytes p.text;
+        trimmed = string_bytes p.trimmed
+            ++ string_bytes p.text;
+        muted = p.muted;
+        full = p.full;
+        in_back_reference = p.in_back_reference;
+        root = option_map undisambiguated_view p.root;
+      };
+    } };
 
-    ghost invariant = { λ p. IsAscii p.part.now × ((p.steps_left ≤ MAX_STEPS) × (p.least_levels_left ≤ MAX_LEVELS)) × All (IsKept p.part.now p.full (string_bytes p.complete ++ string_bytes p.text) (string_bytes p.trimmed ++ string_bytes p.text)) p.kept.fragments.items × (p.full ≡ false → (string_bytes p.complete ≡ []) × (string_bytes p.trimmed ≡ [])) };
+    ghost invariant = { λ p. IsAscii p.part.now × ((p.steps_left ≤ MAX_STEPS) × (p.least_levels_left ≤ MAX_LEVELS))
+        × All (IsKept p.part.now p.full (string_bytes p.complete ++ string_bytes p.text)
+        (string_bytes p.trimmed ++ string_bytes p.text)) p.kept.fragments.items
+        × (p.full ≡ false → (string_bytes p.complete ≡ []) × (string_bytes p.trimmed ≡ [])) };
 }
 
 impl<'a> Printer<'a> {
@@ -173,7 +193,8 @@ impl<'a> Printer<'a> {
 
     /// Copies of the text that was written, and of the same without the disambiguators of crates, in memory that fits them.
     pub fn texts(&self, alloc: Global) -> Result<(String, String), AllocError>
-        ensures { IfOk result (λ t. (string_bytes t.0 ≡ self.now.state.text) × (string_bytes t.1 ≡ self.now.state.trimmed)) }
+        ensures { IfOk result
+            (λ t. (string_bytes t.0 ≡ self.now.state.text) × (string_bytes t.1 ≡ self.now.state.trimmed)) }
     {
         let complete = joined(alloc, self.complete.as_str(), self.text.as_str())?;
         let trimmed = joined(alloc, self.trimmed.as_str(), self.text.as_str())?;
@@ -226,7 +247,9 @@ impl<'a> Printer<'a> {
     /// Takes steps, where so many are left.
     #[inline(always)]
     pub fn take(&mut self, count: u64) -> bool
-        ensures took { self.new ≡ with_state (if nat_le count self.old.state.steps_left then take count self.old.state else stopped self.old.state) self.old }
+        ensures took { self.new
+            ≡ with_state (if nat_le count self.old.state.steps_left then take count self.old.state else stopped
+            self.old.state) self.old }
         ensures enough { result ≡ nat_le count self.old.state.steps_left }
         ensures small { IsTrue result → count ≤ MAX_STEPS }
     {
@@ -250,7 +273,9 @@ impl<'a> Printer<'a> {
     /// Takes the steps of a lifetime, where so many are left.
     #[inline(always)]
     pub fn take_lifetime(&mut self, life: Lifetime) -> bool
-        ensures took { self.new ≡ with_state (if nat_le (lifetime_steps (lifetime_view life)) self.old.state.steps_left then take (lifetime_steps (lifetime_view life)) self.old.state else stopped self.old.state) self.old }
+        ensures took { self.new
+            ≡ with_state (if nat_le (lifetime_steps (lifetime_view life)) self.old.state.steps_left then take
+            (lifetime_steps (lifetime_view life)) self.old.state else stopped self.old.state) self.old }
         ensures enough { result ≡ nat_le (lifetime_steps (lifetime_view life)) self.old.state.steps_left }
     {
         if lifetime_steps(life) == 1 {
@@ -262,8 +287,12 @@ impl<'a> Printer<'a> {
     /// Takes a level and a step, where there is one of each: how many levels are left below, one less.
     #[inline(always)]
     pub fn enter(&mut self, levels_left: usize) -> Option<usize>
-        ensures entered { self.new ≡ with_state (if nat_le 1 levels_left && nat_le 1 self.old.state.steps_left then entered (levels_left - 1) self.old.state else stopped self.old.state) self.old }
-        ensures below { MatchOption result ((nat_le 1 levels_left && nat_le 1 self.old.state.steps_left) ≡ false) (λ below. ((nat_le 1 levels_left && nat_le 1 self.old.state.steps_left) ≡ true) × (below ≡ levels_left - 1)) }
+        ensures entered { self.new
+            ≡ with_state (if nat_le 1 levels_left && nat_le 1 self.old.state.steps_left then entered (levels_left - 1)
+            self.old.state else stopped self.old.state) self.old }
+        ensures below { MatchOption result ((nat_le 1 levels_left && nat_le 1 self.old.state.steps_left) ≡ false)
+            (λ below. ((nat_le 1 levels_left && nat_le 1 self.old.state.steps_left) ≡ true)
+            × (below ≡ levels_left - 1)) }
     {
         if levels_left == 0 || self.steps_left == 0 {
             self.stop();

@@ -2,7 +2,7 @@
 use Rattle.std.specs.Prelude.{◌==◌, ◌++◌, ◌||◌, ℕ, Bool, true, false, not, List, [], ◌∷◌, codes, find, length, Option, Some, None, Result, Ok, Err, if◌then◌else◌}
 use Rattle.std.specs.List.{position_or_len, before_first, after_first}
 use Rattle.std.specs.Str.{byte, bytes_eq}
-use Rattle.binfarce_ranges.specs.Address.{address_of}
+use Rattle.binfarce_addresses.specs.Address.{address_of}
 use Rattle.binfarce_words.specs.declared.words.Command.{Command}
 use Rattle.binfarce_words.specs.declared.words.Command.TheVariants.{List as Listing, Size, Map, Filter, At, Section}
 use Rattle.binfarce_words.specs.declared.words.Flag.{Flag}

@@ -7,7 +7,7 @@ ghost use Rattle.binfarce_words.specs.Words.{asks_help, asks_version, command_ca
 ghost use Rattle.binfarce_words.specs.WordViews.{Gives, Changes, IsFault, IsWrong, given_view, reading_view, call_view};
 
 use crate::named::{Named, find_named, nearest};
-use binfarce_ranges::address::parse_address;
+use binfarce_addresses::address::parse_address;
 use std::alloc::Global;
 use std::fmt;
 
@@ -271,7 +271,8 @@ fn read_command<'a>(
     word: &'a str,
     others: &'a [String],
 ) -> Result<Call<'a>, Wrong<'a>>
-    ensures { Gives call_view (command_call word.entry.now (map string_bytes others.entry.now) (command_named word.entry.now)) result }
+    ensures { Gives call_view
+        (command_call word.entry.now (map string_bytes others.entry.now) (command_named word.entry.now)) result }
 {
     match find_named(&COMMANDS, word) {
         None => Err(unknown_command(word)),
@@ -387,7 +388,8 @@ impl<'a> Reading<'a> {
     fn take_option(&mut self, command: Command, word: &'a str) -> Result<(), Wrong<'a>>
         requires free { self.old.waiting ≡ None }
         requires before { self.old.are_operands ≡ false }
-        ensures { Changes reading_view (after_option command (given_view self.old.given) word.now (value_parts word.now)) self.new result }
+        ensures { Changes reading_view
+            (after_option command (given_view self.old.given) word.now (value_parts word.now)) self.new result }
     {
         match parts_of(word) {
             None => self.take_name(command, word),
@@ -405,7 +407,9 @@ impl<'a> Reading<'a> {
     ) -> Result<(), Wrong<'a>>
         requires free { self.old.waiting ≡ None }
         requires before { self.old.are_operands ≡ false }
-        ensures { Changes reading_view (after_value command (given_view self.old.given) word.now value.now (flag_named command name.now)) self.new result }
+        ensures { Changes reading_view
+            (after_value command (given_view self.old.given) word.now value.now (flag_named command name.now))
+            self.new result }
     {
         match flag_of(command, name) {
             None => Err(unknown_option(command, word)),
@@ -423,7 +427,8 @@ impl<'a> Reading<'a> {
     fn take_name(&mut self, command: Command, word: &'a str) -> Result<(), Wrong<'a>>
         requires free { self.old.waiting ≡ None }
         requires before { self.old.are_operands ≡ false }
-        ensures { Changes reading_view (after_name command (given_view self.old.given) word.now (flag_named command word.now)) self.new result }
+        ensures { Changes reading_view
+            (after_name command (given_view self.old.given) word.now (flag_named command word.now)) self.new result }
     {
         match flag_of(command, word) {
             None => Err(unknown_option(command, word)),

@@ -1,5 +1,7 @@
-//! Tests of names, and of what they are read and printed by.
+//! Tests of names and of the filter.
 #![tactic(auto)]
 
 #[cfg(test)]
-mod tests;
+mod filtering;
+#[cfg(test)]
+mod names;

@@ -1,11 +1,11 @@
 //! The same question to both fronts: to the bytes of a whole file, and to a source that holds them.
 
+use binfarce_bytes::functions::FunctionSymbol;
+use binfarce_bytes::source::Source;
 use binfarce_bytes::{ByteOrder, ParseError};
 use binfarce_elf::class::Class;
 use binfarce_elf::symbols::Functions;
 use binfarce_reading::ReadError;
-use binfarce_source::Source;
-use binfarce_symbols::functions::FunctionSymbol;
 use std::alloc::Global;
 use test_samples::elf::Layout;
 

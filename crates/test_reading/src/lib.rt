@@ -1,8 +1,12 @@
-//! Tests of `binfarce_reading` and `binfarce_source`, and what `test_memory` too asks of both fronts while one allocation fails.
+//! Tests of sections and of files read at offsets, and what `test_memory` too asks of them while one allocation fails.
 #![tactic(auto)]
 
+mod expected;
 pub mod fronts;
 pub mod macho;
 pub mod pe;
+pub mod rows;
+#[cfg(test)]
+mod sections;
 #[cfg(test)]
 mod tests;

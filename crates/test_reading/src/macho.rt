@@ -2,9 +2,9 @@
 
 use crate::fronts::{Given, is_same};
 use binfarce_bytes::ParseError;
+use binfarce_bytes::functions::FunctionSymbol;
+use binfarce_bytes::source::Source;
 use binfarce_reading::ReadError;
-use binfarce_source::Source;
-use binfarce_symbols::functions::FunctionSymbol;
 use std::alloc::Global;
 use test_samples::macho::MACHO;
 use test_samples::{Patch, patched};

@@ -5,9 +5,11 @@ ghost use Rattle.std.specs.Prelude.{◌≡◌, map, set, take, IfOk};
 ghost use Rattle.test_samples.specs.Patched.{patched, patched_at};
 
 pub mod elf;
+pub mod interruptions;
 pub mod macho;
 pub mod pe;
 pub mod question;
+pub mod streams;
 
 use std::alloc::{AllocError, Global};
 

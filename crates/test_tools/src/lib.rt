@@ -1,5 +1,11 @@
-//! Tests of listings and reports by public calls.
+//! Tests of listings, reports, charts, addresses and images.
 #![tactic(auto)]
 
 #[cfg(test)]
-mod tests;
+mod addresses;
+#[cfg(test)]
+mod image;
+#[cfg(test)]
+mod map;
+#[cfg(test)]
+mod tools;

@@ -2,10 +2,13 @@
 
 //! What stands at addresses in an executable: the function symbol that holds each, and the offset into it.
 
+pub mod address;
 pub mod at;
 mod cells;
 mod digits;
+pub mod marks;
 mod names;
+pub mod ranges;
 pub mod stream;
 
-pub use crate::erased::binfarce_ranges::address::parse_address;
+pub use crate::erased::binfarce_addresses::address::parse_address;

@@ -3,7 +3,11 @@
 //! Numbers and texts in a file's bytes, and why a file can't be read: what the readers of all formats stand on.
 
 pub mod error;
+pub mod format;
+pub mod functions;
 pub mod parser;
+pub mod sizes;
+pub mod source;
 mod text;
 
 pub use crate::erased::binfarce_bytes::error::ParseError;

@@ -3,7 +3,7 @@
 //! What the programs share: their arguments, the file that they read, and how they end.
 
 use crate::shim::{CollectIn, HostRuntime, String, Vec};
-use crate::erased::binfarce_source::Source;
+use crate::erased::binfarce_bytes::source::Source;
 use crate::shim::alloc::Global;
 use crate::shim::fs::File;
 use crate::shim::io::{self, ErrorKind, Read, Write};

@@ -5,6 +5,7 @@
 pub mod functions;
 mod head;
 pub mod list;
+pub mod map;
 pub mod report;
 pub mod tables;
 pub mod writing;

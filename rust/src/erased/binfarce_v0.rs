@@ -2,4 +2,10 @@
 
 //! Rust's v0 manglings (RFC 2603): a name is read by the grammar, and what it means is printed.
 
+pub mod consts;
+mod identifiers;
+mod lists;
 pub mod mangling;
+pub mod paths;
+mod productions;
+pub mod types;

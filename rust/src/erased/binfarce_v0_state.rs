@@ -3,7 +3,10 @@
 //! The state of the printing of a v0 name of a Rust symbol (RFC 2603): where it reads, what it has counted and written, and
 //! what it may write again.
 
+mod disambiguators;
 pub mod fragments;
 pub mod memory;
+pub mod position;
 pub mod state;
 pub mod targets;
+pub mod text;

@@ -8,67 +8,40 @@
 pub mod binfarce_text;
 pub mod binfarce_legacy;
 pub mod binfarce_v0_grammar;
-pub mod binfarce_punycode;
-pub mod binfarce_v0_text;
 pub mod binfarce_v0_state;
-pub mod binfarce_v0_print;
 pub mod binfarce_v0;
 pub mod binfarce_names;
 pub mod binfarce_filtering;
 pub mod binfarce_bytes;
-pub mod binfarce_format;
-pub mod binfarce_symbols;
 pub mod binfarce_elf;
-pub mod binfarce_source;
 pub mod binfarce_macho;
 pub mod binfarce_pe;
-pub mod binfarce_naming;
 pub mod binfarce_tables;
-pub mod binfarce_reading;
 pub mod binfarce;
+pub mod binfarce_reading;
 pub mod binfarce_image;
+pub mod binfarce_chart;
 pub mod binfarce_tools;
 pub mod binfarce_parts;
-pub mod binfarce_chart;
-pub mod binfarce_mapping;
-pub mod binfarce_ranges;
-pub mod binfarce_words;
 pub mod binfarce_addresses;
+pub mod binfarce_words;
 pub mod binfarce_sections;
 pub mod binfarce_program;
-pub mod binfarce_list;
-pub mod binfarce_size;
 pub mod binfarce_command;
 pub mod binfarce_c;
 #[cfg(test)]
-pub mod test_streams;
-#[cfg(test)]
 pub mod test_samples;
-#[cfg(test)]
-pub mod test_names;
-#[cfg(test)]
-pub mod test_filtering;
-#[cfg(test)]
-pub mod test_binfarce;
-#[cfg(test)]
-pub mod test_elf;
-#[cfg(test)]
-pub mod test_macho;
-#[cfg(test)]
-pub mod test_pe;
+pub mod binfarce_list;
+pub mod binfarce_size;
 #[cfg(test)]
 pub mod test_image_samples;
-#[cfg(test)]
-pub mod test_image;
-#[cfg(test)]
-pub mod test_tools;
-#[cfg(test)]
-pub mod test_map;
-#[cfg(test)]
-pub mod test_addresses;
-#[cfg(test)]
-pub mod test_sections;
 #[cfg(test)]
 pub mod test_reading;
 #[cfg(test)]
 pub mod test_memory;
+#[cfg(test)]
+pub mod test_names;
+#[cfg(test)]
+pub mod test_formats;
+#[cfg(test)]
+pub mod test_tools;

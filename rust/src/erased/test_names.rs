@@ -1,6 +1,8 @@
 // From crates/test_names/src/lib.rt, by tools/erase.
 
-//! Tests of names, and of what they are read and printed by.
+//! Tests of names and of the filter.
 
 #[cfg(test)]
-mod tests;
+mod filtering;
+#[cfg(test)]
+mod names;

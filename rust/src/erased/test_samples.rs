@@ -3,9 +3,11 @@
 //! Small executables, byte by byte, for tests of what reads them.
 
 pub mod elf;
+pub mod interruptions;
 pub mod macho;
 pub mod pe;
 pub mod question;
+pub mod streams;
 
 use crate::shim::Vec;
 use crate::shim::alloc::{AllocError, Global};

@@ -1,6 +1,12 @@
 // From crates/test_tools/src/lib.rt, by tools/erase.
 
-//! Tests of listings and reports by public calls.
+//! Tests of listings, reports, charts, addresses and images.
 
 #[cfg(test)]
-mod tests;
+mod addresses;
+#[cfg(test)]
+mod image;
+#[cfg(test)]
+mod map;
+#[cfg(test)]
+mod tools;

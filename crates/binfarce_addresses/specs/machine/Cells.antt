@@ -3,8 +3,8 @@ use Rattle.std.specs.Prelude.{◌≡◌, ℕ, ◌+◌, ◌-◌, ◌<◌, List, l
 use Rattle.binfarce.specs.Name.{Name}
 use Rattle.binfarce.specs.Named.{IsNamed}
 use Rattle.binfarce.specs.Symbol.{Entry}
-use Rattle.binfarce_ranges.specs.declared.ranges.AddressRange.{AddressRange}
-use Rattle.binfarce_ranges.specs.Range.{IsSpanOf}
+use Rattle.binfarce_addresses.specs.declared.ranges.AddressRange.{AddressRange}
+use Rattle.binfarce_addresses.specs.Range.{IsSpanOf}
 use Rattle.binfarce_addresses.specs.Lines.{in_file, found_at}
 use Rattle.binfarce_addresses.specs.declared.cells.Cell.{Cell}
 

@@ -10,8 +10,8 @@ use Rattle.binfarce.specs.declared.FunctionSymbol.{FunctionSymbol}
 use Rattle.binfarce_addresses.specs.Lines.{in_file, found_at}
 use Rattle.binfarce_addresses.specs.declared.cells.Cell.{Cell}
 use Rattle.binfarce_addresses.specs.machine.Cells.{AreCellsOf}
-use Rattle.binfarce_ranges.specs.declared.ranges.AddressRange.{AddressRange}
-use Rattle.binfarce_ranges.specs.declared.ranges.Found.{Found}
+use Rattle.binfarce_addresses.specs.declared.ranges.AddressRange.{AddressRange}
+use Rattle.binfarce_addresses.specs.declared.ranges.Found.{Found}
 
 abbrev pub range_of : Entry → AddressRange
 range_of entry = record { address = entry.address; size = entry.size }

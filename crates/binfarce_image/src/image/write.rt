@@ -116,7 +116,8 @@ fn push_header(
 }
 
 fn push_bodies(file: &mut Vec<u8>, parts: &[Part], layout: ElfLayout) -> Result<(), AllocError>
-    ensures bodies { OnOk result (file.new.items ≡ file.old.items ++ flat_map (body (class_of layout) (order_of layout)) parts.now) }
+    ensures bodies { OnOk result
+        (file.new.items ≡ file.old.items ++ flat_map (body (class_of layout) (order_of layout)) parts.now) }
     ensures fits { OnOk result (AllByRecursion BodyFits parts.now) }
 {
     for part in parts {
@@ -129,7 +130,8 @@ fn push_bodies(file: &mut Vec<u8>, parts: &[Part], layout: ElfLayout) -> Result<
 }
 
 fn push_rows(file: &mut Vec<u8>, rows: &[Row], layout: ElfLayout) -> Result<(), AllocError>
-    ensures rows { OnOk result (file.new.items ≡ file.old.items ++ flat_map (symbol_bytes (class_of layout) (order_of layout)) rows.now) }
+    ensures rows { OnOk result
+        (file.new.items ≡ file.old.items ++ flat_map (symbol_bytes (class_of layout) (order_of layout)) rows.now) }
     ensures fits { OnOk result (AllByRecursion RowFits rows.now) }
 {
     for row in rows {
@@ -139,7 +141,8 @@ fn push_rows(file: &mut Vec<u8>, rows: &[Row], layout: ElfLayout) -> Result<(), 
 }
 
 fn push_row(file: &mut Vec<u8>, row: Row, layout: ElfLayout) -> Result<(), AllocError>
-    ensures row { OnOk result (file.new.items ≡ file.old.items ++ symbol_bytes (class_of layout) (order_of layout) row) }
+    ensures row { OnOk result
+        (file.new.items ≡ file.old.items ++ symbol_bytes (class_of layout) (order_of layout) row) }
     ensures fits { RowFits row }
 {
     let class = class(layout);
@@ -187,7 +190,8 @@ fn push_section_header(
     place: usize,
 ) -> Result<(), AllocError>
     requires { body_length (class_of layout) part.now < 2 ^ 32 }
-    ensures header { OnOk result (file.new.items ≡ file.old.items ++ section_bytes (class_of layout) (order_of layout) place part.now) }
+    ensures header { OnOk result
+        (file.new.items ≡ file.old.items ++ section_bytes (class_of layout) (order_of layout) place part.now) }
     ensures fits { HeaderFits part.now }
 {
     let class = class(layout);
@@ -220,7 +224,8 @@ fn push_structure(
 ) -> Result<(), AllocError>
     requires longest { length ≤ 64 }
     requires fit { all_fit length (numbers_view numbers.now) ≡ true }
-    ensures { OnOk result (file.new.items ≡ file.old.items ++ filled order (take length blank) (numbers_view numbers.now)) }
+    ensures { OnOk result
+        (file.new.items ≡ file.old.items ++ filled order (take length blank) (numbers_view numbers.now)) }
 {
     let structure = &mut blank[..length];
     fill(structure, order, numbers);

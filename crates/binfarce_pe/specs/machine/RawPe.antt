@@ -13,11 +13,11 @@ use Rattle.binfarce_pe.specs.Pe as pe
 use Rattle.binfarce_pe.specs.PeParts.{SectionTable, whole_in, section_in, table_walk}
 use Rattle.binfarce_pe.specs.PeSymbols as symbols
 use Rattle.binfarce_pe.specs.PeViews.{section_view}
-use Rattle.binfarce_symbols.specs.Sizes.{RowAddress, addresses_of}
-use Rattle.binfarce_symbols.specs.Entries.{Entry}
-use Rattle.binfarce_symbols.specs.RowViews.{rows_view}
-use Rattle.binfarce_symbols.specs.SymbolViews.{function_view}
-use Rattle.binfarce_symbols.specs.declared.functions.FunctionSymbol.{FunctionSymbol}
+use Rattle.binfarce_bytes.specs.Sizes.{RowAddress, addresses_of}
+use Rattle.binfarce_bytes.specs.Entries.{Entry}
+use Rattle.binfarce_bytes.specs.RowViews.{rows_view}
+use Rattle.binfarce_bytes.specs.SymbolViews.{function_view}
+use Rattle.binfarce_bytes.specs.declared.functions.FunctionSymbol.{FunctionSymbol}
 
 abbrev pub symbol_view : SymbolRow → symbols.SymbolRow ℕ
 symbol_view r = record { zeroes = r.zeroes; offset = r.offset; value = r.value; section_number = r.section_number; kind = r.kind; storage_class = r.storage_class; number_of_aux_symbols = r.number_of_aux_symbols }

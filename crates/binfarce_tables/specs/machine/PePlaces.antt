@@ -2,7 +2,7 @@
 use Rattle.std.specs.Prelude.{ℕ, ◌+◌, List, length, drop, Result, Ok, Err, nat_lt, nat_le, if◌then◌else◌}
 use Rattle.binfarce_bytes.specs.Number.{bytes_at}
 use Rattle.binfarce_bytes.specs.Refusal.{◌>>=◌, Refusal, unexpected_eof}
-use Rattle.binfarce_symbols.specs.Entries.{Listed}
+use Rattle.binfarce_bytes.specs.Entries.{Listed}
 use Rattle.binfarce_pe.specs.Pe.{least_length, signature_offset}
 use Rattle.binfarce_pe.specs.PeParts.{TablePlaces, places_of, SectionTable, TextPlace, text_place}
 use Rattle.binfarce_pe.specs.PeSymbols.{SymbolTable, entries_of}

@@ -10,7 +10,8 @@ use std::alloc::Global;
 
 /// The line of an address.
 pub fn line_of(alloc: Global, file: &[u8], address: u64) -> Result<Vec<u8>, ListError>
-    ensures { IfOk result (λ line. (listed : Listed) × (symbols_answer (format_of file.now) file.now (codes ".text") ≡ Some (Ok listed))
+    ensures { IfOk result
+        (λ line. (listed : Listed) × (symbols_answer (format_of file.now) file.now (codes ".text") ≡ Some (Ok listed))
         × IsLineAt listed.entries 0 address line.items) }
 {
     let mut places = places_of(alloc, file)?;
@@ -22,7 +23,9 @@ pub fn line_of(alloc: Global, file: &[u8], address: u64) -> Result<Vec<u8>, List
 
 /// The places of a file's text.
 pub fn places_of(alloc: Global, file: &[u8]) -> Result<Places<'_>, ListError>
-    ensures { IfOk result (λ places. (listed : Listed) × (symbols_answer (format_of file.entry.now) file.entry.now (codes ".text") ≡ Some (Ok listed))
+    ensures { IfOk result
+        (λ places. (listed : Listed)
+        × (symbols_answer (format_of file.entry.now) file.entry.now (codes ".text") ≡ Some (Ok listed))
         × (places ≡ listed.entries)) }
 {
     Places::of_file(alloc, file, ".text")

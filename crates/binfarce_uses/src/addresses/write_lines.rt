@@ -19,7 +19,8 @@ pub fn write_lines<S: Sink>(
     out: &mut S,
 ) -> Result<(), ListError>
     ensures { (which : SymbolTable) (file section : List ℕ) → AreTablesOf which file section tables.now
-        → Takes (AreLinesAt 0x555555554000 frames.now) (answer_of which file section) (S.taken out.old) (S.taken out.new) (outcome_of result) }
+        → Takes (AreLinesAt 0x555555554000 frames.now) (answer_of which file section) (S.taken out.old)
+        (S.taken out.new) (outcome_of result) }
 {
     at_tables(alloc, tables, 0x5555_5555_4000, frames, out)
 }

@@ -11,7 +11,8 @@ use std::alloc::Global;
 /// The function symbols of `.text` in the dynamic symbol table, with readable names.
 pub fn dynamic_text_symbols(alloc: Global, file: &[u8]) -> Result<Vec<SymbolData>, ParseError>
     ensures { let table = section_table elf64 (record { order = LittleEndian; bytes = file.now }) in
-        IfOk result (λ symbols. (listed : Listed) → dynamic_answer elf64 table (codes ".text") ≡ Ok listed → AreSymbolsOf listed.entries symbols.items) }
+        IfOk result (λ symbols. (listed : Listed) → dynamic_answer elf64 table (codes ".text") ≡ Ok listed
+        → AreSymbolsOf listed.entries symbols.items) }
 {
     let elf = elf64::parse(file, ByteOrder::LittleEndian)?;
     let (symbols, _text_size) = elf.dynamic_symbols(alloc, ".text")?;

@@ -13,7 +13,8 @@ use binfarce::{ParseError, SectionFunction, SymbolTable};
 pub fn first_of_all<'a>(elf: &Elf64<'a>) -> Result<Option<SectionFunction<'a>>, ParseError>
     ensures found { (entries : List SectionEntry) → all_answer Dynsym elf64 (section_table elf64 elf.now) ≡ Ok entries
         → IsOkAnd result (λ f. option_map section_function_view f ≡ slice_get entries 0) }
-    ensures refused { (why : Refusal) → all_answer Dynsym elf64 (section_table elf64 elf.now) ≡ Err why → IsErrAnd result (λ e. refusal_of e ≡ why) }
+    ensures refused { (why : Refusal) → all_answer Dynsym elf64 (section_table elf64 elf.now) ≡ Err why
+        → IsErrAnd result (λ e. refusal_of e ≡ why) }
 {
     let mut functions = elf.all_functions(SymbolTable::Dynsym)?;
     Ok(functions.next())

@@ -9,7 +9,8 @@ use binfarce::elf64::{Elf64, Section};
 
 /// The first section.
 pub fn first_section(elf: &Elf64<'_>) -> Result<Option<Section>, ParseError>
-    ensures { FirstAccepted refusal_of (section_view (λ n. n)) (λ s accepted. accepted ≡ true) (walk elf64 (section_table elf64 elf.now)) result }
+    ensures { FirstAccepted refusal_of (section_view (λ n. n))
+        (λ s accepted. accepted ≡ true) (walk elf64 (section_table elf64 elf.now)) result }
 {
     elf.find_section(
         |_section|

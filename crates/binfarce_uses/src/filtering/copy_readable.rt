@@ -11,7 +11,8 @@ pub fn copy_readable<R: Read, W: Write>(
     input: &mut R,
     output: &mut W,
 ) -> Result<(), StreamError>
-    ensures { Streams false (R.remaining input.old) (R.remaining input.new) (W.contents output.old) (W.contents output.new) result }
+    ensures { Streams false (R.remaining input.old) (R.remaining input.new) (W.contents output.old)
+        (W.contents output.new) result }
 {
     filter_stream(alloc, false, input, output)
 }

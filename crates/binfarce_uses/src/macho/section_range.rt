@@ -12,9 +12,11 @@ pub fn section_range(
     segment: &str,
     name: &str,
 ) -> Result<Option<Range<usize>>, ParseError>
-    ensures found { (s : Section) → first (λ s. is_named segment.now name.now s) (walk macho.now) ≡ Ok (Some s) → s.offset + s.size < 2 ^ 64
+    ensures found { (s : Section) → first (λ s. is_named segment.now name.now s) (walk macho.now) ≡ Ok (Some s)
+        → s.offset + s.size < 2 ^ 64
         → IsOkAnd result (λ range. MatchOption range ⊥ (λ r. (r.start ≡ s.offset) × (r.end ≡ s.offset + s.size))) }
-    ensures none { first (λ s. is_named segment.now name.now s) (walk macho.now) ≡ Ok None → IsOkAnd result (λ range. range ≡ None) }
+    ensures none { first (λ s. is_named segment.now name.now s) (walk macho.now) ≡ Ok None
+        → IsOkAnd result (λ range. range ≡ None) }
 {
     match macho.section_with_name(segment, name)? {
         Some(section) => Ok(Some(section.range()?)),

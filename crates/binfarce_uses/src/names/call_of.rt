@@ -8,7 +8,8 @@ use std::alloc::{AllocError, Global};
 
 /// The readable names of a caller and of what it calls, without their hashes.
 pub fn call_of(alloc: Global, caller: &str, called: &str) -> Result<String, AllocError>
-    ensures { IfOk result (λ text. (first : Name) × (second : Name) × IsNamed caller.now first × IsNamed called.now second
+    ensures { IfOk result
+        (λ text. (first : Name) × (second : Name) × IsNamed caller.now first × IsNamed called.now second
         × (string_bytes text ≡ first.trimmed ++ (codes " -> " ++ second.trimmed))) }
 {
     let mut demangler = Demangler::new(alloc);

@@ -9,7 +9,9 @@ use std::alloc::{AllocError, Global};
 
 /// `in ` and the crate that a name tells, if it tells one.
 pub fn in_crate(alloc: Global, name: &str) -> Result<String, AllocError>
-    ensures { IfOk result (λ text. (answer : Name) × IsNamed name.now answer × (string_bytes text ≡ codes "in " ++ unwrap_or (crate_of answer) [])) }
+    ensures { IfOk result
+        (λ text. (answer : Name) × IsNamed name.now answer
+        × (string_bytes text ≡ codes "in " ++ unwrap_or (crate_of answer) [])) }
 {
     let mut text = String::from_str(alloc, "in ")?;
     let _ = push_crate(alloc, &mut text, name)?;

@@ -5,9 +5,9 @@ ghost use Rattle.binfarce_reading.specs.Reading.{Reads};
 ghost use Rattle.binfarce_reading.specs.SectionReading.{file_sections, sections_view};
 
 use binfarce::ByteOrder;
+use binfarce_bytes::source::Source;
 use binfarce_reading::ReadError;
 use binfarce_reading::elf64::{SectionParts, read_sections};
-use binfarce_source::Source;
 use std::alloc::Global;
 
 /// What the sections of a file and their names are read from.

@@ -9,7 +9,8 @@ use binfarce_sections::error::SectionError;
 
 /// What `cargo auditable` has written into a program: zlib over JSON.
 pub fn dependencies(file: &[u8]) -> Result<&[u8], SectionError>
-    ensures { Hands (λ b. b.now) (bytes_named (sections_of (format_of file.now) file.now) file.now (codes ".dep-v0")) result }
+    ensures { Hands (λ b. b.now) (bytes_named (sections_of (format_of file.now) file.now) file.now
+        (codes ".dep-v0")) result }
 {
     section_bytes(file, ".dep-v0")
 }

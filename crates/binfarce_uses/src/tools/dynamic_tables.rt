@@ -2,15 +2,16 @@ ghost use Rattle.std.specs.Prelude.{◌≡◌, List, ℕ, Some, codes, true};
 ghost use Rattle.binfarce_tools.specs.Tables.{ReadsTables};
 ghost use Rattle.binfarce_tools.specs.declared.SymbolTable.TheVariants.{Dynsym};
 
+use binfarce_bytes::source::Source;
 use binfarce_reading::ReadError;
-use binfarce_source::Source;
 use binfarce_tools::SymbolTable;
 use binfarce_tools::tables::{Tables, read_by};
 use std::alloc::Global;
 
 /// What the function symbols of `.text` in the dynamic symbol table are made of.
 pub fn dynamic_tables<S: Source>(alloc: Global, source: &S) -> Result<Tables, ReadError>
-    ensures { (file : List ℕ) → S.bytes source.now ≡ Some file → ReadsTables (S.may_fail source.now ≡ true) Dynsym file (codes ".text") result }
+    ensures { (file : List ℕ) → S.bytes source.now ≡ Some file
+        → ReadsTables (S.may_fail source.now ≡ true) Dynsym file (codes ".text") result }
 {
     read_by(alloc, source, SymbolTable::Dynsym, ".text")
 }

@@ -9,7 +9,8 @@ use std::alloc::Global;
 
 /// The listing of the function symbols in `.text`.
 pub fn listing(alloc: Global, file: &[u8]) -> Result<Vec<u8>, ListError>
-    ensures { IfOk result (λ text. (listed : Listed) × (symbols_answer (format_of file.now) file.now (codes ".text") ≡ Some (Ok listed))
+    ensures { IfOk result
+        (λ text. (listed : Listed) × (symbols_answer (format_of file.now) file.now (codes ".text") ≡ Some (Ok listed))
         × IsListingOf listed text.items) }
 {
     let mut out = Out::new(Vec::new(alloc));

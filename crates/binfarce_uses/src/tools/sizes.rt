@@ -10,7 +10,8 @@ use std::alloc::Global;
 
 /// How much of `.text` each crate takes, a line for each.
 pub fn sizes(alloc: Global, file: &[u8]) -> Result<Vec<u8>, ReportError>
-    ensures { IfOk result (λ text. (listed : Listed) × (symbols_answer (format_of file.now) file.now (codes ".text") ≡ Some (Ok listed))
+    ensures { IfOk result
+        (λ text. (listed : Listed) × (symbols_answer (format_of file.now) file.now (codes ".text") ≡ Some (Ok listed))
         × IsReportOf listed text.items) }
 {
     let mut out = Out::new(Vec::new(alloc));

@@ -3,8 +3,8 @@ use Rattle.std.specs.Prelude.{◌≡◌, ◌⊎◌, ℕ, List, [], if◌then◌e
 use Rattle.std.specs.Option.{option_map}
 use Rattle.std.specs.Str.{IsAscii}
 use Rattle.binfarce_v0_grammar.specs.Tree.{PathTree, path_height, path_steps, path_root}
-use Rattle.binfarce_v0_text.specs.LeafTexts.{identifier_text}
-use Rattle.binfarce_v0_text.specs.TreeTexts.{name_text}
+use Rattle.binfarce_v0_state.specs.LeafTexts.{identifier_text}
+use Rattle.binfarce_v0_state.specs.TreeTexts.{name_text}
 use Rattle.binfarce_v0_grammar.specs.Unfolding.{UnfoldsTo}
 use Rattle.binfarce_v0.specs.Mangling.{PathStands, IsV0, HasNoTree, part_after_prefix, is_upper_at}
 use Rattle.binfarce_v0_state.specs.machine.Outcome.{Outcome, outcome_of}

@@ -1,9 +1,9 @@
 -- What a printing keeps of its own text, to write it again where a back reference asks for it.
 use Rattle.std.specs.Prelude.{◌≡◌, ℕ, ◌-◌, ◌≤◌, List, Option, Some, Bool, false, length, slice_range, max, min}
 use Rattle.binfarce_v0_grammar.specs.Tree.{PathTree, TypeTree, ConstTree, path_steps, type_steps, const_steps, path_height, type_height, const_height}
-use Rattle.binfarce_v0_text.specs.TreeTexts.{Position, path_text, type_text, const_text, is_left_open}
+use Rattle.binfarce_v0_state.specs.TreeTexts.{Position, path_text, type_text, const_text, is_left_open}
 use Rattle.binfarce_v0_grammar.specs.Unfolding.{IsPath, IsType, IsConst}
-use Rattle.binfarce_v0_text.specs.machine.View.{position_view}
+use Rattle.binfarce_v0_state.specs.machine.View.{position_view}
 use Rattle.binfarce_v0_state.specs.machine.Printing.{State, Readers, write_both}
 use Rattle.binfarce_v0_state.specs.declared.fragments.FragmentKey as key
 use Rattle.binfarce_v0_state.specs.declared.fragments.Fragment as fragment

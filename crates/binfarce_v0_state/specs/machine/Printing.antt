@@ -3,11 +3,11 @@ use Rattle.std.specs.Prelude.{ℕ, zero, suc, ◌+◌, ◌-◌, ◌*◌, ◌≤�
 use Rattle.std.specs.Option.{option_or}
 use Rattle.binfarce_text.specs.Letters.{'K', 'L', 'p', 'u'}
 use Rattle.binfarce_v0_grammar.specs.Identifiers.{UndisambiguatedIdentifier, Identifier}
-use Rattle.binfarce_v0_text.specs.LeafTexts.{identifier_text}
+use Rattle.binfarce_v0_state.specs.LeafTexts.{identifier_text}
 use Rattle.binfarce_v0_grammar.specs.Forms.{Lifetime, NoLifetime, Signature, stands, after_byte, identifier_at, undisambiguated_at, lifetime, path_form, type_form, const_form, PathForm, NoPathForm, CrateRoot, NestedIn, InherentImpl, TraitImpl, TraitDefinition, WithArguments, BackToPath, TypeForm, NoTypeForm, BasicType, ReferenceTo, InvalidReference, PointerTo, SliceOf, ArrayOf, TupleOf, FunctionOf, InvalidAbi, DynOf, InvalidDyn, BackToType, PathType, ConstForm, NoConstForm, UntypedPlaceholderConst, PlaceholderConst, ValueConst, InvalidConst, BackToConst}
 use Rattle.binfarce_v0_grammar.specs.Tree.{PathTree, TypeTree, ConstTree, Item, Items, Bindings, NoConst, UntypedPlaceholder, Placeholder, Value, InvalidValue, BackConst, NoPath, Crate, Nested, InvalidNested, OfType, OfImpl, OfTrait, Generic, BackPath, NoType, Basic, Reference, InvalidReferenceType, Pointer, Slice, Array, Tuple, Function, FunctionTo, InvalidFunction, Dyn, InvalidDynType, Named, BackType, LifetimeItem, TypeItem, ConstItem, TraitItem, NoItems, ItemThen, NoBindings, Binding, InvalidBinding, lifetime_steps, Listed, Arguments, Types, Traits}
-use Rattle.binfarce_v0_text.specs.TreeTexts.{Position, InType, OpenTrait, parent_position, value_mark, closing, is_left_open, separator, single_mark, open_mark, close_mark}
-use Rattle.binfarce_v0_text.specs.LeafTexts.{binder_text, reference_lifetime, argument_lifetime, dyn_lifetime, disambiguator_text, nested_text, mutable_text, signature_text, sign_text, value_text}
+use Rattle.binfarce_v0_state.specs.TreeTexts.{Position, InType, OpenTrait, parent_position, value_mark, closing, is_left_open, separator, single_mark, open_mark, close_mark}
+use Rattle.binfarce_v0_state.specs.LeafTexts.{binder_text, reference_lifetime, argument_lifetime, dyn_lifetime, disambiguator_text, nested_text, mutable_text, signature_text, sign_text, value_text}
 use Rattle.binfarce_v0_grammar.specs.Unfolding.{bound_end, required_end, list_goes_on}
 use Rattle.binfarce_v0_grammar.specs.declared.limits.TheConstants.{MAX_LEVELS, MAX_STEPS}
 

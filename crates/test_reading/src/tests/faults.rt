@@ -1,7 +1,7 @@
 //! Sources that fail at a call, that end early, and that count what is read of them.
 
 use crate::fronts::{Given, LAYOUTS, compared};
-use binfarce_source::Source;
+use binfarce_bytes::source::Source;
 use std::alloc::Global;
 use std::cell::Cell;
 use std::io::{self, Error, ErrorKind};

@@ -1,6 +1,6 @@
 //! A part of bytes in memory.
 
-use binfarce_source::read_part;
+use binfarce_bytes::source::read_part;
 use std::io::ErrorKind;
 use std::test::Fail;
 

@@ -3,6 +3,7 @@
 //! ELF files of either class (System V gABI).
 
 use crate::shim::Vec;
+use crate::erased::binfarce::symbols::symbols_of;
 use crate::erased::binfarce_bytes::{ByteOrder, ParseError};
 use crate::erased::binfarce_elf::all::{self, AllFunctions};
 use crate::erased::binfarce_elf::class::Class;
@@ -11,7 +12,6 @@ use crate::erased::binfarce_elf::sections::{self, HasSections, Section, Sections
 use crate::erased::binfarce_elf::symbol_table::SymbolTable;
 use crate::erased::binfarce_elf::symbols::{self, Functions};
 use crate::erased::binfarce_names::demangle::SymbolData;
-use crate::erased::binfarce_naming::symbols::symbols_of;
 use crate::shim::alloc::Global;
 
 /// An ELF file of either class. It borrows the file's bytes.

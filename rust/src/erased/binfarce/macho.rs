@@ -3,7 +3,9 @@
 //! 64-bit Mach-O files, which are little endian (Apple's `<mach-o/loader.h>` and `<mach-o/nlist.h>`).
 
 use crate::shim::Vec;
+use crate::erased::binfarce::symbols::symbols_of;
 use crate::erased::binfarce_bytes::ParseError;
+use crate::erased::binfarce_bytes::functions::{FunctionSymbol, SectionFunction};
 use crate::erased::binfarce_macho::all::functions_of_sections;
 pub use crate::erased::binfarce_macho::header::MachoHeader;
 use crate::erased::binfarce_macho::header::parse_header;
@@ -11,8 +13,6 @@ use crate::erased::binfarce_macho::sections;
 pub use crate::erased::binfarce_macho::sections::{Section, Sections};
 use crate::erased::binfarce_macho::symbols::functions_of_file;
 use crate::erased::binfarce_names::demangle::SymbolData;
-use crate::erased::binfarce_naming::symbols::symbols_of;
-use crate::erased::binfarce_symbols::functions::{FunctionSymbol, SectionFunction};
 use crate::shim::alloc::Global;
 
 /// A Mach-O file. It borrows the file's bytes.

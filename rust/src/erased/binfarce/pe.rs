@@ -3,9 +3,10 @@
 //! PE files with COFF symbols (Microsoft PE Format), which are little endian.
 
 use crate::shim::Vec;
+use crate::erased::binfarce::symbols::symbols_of;
 use crate::erased::binfarce_bytes::ParseError;
+use crate::erased::binfarce_bytes::functions::{FunctionSymbol, SectionFunction};
 use crate::erased::binfarce_names::demangle::SymbolData;
-use crate::erased::binfarce_naming::symbols::symbols_of;
 use crate::erased::binfarce_pe::all::functions_of_sections;
 pub use crate::erased::binfarce_pe::header::PeHeader;
 use crate::erased::binfarce_pe::header::parse_header;
@@ -13,7 +14,6 @@ use crate::erased::binfarce_pe::parts::{Places, places_after};
 pub use crate::erased::binfarce_pe::sections::{Section, Sections};
 use crate::erased::binfarce_pe::sections::{self, first_of_file};
 use crate::erased::binfarce_pe::symbols::functions_of_file;
-use crate::erased::binfarce_symbols::functions::{FunctionSymbol, SectionFunction};
 use crate::shim::alloc::Global;
 
 /// A PE file. It borrows the file's bytes.

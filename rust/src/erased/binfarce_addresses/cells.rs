@@ -3,8 +3,8 @@
 //! What is known of the addresses from each function symbol's own on, so that most lines of many addresses take one look.
 
 use crate::shim::Vec;
-use crate::erased::binfarce_ranges::marks::Marks;
-use crate::erased::binfarce_ranges::ranges::Ranges;
+use crate::erased::binfarce_addresses::marks::Marks;
+use crate::erased::binfarce_addresses::ranges::Ranges;
 use crate::shim::alloc::{AllocError, Global};
 
 // How many cells are looked at where slices of the marks have several.

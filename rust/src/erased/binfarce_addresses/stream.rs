@@ -3,8 +3,8 @@
 //! Addresses that come as the lines of a text.
 
 use crate::shim::Vec;
+use crate::erased::binfarce_addresses::address::{hex_line, parse_address};
 use crate::erased::binfarce_addresses::at::Places;
-use crate::erased::binfarce_ranges::address::{hex_line, parse_address};
 use crate::erased::binfarce_tools::list::Sink;
 use crate::erased::binfarce_tools::writing::write_whole;
 use crate::shim::alloc::{AllocError, Global};

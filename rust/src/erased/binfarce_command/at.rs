@@ -7,7 +7,7 @@ use crate::erased::binfarce_command::fault::Fault;
 use crate::erased::binfarce_addresses::at::{Places, at_tables};
 use crate::erased::binfarce_addresses::parse_address;
 use crate::erased::binfarce_addresses::stream::answer_lines;
-use crate::erased::binfarce_source::Source;
+use crate::erased::binfarce_bytes::source::Source;
 use crate::erased::binfarce_tools::SymbolTable;
 use crate::erased::binfarce_tools::list::{ListError, Sink};
 use crate::erased::binfarce_tools::tables::{Tables, read_by};

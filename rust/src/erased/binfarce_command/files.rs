@@ -8,7 +8,7 @@ use crate::erased::binfarce_command::headed::Headed;
 use crate::erased::binfarce_command::held::Held;
 use crate::erased::binfarce_command::input::Noted;
 use crate::erased::binfarce_command::show::{Kind, show};
-use crate::erased::binfarce_source::Source;
+use crate::erased::binfarce_bytes::source::Source;
 use crate::erased::binfarce_tools::SymbolTable;
 use crate::shim::alloc::{AllocError, Global};
 use crate::shim::io::{self, Error, Read, Write};

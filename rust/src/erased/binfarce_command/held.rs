@@ -4,9 +4,9 @@
 
 use crate::shim::Vec;
 use crate::erased::binfarce_command::fault::Fault;
-use crate::erased::binfarce_format::{Format, detect_format};
+use crate::erased::binfarce_bytes::format::{Format, detect_format};
+use crate::erased::binfarce_bytes::source::Source;
 use crate::erased::binfarce_program::is_read_at_offsets;
-use crate::erased::binfarce_source::Source;
 use crate::shim::alloc::Global;
 use crate::shim::io::{self, ErrorKind, Read};
 

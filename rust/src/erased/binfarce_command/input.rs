@@ -2,7 +2,7 @@
 
 //! What a command reads: files and standard input.
 
-use crate::erased::binfarce_source::Source;
+use crate::erased::binfarce_bytes::source::Source;
 use std::cell::Cell;
 use crate::shim::fs::File;
 use crate::shim::io::{self, Error, ErrorKind, Read, Stdin};

@@ -2,10 +2,10 @@
 
 //! `binfarce section FILE [SECTION]`: the bytes of a section, or a line for each section.
 
+use crate::erased::binfarce_bytes::source::Source;
 use crate::erased::binfarce_sections::bytes::write_section_of;
 use crate::erased::binfarce_sections::error::SectionError;
 use crate::erased::binfarce_sections::list::list_source;
-use crate::erased::binfarce_source::Source;
 use crate::erased::binfarce_tools::list::Sink;
 use crate::shim::alloc::Global;
 

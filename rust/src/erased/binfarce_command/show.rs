@@ -3,11 +3,11 @@
 //! Shows the function symbols of a file: as a listing, as sums by crate, or as a picture.
 
 use crate::erased::binfarce_command::fault::Fault;
-use crate::erased::binfarce_mapping::map_tables;
-use crate::erased::binfarce_source::Source;
-use crate::erased::binfarce_tools::list::{Sink, list_tables};
-use crate::erased::binfarce_tools::report::report_tables;
+use crate::erased::binfarce_bytes::source::Source;
 use crate::erased::binfarce_tools::SymbolTable;
+use crate::erased::binfarce_tools::list::{Sink, list_tables};
+use crate::erased::binfarce_tools::map::map_tables;
+use crate::erased::binfarce_tools::report::report_tables;
 use crate::erased::binfarce_tools::tables::{Tables, read_by};
 use crate::shim::alloc::Global;
 

@@ -6,9 +6,9 @@ use crate::erased::binfarce_elf::class::{Class, Half, SymbolRow};
 use crate::erased::binfarce_elf::sections::Table;
 use crate::erased::binfarce_elf::symbol_table::SymbolTable;
 use crate::erased::binfarce_elf::symbols::{Rows, function_name, rows_of};
+use crate::erased::binfarce_bytes::functions::{FunctionSymbol, SectionFunction};
 use crate::erased::binfarce_bytes::parser::UnexpectedEof;
 use crate::erased::binfarce_bytes::{ByteOrder, ParseError};
-use crate::erased::binfarce_symbols::functions::{FunctionSymbol, SectionFunction};
 use std::marker::PhantomData;
 
 /// The function symbols of all sections, by this symbol table.

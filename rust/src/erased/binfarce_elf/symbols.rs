@@ -7,9 +7,9 @@ use crate::erased::binfarce_elf::sections::{
     Section, Table, first_section, section_data, section_with_name,
 };
 use crate::erased::binfarce_elf::symbol_table::SymbolTable;
+use crate::erased::binfarce_bytes::functions::{FunctionSymbol, found_with};
 use crate::erased::binfarce_bytes::parser::{UnexpectedEof, parse_null_string};
 use crate::erased::binfarce_bytes::{ByteOrder, ParseError};
-use crate::erased::binfarce_symbols::functions::{FunctionSymbol, found_with};
 use std::marker::PhantomData;
 
 /// `SHT_STRTAB`.

@@ -3,8 +3,8 @@
 //! What the program does, over any reader and any writer.
 
 use crate::shim::String;
+use crate::erased::binfarce_bytes::source::Source;
 use crate::erased::binfarce_program::{Failure, file_and_section, is_read_at_offsets, read_whole};
-use crate::erased::binfarce_source::Source;
 use crate::erased::binfarce_tables::ReadError;
 use crate::erased::binfarce_tools::list::{ListError, Out, list, list_tables};
 use crate::erased::binfarce_tools::tables::read;

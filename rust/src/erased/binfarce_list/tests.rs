@@ -7,11 +7,11 @@ use crate::shim::{HostRuntime, Vec};
 use crate::erased::binfarce_list::program::{Fault, run, run_at, run_file, status, words};
 use crate::erased::binfarce_tools::list::Out;
 use crate::shim::alloc::AllocError;
-use crate::erased::test_samples::{elf, macho, pe};
-use crate::erased::test_streams::{
+use crate::erased::test_samples::streams::{
     HELD, Held, Interrupted, READERS, Source, ended_with, failed_with, files_of, large_file,
     samples,
 };
+use crate::erased::test_samples::{elf, macho, pe};
 
 // The listings of the sample files.
 const LISTINGS: [&str; 3] = [elf::LISTING, macho::LISTING, pe::LISTING];

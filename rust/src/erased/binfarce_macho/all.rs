@@ -11,10 +11,10 @@ use crate::erased::binfarce_macho::symbols::{
     SYMBOL_LENGTH, SymbolTable, is_defined, row_addresses, size_up_to, sized_entry, symbol_at,
     symbol_command,
 };
+use crate::erased::binfarce_bytes::functions::{FunctionSymbol, SectionFunction};
 use crate::erased::binfarce_bytes::parser::{number_at, parse_null_string, slice_at};
+use crate::erased::binfarce_bytes::sizes::{RowAddress, arrange};
 use crate::erased::binfarce_bytes::{ByteOrder, ParseError};
-use crate::erased::binfarce_symbols::functions::{FunctionSymbol, SectionFunction};
-use crate::erased::binfarce_symbols::sizes::{RowAddress, arrange};
 use crate::shim::alloc::{AllocError, Global};
 
 // The greatest number of a section that a row can state (`MAX_SECT`).

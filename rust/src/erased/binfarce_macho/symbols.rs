@@ -7,10 +7,10 @@ use crate::erased::binfarce_macho::commands::{Command, LC_SYMTAB, commands};
 use crate::erased::binfarce_macho::header::MachoHeader;
 use crate::erased::binfarce_macho::parts::needed_tables;
 use crate::erased::binfarce_macho::sections::{Section, section_with_name};
+use crate::erased::binfarce_bytes::functions::FunctionSymbol;
 use crate::erased::binfarce_bytes::parser::{Stream, UnexpectedEof, parse_null_string, slice_at};
+use crate::erased::binfarce_bytes::sizes::{RowAddress, arrange};
 use crate::erased::binfarce_bytes::{ByteOrder, ParseError};
-use crate::erased::binfarce_symbols::functions::FunctionSymbol;
-use crate::erased::binfarce_symbols::sizes::{RowAddress, arrange};
 use crate::shim::alloc::{AllocError, Global};
 
 /// The length of a row of the symbol table in bytes.

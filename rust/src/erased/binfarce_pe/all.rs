@@ -9,10 +9,10 @@ use crate::erased::binfarce_pe::symbols::{
     Kept, SYMBOL_LENGTH, SymbolRow, SymbolTable, function_name, kept_functions, symbol_of,
     symbol_table,
 };
+use crate::erased::binfarce_bytes::functions::{FunctionSymbol, SectionFunction};
 use crate::erased::binfarce_bytes::parser::number_at;
+use crate::erased::binfarce_bytes::sizes::RowAddress;
 use crate::erased::binfarce_bytes::{ByteOrder, ParseError};
-use crate::erased::binfarce_symbols::functions::{FunctionSymbol, SectionFunction};
-use crate::erased::binfarce_symbols::sizes::RowAddress;
 use crate::shim::alloc::{AllocError, Global};
 use std::mem;
 

@@ -6,9 +6,9 @@ use crate::shim::Vec;
 use crate::erased::binfarce_pe::header::{PeHeader, header_after};
 use crate::erased::binfarce_pe::sections::Table;
 use crate::erased::binfarce_pe::symbols::{SYMBOL_LENGTH, SymbolTable, functions_of, text_among};
+use crate::erased::binfarce_bytes::functions::FunctionSymbol;
 use crate::erased::binfarce_bytes::parser::number_at;
 use crate::erased::binfarce_bytes::{ByteOrder, ParseError};
-use crate::erased::binfarce_symbols::functions::FunctionSymbol;
 use crate::shim::alloc::{AllocError, Global};
 
 /// Where the offset of the signature stands in the MS-DOS stub.

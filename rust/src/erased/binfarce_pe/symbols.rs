@@ -7,10 +7,10 @@ use crate::erased::binfarce_pe::parts::Places;
 use crate::erased::binfarce_pe::sections::{
     Section, Table, section_named, section_table, short_name,
 };
+use crate::erased::binfarce_bytes::functions::FunctionSymbol;
 use crate::erased::binfarce_bytes::parser::{Stream, UnexpectedEof, parse_null_string, slice_at};
+use crate::erased::binfarce_bytes::sizes::{RowAddress, arrange};
 use crate::erased::binfarce_bytes::{ByteOrder, ParseError};
-use crate::erased::binfarce_symbols::functions::FunctionSymbol;
-use crate::erased::binfarce_symbols::sizes::{RowAddress, arrange};
 use crate::shim::alloc::{AllocError, Global};
 
 pub(crate) const SYMBOL_LENGTH: usize = 18;

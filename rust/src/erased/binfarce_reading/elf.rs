@@ -3,11 +3,11 @@
 //! The parts of an ELF file of either class that the function symbols of a section are read from.
 
 use crate::shim::Vec;
+use crate::erased::binfarce::symbols::symbols_of;
 use crate::erased::binfarce_bytes::ParseError;
 use crate::erased::binfarce_elf::class::Class;
 use crate::erased::binfarce_elf::symbols::Functions;
 use crate::erased::binfarce_names::demangle::SymbolData;
-use crate::erased::binfarce_naming::symbols::symbols_of;
 use crate::erased::binfarce_tables::elf;
 use crate::shim::alloc::Global;
 

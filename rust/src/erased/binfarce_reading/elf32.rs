@@ -4,8 +4,8 @@
 
 use crate::erased::binfarce_reading::elf;
 use crate::erased::binfarce_bytes::ByteOrder;
+use crate::erased::binfarce_bytes::source::Source;
 use crate::erased::binfarce_elf::symbol_table::SymbolTable;
-use crate::erased::binfarce_source::Source;
 pub use crate::erased::binfarce_tables::elf32::{SectionParts, read_sections};
 use crate::erased::binfarce_tables::{ReadError, elf32};
 use crate::shim::alloc::Global;

@@ -3,11 +3,11 @@
 //! 64-bit Mach-O files, read where their tables are (Apple's `<mach-o/loader.h>` and `<mach-o/nlist.h>`).
 
 use crate::shim::Vec;
+use crate::erased::binfarce::symbols::symbols_of;
 use crate::erased::binfarce_bytes::ParseError;
+use crate::erased::binfarce_bytes::functions::FunctionSymbol;
+use crate::erased::binfarce_bytes::source::Source;
 use crate::erased::binfarce_names::demangle::SymbolData;
-use crate::erased::binfarce_naming::symbols::symbols_of;
-use crate::erased::binfarce_source::Source;
-use crate::erased::binfarce_symbols::functions::FunctionSymbol;
 pub use crate::erased::binfarce_tables::macho::read_sections;
 use crate::erased::binfarce_tables::{ReadError, macho};
 use crate::shim::alloc::Global;

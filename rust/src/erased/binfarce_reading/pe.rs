@@ -3,11 +3,11 @@
 //! PE files, read where their tables are (Microsoft PE Format).
 
 use crate::shim::Vec;
+use crate::erased::binfarce::symbols::symbols_of;
 use crate::erased::binfarce_bytes::ParseError;
+use crate::erased::binfarce_bytes::functions::FunctionSymbol;
+use crate::erased::binfarce_bytes::source::Source;
 use crate::erased::binfarce_names::demangle::SymbolData;
-use crate::erased::binfarce_naming::symbols::symbols_of;
-use crate::erased::binfarce_source::Source;
-use crate::erased::binfarce_symbols::functions::FunctionSymbol;
 pub use crate::erased::binfarce_tables::pe::read_sections;
 use crate::erased::binfarce_tables::{ReadError, pe};
 use crate::shim::alloc::Global;

@@ -6,7 +6,7 @@ use crate::erased::binfarce_sections::error::SectionError;
 use crate::erased::binfarce_sections::sections::{Section, Sections, sections_of};
 use crate::erased::binfarce_sections::tables::read_named;
 use crate::erased::binfarce::ParseError;
-use crate::erased::binfarce_source::Source;
+use crate::erased::binfarce_bytes::source::Source;
 use crate::erased::binfarce_tools::list::Sink;
 use crate::erased::binfarce_tools::writing::write_whole;
 use crate::shim::alloc::Global;

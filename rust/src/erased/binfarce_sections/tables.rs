@@ -9,7 +9,7 @@ use crate::erased::binfarce_sections::sections::{
     Section, Sections, elf32_sections, elf64_sections, open_macho, open_pe,
 };
 use crate::erased::binfarce::Format;
-use crate::erased::binfarce_source::Source;
+use crate::erased::binfarce_bytes::source::Source;
 use crate::erased::binfarce_tables::{Beginning, ReadError, elf32, elf64, macho, part, pe};
 use crate::erased::binfarce_tools::tables::read_format;
 use crate::shim::alloc::Global;

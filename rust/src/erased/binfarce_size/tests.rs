@@ -7,7 +7,7 @@ use crate::shim::{HostRuntime, Vec};
 use crate::erased::binfarce_size::program::{Fault, run, run_at, run_file, status, words};
 use crate::erased::binfarce_tools::list::Out;
 use crate::shim::alloc::AllocError;
-use crate::erased::test_streams::{
+use crate::erased::test_samples::streams::{
     HELD, Held, Interrupted, READERS, Source, ended_with, failed_with, files_of, large_file,
     samples,
 };

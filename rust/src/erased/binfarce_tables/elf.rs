@@ -4,6 +4,7 @@
 
 use crate::shim::Vec;
 use crate::erased::binfarce_tables::error::ReadError;
+use crate::erased::binfarce_bytes::source::{Source, read_part};
 use crate::erased::binfarce_bytes::{ByteOrder, ParseError};
 use crate::erased::binfarce_elf::class::{Class, Half};
 use crate::erased::binfarce_elf::header::{Header, parse_header};
@@ -11,7 +12,6 @@ use crate::erased::binfarce_elf::parts::{Needed, functions_in, needed_sections};
 use crate::erased::binfarce_elf::sections::{Section, section_at};
 use crate::erased::binfarce_elf::symbol_table::SymbolTable;
 use crate::erased::binfarce_elf::symbols::{Functions, whole_rows};
-use crate::erased::binfarce_source::{Source, read_part};
 use crate::shim::alloc::Global;
 
 /// The parts of a file that the function symbols of a section are read from.

@@ -5,8 +5,8 @@
 use crate::erased::binfarce_tables::error::ReadError;
 use crate::erased::binfarce_tables::{elf, sections};
 use crate::erased::binfarce_bytes::ByteOrder;
+use crate::erased::binfarce_bytes::source::Source;
 use crate::erased::binfarce_elf::symbol_table::SymbolTable;
-use crate::erased::binfarce_source::Source;
 use crate::shim::alloc::Global;
 
 /// The parts of a 32-bit file that the function symbols of a section are read from, in memory.

@@ -7,11 +7,11 @@ use crate::erased::binfarce_tables::beginning::Beginning;
 use crate::erased::binfarce_tables::elf::part;
 use crate::erased::binfarce_tables::error::ReadError;
 use crate::erased::binfarce_bytes::ParseError;
+use crate::erased::binfarce_bytes::functions::FunctionSymbol;
+use crate::erased::binfarce_bytes::source::Source;
 use crate::erased::binfarce_macho::header::{MachoHeader, parse_header};
 use crate::erased::binfarce_macho::parts::{self, Located, Needed, SYMBOL_LENGTH, SymbolTable};
 use crate::erased::binfarce_macho::sections::Section;
-use crate::erased::binfarce_source::Source;
-use crate::erased::binfarce_symbols::functions::FunctionSymbol;
 use crate::shim::alloc::Global;
 
 // The header's bytes that are read.

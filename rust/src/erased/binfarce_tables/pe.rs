@@ -7,12 +7,12 @@ use crate::erased::binfarce_tables::beginning::Beginning;
 use crate::erased::binfarce_tables::elf::part;
 use crate::erased::binfarce_tables::error::ReadError;
 use crate::erased::binfarce_bytes::ParseError;
+use crate::erased::binfarce_bytes::functions::FunctionSymbol;
+use crate::erased::binfarce_bytes::source::Source;
 use crate::erased::binfarce_pe::parts::{
     HEADERS_LENGTH, Places, SECTION_LENGTH, SIGNATURE_POINTER, Text, functions_in, places_in,
     signature_in, text_in,
 };
-use crate::erased::binfarce_source::Source;
-use crate::erased::binfarce_symbols::functions::FunctionSymbol;
 use crate::shim::alloc::Global;
 
 // How many bytes the MS-DOS stub has.

@@ -8,10 +8,10 @@ use crate::erased::binfarce_tables::elf::{
 };
 use crate::erased::binfarce_tables::error::ReadError;
 use crate::erased::binfarce_bytes::ByteOrder;
+use crate::erased::binfarce_bytes::source::Source;
 use crate::erased::binfarce_elf::class::{Class, Half};
 use crate::erased::binfarce_elf::parts::{name_in, sections_in};
 use crate::erased::binfarce_elf::sections::{Section, Sections};
-use crate::erased::binfarce_source::Source;
 use crate::shim::alloc::Global;
 use std::marker::PhantomData;
 

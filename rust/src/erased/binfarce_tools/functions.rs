@@ -4,14 +4,14 @@
 
 use crate::shim::Vec;
 use crate::erased::binfarce_tools::list::ListError;
+use crate::erased::binfarce_bytes::format::{Format, detect_format};
+use crate::erased::binfarce_bytes::functions::FunctionSymbol;
 use crate::erased::binfarce_bytes::{ByteOrder, ParseError};
 use crate::erased::binfarce_elf::header::parse_header;
 use crate::erased::binfarce_elf::sections::section_table;
 use crate::erased::binfarce_elf::symbols::{self, section_functions};
-use crate::erased::binfarce_format::{Format, detect_format};
 use crate::erased::binfarce_macho as macho;
 use crate::erased::binfarce_pe as pe;
-use crate::erased::binfarce_symbols::functions::FunctionSymbol;
 use crate::shim::alloc::Global;
 
 /// The function symbols of a file that are left, in the order of its listing.

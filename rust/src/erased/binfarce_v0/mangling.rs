@@ -3,17 +3,17 @@
 //! A whole v0 mangling.
 
 use crate::shim::String;
+use crate::erased::binfarce_v0::paths::print_path;
 use crate::erased::binfarce_text::prefixes::after_prefix;
 use crate::erased::binfarce_text::suffixes::is_allowed_rest;
 use crate::erased::binfarce_v0_grammar::identifiers::UndisambiguatedIdentifier;
 use crate::erased::binfarce_v0_grammar::limits::MAX_LEVELS;
 use crate::erased::binfarce_v0_grammar::numbers::byte_at;
 use crate::erased::binfarce_v0_grammar::reading::read_path;
-use crate::erased::binfarce_v0_print::paths::print_path;
 use crate::erased::binfarce_v0_state::memory::Memory;
+use crate::erased::binfarce_v0_state::position::Position;
 use crate::erased::binfarce_v0_state::state::{Buffers, Printer};
-use crate::erased::binfarce_v0_text::position::Position;
-use crate::erased::binfarce_v0_text::text::Leaf;
+use crate::erased::binfarce_v0_state::text::Leaf;
 use crate::shim::alloc::{AllocError, Global};
 
 // What stands after the prefix of a v0 mangling.

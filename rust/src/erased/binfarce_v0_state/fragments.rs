@@ -3,9 +3,9 @@
 //! What a printing keeps of its own text: a back reference's target that was printed whole isn't read again.
 
 use crate::shim::{String, Vec};
+use crate::erased::binfarce_v0_state::position::Position;
 use crate::erased::binfarce_v0_state::state::Printer;
 use crate::erased::binfarce_v0_state::targets::Targets;
-use crate::erased::binfarce_v0_text::position::Position;
 use crate::shim::alloc::{AllocError, Global};
 use crate::shim::collections::BTreeMap;
 

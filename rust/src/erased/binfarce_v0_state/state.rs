@@ -4,11 +4,11 @@
 
 use crate::shim::String;
 use crate::erased::binfarce_v0_state::fragments::{Fragments, or_forget, share};
+use crate::erased::binfarce_v0_state::text::{Disambiguator, Leaf};
 use crate::erased::binfarce_v0_grammar::forms::Lifetime;
 use crate::erased::binfarce_v0_grammar::identifiers::UndisambiguatedIdentifier;
 use crate::erased::binfarce_v0_grammar::limits::{MAX_LEVELS, MAX_STEPS};
 use crate::erased::binfarce_v0_grammar::positions::lifetime_steps;
-use crate::erased::binfarce_v0_text::text::{Disambiguator, Leaf};
 use crate::shim::alloc::{AllocError, Global};
 
 /// The memory of a printing, which the next one takes: what was written to it isn't seen there.

@@ -4,7 +4,7 @@
 
 use crate::shim::{String, Vec};
 use crate::erased::binfarce_words::named::{Named, find_named, nearest};
-use crate::erased::binfarce_ranges::address::parse_address;
+use crate::erased::binfarce_addresses::address::parse_address;
 use crate::shim::alloc::Global;
 use std::fmt;
 

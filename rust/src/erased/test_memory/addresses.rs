@@ -9,7 +9,7 @@ use crate::erased::binfarce_tools::list::{ListError, Out};
 use crate::shim::alloc::{AllocError, Global};
 use crate::erased::test_image_samples::tally::{Row, Tally};
 use crate::erased::test_samples::elf::ELF64_LITTLE;
-use crate::erased::test_streams::Source;
+use crate::erased::test_samples::streams::Source;
 
 const LINES: &str = "0000000000001000 foo+0x0\n000000000000100f foo+0xf\n0000000000001010 ??\n";
 

@@ -2,12 +2,12 @@
 
 //! The same question to both fronts: to the bytes of a whole file, and to a source that holds them.
 
+use crate::erased::binfarce_bytes::functions::FunctionSymbol;
+use crate::erased::binfarce_bytes::source::Source;
 use crate::erased::binfarce_bytes::{ByteOrder, ParseError};
 use crate::erased::binfarce_elf::class::Class;
 use crate::erased::binfarce_elf::symbols::Functions;
 use crate::erased::binfarce_reading::ReadError;
-use crate::erased::binfarce_source::Source;
-use crate::erased::binfarce_symbols::functions::FunctionSymbol;
 use crate::shim::alloc::Global;
 use crate::erased::test_samples::elf::Layout;
 

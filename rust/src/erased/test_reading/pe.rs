@@ -5,9 +5,9 @@
 use crate::shim::Vec;
 use crate::erased::test_reading::fronts::{Given, is_same};
 use crate::erased::binfarce_bytes::ParseError;
+use crate::erased::binfarce_bytes::functions::FunctionSymbol;
+use crate::erased::binfarce_bytes::source::Source;
 use crate::erased::binfarce_reading::ReadError;
-use crate::erased::binfarce_source::Source;
-use crate::erased::binfarce_symbols::functions::FunctionSymbol;
 use crate::shim::alloc::Global;
 
 /// What the source gives, beside what the whole file does.

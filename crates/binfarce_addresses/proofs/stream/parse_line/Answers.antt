@@ -1,6 +1,6 @@
 use Rattle.std.proofs.Common.{◌∙◌, ap, refl}
 use Rattle.std.proofs.lemmas.Str.Ascii.{trim_ascii_is}
-use Rattle.binfarce_ranges.specs.Address.{address_of}
+use Rattle.binfarce_addresses.specs.Address.{address_of}
 use Rattle.binfarce_addresses.specs.Stream.{trim_start}
 use Rattle.binfarce_addresses.proofs.stream.parse_line.Goals as goal
 

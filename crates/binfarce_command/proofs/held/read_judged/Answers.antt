@@ -1,6 +1,6 @@
 use Rattle.std.proofs.Common.{◌≡◌, ◌∙◌, ap, sym, rules}
-use Rattle.binfarce_format.specs.Format.{format_of}
-use Rattle.binfarce_format.specs.declared.Format.TheVariants.{Unknown}
+use Rattle.binfarce_bytes.specs.Format.{format_of}
+use Rattle.binfarce_bytes.specs.declared.format.Format.TheVariants.{Unknown}
 use Rattle.binfarce_command.proofs.Streams.{unknown_read}
 use Rattle.binfarce_command.proofs.held.read_judged.Goals as goal
 

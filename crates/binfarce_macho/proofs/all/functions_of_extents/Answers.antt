@@ -2,10 +2,10 @@ use Rattle.std.proofs.Common.{◌≡◌, ◌≢◌, ◌*◌, ◌+◌, ◌≤◌,
 use Rattle.std.proofs.lemmas.Bool.{eqb-true, eq-eqb, false≢true}
 use Rattle.std.proofs.lemmas.List.Elements.{All-same}
 use Rattle.std.proofs.lemmas.List.Sorted.{All-permutation, answers_always}
-use Rattle.binfarce_symbols.specs.declared.sizes.RowAddress.{RowAddress}
-use Rattle.binfarce_symbols.specs.Sizes.{arranged, addresses_of, least_above}
-use Rattle.binfarce_symbols.specs.RowViews.{rows_view}
-use Rattle.binfarce_symbols.proofs.Sweeping.{swept_is}
+use Rattle.binfarce_bytes.specs.declared.sizes.RowAddress.{RowAddress}
+use Rattle.binfarce_bytes.specs.Sizes.{arranged, addresses_of, least_above}
+use Rattle.binfarce_bytes.specs.RowViews.{rows_view}
+use Rattle.binfarce_bytes.proofs.Sweeping.{swept_is}
 use Rattle.binfarce_macho.specs.MachoAll.{extent_end, symbols_view}
 use Rattle.binfarce_macho.specs.MachoSymbols.{row_addresses}
 use Rattle.binfarce_macho.proofs.AllRows.{sorted_answer, error_answer, nothing_of}

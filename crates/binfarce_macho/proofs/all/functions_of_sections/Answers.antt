@@ -1,8 +1,8 @@
 use Rattle.std.proofs.Common.{◌≡◌, ◌≢◌, ◌∙◌, sym, ap, subst, map, List, [], Some, Result, inl, inr}
 use Rattle.binfarce_bytes.specs.Refusal.{Refusal, refusal_of}
-use Rattle.binfarce_symbols.specs.SectionEntries.{SectionEntry, AnswersAll}
-use Rattle.binfarce_symbols.specs.SymbolViews.{HoldsSectionFunctions}
-use Rattle.binfarce_symbols.proofs.AllAnswers.{refusal_passes, answers_weaker}
+use Rattle.binfarce_bytes.specs.SectionEntries.{SectionEntry, AnswersAll}
+use Rattle.binfarce_bytes.specs.SymbolViews.{HoldsSectionFunctions}
+use Rattle.binfarce_bytes.proofs.AllAnswers.{refusal_passes, answers_weaker}
 use Rattle.binfarce_macho.specs.MachoAll.{HasSection, all_of, all_answer, extent_end, symbols_view}
 use Rattle.binfarce_macho.proofs.AllRows.{out_of_memory_answer, ends_refused, symbols_refused, answer_at, no_table, no_extents, some_section}
 use Rattle.binfarce_macho.proofs.all.functions_of_sections.Goals as goal

@@ -1,13 +1,13 @@
 use Rattle.std.proofs.Common.{◌≡◌, ◌≢◌, ◌∙◌, ap, sym, arith, List, [], ◌∷◌, Ok, Some, None, map, take}
 use Rattle.std.proofs.lemmas.List.{append-nil, map-append, take_all}
 use Rattle.binfarce_bytes.specs.Refusal.{refusal_of}
-use Rattle.binfarce_symbols.specs.declared.functions.SectionFunction.{SectionFunction}
-use Rattle.binfarce_symbols.specs.declared.sizes.RowAddress.{RowAddress}
-use Rattle.binfarce_symbols.specs.RowViews.{row_view, rows_view}
-use Rattle.binfarce_symbols.specs.SymbolViews.{section_function_view, HoldsSectionFunctions}
-use Rattle.binfarce_symbols.proofs.AllAnswers.{refusal_passes}
+use Rattle.binfarce_bytes.specs.declared.functions.SectionFunction.{SectionFunction}
+use Rattle.binfarce_bytes.specs.declared.sizes.RowAddress.{RowAddress}
+use Rattle.binfarce_bytes.specs.RowViews.{row_view, rows_view}
+use Rattle.binfarce_bytes.specs.SymbolViews.{section_function_view, HoldsSectionFunctions}
+use Rattle.binfarce_bytes.proofs.AllAnswers.{refusal_passes}
 use Rattle.binfarce_macho.proofs.AllRows.{listed}
-use Rattle.binfarce_symbols.proofs.Sweeping.{past}
+use Rattle.binfarce_bytes.proofs.Sweeping.{past}
 use Rattle.binfarce_macho.specs.MachoAll.{section_entry, symbols_view, extent_end}
 use Rattle.binfarce_macho.specs.MachoSymbols.{kept}
 use Rattle.binfarce_macho.proofs.Kept.{kept_more, kept_refused, kept_view}

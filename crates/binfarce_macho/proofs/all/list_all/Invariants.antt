@@ -1,6 +1,6 @@
 use Rattle.std.proofs.Common.{◌≡◌, ◌≤◌, length, map, take, Ok}
-use Rattle.binfarce_symbols.specs.SymbolViews.{section_function_view}
-use Rattle.binfarce_symbols.specs.RowViews.{row_view}
+use Rattle.binfarce_bytes.specs.SymbolViews.{section_function_view}
+use Rattle.binfarce_bytes.specs.RowViews.{row_view}
 use Rattle.binfarce_macho.specs.MachoAll.{section_entry, symbols_view, extent_end}
 use Rattle.binfarce_macho.specs.MachoSymbols.{kept}
 use Rattle.binfarce_macho.proofs.all.list_all.Given as goal

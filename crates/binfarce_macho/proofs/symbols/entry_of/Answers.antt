@@ -1,7 +1,7 @@
 use Rattle.std.proofs.Common.{sym, ◌∙◌}
 use Rattle.binfarce_macho.specs.MachoSymbols.{row_addresses}
-use Rattle.binfarce_symbols.specs.Sizes.{addresses_of}
-use Rattle.binfarce_symbols.proofs.Above.{above_less}
+use Rattle.binfarce_bytes.specs.Sizes.{addresses_of}
+use Rattle.binfarce_bytes.proofs.Above.{above_less}
 use Rattle.binfarce_macho.proofs.symbols.entry_of.Goals as goal
 
 pub size_up_to-requires : goal.size_up_to-requires

@@ -3,11 +3,11 @@ use Rattle.std.proofs.lemmas.Bool.{eqb-true, eq-eqb, false≢true}
 use Rattle.std.proofs.lemmas.List.{length-map}
 use Rattle.std.proofs.lemmas.List.Elements.{All-same}
 use Rattle.std.proofs.lemmas.List.Sorted.{All-permutation}
-use Rattle.binfarce_symbols.specs.declared.sizes.RowAddress.{RowAddress}
-use Rattle.binfarce_symbols.specs.Sizes.{arranged, addresses_of, least_above}
-use Rattle.binfarce_symbols.specs.RowViews.{row_view, rows_view}
-use Rattle.binfarce_symbols.specs.SymbolViews.{HoldsFunctions}
-use Rattle.binfarce_symbols.proofs.Sweeping.{swept_is}
+use Rattle.binfarce_bytes.specs.declared.sizes.RowAddress.{RowAddress}
+use Rattle.binfarce_bytes.specs.Sizes.{arranged, addresses_of, least_above}
+use Rattle.binfarce_bytes.specs.RowViews.{row_view, rows_view}
+use Rattle.binfarce_bytes.specs.SymbolViews.{HoldsFunctions}
+use Rattle.binfarce_bytes.proofs.Sweeping.{swept_is}
 use Rattle.binfarce_macho.specs.MachoSymbols.{answer_of, listed_of, row_addresses}
 use Rattle.binfarce_macho.specs.MachoParts.{located_view}
 use Rattle.binfarce_macho.proofs.Kept.{rows_view_inside, empty}

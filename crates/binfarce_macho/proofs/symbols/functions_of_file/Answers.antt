@@ -1,5 +1,5 @@
 use Rattle.std.proofs.Common.{◌≢◌, sym, [], Some}
-use Rattle.binfarce_symbols.specs.SymbolViews.{HoldsFunctions}
+use Rattle.binfarce_bytes.specs.SymbolViews.{HoldsFunctions}
 use Rattle.binfarce_macho.specs.MachoSymbols.{HasAddress, macho_answer, answer_of, row_addresses}
 use Rattle.binfarce_macho.specs.MachoParts.{located_view}
 use Rattle.binfarce_macho.proofs.MachoAnswers.{refusal_answers, refused_answer, no_table_answer, answer_at, same_answer}

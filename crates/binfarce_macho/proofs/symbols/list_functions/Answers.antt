@@ -1,11 +1,11 @@
 use Rattle.std.proofs.Common.{◌≡◌, ◌≢◌, ◌∙◌, ap, sym, arith, List, [], ◌∷◌, Ok, Some, None, map, take}
 use Rattle.std.proofs.lemmas.List.{append-nil, map-append, take_all}
 use Rattle.binfarce_bytes.specs.Refusal.{refusal_of}
-use Rattle.binfarce_symbols.specs.declared.functions.FunctionSymbol.{FunctionSymbol}
-use Rattle.binfarce_symbols.specs.declared.sizes.RowAddress.{RowAddress}
-use Rattle.binfarce_symbols.specs.RowViews.{row_view, rows_view}
-use Rattle.binfarce_symbols.specs.SymbolViews.{function_view, HoldsFunctions}
-use Rattle.binfarce_symbols.proofs.Sweeping.{past}
+use Rattle.binfarce_bytes.specs.declared.functions.FunctionSymbol.{FunctionSymbol}
+use Rattle.binfarce_bytes.specs.declared.sizes.RowAddress.{RowAddress}
+use Rattle.binfarce_bytes.specs.RowViews.{row_view, rows_view}
+use Rattle.binfarce_bytes.specs.SymbolViews.{function_view, HoldsFunctions}
+use Rattle.binfarce_bytes.proofs.Sweeping.{past}
 use Rattle.binfarce_macho.specs.MachoSymbols.{entry_of, kept, listed_of}
 use Rattle.binfarce_macho.specs.MachoParts.{located_view}
 use Rattle.binfarce_macho.proofs.Kept.{kept_more, kept_refused, kept_view}

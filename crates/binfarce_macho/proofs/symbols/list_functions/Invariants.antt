@@ -1,6 +1,6 @@
 use Rattle.std.proofs.Common.{◌≡◌, ◌≤◌, length, map, take, Ok}
-use Rattle.binfarce_symbols.specs.SymbolViews.{function_view}
-use Rattle.binfarce_symbols.specs.RowViews.{row_view}
+use Rattle.binfarce_bytes.specs.SymbolViews.{function_view}
+use Rattle.binfarce_bytes.specs.RowViews.{row_view}
 use Rattle.binfarce_macho.specs.MachoSymbols.{entry_of, kept}
 use Rattle.binfarce_macho.specs.MachoParts.{located_view}
 use Rattle.binfarce_macho.proofs.symbols.list_functions.Given as goal

@@ -1,9 +1,9 @@
 use Rattle.std.proofs.Common.{◌≡◌, ◌∙◌, ap, sym, ◌/◌, length, List, ◌++◌, [], ◌∷◌}
 use Rattle.std.proofs.lemmas.List.{map-append}
-use Rattle.binfarce_symbols.specs.Sizes.{RowAddress}
-use Rattle.binfarce_symbols.specs.RowViews.{row_view, rows_view}
+use Rattle.binfarce_bytes.specs.Sizes.{RowAddress}
+use Rattle.binfarce_bytes.specs.RowViews.{row_view, rows_view}
 use Rattle.binfarce_macho.specs.MachoSymbols.{address_of, symbol_of}
-use Rattle.binfarce_symbols.proofs.Rows.{match_ok, on_err}
+use Rattle.binfarce_bytes.proofs.Rows.{match_ok, on_err}
 use Rattle.binfarce_macho.proofs.Kept.{some_kept, added_some, added_none, address_some, address_none}
 use Rattle.binfarce_macho.proofs.symbols.row_addresses.Goals as goal
 use Rattle.binfarce_macho.proofs.symbols.row_addresses.Goals.{then-has_address+in_ok-push, else-has_address}

@@ -1,6 +1,6 @@
 use Rattle.std.proofs.Common.{◌≡◌}
 use Rattle.std.specs.List.{range_with_len, filter_map}
-use Rattle.binfarce_symbols.specs.RowViews.{rows_view}
+use Rattle.binfarce_bytes.specs.RowViews.{rows_view}
 use Rattle.binfarce_macho.specs.MachoSymbols.{address_of}
 use Rattle.binfarce_macho.proofs.symbols.row_addresses.Given as goal
 

@@ -1,8 +1,8 @@
 use Rattle.std.proofs.Common.{◌≡◌, ℕ, ◌+◌, ◌∙◌, ◌++◌, List, map, sym, ap, subst, arith}
 use Rattle.std.specs.List.{range_with_len, flat_map}
-use Rattle.binfarce_symbols.specs.Entries.{Entry}
-use Rattle.binfarce_symbols.specs.SectionEntries.{SectionEntry, in_section}
-use Rattle.binfarce_symbols.specs.SymbolViews.{function_view}
+use Rattle.binfarce_bytes.specs.Entries.{Entry}
+use Rattle.binfarce_bytes.specs.SectionEntries.{SectionEntry, in_section}
+use Rattle.binfarce_bytes.specs.SymbolViews.{function_view}
 use Rattle.binfarce_pe.specs.PeAll.{size_in, section_entries}
 use Rattle.binfarce_pe.specs.PeSymbols.{entries_of}
 use Rattle.binfarce_pe.specs.machine.RawPe.{headers_view, table_view, HoldsSection}

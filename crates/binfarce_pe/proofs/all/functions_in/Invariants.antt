@@ -1,6 +1,6 @@
 use Rattle.std.proofs.Common.{◌≡◌, map}
 use Rattle.std.specs.List.{range_with_len, flat_map}
-use Rattle.binfarce_symbols.specs.SymbolViews.{section_function_view}
+use Rattle.binfarce_bytes.specs.SymbolViews.{section_function_view}
 use Rattle.binfarce_pe.specs.PeAll.{section_entries}
 use Rattle.binfarce_pe.specs.machine.RawPe.{headers_view, table_view, HoldsSections}
 use Rattle.binfarce_pe.proofs.all.functions_in.Given as goal

@@ -1,6 +1,6 @@
 use Rattle.std.proofs.Common.{◌≡◌, ◌++◌, map, take}
-use Rattle.binfarce_symbols.specs.SectionEntries.{in_section}
-use Rattle.binfarce_symbols.specs.SymbolViews.{function_view, section_function_view}
+use Rattle.binfarce_bytes.specs.SectionEntries.{in_section}
+use Rattle.binfarce_bytes.specs.SymbolViews.{function_view, section_function_view}
 use Rattle.binfarce_pe.proofs.all.push_all.Given as goal
 
 -- the function symbols so far are added

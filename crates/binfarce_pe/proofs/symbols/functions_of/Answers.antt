@@ -1,5 +1,5 @@
 use Rattle.std.proofs.lemmas.Result.{on_err_weaker}
-use Rattle.binfarce_symbols.proofs.Rows.{on_err}
+use Rattle.binfarce_bytes.proofs.Rows.{on_err}
 use Rattle.binfarce_pe.specs.machine.RawPe.{table_view}
 use Rattle.binfarce_pe.proofs.Rows.{some_entry}
 use Rattle.binfarce_pe.proofs.EachSection.{held_named, held_some}

@@ -1,6 +1,6 @@
 use Rattle.std.proofs.Common.{◌≡◌, ◌+◌, ap, arith}
 use Rattle.binfarce_pe.specs.machine.RawPe.{table_view, symbol_view}
-use Rattle.binfarce_symbols.proofs.Rows.{on_err}
+use Rattle.binfarce_bytes.proofs.Rows.{on_err}
 use Rattle.binfarce_pe.proofs.Rows.{after, holds_none, goes_on, goes_on_with, some_kept, holds_all}
 use Rattle.binfarce_pe.proofs.symbols.kept_rows.Goals as goal
 

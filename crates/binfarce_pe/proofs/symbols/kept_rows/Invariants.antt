@@ -1,5 +1,5 @@
 use Rattle.std.proofs.Common.{◌-◌, map}
-use Rattle.binfarce_symbols.specs.RowViews.{rows_view}
+use Rattle.binfarce_bytes.specs.RowViews.{rows_view}
 use Rattle.binfarce_pe.specs.machine.RawPe.{table_view}
 use Rattle.binfarce_pe.proofs.Rows.{HoldsUpTo}
 use Rattle.binfarce_pe.proofs.symbols.kept_rows.Given as goal

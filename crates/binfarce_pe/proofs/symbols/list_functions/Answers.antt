@@ -1,9 +1,9 @@
 use Rattle.std.proofs.Common.{◌≡◌, get_or, map, [], None, sym, ◌∙◌}
 use Rattle.std.proofs.lemmas.List.{get_or-map}
-use Rattle.binfarce_symbols.specs.Sizes.{addresses_of, least_above}
-use Rattle.binfarce_symbols.specs.SymbolViews.{function_view}
-use Rattle.binfarce_symbols.specs.RowViews.{rows_view}
-use Rattle.binfarce_symbols.proofs.Sweeping.{past}
+use Rattle.binfarce_bytes.specs.Sizes.{addresses_of, least_above}
+use Rattle.binfarce_bytes.specs.SymbolViews.{function_view}
+use Rattle.binfarce_bytes.specs.RowViews.{rows_view}
+use Rattle.binfarce_bytes.proofs.Sweeping.{past}
 use Rattle.binfarce_pe.specs.PeSymbols.{size_members, size_among}
 use Rattle.binfarce_pe.specs.machine.RawPe.{function_at}
 use Rattle.binfarce_pe.proofs.Listing.{above_at, above_greater, size_is, one_more_listed, function_is}

@@ -1,6 +1,6 @@
 use Rattle.std.proofs.Common.{◌≡◌, take, map}
-use Rattle.binfarce_symbols.specs.SymbolViews.{function_view}
-use Rattle.binfarce_symbols.specs.RowViews.{rows_view}
+use Rattle.binfarce_bytes.specs.SymbolViews.{function_view}
+use Rattle.binfarce_bytes.specs.RowViews.{rows_view}
 use Rattle.binfarce_pe.specs.PeSymbols.{size_members}
 use Rattle.binfarce_pe.specs.machine.RawPe.{function_at}
 use Rattle.binfarce_pe.proofs.symbols.list_functions.Given as goal

@@ -1,6 +1,6 @@
 use Rattle.std.proofs.Common.{ap, sym, subst, ◌∙◌, not}
 use Rattle.std.specs.Prelude.{MatchBool}
-use Rattle.binfarce_v0_text.specs.TreeTexts.{InValue}
+use Rattle.binfarce_v0_state.specs.TreeTexts.{InValue}
 use Rattle.binfarce_v0_grammar.specs.Tree.{PathTree}
 use Rattle.binfarce_v0_grammar.specs.Unfolding.{UnfoldsTo}
 use Rattle.binfarce_v0_grammar.specs.declared.limits.TheConstants.{MAX_LEVELS}

@@ -4,7 +4,7 @@
 
 use crate::shim::HostRuntime;
 use crate::erased::test_reading::fronts::{Given, LAYOUTS, compared};
-use crate::erased::binfarce_source::Source;
+use crate::erased::binfarce_bytes::source::Source;
 use crate::shim::alloc::Global;
 use std::cell::Cell;
 use crate::shim::io::{self, Error, ErrorKind};

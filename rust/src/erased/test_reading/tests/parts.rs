@@ -3,7 +3,7 @@
 //! A part of bytes in memory.
 
 use crate::shim::HostRuntime;
-use crate::erased::binfarce_source::read_part;
+use crate::erased::binfarce_bytes::source::read_part;
 use crate::shim::io::ErrorKind;
 use crate::shim::test::Fail;
 

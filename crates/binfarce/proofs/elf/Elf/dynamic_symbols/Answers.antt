@@ -1,6 +1,6 @@
 use Rattle.std.proofs.Common.{refl}
 use Rattle.binfarce_elf.specs.ElfViews.{functions_left}
-use Rattle.binfarce_naming.proofs.Made.{symbols_are}
+use Rattle.binfarce.proofs.Made.{symbols_are}
 use Rattle.binfarce.proofs.elf.Elf.dynamic_symbols.Goals as goal
 
 pub returns : goal.returns

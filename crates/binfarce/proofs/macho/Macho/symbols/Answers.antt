@@ -1,7 +1,7 @@
 use Rattle.std.proofs.Common.{◌≡◌, ◌∙◌, sym, ap}
-use Rattle.binfarce_naming.specs.Symbol.{HoldsSymbols}
-use Rattle.binfarce_naming.proofs.Made.{symbols_held}
-use Rattle.binfarce_symbols.proofs.Drained.{copies_are}
+use Rattle.binfarce.specs.Symbol.{HoldsSymbols}
+use Rattle.binfarce.proofs.Made.{symbols_held}
+use Rattle.binfarce_bytes.proofs.Drained.{copies_are}
 use Rattle.binfarce_macho.specs.MachoSymbols.{HasAddress, macho_answer}
 use Rattle.binfarce_macho.proofs.MachoAnswers.{out_of_memory_answers, functions_need_address, copy_of}
 use Rattle.binfarce.proofs.macho.Macho.symbols.Goals as goal

@@ -1,6 +1,6 @@
 use Rattle.std.proofs.Common.{◌∙◌}
-use Rattle.binfarce_symbols.specs.Entries.{ListsSome}
-use Rattle.binfarce_naming.proofs.Made.{symbols_held}
+use Rattle.binfarce_bytes.specs.Entries.{ListsSome}
+use Rattle.binfarce.proofs.Made.{symbols_held}
 use Rattle.binfarce_pe.specs.PeSymbols.{pe_answer}
 use Rattle.binfarce_pe.proofs.Strictly.{rows_arranged}
 use Rattle.binfarce_pe.proofs.Answered.{given_is}

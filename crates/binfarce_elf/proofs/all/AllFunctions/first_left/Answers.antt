@@ -2,8 +2,8 @@ use Rattle.std.proofs.Common.{◌≡◌, ◌<◌, ◌*◌, ◌/◌, length, sym,
 use Rattle.binfarce_elf.specs.ElfSymbols.{symbol_at}
 use Rattle.binfarce_elf.specs.ElfAll.{section_entry_of}
 use Rattle.binfarce_elf.specs.machine.RawElf.{symbol_view}
-use Rattle.binfarce_symbols.specs.SymbolViews.{section_function_view}
-use Rattle.binfarce_symbols.proofs.Rows.{match_ok}
+use Rattle.binfarce_bytes.specs.SymbolViews.{section_function_view}
+use Rattle.binfarce_bytes.proofs.Rows.{match_ok}
 use Rattle.binfarce_elf.proofs.RowsLeft.{passed, kept, row_is}
 use Rattle.binfarce_elf.proofs.all.AllFunctions.first_left.Goals as goal
 

@@ -1,7 +1,7 @@
 use Rattle.std.proofs.Common.{◌≡◌, ◌<◌, ◌*◌, ◌/◌, length, Some, None, sym, ◌∙◌}
 use Rattle.binfarce_elf.specs.ElfSymbols.{symbol_at, entry_of}
 use Rattle.binfarce_elf.specs.machine.RawElf.{symbol_view}
-use Rattle.binfarce_symbols.proofs.Rows.{match_ok}
+use Rattle.binfarce_bytes.proofs.Rows.{match_ok}
 use Rattle.binfarce_elf.proofs.RowsLeft.{passed, kept, row_is, entry_is}
 use Rattle.binfarce_elf.proofs.symbols.Functions.first_left.Goals as goal
 

@@ -1,7 +1,7 @@
 use Rattle.std.proofs.Common.{◌≡◌, map}
 use Rattle.std.specs.Option.{option_map}
-use Rattle.binfarce_symbols.specs.Found.{entry_at}
-use Rattle.binfarce_symbols.specs.SymbolViews.{function_view}
+use Rattle.binfarce_bytes.specs.Found.{entry_at}
+use Rattle.binfarce_bytes.specs.SymbolViews.{function_view}
 use Rattle.binfarce_elf.proofs.symbols.Functions.symbol_at.Given as goal
 
 -- what is found among those that came

@@ -1,8 +1,8 @@
 use Rattle.std.proofs.Common.{refl, subst}
 use Rattle.binfarce_elf.specs.ElfViews.{functions_left}
-use Rattle.binfarce_symbols.specs.Entries.{Listed}
-use Rattle.binfarce_naming.specs.Symbol.{HoldsSymbols}
-use Rattle.binfarce_naming.proofs.Made.{symbols_are}
+use Rattle.binfarce_bytes.specs.Entries.{Listed}
+use Rattle.binfarce.specs.Symbol.{HoldsSymbols}
+use Rattle.binfarce.proofs.Made.{symbols_are}
 use Rattle.binfarce_reading.proofs.elf.Parts.symbols.Goals as goal
 
 pub returns : goal.returns

@@ -2,9 +2,9 @@ use Rattle.std.proofs.Common.{◌≡◌, ◌∙◌, sym, ap}
 use Rattle.binfarce_macho.proofs.MachoAnswers.{out_of_memory_answers, copy_of}
 use Rattle.binfarce_macho.specs.MachoParts.{SomeAddress}
 use Rattle.binfarce_macho.specs.MachoSymbols.{answer_of}
-use Rattle.binfarce_symbols.proofs.Drained.{copies_are}
-use Rattle.binfarce_naming.proofs.Made.{symbols_held}
-use Rattle.binfarce_naming.specs.Symbol.{HoldsSymbols}
+use Rattle.binfarce_bytes.proofs.Drained.{copies_are}
+use Rattle.binfarce.proofs.Made.{symbols_held}
+use Rattle.binfarce.specs.Symbol.{HoldsSymbols}
 use Rattle.binfarce_reading.specs.MachoReading.{parts_view}
 use Rattle.binfarce_tables.proofs.SomeAddress.{functions_need_address}
 use Rattle.binfarce_reading.proofs.macho.Parts.symbols.Goals as goal

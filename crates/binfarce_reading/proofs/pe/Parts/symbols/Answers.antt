@@ -1,7 +1,7 @@
 use Rattle.std.proofs.Common.{Ok, ◌∙◌}
 use Rattle.binfarce_pe.proofs.Answered.{given_is}
-use Rattle.binfarce_naming.proofs.Made.{symbols_held}
-use Rattle.binfarce_symbols.specs.Entries.{ListsSome}
+use Rattle.binfarce.proofs.Made.{symbols_held}
+use Rattle.binfarce_bytes.specs.Entries.{ListsSome}
 use Rattle.binfarce_reading.specs.PeReading.{parts_view}
 use Rattle.binfarce_reading.proofs.pe.Parts.symbols.Goals as goal
 

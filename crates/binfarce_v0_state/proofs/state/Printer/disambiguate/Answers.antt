@@ -1,6 +1,6 @@
 use Rattle.std.proofs.Common.{◌≡◌, ◌++◌, [], true, sym, ◌∙◌, append-nil, rules}
 use Rattle.std.specs.String.{string_bytes}
-use Rattle.binfarce_v0_text.specs.LeafTexts.{disambiguator_text}
+use Rattle.binfarce_v0_state.specs.LeafTexts.{disambiguator_text}
 use Rattle.binfarce_v0_state.proofs.KeptLemmas.{grown_apart}
 use Rattle.binfarce_v0_state.proofs.Sound.{true_not_false}
 use Rattle.binfarce_v0_state.proofs.state.Printer.disambiguate.Goals as goal

@@ -1,0 +1,86 @@
+//! Addresses as words.
+
+ghost use Rattle.std.specs.Prelude.{◌≡◌, ◌<◌, ◌≤◌, length, slice_index_or, take, Some, IfSome};
+ghost use Rattle.binfarce_addresses.specs.Address.{address_of, hexadecimal};
+ghost use Rattle.binfarce_addresses.specs.machine.Digits.{digit_value};
+
+/// The address that a word writes: 1 to 16 hexadecimal digits, in upper or lower case, before which `0x` or `0X` may come.
+/// `None` for any other word.
+pub fn parse_address(word: &[u8]) -> Option<u64>
+    ensures { result ≡ address_of word.now }
+{
+    if word.starts_with(b"0x") || word.starts_with(b"0X") {
+        hex_number(&word[2..])
+    } else {
+        hex_number(word)
+    }
+}
+
+/// The address that the first line of the bytes writes, and how many bytes the line has, where these are 1 to 16 digits and
+/// nothing else. `None` doesn't say that the line writes no address: it may have `0x` before its digits.
+pub fn hex_line(bytes: &[u8]) -> Option<(u64, usize)>
+    ensures { IfSome result
+        (λ r. (r.1 < length bytes.now) × (slice_index_or bytes.now r.1 0 ≡ 10)
+        × (address_of (take r.1 bytes.now) ≡ Some r.0)) }
+{
+    let mut number = 0;
+    for (len, byte) in bytes.iter().enumerate() {
+        match hex_digit(*byte) {
+            Some(value) => {
+                if len == 16 {
+                    return None;
+                }
+                number = 16 * number + value;
+            }
+            None => {
+                return if *byte == b'\n' && len > 0 {
+                    Some((number, len))
+                } else {
+                    None
+                };
+            }
+        }
+    }
+    None
+}
+
+// The number that 1 to 16 digits write.
+fn hex_number(digits: &[u8]) -> Option<u64>
+    ensures { result ≡ hexadecimal digits.now }
+{
+    if digits.is_empty() || digits.len() > 16 {
+        return None;
+    }
+    let mut number = 0;
+    for digit in digits {
+        number = 16 * number + hex_digit(*digit)?;
+    }
+    Some(number)
+}
+
+// What each byte is worth as a digit; 16 where it is none.
+const VALUES: [u8; 256] = [
+    16, 16, 16, 16, 16, 16, 16, 16, 16, 16, 16, 16, 16, 16, 16, 16, 16, 16, 16, 16, 16, 16, 16, 16,
+    16, 16, 16, 16, 16, 16, 16, 16, 16, 16, 16, 16, 16, 16, 16, 16, 16, 16, 16, 16, 16, 16, 16, 16,
+    0, 1, 2, 3, 4, 5, 6, 7, 8, 9, 16, 16, 16, 16, 16, 16, 16, 10, 11, 12, 13, 14, 15, 16, 16, 16,
+    16, 16, 16, 16, 16, 16, 16, 16, 16, 16, 16, 16, 16, 16, 16, 16, 16, 16, 16, 16, 16, 16, 16, 10,
+    11, 12, 13, 14, 15, 16, 16, 16, 16, 16, 16, 16, 16, 16, 16, 16, 16, 16, 16, 16, 16, 16, 16, 16,
+    16, 16, 16, 16, 16, 16, 16, 16, 16, 16, 16, 16, 16, 16, 16, 16, 16, 16, 16, 16, 16, 16, 16, 16,
+    16, 16, 16, 16, 16, 16, 16, 16, 16, 16, 16, 16, 16, 16, 16, 16, 16, 16, 16, 16, 16, 16, 16, 16,
+    16, 16, 16, 16, 16, 16, 16, 16, 16, 16, 16, 16, 16, 16, 16, 16, 16, 16, 16, 16, 16, 16, 16, 16,
+    16, 16, 16, 16, 16, 16, 16, 16, 16, 16, 16, 16, 16, 16, 16, 16, 16, 16, 16, 16, 16, 16, 16, 16,
+    16, 16, 16, 16, 16, 16, 16, 16, 16, 16, 16, 16, 16, 16, 16, 16, 16, 16, 16, 16, 16, 16, 16, 16,
+    16, 16, 16, 16, 16, 16, 16, 16, 16, 16, 16, 16, 16, 16,
+];
+
+// What a digit is worth: one look, since branches on digits are guessed wrong.
+#[inline(always)]
+fn hex_digit(digit: u8) -> Option<u64>
+    ensures { result ≡ digit_value digit }
+{
+    let value = VALUES[digit as usize];
+    if value > 15 {
+        return None;
+    }
+    Some(value as u64)
+}

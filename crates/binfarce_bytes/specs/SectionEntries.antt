@@ -1,0 +1,30 @@
+-- Entries with their sections: the function symbols of all sections of a file.
+use Rattle.std.specs.Prelude.{◌≡◌, ◌⊎◌, ℕ, List, map, filter, nat_eq, Option, Some, None, Result, Ok, Err}
+use Rattle.binfarce_bytes.specs.declared.error.ParseError.{ParseError}
+use Rattle.binfarce_bytes.specs.Refusal.{Refusal, refusal_of, out_of_memory}
+use Rattle.binfarce_bytes.specs.Entries.{Entry}
+
+-- an entry, and the number of its section
+pub record SectionEntry : Type 0 where
+  pub section : ℕ
+  pub entry : Entry
+
+-- these entries, as those of the section of this number
+abbrev pub in_section : ℕ → List Entry → List SectionEntry
+in_section number entries = map (λ e. record { section = number; entry = e }) entries
+
+-- the entries of the section of this number
+abbrev pub of_section : ℕ → List SectionEntry → List Entry
+of_section number entries = map (λ e. e.entry) (filter (λ e. nat_eq e.section number) entries)
+
+-- the value, unless there is a refusal
+abbrev pub unless : {A : Type 0} → Option Refusal → A → Result A Refusal
+unless None value = Ok value
+unless (Some refusal) value = Err refusal
+
+-- what a call returns where the file's answer is this: a value that holds the entries, or the refusal. In place of either it may return that an allocation failed, where the file needs memory
+abbrev pub AnswersAll : {X : Type 0} → (List SectionEntry → X → Type 0) → Type 0 → Result (List SectionEntry) Refusal → Result X ParseError → Type 0
+AnswersAll Holds NeedsMemory (Ok entries) (Ok value) = Holds entries value
+AnswersAll Holds NeedsMemory (Ok entries) (Err e) = (refusal_of e ≡ out_of_memory) × NeedsMemory
+AnswersAll Holds NeedsMemory (Err refusal) (Ok value) = ⊥
+AnswersAll Holds NeedsMemory (Err refusal) (Err e) = (refusal_of e ≡ refusal) ⊎ ((refusal_of e ≡ out_of_memory) × NeedsMemory)

@@ -1,0 +1,84 @@
+//! The function symbols that a file stores, and which of them an address is shown by.
+
+ghost use Rattle.std.specs.Prelude.{◌≡◌, List, [], ◌∷◌, ◌++◌, Some, map};
+ghost use Rattle.std.specs.Option.{option_map};
+ghost use Rattle.binfarce_bytes.specs.Found.{holds, higher_of, entry_at};
+ghost use Rattle.binfarce_bytes.specs.Entries.{Entry};
+ghost use Rattle.binfarce_bytes.specs.SymbolViews.{function_view};
+
+/// A function symbol as a file stores it. Its name, which is still mangled, is a part of the file's bytes.
+#[derive(Debug, Clone, Copy)]
+pub struct FunctionSymbol<'a> {
+    /// The name as it is stored.
+    pub name: &'a str,
+    /// The address, as the file stores it; in a PE file the offset in the section.
+    pub address: u64,
+    /// The size in bytes.
+    pub size: u64,
+}
+
+/// A function symbol, and the section that it is in.
+#[derive(Debug, Clone, Copy)]
+pub struct SectionFunction<'a> {
+    /// The section's number, as the symbol states it: in an ELF file the index of its section header, in Mach-O and PE files
+    /// counted from 1.
+    pub section: u32,
+    /// The function symbol.
+    pub function: FunctionSymbol<'a>,
+}
+
+/// The function symbol of a list that an address is shown by: of those whose range holds it the one of greatest address, and
+/// of these the first. `None` where none holds it.
+///
+/// A range begins at the symbol's address and has its size in bytes; a symbol of size 0 holds its own address alone. The
+/// address is one as the file stores it, in a PE file the offset in the section. The whole list is looked at, and nothing is
+/// allocated.
+#[tactic(auto, using(crate::proofs::FoundLaws::none_at_first))]
+pub fn symbol_at<'a>(functions: &[FunctionSymbol<'a>], address: u64) -> Option<FunctionSymbol<'a>>
+    ensures { option_map function_view result ≡ entry_at (map function_view functions.now) address }
+{
+    let mut found = None;
+    for function in functions.iter().copied() {
+        found = found_with(found, function, address);
+    }
+    found
+}
+
+/// The function symbol that an address is shown by, where one was found among those before and now another one comes.
+#[inline(always)]
+pub fn found_with<'a>(
+    found: Option<FunctionSymbol<'a>>,
+    function: FunctionSymbol<'a>,
+    address: u64,
+) -> Option<FunctionSymbol<'a>>
+    ensures { (before : List Entry) → option_map function_view found.entry ≡ entry_at before address
+        → option_map function_view result ≡ entry_at (before ++ function_view function.entry ∷ []) address }
+{
+    if !holds(function, address) {
+        return found;
+    }
+    match found {
+        None => Some(function),
+        Some(first) => Some(higher_of(first, function)),
+    }
+}
+
+// Whether its range holds the address. The end of the range may lie past 64 bits.
+#[inline(always)]
+fn holds(function: FunctionSymbol<'_>, address: u64) -> bool
+    ensures { result ≡ holds address (function_view function.entry) }
+{
+    function.address <= address && address - function.address < function.size.max(1)
+}
+
+// The first, or the other one where that has a greater address.
+#[inline(always)]
+fn higher_of<'a>(first: FunctionSymbol<'a>, other: FunctionSymbol<'a>) -> FunctionSymbol<'a>
+    ensures { function_view result ≡ higher_of (function_view first.entry) (Some (function_view other.entry)) }
+{
+    if other.address > first.address {
+        other
+    } else {
+        first
+    }
+}

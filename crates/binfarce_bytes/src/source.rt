@@ -1,0 +1,88 @@
+//! What is read at offsets: a file, or bytes in memory.
+
+ghost use Rattle.std.specs.Prelude.{◌≡◌, ◌⊎◌, Bool, true, List, ℕ, Option, None, IfOk, IfErr, OnOk, IfSome, length};
+ghost use Rattle.std.specs.IoError.{error_kind};
+ghost use Rattle.std.specs.declared.io.ErrorKind.TheVariants.{OutOfMemory};
+ghost use Rattle.binfarce_bytes.specs.Source.{IsPart, MayMiss};
+
+use std::alloc::Global;
+use std::fs::File;
+use std::io::{self, Error, ErrorKind};
+use std::os::unix::fs::FileExt;
+
+/// What is read at offsets.
+pub trait Source {
+    // All its bytes, where they are known.
+    ghost bytes: { Self → Option (List ℕ) } = { λ _. None };
+
+    // It may fail to tell its length, or to give bytes that it has.
+    ghost may_fail: { Self → Bool } = { λ _. true };
+
+    /// How many bytes it has. An error where it can't be read at offsets.
+    fn length(&self) -> io::Result<u64>
+        ensures length { IfOk result (λ n. IfSome (bytes self.now) (λ all. n ≡ length all)) }
+        ensures failed { IfErr result (λ _. may_fail self.now ≡ true) };
+
+    /// Fills the buffer with the bytes from the offset on. An error where they end before the buffer is full.
+    fn fill_at(&self, offset: u64, buf: &mut [u8]) -> io::Result<()>
+        ensures part { OnOk result (IsPart (bytes self.now) offset buf.new) }
+        ensures failed { IfErr result (λ _. MayMiss (may_fail self.now) (bytes self.now) offset (length buf.new)) };
+}
+
+impl Source for File {
+    /// `Unsupported` where it isn't a regular file.
+    fn length(&self) -> io::Result<u64> {
+        let metadata = self.metadata()?;
+        if metadata.is_file() {
+            Ok(metadata.len())
+        } else {
+            Err(Error::from(ErrorKind::Unsupported))
+        }
+    }
+
+    fn fill_at(&self, offset: u64, buf: &mut [u8]) -> io::Result<()> {
+        self.read_exact_at(buf, offset)
+    }
+}
+
+impl Source for &[u8] {
+    ghost use Rattle.std.specs.Prelude.{Some, false};
+
+    ghost bytes = { λ s. Some s.now };
+
+    ghost may_fail = { λ _. false };
+
+    fn length(&self) -> io::Result<u64> {
+        Ok(self.len() as u64)
+    }
+
+    fn fill_at(&self, offset: u64, buf: &mut [u8]) -> io::Result<()> {
+        match self.get(offset as usize..) {
+            Some(rest) if buf.len() <= rest.len() => {
+                buf.copy_from_slice(&rest[..buf.len()]);
+                Ok(())
+            }
+            _ => Err(Error::from(ErrorKind::UnexpectedEof)),
+        }
+    }
+}
+
+/// The `size` bytes from the offset on, in memory of that size.
+///
+/// Refused with the source's error, and as `OutOfMemory` where the allocation fails.
+pub fn read_part<S: Source>(
+    alloc: Global,
+    source: &S,
+    offset: u64,
+    size: usize,
+) -> io::Result<Vec<u8>>
+    ensures size { IfOk result (λ v. length v.items ≡ size) }
+    ensures part { IfOk result (λ v. IsPart (S.bytes source.now) offset v.items) }
+    ensures failed { IfErr result
+        (λ e. (error_kind e ≡ OutOfMemory) ⊎ MayMiss (S.may_fail source.now) (S.bytes source.now) offset size) }
+{
+    let mut bytes = Vec::with_capacity(alloc, size)?;
+    bytes.resize(size, 0)?;
+    source.fill_at(offset, &mut bytes)?;
+    Ok(bytes)
+}

@@ -1,5 +1,0 @@
-use Rattle.binfarce_punycode.proofs.PunycodeLemmas.{take-moved}
-use Rattle.binfarce_punycode.proofs.punycode.insert_character.Goals as goal
-
-pub returns : goal.returns
-returns c = take-moved _ _ _ _ _ c.requires.within c.requires.room c.put_first.ensures

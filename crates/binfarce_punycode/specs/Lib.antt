@@ -1,2 +1,0 @@
-pub mod Punycode
-pub mod machine

@@ -1,7 +1,0 @@
--- What clauses see of a decoded Punycode text.
-use Rattle.std.specs.Prelude.{ℕ, List, take}
-use Rattle.binfarce_punycode.specs.declared.punycode.text.Decoded.{Decoded}
-
--- its characters, as their code points
-abbrev pub characters_of : Decoded → List ℕ
-characters_of text = take text.count text.characters

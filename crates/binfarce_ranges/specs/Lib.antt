@@ -1,3 +1,0 @@
-pub mod Address
-pub mod Range
-pub mod machine

@@ -1,0 +1,96 @@
+//! How much of an executable's code each crate takes, as a picture.
+
+ghost use Rattle.std.specs.Prelude.{◌≡◌, ℕ, List, map, IfOk};
+ghost use Rattle.std.specs.String.{string_bytes};
+ghost use Rattle.binfarce.specs.Format.{format_of};
+ghost use Rattle.binfarce_chart.specs.Views.{bar_view};
+ghost use Rattle.binfarce_tools.specs.Answer.{symbols_answer, answer_of, NeedsMemory};
+ghost use Rattle.binfarce_tools.specs.Report.{Share, AreCratesOf, ReportFits};
+ghost use Rattle.binfarce_tools.specs.ReportWords.{outcome_of};
+ghost use Rattle.binfarce_tools.specs.Sums.{AreSumsOf};
+ghost use Rattle.binfarce_tools.specs.Tables.{AreTablesOf};
+ghost use Rattle.binfarce_elf.specs.declared.symbol_table.SymbolTable.{SymbolTable};
+ghost use Rattle.binfarce_tools.specs.Writing.{Tells, Takes, Fails, Leaves};
+ghost use Rattle.binfarce_tools.specs.Map.{IsMapOf, IsMapOfShares, crate_rows};
+
+use crate::list::Sink;
+use crate::report::{CrateSums, ReportError, sums_of_file, sums_of_tables};
+use crate::tables::Tables;
+use crate::writing::write_whole;
+use binfarce_chart::bars::Bar;
+use binfarce_chart::svg::chart;
+use std::alloc::{AllocError, Global};
+
+/// Draws how many bytes the function symbols of a file's section take: an SVG document with a bar for each crate, the
+/// greatest first.
+///
+/// The sums are those that `report` shows, and the picture is that of `binfarce_chart::svg::chart`: of more than 40 crates the
+/// last bar stands for all from the 40th on. The picture is made before its first byte is written.
+///
+/// # Errors
+///
+/// As `report`. Only `Write` can leave a beginning of the picture written.
+pub fn map<S: Sink>(
+    alloc: Global,
+    data: &[u8],
+    section: &str,
+    out: &mut S,
+) -> Result<(), ReportError>
+    ensures tells { Tells ReportFits (NeedsMemory (format_of data.now) data.now)
+        (symbols_answer (format_of data.now) data.now section.now) (outcome_of result) }
+    ensures takes { Takes IsMapOf (symbols_answer (format_of data.now) data.now section.now) (S.taken out.old)
+        (S.taken out.new) (outcome_of result) }
+    ensures fails { Fails (S.has_failed out.old) (S.has_failed out.new) (outcome_of result) }
+    ensures leaves { Leaves out.old out.new (outcome_of result) }
+{
+    let sums = sums_of_file(alloc, data, section)?;
+    let text = picture(alloc, &sums)?;
+    write_whole(out, text.as_bytes())?;
+    Ok(())
+}
+
+/// Draws what `map` does, of a file's tables: for the section that they were read for.
+///
+/// # Errors
+///
+/// As `map`.
+pub fn map_tables<S: Sink>(alloc: Global, tables: &Tables, out: &mut S) -> Result<(), ReportError>
+    ensures tells { (which : SymbolTable) (file section : List ℕ) → AreTablesOf which file section tables.now
+        → Tells ReportFits (NeedsMemory (format_of file) file) (answer_of which file section) (outcome_of result) }
+    ensures takes { (which : SymbolTable) (file section : List ℕ) → AreTablesOf which file section tables.now
+        → Takes IsMapOf (answer_of which file section) (S.taken out.old) (S.taken out.new) (outcome_of result) }
+    ensures fails { Fails (S.has_failed out.old) (S.has_failed out.new) (outcome_of result) }
+    ensures leaves { Leaves out.old out.new (outcome_of result) }
+{
+    let sums = sums_of_tables(alloc, tables)?;
+    let text = picture(alloc, &sums)?;
+    write_whole(out, text.as_bytes())?;
+    Ok(())
+}
+
+// The whole picture.
+fn picture(alloc: Global, sums: &CrateSums) -> Result<String, AllocError>
+    requires { (shares : List Share) × AreSumsOf shares sums.now }
+    ensures { IfOk result
+        (λ t. (shares : List Share) → AreSumsOf shares sums.now
+        → IsMapOfShares shares sums.now.section_size (string_bytes t)) }
+{
+    let bars = bars_of(alloc, sums)?;
+    chart(alloc, bars.as_slice(), sums.section_size)
+}
+
+// A bar for each crate, in the order of the crates' bytes.
+fn bars_of<'a>(alloc: Global, sums: &'a CrateSums) -> Result<Vec<Bar<'a>>, AllocError>
+    ensures { IfOk result
+        (λ v. (shares : List Share) → AreSumsOf shares sums.entry.now
+        → (names : List (List ℕ)) × AreCratesOf shares names × (map bar_view v.items ≡ crate_rows shares names)) }
+{
+    let mut bars = Vec::new(alloc);
+    for (name, sum) in sums.crates.iter() {
+        bars.push(Bar {
+            name: name.as_str(),
+            size: *sum,
+        })?;
+    }
+    Ok(bars)
+}

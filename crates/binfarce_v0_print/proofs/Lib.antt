@@ -1,3 +1,0 @@
-pub mod Anew
-pub mod ListLemmas
-pub mod Shown

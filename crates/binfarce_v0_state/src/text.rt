@@ -1,0 +1,356 @@
+//! The texts of the leaves of a v0 name: what a printing writes whole.
+
+ghost use Rattle.std.specs.Prelude.{◌≡◌, ◌+◌, ◌^◌, ◌<◌, ◌++◌, OnOk, encode_utf8_all, Some, true, length};
+ghost use Rattle.std.specs.String.{string_bytes};
+ghost use Rattle.std.specs.Fmt.{decimal};
+ghost use Rattle.std.specs.Str.{IsAscii};
+ghost use Rattle.binfarce_v0_state.specs.LeafTexts.{identifier_text, undecoded, lifetime_text, argument_lifetime, reference_lifetime, dyn_lifetime, binder_text, abi_text, signature_text, number_text, stands_for_itself, character_text, value_text, disambiguator_text, namespace_text, after_mark, nested_text};
+ghost use Rattle.binfarce_v0_grammar.specs.machine.View.{undisambiguated_view, identifier_view, lifetime_view, signature_view, value_view};
+
+use crate::disambiguators::put_disambiguator;
+use binfarce_v0_grammar::forms::{ConstValue, Lifetime, Signature};
+use binfarce_v0_grammar::identifiers::{Identifier, UndisambiguatedIdentifier};
+use binfarce_v0_grammar::numbers::hex_number;
+use binfarce_v0_grammar::punycode::decode;
+use std::alloc::AllocError;
+use std::fmt::Write;
+
+/// What a printing writes whole, without reading on.
+pub trait Leaf {
+    ghost use Rattle.std.specs.Prelude.{ℕ, List};
+
+    ghost text: { Self → List ℕ };
+
+    /// Writes its text at the end of another.
+    fn push(self, out: &mut String) -> Result<(), AllocError>
+        ensures { OnOk result (string_bytes out.new ≡ string_bytes out.old ++ text self) };
+}
+
+// A number in decimal.
+fn push_decimal(text: &mut String, n: u64) -> Result<(), AllocError>
+    ensures { OnOk result (string_bytes text.new ≡ string_bytes text.old ++ decimal n) }
+{
+    write!(text, "{n}")
+}
+
+// A lifetime by its index under a depth of binders.
+#[tactic(auto, unfolding(crate::specs::LeafTexts::lifetime_text))]
+fn push_lifetime(text: &mut String, binder_depth: usize, index: u64) -> Result<(), AllocError>
+    ensures { OnOk result (string_bytes text.new ≡ string_bytes text.old ++ lifetime_text binder_depth index) }
+{
+    if index == 0 {
+        return text.push_str("'_");
+    }
+    if index > binder_depth as u64 {
+        return text.push_str("'?");
+    }
+    let number = binder_depth as u64 - index;
+    if number < 26 {
+        text.push('\'')?;
+        text.push((b'a' + number as u8) as char)
+    } else {
+        text.push_str("'_")?;
+        push_decimal(text, number)
+    }
+}
+
+/// The lifetime of an argument under a depth of binders.
+#[derive(Clone, Copy)]
+pub struct ArgumentLifetime {
+    pub binder_depth: usize,
+    pub life: Lifetime,
+}
+
+impl Leaf for ArgumentLifetime {
+    ghost text = { λ l. argument_lifetime l.binder_depth (lifetime_view l.life) };
+
+    fn push(self, out: &mut String) -> Result<(), AllocError> {
+        match self.life {
+            Lifetime::Indexed(index) => push_lifetime(out, self.binder_depth, index),
+            _ => out.push_str("?"),
+        }
+    }
+}
+
+/// The lifetime of a reference under a depth of binders.
+#[derive(Clone, Copy)]
+pub struct ReferenceLifetime {
+    pub binder_depth: usize,
+    pub life: Lifetime,
+}
+
+impl Leaf for ReferenceLifetime {
+    ghost text = { λ l. reference_lifetime l.binder_depth (lifetime_view l.life) };
+
+    fn push(self, out: &mut String) -> Result<(), AllocError> {
+        match self.life {
+            Lifetime::Indexed(index) => {
+                if index == 0 {
+                    return Ok(());
+                }
+                push_lifetime(out, self.binder_depth, index)?;
+                out.push_str(" ")
+            }
+            _ => Ok(()),
+        }
+    }
+}
+
+/// The lifetime of a dyn type under a depth of binders.
+#[derive(Clone, Copy)]
+pub struct DynLifetime {
+    pub binder_depth: usize,
+    pub life: Lifetime,
+}
+
+impl Leaf for DynLifetime {
+    ghost text = { λ l. dyn_lifetime l.binder_depth (lifetime_view l.life) };
+
+    fn push(self, out: &mut String) -> Result<(), AllocError> {
+        match self.life {
+            Lifetime::Indexed(index) => {
+                if index == 0 {
+                    return Ok(());
+                }
+                out.push_str(" + ")?;
+                push_lifetime(out, self.binder_depth, index)
+            }
+            _ => out.push_str("?"),
+        }
+    }
+}
+
+/// The lifetimes that a binder announces.
+#[derive(Clone, Copy)]
+pub struct Binder {
+    pub binder_depth: usize,
+    pub count: usize,
+    ghost fits: { binder_depth + count < 2 ^ 64 },
+}
+
+impl Leaf for Binder {
+    ghost text = { λ b. binder_text b.binder_depth b.count };
+
+    #[tactic(auto, using(crate::proofs::Texts::more_announced_step), unfolding(crate::specs::LeafTexts::binder_text))]
+    fn push(self, out: &mut String) -> Result<(), AllocError> {
+        if self.count == 0 {
+            return Ok(());
+        }
+        out.push_str("for<")?;
+        push_lifetime(out, self.binder_depth + 1, 1)?;
+        for i in 1..self.count {
+            out.push_str(", ")?;
+            push_lifetime(out, self.binder_depth + i + 1, 1)?;
+        }
+        out.push_str("> ")
+    }
+}
+
+/// A crate's disambiguator, in lower-case hexadecimal.
+#[derive(Clone, Copy)]
+pub struct Disambiguator(pub u64);
+
+impl Leaf for Disambiguator {
+    ghost text = { λ d. disambiguator_text true d.0 };
+
+    fn push(self, out: &mut String) -> Result<(), AllocError> {
+        let mut shown = [0; 18];
+        let start = put_disambiguator(&mut shown, self.0);
+        out.push_str(std::str::from_utf8(&shown[start..]).unwrap())
+    }
+}
+
+/// A name after a mark, or nothing for an empty name.
+#[derive(Clone, Copy)]
+pub struct AfterMark<'a> {
+    pub mark: &'static str,
+    pub name: UndisambiguatedIdentifier<'a>,
+}
+
+impl<'a> Leaf for AfterMark<'a> {
+    ghost text = { λ m. after_mark m.mark.now (undisambiguated_view m.name) };
+
+    #[inline(always)]
+    fn push(self, out: &mut String) -> Result<(), AllocError> {
+        if self.name.ascii.is_empty() && self.name.punycode.is_empty() {
+            return Ok(());
+        }
+        out.push_str(self.mark)?;
+        self.name.push(out)
+    }
+}
+
+// The word of a special namespace.
+fn push_namespace(text: &mut String, namespace: u8) -> Result<(), AllocError>
+    requires { namespace < 128 }
+    ensures { OnOk result (string_bytes text.new ≡ string_bytes text.old ++ namespace_text namespace) }
+{
+    match namespace {
+        b'C' => text.push_str("closure"),
+        b'S' => text.push_str("shim"),
+        _ => text.push(namespace as char),
+    }
+}
+
+/// What a nested path adds to its parent.
+#[derive(Clone, Copy)]
+pub struct Nested<'a> {
+    pub namespace: u8,
+    pub identifier: Identifier<'a>,
+}
+
+impl<'a> Leaf for Nested<'a> {
+    ghost text = { λ n. nested_text n.namespace (identifier_view n.identifier) };
+
+    #[tactic(auto, unfolding(crate::specs::LeafTexts::nested_text))]
+    fn push(self, out: &mut String) -> Result<(), AllocError> {
+        let Identifier {
+            disambiguator,
+            name,
+        } = self.identifier;
+        if !self.namespace.is_ascii_uppercase() {
+            return AfterMark { mark: "::", name }.push(out);
+        }
+        out.push_str("::{")?;
+        push_namespace(out, self.namespace)?;
+        AfterMark { mark: ":", name }.push(out)?;
+        out.push_str("#")?;
+        push_decimal(out, disambiguator)?;
+        out.push_str("}")
+    }
+}
+
+impl<'a> Leaf for ConstValue<'a> {
+    ghost text = { λ v. value_text (value_view v) };
+
+    #[tactic(auto, unfolding(crate::specs::LeafTexts::value_text))]
+    fn push(self, out: &mut String) -> Result<(), AllocError> {
+        match self {
+            ConstValue::Integer(negative, digits) => {
+                out.push_str(if negative { "-" } else { "" })?;
+                push_number(out, digits)
+            }
+            ConstValue::Boolean(value) => out.push_str(if value { "true" } else { "false" }),
+            ConstValue::Character(c) => {
+                out.push_str("'")?;
+                push_character(out, c)?;
+                out.push_str("'")
+            }
+        }
+    }
+}
+
+// The digits of an integer: at most 16 are shown in decimal.
+#[tactic(auto, unfolding(crate::specs::LeafTexts::number_text))]
+fn push_number(text: &mut String, hex: &str) -> Result<(), AllocError>
+    ensures { OnOk result (string_bytes text.new ≡ string_bytes text.old ++ number_text hex.now) }
+{
+    match hex_number(hex.as_bytes()) {
+        Some(value) => push_decimal(text, value),
+        None => {
+            text.push_str("0x")?;
+            text.push_str(hex)
+        }
+    }
+}
+
+// Whether a character stands for itself between quotes.
+fn stands_for_itself(c: char) -> bool
+    ensures { result ≡ stands_for_itself c }
+{
+    matches!(c, ' '..='~') && c != '\'' && c != '\\'
+}
+
+// A character between quotes: printable ASCII as it is, any other by its number in lower-case hexadecimal.
+#[tactic(auto, unfolding(crate::specs::LeafTexts::character_text))]
+fn push_character(text: &mut String, c: char) -> Result<(), AllocError>
+    ensures { OnOk result (string_bytes text.new ≡ string_bytes text.old ++ character_text c) }
+{
+    if stands_for_itself(c) {
+        return text.push(c);
+    }
+    let code = c as u32;
+    text.push_str("\\u{")?;
+    write!(text, "{code:x}")?;
+    text.push_str("}")
+}
+
+// The name of an ABI.
+fn push_abi(text: &mut String, name: &str) -> Result<(), AllocError>
+    requires { IsAscii name.now }
+    ensures { OnOk result (string_bytes text.new ≡ string_bytes text.old ++ abi_text (Some name.now)) }
+{
+    text.push_str("extern \"")?;
+    for c in name.as_bytes() {
+        text.push(if *c == b'_' { '-' } else { *c as char })?;
+    }
+    text.push_str("\" ")
+}
+
+// `"unsafe "`, the ABI and `"fn("`.
+impl<'a> Leaf for Signature<'a> {
+    ghost text = { λ s. signature_text (signature_view s) };
+
+    #[tactic(auto, unfolding(crate::specs::LeafTexts::signature_text))]
+    fn push(self, out: &mut String) -> Result<(), AllocError> {
+        if self.is_unsafe {
+            out.push_str("unsafe ")?;
+        }
+        if let Some(name) = self.abi {
+            push_abi(out, name)?;
+        }
+        out.push_str("fn(")
+    }
+}
+
+// Punycode that can't be decoded, as it stands.
+fn push_undecoded(text: &mut String, name: UndisambiguatedIdentifier<'_>) -> Result<(), AllocError>
+    ensures { OnOk result
+        (string_bytes text.new ≡ string_bytes text.old ++ undecoded name.entry.ascii.now name.entry.punycode.now) }
+{
+    text.push_str("punycode{")?;
+    if !name.ascii.is_empty() {
+        text.push_str(name.ascii)?;
+        text.push_str("-")?;
+    }
+    text.push_str(name.punycode)?;
+    text.push_str("}")
+}
+
+impl<'a> Leaf for UndisambiguatedIdentifier<'a> {
+    ghost text = { λ i. identifier_text (undisambiguated_view i) };
+
+    #[tactic(auto, unfolding(crate::specs::LeafTexts::identifier_text))]
+    fn push(self, out: &mut String) -> Result<(), AllocError> {
+        if self.punycode.is_empty() {
+            out.push_str(self.ascii)
+        } else {
+            push_punycode(out, self)
+        }
+    }
+}
+
+// The text of a Punycode identifier.
+#[inline(never)]
+#[tactic(auto, unfolding(crate::specs::LeafTexts::identifier_text))]
+fn push_punycode(text: &mut String, name: UndisambiguatedIdentifier<'_>) -> Result<(), AllocError>
+    requires { 0 < length name.punycode.now }
+    ensures { OnOk result
+        (string_bytes text.new ≡ string_bytes text.old ++ identifier_text (undisambiguated_view name.entry)) }
+{
+    match decode(name.ascii.as_bytes(), name.punycode.as_bytes()) {
+        Some(decoded) => push_characters(text, decoded.characters()),
+        None => push_undecoded(text, name),
+    }
+}
+
+// Characters, one after the other.
+#[tactic(auto, using(crate::proofs::Texts::encodes_more))]
+fn push_characters(text: &mut String, characters: &[char]) -> Result<(), AllocError>
+    ensures { OnOk result (string_bytes text.new ≡ string_bytes text.old ++ encode_utf8_all characters.now) }
+{
+    for c in characters {
+        text.push(*c)?;
+    }
+    Ok(())
+}

@@ -1,2 +1,0 @@
-pub mod HexDigits
-pub mod Texts

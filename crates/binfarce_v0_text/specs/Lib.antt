@@ -1,3 +1,0 @@
-pub mod LeafTexts
-pub mod TreeTexts
-pub mod machine

@@ -1,5 +1,0 @@
-//! Tests of texts in which names are made readable.
-#![tactic(auto)]
-
-#[cfg(test)]
-mod tests;

@@ -1,5 +1,0 @@
-//! Tests of the PE reader by public calls.
-#![tactic(auto)]
-
-#[cfg(test)]
-mod tests;

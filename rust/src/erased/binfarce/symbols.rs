@@ -1,0 +1,35 @@
+// From crates/binfarce/src/symbols.rt, by tools/erase.
+
+//! The symbols that function symbols become.
+
+use crate::shim::Vec;
+use crate::erased::binfarce_bytes::functions::FunctionSymbol;
+use crate::erased::binfarce_names::demangle::{Demangler, SymbolData};
+use crate::shim::alloc::{AllocError, Global};
+
+/// One symbol for each function symbol that comes, in order, with its name in readable form.
+///
+/// The only error is that an allocation failed. An iterator that gives nothing makes none.
+pub fn symbols_of<'a, I: Iterator<Item = FunctionSymbol<'a>>>(
+    alloc: Global,
+    functions: I,
+) -> Result<Vec<SymbolData>, AllocError> {
+    let mut symbols = Vec::new(alloc);
+    let mut demangler = Demangler::new(alloc);
+    for function in functions {
+        symbols.push(symbol_of(&mut demangler, function)?)?;
+    }
+    Ok(symbols)
+}
+
+#[cfg_attr(not(debug_assertions), inline(always))]
+fn symbol_of(
+    demangler: &mut Demangler,
+    function: FunctionSymbol<'_>,
+) -> Result<SymbolData, AllocError> {
+    Ok(SymbolData {
+        name: demangler.demangle(function.name)?,
+        address: function.address,
+        size: function.size,
+    })
+}

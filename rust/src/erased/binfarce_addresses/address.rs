@@ -1,0 +1,74 @@
+// From crates/binfarce_addresses/src/address.rt, by tools/erase.
+
+//! Addresses as words.
+
+/// The address that a word writes: 1 to 16 hexadecimal digits, in upper or lower case, before which `0x` or `0X` may come.
+/// `None` for any other word.
+pub fn parse_address(word: &[u8]) -> Option<u64> {
+    if word.starts_with(b"0x") || word.starts_with(b"0X") {
+        hex_number(&word[2..])
+    } else {
+        hex_number(word)
+    }
+}
+
+/// The address that the first line of the bytes writes, and how many bytes the line has, where these are 1 to 16 digits and
+/// nothing else. `None` doesn't say that the line writes no address: it may have `0x` before its digits.
+pub fn hex_line(bytes: &[u8]) -> Option<(u64, usize)> {
+    let mut number = 0;
+    for (len, byte) in bytes.iter().enumerate() {
+        match hex_digit(*byte) {
+            Some(value) => {
+                if len == 16 {
+                    return None;
+                }
+                number = 16 * number + value;
+            }
+            None => {
+                return if *byte == b'\n' && len > 0 {
+                    Some((number, len))
+                } else {
+                    None
+                };
+            }
+        }
+    }
+    None
+}
+
+// The number that 1 to 16 digits write.
+fn hex_number(digits: &[u8]) -> Option<u64> {
+    if digits.is_empty() || digits.len() > 16 {
+        return None;
+    }
+    let mut number = 0;
+    for digit in digits {
+        number = 16 * number + hex_digit(*digit)?;
+    }
+    Some(number)
+}
+
+// What each byte is worth as a digit; 16 where it is none.
+const VALUES: [u8; 256] = [
+    16, 16, 16, 16, 16, 16, 16, 16, 16, 16, 16, 16, 16, 16, 16, 16, 16, 16, 16, 16, 16, 16, 16, 16,
+    16, 16, 16, 16, 16, 16, 16, 16, 16, 16, 16, 16, 16, 16, 16, 16, 16, 16, 16, 16, 16, 16, 16, 16,
+    0, 1, 2, 3, 4, 5, 6, 7, 8, 9, 16, 16, 16, 16, 16, 16, 16, 10, 11, 12, 13, 14, 15, 16, 16, 16,
+    16, 16, 16, 16, 16, 16, 16, 16, 16, 16, 16, 16, 16, 16, 16, 16, 16, 16, 16, 16, 16, 16, 16, 10,
+    11, 12, 13, 14, 15, 16, 16, 16, 16, 16, 16, 16, 16, 16, 16, 16, 16, 16, 16, 16, 16, 16, 16, 16,
+    16, 16, 16, 16, 16, 16, 16, 16, 16, 16, 16, 16, 16, 16, 16, 16, 16, 16, 16, 16, 16, 16, 16, 16,
+    16, 16, 16, 16, 16, 16, 16, 16, 16, 16, 16, 16, 16, 16, 16, 16, 16, 16, 16, 16, 16, 16, 16, 16,
+    16, 16, 16, 16, 16, 16, 16, 16, 16, 16, 16, 16, 16, 16, 16, 16, 16, 16, 16, 16, 16, 16, 16, 16,
+    16, 16, 16, 16, 16, 16, 16, 16, 16, 16, 16, 16, 16, 16, 16, 16, 16, 16, 16, 16, 16, 16, 16, 16,
+    16, 16, 16, 16, 16, 16, 16, 16, 16, 16, 16, 16, 16, 16, 16, 16, 16, 16, 16, 16, 16, 16, 16, 16,
+    16, 16, 16, 16, 16, 16, 16, 16, 16, 16, 16, 16, 16, 16,
+];
+
+// What a digit is worth: one look, since branches on digits are guessed wrong.
+#[cfg_attr(not(debug_assertions), inline(always))]
+fn hex_digit(digit: u8) -> Option<u64> {
+    let value = VALUES[digit as usize];
+    if value > 15 {
+        return None;
+    }
+    Some(value as u64)
+}

@@ -1,0 +1,69 @@
+// From crates/binfarce_bytes/src/format.rt, by tools/erase.
+
+//! Which format a file's first bytes name.
+
+use crate::erased::binfarce_bytes::ByteOrder;
+
+/// The format that a file's first bytes name.
+#[derive(PartialEq, Eq, Hash, Debug)]
+pub enum Format {
+    /// ELF of 32 bits (`ELFCLASS32`), in this byte order (`EI_DATA`): for `elf32::parse`.
+    Elf32 {
+        /// The order of the numbers' bytes.
+        byte_order: ByteOrder,
+    },
+    /// ELF of 64 bits (`ELFCLASS64`), in this byte order (`EI_DATA`): for `elf64::parse`.
+    Elf64 {
+        /// The order of the numbers' bytes.
+        byte_order: ByteOrder,
+    },
+    /// Mach-O of any kind. `macho::parse` reads each as one of 64 bits in little-endian order.
+    Macho,
+    /// A file that begins with the MS-DOS stub of a PE file: for `pe::parse`.
+    PE,
+    /// None of these.
+    Unknown,
+}
+
+/// Names the format of a file by its first 8 bytes: ELF's `7F 45 4C 46` with its class and byte order (gABI, "ELF
+/// Identification"), PE's `4D 5A`, the five magic numbers of Mach-O. A file of fewer than 8 bytes is `Unknown`, and so
+/// is an ELF file of another class or order. Nothing is allocated.
+///
+/// The readers themselves never look at a magic number.
+pub fn detect_format(data: &[u8]) -> Format {
+    if data.len() < 8 {
+        return Format::Unknown;
+    }
+    if data.starts_with(b"\x7FELF") {
+        return elf_format(data[4], data[5]);
+    }
+    if data.starts_with(b"MZ") {
+        return Format::PE;
+    }
+    if begins_macho(data) {
+        return Format::Macho;
+    }
+    Format::Unknown
+}
+
+fn begins_macho(data: &[u8]) -> bool {
+    data.starts_with(b"\xCA\xFE\xBA\xBE")
+        || data.starts_with(b"\xFE\xED\xFA\xCE")
+        || data.starts_with(b"\xFE\xED\xFA\xCF")
+        || data.starts_with(b"\xCE\xFA\xED\xFE")
+        || data.starts_with(b"\xCF\xFA\xED\xFE")
+}
+
+// By the bytes `EI_CLASS` and `EI_DATA`.
+fn elf_format(class: u8, order: u8) -> Format {
+    let byte_order = match order {
+        1 => ByteOrder::LittleEndian,
+        2 => ByteOrder::BigEndian,
+        _ => return Format::Unknown,
+    };
+    match class {
+        1 => Format::Elf32 { byte_order },
+        2 => Format::Elf64 { byte_order },
+        _ => Format::Unknown,
+    }
+}

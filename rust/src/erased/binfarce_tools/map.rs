@@ -1,0 +1,63 @@
+// From crates/binfarce_tools/src/map.rt, by tools/erase.
+
+//! How much of an executable's code each crate takes, as a picture.
+
+use crate::shim::{String, Vec};
+use crate::erased::binfarce_tools::list::Sink;
+use crate::erased::binfarce_tools::report::{CrateSums, ReportError, sums_of_file, sums_of_tables};
+use crate::erased::binfarce_tools::tables::Tables;
+use crate::erased::binfarce_tools::writing::write_whole;
+use crate::erased::binfarce_chart::bars::Bar;
+use crate::erased::binfarce_chart::svg::chart;
+use crate::shim::alloc::{AllocError, Global};
+
+/// Draws how many bytes the function symbols of a file's section take: an SVG document with a bar for each crate, the
+/// greatest first.
+///
+/// The sums are those that `report` shows, and the picture is that of `binfarce_chart::svg::chart`: of more than 40 crates the
+/// last bar stands for all from the 40th on. The picture is made before its first byte is written.
+///
+/// # Errors
+///
+/// As `report`. Only `Write` can leave a beginning of the picture written.
+pub fn map<S: Sink>(
+    alloc: Global,
+    data: &[u8],
+    section: &str,
+    out: &mut S,
+) -> Result<(), ReportError> {
+    let sums = sums_of_file(alloc, data, section)?;
+    let text = picture(alloc, &sums)?;
+    write_whole(out, text.as_bytes())?;
+    Ok(())
+}
+
+/// Draws what `map` does, of a file's tables: for the section that they were read for.
+///
+/// # Errors
+///
+/// As `map`.
+pub fn map_tables<S: Sink>(alloc: Global, tables: &Tables, out: &mut S) -> Result<(), ReportError> {
+    let sums = sums_of_tables(alloc, tables)?;
+    let text = picture(alloc, &sums)?;
+    write_whole(out, text.as_bytes())?;
+    Ok(())
+}
+
+// The whole picture.
+fn picture(alloc: Global, sums: &CrateSums) -> Result<String, AllocError> {
+    let bars = bars_of(alloc, sums)?;
+    chart(alloc, bars.as_slice(), sums.section_size)
+}
+
+// A bar for each crate, in the order of the crates' bytes.
+fn bars_of<'a>(alloc: Global, sums: &'a CrateSums) -> Result<Vec<Bar<'a>>, AllocError> {
+    let mut bars = Vec::new(alloc);
+    for (name, sum) in sums.crates.iter() {
+        bars.push(Bar {
+            name: name.as_str(),
+            size: *sum,
+        })?;
+    }
+    Ok(bars)
+}

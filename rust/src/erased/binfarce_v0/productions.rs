@@ -1,0 +1,98 @@
+// From crates/binfarce_v0/src/productions.rt, by tools/erase.
+
+//! Printing a path, a type or a const, once for every production: it is kept where a back reference may mean it.
+
+use crate::erased::binfarce_v0::consts::print_const_by_letter;
+use crate::erased::binfarce_v0::paths::print_path_by_letter;
+use crate::erased::binfarce_v0::types::print_type_by_letter;
+use crate::erased::binfarce_v0_state::fragments::{FragmentKey, Production};
+use crate::erased::binfarce_v0_state::state::Printer;
+use crate::shim::alloc::AllocError;
+
+// A production: whether it was left open.
+#[cfg_attr(not(debug_assertions), inline(always))]
+pub fn print(
+    printer: &mut Printer<'_>,
+    levels_left: usize,
+    binder_depth: usize,
+    production: Production,
+) -> Result<bool, AllocError> {
+    match printer.keeps_at() {
+        Some(at) => print_and_keep(printer, levels_left, binder_depth, production, at),
+        None => print_anew(printer, levels_left, binder_depth, production),
+    }
+}
+
+// A production that is kept.
+#[inline(never)]
+fn print_and_keep(
+    printer: &mut Printer<'_>,
+    levels_left: usize,
+    binder_depth: usize,
+    production: Production,
+    at: usize,
+) -> Result<bool, AllocError> {
+    let mark = printer.mark(levels_left, at);
+    let opened = print_anew(printer, levels_left, binder_depth, production)?;
+    printer.keep(mark, levels_left, binder_depth, production, opened)?;
+    Ok(opened)
+}
+
+// A production from its position.
+#[cfg_attr(not(debug_assertions), inline(always))]
+fn print_anew(
+    printer: &mut Printer<'_>,
+    levels_left: usize,
+    binder_depth: usize,
+    production: Production,
+) -> Result<bool, AllocError> {
+    let start = printer.at;
+    let Some(below) = printer.enter(levels_left) else {
+        return Ok(false);
+    };
+    print_by_letter(printer, below, binder_depth, production, start)
+}
+
+// A production by the letter that it begins with.
+#[cfg_attr(not(debug_assertions), inline(always))]
+fn print_by_letter(
+    printer: &mut Printer<'_>,
+    levels_left: usize,
+    binder_depth: usize,
+    production: Production,
+    start: Option<usize>,
+) -> Result<bool, AllocError> {
+    match production {
+        Production::Path(position) => {
+            return print_path_by_letter(printer, levels_left, binder_depth, position, start);
+        }
+        Production::Type => print_type_by_letter(printer, levels_left, binder_depth, start)?,
+        Production::Const => print_const_by_letter(printer, levels_left, start)?,
+    }
+    Ok(false)
+}
+
+// What a back reference stands for: a production like any other, printed from its target.
+pub fn print_target(
+    printer: &mut Printer<'_>,
+    levels_left: usize,
+    binder_depth: usize,
+    production: Production,
+    target: usize,
+    after: usize,
+) -> Result<bool, AllocError> {
+    let key = FragmentKey {
+        production,
+        at: target,
+        binder_depth,
+    };
+    if let Some(opened) = printer.print_kept(levels_left, key, after)? {
+        return Ok(opened);
+    }
+    printer.look_for_targets()?;
+    let in_back_reference = printer.in_back_reference;
+    printer.enter_target(target);
+    let opened = print(printer, levels_left, binder_depth, production)?;
+    printer.leave_target(after, in_back_reference);
+    Ok(opened)
+}

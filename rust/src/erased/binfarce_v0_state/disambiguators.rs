@@ -1,0 +1,26 @@
+// From crates/binfarce_v0_state/src/disambiguators.rt, by tools/erase.
+
+//! Crates' disambiguators as they are shown.
+
+/// Puts a disambiguator at the end of 18 bytes: where it begins.
+#[cfg_attr(not(debug_assertions), inline(always))]
+pub fn put_disambiguator(shown: &mut [u8], n: u64) -> usize {
+    shown[17] = b']';
+    let mut rest = n;
+    let mut at = 16;
+    while rest >= 16 {
+        shown[at] = hex_digit(rest % 16);
+        rest /= 16;
+        at -= 1;
+    }
+    shown[at] = hex_digit(rest);
+    shown[at - 1] = b'[';
+    at - 1
+}
+
+// A lower-case hexadecimal digit.
+#[cfg_attr(not(debug_assertions), inline(always))]
+fn hex_digit(value: u64) -> u8 {
+    const DIGITS: [u8; 16] = *b"0123456789abcdef";
+    DIGITS[value as usize]
+}

@@ -1,0 +1,4 @@
+// From crates/test_names/src/filtering.rt, by tools/erase.
+
+mod streams;
+mod texts;

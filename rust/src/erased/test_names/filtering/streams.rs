@@ -1,0 +1,149 @@
+// From crates/test_names/src/filtering/streams.rt, by tools/erase.
+
+// Texts that are filtered as they come, by readers and writers that are short or fail.
+
+use crate::shim::{HostRuntime, Vec};
+use crate::erased::binfarce_filtering::filter::MAX_RUN;
+use crate::erased::binfarce_filtering::stream::{StreamError, filter_stream};
+use crate::shim::alloc::{AllocError, Global};
+use std::cell::Cell;
+use crate::shim::io::ErrorKind;
+use crate::erased::test_samples::interruptions::{InterruptedSource, InterruptedTarget};
+use crate::erased::test_samples::streams::{Source, Target};
+
+const TEXT: &[u8] = b"in _RNvC1a1b. at x_1 <_ZN3foo17h0123456789abcdefE+0x1f> _RNvC1c1d";
+
+const SHOWN: &[u8] = b"in a::b. at x_1 <foo+0x1f> c::d";
+
+// What was written where reads give and writes take at most so many bytes, the reader ends so, and the writer takes so many
+// bytes in all and then ends so.
+fn written(
+    alloc: Global,
+    source: Source<'_>,
+    target: Target,
+) -> (Result<(), StreamError>, Vec<u8>) {
+    let (mut source, mut target) = (source, target);
+    let ended = filter_stream(alloc, false, &mut source, &mut target);
+    (ended, target.taken)
+}
+
+fn takes(alloc: Global, most: usize) -> Target {
+    Target {
+        taken: Vec::new(alloc),
+        left: usize::MAX,
+        most,
+        end: None,
+    }
+}
+
+#[test]
+fn short_reads_and_writes() -> Result<(), AllocError> {
+    let rt = HostRuntime::new();
+    for most in 1..TEXT.len() + 1 {
+        let source = Source {
+            most,
+            ..Source::of(TEXT)
+        };
+        let (ended, taken) = written(rt.alloc(), source, takes(rt.alloc(), most));
+        assert!(ended == Ok(()), "{most}");
+        assert!(taken.as_slice() == SHOWN, "{most}");
+    }
+    Ok(())
+}
+
+// Where the reader fails, what came before is filtered as if it ended there.
+#[test]
+fn failed_reads() -> Result<(), AllocError> {
+    let rt = HostRuntime::new();
+    let rows: [(usize, &[u8]); 4] = [
+        (0, b""),
+        (8, b"in _RNvC"),
+        (12, b"in a::b"),
+        (TEXT.len(), SHOWN),
+    ];
+    for (came, want) in &rows {
+        let source = Source {
+            end: Some(ErrorKind::Other),
+            ..Source::of(&TEXT[..*came])
+        };
+        let (ended, taken) = written(rt.alloc(), source, takes(rt.alloc(), usize::MAX));
+        assert!(ended == Err(StreamError::Read), "{came}");
+        assert!(taken.as_slice() == *want, "{came}");
+    }
+    Ok(())
+}
+
+// A writer that takes so many bytes and then 0, or fails.
+#[test]
+fn failed_writes() -> Result<(), AllocError> {
+    let rt = HostRuntime::new();
+    for left in 0..SHOWN.len() {
+        for end in [None, Some(ErrorKind::BrokenPipe)] {
+            let target = Target {
+                left,
+                end,
+                ..takes(rt.alloc(), usize::MAX)
+            };
+            let (ended, taken) = written(rt.alloc(), Source::of(TEXT), target);
+            assert!(ended == Err(StreamError::Write), "{left}");
+            assert!(taken.as_slice() == &SHOWN[..left], "{left}");
+        }
+    }
+    Ok(())
+}
+
+// Interrupted reads and writes are tried again, and what is written is flushed before more is read and at the end.
+#[test]
+fn interrupted_reads_and_writes() -> Result<(), AllocError> {
+    let rt = HostRuntime::new();
+    let unflushed = Cell::new(0);
+    let mut source = InterruptedSource::of(TEXT, &unflushed);
+    let mut target = InterruptedTarget {
+        target: takes(rt.alloc(), 1),
+        was_interrupted: false,
+        unflushed: &unflushed,
+        flush_error: None,
+    };
+    let ended = filter_stream(rt.alloc(), false, &mut source, &mut target);
+    assert!(ended == Ok(()));
+    assert!(target.target.taken.as_slice() == SHOWN);
+    assert!(!source.came_early);
+    assert!(unflushed.get() == 0);
+    Ok(())
+}
+
+// A failed flush is a failed write, also where nothing is written.
+#[test]
+fn failed_flushes() -> Result<(), AllocError> {
+    let rt = HostRuntime::new();
+    for text in [TEXT, b"".as_slice()] {
+        let unflushed = Cell::new(0);
+        let mut source = Source::of(text);
+        let mut target = InterruptedTarget {
+            target: takes(rt.alloc(), usize::MAX),
+            was_interrupted: true,
+            unflushed: &unflushed,
+            flush_error: Some(ErrorKind::Other),
+        };
+        let ended = filter_stream(rt.alloc(), false, &mut source, &mut target);
+        assert!(ended == Err(StreamError::Write));
+    }
+    Ok(())
+}
+
+// Names of the limit, and of one byte more: in a legacy name, a number with as many zeros in front.
+#[test]
+fn longest_names() -> Result<(), AllocError> {
+    let rt = HostRuntime::new();
+    let mut text = Vec::from_slice(rt.alloc(), b"_ZN")?;
+    text.resize(MAX_RUN - 8, b'0')?;
+    text.extend_from_slice(b"3foo1bE.")?;
+    text.extend_from_slice(b"+1")?;
+    let (ended, taken) = written(rt.alloc(), Source::of(&text), takes(rt.alloc(), usize::MAX));
+    assert!(ended == Ok(()));
+    assert!(taken.as_slice() == b"foo.+1".as_slice());
+    text.insert(3, b'0')?;
+    let (_, taken) = written(rt.alloc(), Source::of(&text), takes(rt.alloc(), usize::MAX));
+    assert!(taken.as_slice() == text.as_slice());
+    Ok(())
+}

@@ -1,0 +1,169 @@
+// From crates/test_tools/src/tools/large.rt, by tools/erase.
+
+//! Files of over 1 MiB, whose listings have over 64 KiB and over 1,000 lines: neither is a reason to give up.
+
+use crate::shim::{HostRuntime, String, Vec};
+use super::{MACHO_MAGIC, PE_MAGIC, listed, reported};
+use crate::erased::binfarce_image::image::{ElfLayout, Image, lay_out};
+use crate::shim::alloc::{AllocError, Global};
+use crate::shim::test::Abort;
+use crate::shim::test::Fail;
+use crate::erased::test_image_samples::{LAYOUTS, function, image};
+use crate::erased::test_samples::macho::MACHO;
+use crate::erased::test_samples::pe::PE;
+use crate::erased::test_samples::{Patch, patched};
+
+// How many functions a file has. Each has the name `a` and 16 bytes, and begins where the one before ends.
+const FUNCTIONS: u32 = 70_000;
+
+fn elf_image(alloc: Global) -> Result<Image, AllocError> {
+    let mut rows = Vec::new(alloc);
+    for row in 0..FUNCTIONS {
+        rows.push(function(1, 0x1000 + 16 * row))?;
+    }
+    image(alloc, b"\0a\0", rows.as_slice())
+}
+
+// The rows begin at 208, and the strings follow them.
+fn macho_file(alloc: Global) -> Result<Vec<u8>, AllocError> {
+    let text_size = (16 * FUNCTIONS).to_le_bytes();
+    let rows = FUNCTIONS.to_le_bytes();
+    let strings = (208 + 16 * FUNCTIONS).to_le_bytes();
+    let patches: [Patch<'_>; 5] = [
+        MACHO_MAGIC,
+        (144, &text_size),
+        (196, &rows),
+        (200, &strings),
+        (204, &[3]),
+    ];
+    let mut file = patched(alloc, &MACHO, &patches)?;
+    file.truncate(208);
+    for row in 0..FUNCTIONS {
+        file.extend_from_slice(&[1, 0, 0, 0, 0x0F, 1, 0, 0])?;
+        file.extend_from_slice(&u64::from(0x1000 + 16 * row).to_le_bytes())?;
+    }
+    file.extend_from_slice(b"\0a\0")?;
+    Ok(file)
+}
+
+// The rows begin at 128.
+fn pe_file(alloc: Global) -> Result<Vec<u8>, AllocError> {
+    let text_size = (16 * FUNCTIONS).to_le_bytes();
+    let rows = FUNCTIONS.to_le_bytes();
+    let patches: [Patch<'_>; 3] = [PE_MAGIC, (80, &rows), (104, &text_size)];
+    let mut file = patched(alloc, &PE, &patches)?;
+    file.truncate(128);
+    for row in 0..FUNCTIONS {
+        file.extend_from_slice(b"a\0\0\0\0\0\0\0")?;
+        file.extend_from_slice(&(16 * row).to_le_bytes())?;
+        file.extend_from_slice(&[1, 0, 0x20, 0, 2, 0])?;
+    }
+    Ok(file)
+}
+
+// The first line that isn't that of its function, whose addresses begin here, or that isn't this last one.
+fn other_line(
+    alloc: Global,
+    text: &str,
+    start: u32,
+    last: &str,
+) -> Result<Option<u32>, AllocError> {
+    let mut lines = text.lines();
+    for row in 0..FUNCTIONS {
+        let line = String::formatted(alloc, format_args!("{:016x}         16 a",
+            u64::from(start) + 16 * u64::from(row)))?;
+        if lines.next() != Some(line.as_str()) {
+            return Ok(Some(row));
+        }
+    }
+    if lines.next() != Some(last) || lines.next().is_some() {
+        return Ok(Some(FUNCTIONS));
+    }
+    Ok(None)
+}
+
+fn lists_all(
+    rt: &impl Abort,
+    alloc: Global,
+    file: &[u8],
+    start: u32,
+    last: &str,
+) -> Result<(), Fail> {
+    assert!(file.len() > 1 << 20);
+    let text = listed(alloc, file, ".text")?;
+    assert!(text.len() > 1 << 16);
+    assert_eq!(other_line(alloc, text.as_str(), start, last)?, None);
+    Ok(())
+}
+
+#[test]
+fn large_elf_files() -> Result<(), Fail> {
+    let rt = HostRuntime::new();
+    let image = elf_image(rt.alloc())?;
+    for (layout, _) in &LAYOUTS {
+        let file = lay_out(rt.alloc(), &image, *layout)?;
+        lists_all(&rt, rt.alloc(), &file, 0x1000, "text 32")?;
+    }
+    Ok(())
+}
+
+#[test]
+fn a_large_macho_file() -> Result<(), Fail> {
+    let rt = HostRuntime::new();
+    let file = macho_file(rt.alloc())?;
+    lists_all(&rt, rt.alloc(), &file, 0x1000, "text 1120000")
+}
+
+#[test]
+fn a_large_pe_file() -> Result<(), Fail> {
+    let rt = HostRuntime::new();
+    let file = pe_file(rt.alloc())?;
+    lists_all(&rt, rt.alloc(), &file, 0, "text 1120000")
+}
+
+#[test]
+fn a_report_of_many_functions() -> Result<(), Fail> {
+    let rt = HostRuntime::new();
+    let file = pe_file(rt.alloc())?;
+    let text = reported(rt.alloc(), &file, ".text")?;
+    assert_eq!(
+        text.as_str(),
+        "   1120000 [unknown]\nsum 1120000\ntext 1120000\n"
+    );
+    Ok(())
+}
+
+// How many crates a file has, each with a function of 16 bytes.
+const CRATES: u32 = 5_000;
+
+fn image_of_crates(alloc: Global) -> Result<Image, AllocError> {
+    let mut strings = Vec::from_slice(alloc, b"\0")?;
+    let mut rows = Vec::new(alloc);
+    for row in 0..CRATES {
+        rows.push(function(1 + 13 * row, 0x1000 + 16 * row))?;
+        let name = String::formatted(alloc, format_args!("_ZN5c{row:04}1aE\0"))?;
+        strings.extend_from_slice(name.as_bytes())?;
+    }
+    image(alloc, &strings, rows.as_slice())
+}
+
+fn report_of_crates(alloc: Global) -> Result<String, AllocError> {
+    let mut text = String::new(alloc);
+    for row in 0..CRATES {
+        let line = String::formatted(alloc, format_args!("        16 c{row:04}\n"))?;
+        text.push_str(line.as_str())?;
+    }
+    text.push_str("sum 80000\ntext 32\n")?;
+    Ok(text)
+}
+
+#[test]
+fn a_report_of_many_crates() -> Result<(), Fail> {
+    let rt = HostRuntime::new();
+    let image = image_of_crates(rt.alloc())?;
+    let file = lay_out(rt.alloc(), &image, ElfLayout::Elf64Little)?;
+    let text = reported(rt.alloc(), &file, ".text")?;
+    assert!(text.len() > 1 << 16);
+    assert!(text.as_str() == report_of_crates(rt.alloc())?.as_str());
+    Ok(())
+}

@@ -14,7 +14,7 @@ cd "$(dirname "$0")"
 whole=$*
 [ -z "$whole" ] || [ "$whole" = --whole ] || { echo "usage: ./test.sh [--whole]" >&2; exit 2; }
 
-tools="rt python3 cargo gcc g++ nm readelf valgrind pkg-config tar pgrep"
+tools="rt python3 cargo gcc g++ nm readelf strip valgrind pkg-config groff tar pgrep"
 missing=$(for tool in $tools; do command -v "$tool" >/dev/null || echo "$tool"; done)
 [ -z "$missing" ] || { echo "test.sh: these tools are missing:" $missing; exit 1; }
 

@@ -1,4 +1,4 @@
--- A law of the sizes that addresses give.
+-- A law of the sizes in PE files.
 use Rattle.std.specs.Prelude.{◌≡◌, List, Contains}
 use Rattle.binfarce_names.specs.declared.demangle.SymbolData.{SymbolData}
 

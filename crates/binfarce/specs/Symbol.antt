@@ -17,6 +17,6 @@ pub record IsSymbolOf (entry : Entry) (symbol : SymbolData) : Type 0 where
 abbrev pub AreSymbolsOf : List Entry → List SymbolData → Type 0
 AreSymbolsOf entries symbols = AllZip IsSymbolOf entries symbols
 
--- the value is the symbols of these entries, and the size
+-- the value has the symbols of these entries, and the size
 abbrev pub HoldsSymbols : Listed → Vec SymbolData × ℕ → Type 0
 HoldsSymbols listed answer = AreSymbolsOf listed.entries answer.0.items × (answer.1 ≡ listed.section_size)

@@ -1,4 +1,4 @@
-//! The symbols that function symbols become.
+//! Function symbols as symbols with readable names.
 
 ghost use Rattle.std.specs.Prelude.{List, Some, map, IfOk, OnErr};
 ghost use Rattle.std.specs.Iterator.{IsFinite, Drains};
@@ -10,9 +10,9 @@ use binfarce_bytes::functions::FunctionSymbol;
 use binfarce_names::demangle::{Demangler, SymbolData};
 use std::alloc::{AllocError, Global};
 
-/// One symbol for each function symbol that comes, in order, with its name in readable form.
+/// One symbol for each function symbol, in order, with its name in readable form.
 ///
-/// The only error is that an allocation failed. An iterator that gives nothing makes none.
+/// The only error is a failed allocation. An empty iterator needs none.
 pub fn symbols_of<'a, I: Iterator<Item = FunctionSymbol<'a>> + Drop>(
     alloc: Global,
     functions: I,

@@ -1,9 +1,9 @@
--- Entries: the function symbols that a file holds; and what a call may answer for them.
+-- Entries, which are the function symbols of a file, and the results of a call that lists them.
 use Rattle.std.specs.Prelude.{◌≡◌, ◌≢◌, ◌⊎◌, ℕ, List, [], Result, Ok, Err}
 use Rattle.binfarce_bytes.specs.declared.error.ParseError.{ParseError}
 use Rattle.binfarce_bytes.specs.Refusal.{Refusal, refusal_of, out_of_memory}
 
--- a function symbol that the file holds: its name as it is stored, its address, and its size in bytes
+-- a function symbol of the file: its name as it is stored, its address, and its size in bytes
 pub record Entry : Type 0 where
   pub name : List ℕ
   pub address : ℕ
@@ -19,7 +19,8 @@ abbrev pub ListsSome : Result Listed Refusal → Type 0
 ListsSome (Ok listed) = listed.entries ≢ []
 ListsSome (Err refusal) = ⊥
 
--- what a call returns where the file's answer is this: a value that holds what is listed, or the refusal. In place of an answer that needs memory, and of no other, it may return that an allocation failed
+-- what a call returns for the file's answer: a value that holds the list, or the refusal. Only where the answer needs memory may it return
+-- `OutOfMemory` instead
 abbrev pub Answers : {X : Type 0} → (Listed → X → Type 0) → (Result Listed Refusal → Type 0) → Result Listed Refusal → Result X ParseError → Type 0
 Answers Holds NeedsMemory (Ok listed) (Ok value) = Holds listed value
 Answers Holds NeedsMemory (Ok listed) (Err e) = (refusal_of e ≡ out_of_memory) × NeedsMemory (Ok listed)

@@ -1,4 +1,4 @@
--- The fields of a structure: at which offset they stand, and the numbers that they hold.
+-- The fields of a structure: their offsets, and the numbers that they hold.
 use Rattle.std.specs.Prelude.{ℕ, ◌+◌, List}
 use Rattle.binfarce_bytes.specs.declared.ByteOrder.{ByteOrder}
 use Rattle.binfarce_bytes.specs.declared.ByteOrder.TheVariants.{LittleEndian}

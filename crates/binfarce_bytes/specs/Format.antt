@@ -1,4 +1,4 @@
--- Which format a file's first bytes name (gABI, "ELF Identification"; the magic numbers of PE and Mach-O).
+-- The format that a file's first bytes name (gABI, "ELF Identification"; the magic numbers of PE and Mach-O).
 use Rattle.std.specs.Prelude.{ℕ, Bool, ◌||◌, List, [], ◌∷◌, length, nat_lt, nat_eq, slice_index, if◌then◌else◌}
 use Rattle.std.specs.List.{starts_with}
 use Rattle.binfarce_bytes.specs.declared.ByteOrder.{ByteOrder}
@@ -20,7 +20,8 @@ elf_format_of class order =
 abbrev pub begins : List ℕ → List ℕ → Bool
 begins bytes magic = starts_with nat_eq bytes magic
 
--- the five magic numbers of Mach-O: of several architectures, of 32 and 64 bits, and the latter two mirrored; the reader reads files of the last alone, of 64 bits in little endian
+-- the five magic numbers of Mach-O: of universal files, of 32-bit and 64-bit files, and the last two in the other byte order. The reader supports
+-- 64-bit little-endian files alone
 abbrev pub begins_macho : List ℕ → Bool
 begins_macho bytes =
     begins bytes (0xCA ∷ 0xFE ∷ 0xBA ∷ 0xBE ∷ [])

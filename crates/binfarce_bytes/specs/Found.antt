@@ -1,8 +1,9 @@
--- Which entry an address is shown by.
+-- The entry that an address symbolizes to.
 use Rattle.std.specs.Prelude.{ℕ, ◌+◌, Bool, ◌&&◌, List, [], ◌∷◌, filter, max, Option, Some, None, nat_lt, nat_le, if◌then◌else◌}
 use Rattle.binfarce_bytes.specs.Entries.{Entry}
 
--- the address lies in the entry's range: from the entry's address on, and before its end, which may lie past 64 bits; an entry of size 0 holds its own address alone
+-- the address lies in the entry's range: from the entry's address on, and before its end, which may lie past 64 bits. An entry of size 0 holds its
+-- own address alone
 abbrev pub holds : ℕ → Entry → Bool
 holds address entry = nat_le entry.address address && nat_lt address (entry.address + max entry.size 1)
 
@@ -16,6 +17,6 @@ unfoldable pub highest : List Entry → Option Entry
 highest [] = None
 highest (entry ∷ others) = Some (higher_of entry (highest others))
 
--- the entry that an address is shown by: of those that hold it the one of greatest address, and of several the first in order
+-- the entry that an address symbolizes to: of those that hold it the one of greatest address, and of several the first in order
 unfoldable pub entry_at : List Entry → ℕ → Option Entry
 entry_at entries address = highest (filter (holds address) entries)

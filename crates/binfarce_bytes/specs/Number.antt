@@ -1,4 +1,4 @@
--- The number that bytes hold, and the bytes at a place (gABI, "Data Representation").
+-- The number that bytes hold, and the bytes at an offset (gABI, "Data Representation").
 use Rattle.std.specs.Prelude.{ℕ, ◌+◌, ◌*◌, ◌^◌, List, [], ◌∷◌, take, drop, reverse, nat_lt, if◌then◌else◌, ℤ, pos, ◌-ℤ◌}
 use Rattle.binfarce_bytes.specs.declared.ByteOrder.{ByteOrder}
 use Rattle.binfarce_bytes.specs.declared.ByteOrder.TheVariants.{LittleEndian, BigEndian}
@@ -17,6 +17,7 @@ number BigEndian bytes = little_endian (reverse bytes)
 unfoldable pub signed : ℕ → ℕ → ℤ
 signed width n = if nat_lt (2 * n) (256 ^ width) then pos n else (pos n -ℤ pos (256 ^ width))
 
--- the bytes of a field: as many as its width, from its place on. They are fewer where the file ends; that all are there is always a comparison of lengths beside it
+-- the bytes of a field: as many as its width, from its offset on. They are fewer where the file ends; a separate comparison of lengths says whether
+-- all are there
 abbrev pub bytes_at : List ℕ → ℕ → ℕ → List ℕ
 bytes_at file place width = take width (drop place file)

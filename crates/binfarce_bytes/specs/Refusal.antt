@@ -1,4 +1,4 @@
--- Why a file can't be read, as data, and the words that are printed.
+-- Why a file can't be read, as data, and the text that is printed.
 use Rattle.std.specs.Prelude.{◌≡◌, ℕ, ◌+◌, ◌^◌, List, ◌++◌, length, codes, Option, Some, None, Result, Ok, Err, nat_le, nat_lt, if◌then◌else◌}
 use Rattle.std.specs.Fmt.{decimal}
 use Rattle.binfarce_bytes.specs.Number.{bytes_at}
@@ -13,7 +13,7 @@ pub data Refusal : Type 0 where
   unexpected_eof : Refusal
   out_of_memory : Refusal
 
--- the refusal that a `ParseError` is
+-- a `ParseError` as a refusal
 abbrev pub refusal_of : ParseError → Refusal
 refusal_of SymbolsSectionIsMissing = symbols_section_is_missing
 refusal_of (SectionIsMissing name) = section_is_missing name.now
@@ -22,7 +22,7 @@ refusal_of MalformedInput = malformed_input
 refusal_of UnexpectedEof = unexpected_eof
 refusal_of OutOfMemory = out_of_memory
 
--- what is printed
+-- the printed text
 abbrev pub words : Refusal → List ℕ
 words symbols_section_is_missing = codes "symbols section is missing"
 words (section_is_missing name) = codes "section " ++ (name ++ codes " is missing")
@@ -31,23 +31,23 @@ words malformed_input = codes "malformed input file"
 words unexpected_eof = codes "unexpected end of file"
 words out_of_memory = codes "out of memory"
 
--- steps of which the first refusal is the answer, for `do`
+-- steps that end at the first refusal, for `do`
 infixl 10 ◌>>=◌
 abbrev pub ◌>>=◌ : {A B : Type 0} → Result A Refusal → (A → Result B Refusal) → Result B Refusal
 (Ok x) >>= f = f x
 (Err r) >>= f = Err r
 
--- what was looked for, or else the refusal
+-- the value, or else the refusal
 abbrev pub required : {A : Type 0} → Refusal → Option A → Result A Refusal
 required refusal None = Err refusal
 required refusal (Some x) = Ok x
 
--- where the answer is this, a call returned it: its value seen by view, its error by why
+-- a call returned the answer: its value through view, its error through why
 abbrev pub Gives : {X Y E : Type 0} → (E → Refusal) → (X → Y) → Result Y Refusal → Result X E → Type 0
 Gives why view answer (Ok x) = answer ≡ Ok (view x)
 Gives why view answer (Err e) = answer ≡ Err (why e)
 
--- the bytes of a file that a section has: their end is below 2^64, and lies in the file
+-- the bytes of a section: their end has to be below 2^64, and to lie in the file
 unfoldable pub bytes_in_file : List ℕ → ℕ → ℕ → Result (List ℕ) Refusal
 bytes_in_file file offset size =
     if nat_le (2 ^ 64) (offset + size) then Err malformed_input

@@ -9,7 +9,7 @@ pub record SectionEntry : Type 0 where
   pub section : ℕ
   pub entry : Entry
 
--- these entries, as those of the section of this number
+-- entries with the number of their section
 abbrev pub in_section : ℕ → List Entry → List SectionEntry
 in_section number entries = map (λ e. record { section = number; entry = e }) entries
 
@@ -22,7 +22,8 @@ abbrev pub unless : {A : Type 0} → Option Refusal → A → Result A Refusal
 unless None value = Ok value
 unless (Some refusal) value = Err refusal
 
--- what a call returns where the file's answer is this: a value that holds the entries, or the refusal. In place of either it may return that an allocation failed, where the file needs memory
+-- what a call returns for the file's answer: a value that holds the entries, or the refusal. Where the file needs memory, it may return `OutOfMemory`
+-- instead of either
 abbrev pub AnswersAll : {X : Type 0} → (List SectionEntry → X → Type 0) → Type 0 → Result (List SectionEntry) Refusal → Result X ParseError → Type 0
 AnswersAll Holds NeedsMemory (Ok entries) (Ok value) = Holds entries value
 AnswersAll Holds NeedsMemory (Ok entries) (Err e) = (refusal_of e ≡ out_of_memory) × NeedsMemory

@@ -1,9 +1,9 @@
--- Rows arranged by address, and the least address above another: what sizes are made of where a format stores none.
+-- Rows arranged by address, and the least address above another: these give sizes where a format stores none.
 use Rattle.std.specs.Prelude.{◌≡◌, ℕ, ◌+◌, ◌<◌, Bool, true, ◌&&◌, ◌||◌, List, [], ◌∷◌, length, map, filter, min, Option, Some, None, nat_lt, nat_eq, slice_index_or, if◌then◌else◌}
 use Rattle.std.specs.List.Sorted.{IsPermutation}
 use Rattle.binfarce_bytes.specs.Entries.{Entry}
 
--- a row of a symbol table: the address that it holds, and its number in the table
+-- a row of a symbol table: its address, and its number in the table
 pub record RowAddress : Type 0 where
   pub address : ℕ
   pub row : ℕ
@@ -31,7 +31,7 @@ pub record IsArrangementOf (rows in_order : List RowAddress) : Type 0 where
   pub same : IsPermutation rows in_order
   pub rises : RisesStrictly in_order
 
--- what a law of order says of an answer: its entries are what is given of the rows, once these are arranged
+-- a law of order for an answer: its entries are those given for the rows in arranged order
 pub record ListsArranged (rows : List RowAddress) (Given : List RowAddress → List Entry → Type 0) (entries : List Entry) : Type 0 where
   pub in_order : List RowAddress
   pub arrangement : IsArrangementOf rows in_order
@@ -40,12 +40,12 @@ pub record ListsArranged (rows : List RowAddress) (Given : List RowAddress → L
 abbrev pub addresses_of : List RowAddress → List ℕ
 addresses_of rows = map (λ r. r.address) rows
 
--- x, or the member where it is less
+-- x, or the member if that is less
 abbrev pub least_of : ℕ → Option ℕ → ℕ
 least_of x None = x
 least_of x (Some member) = min x member
 
--- the least member of a set, which a list of its members gives in any order
+-- the least member of a set, given as a list of its members in any order
 abbrev pub least : List ℕ → Option ℕ
 least [] = None
 least (x ∷ xs) = Some (least_of x (least xs))

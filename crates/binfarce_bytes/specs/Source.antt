@@ -5,10 +5,10 @@ use Rattle.std.specs.Prelude.{◌≡◌, ◌⊎◌, ◌+◌, ◌<◌, ◌≤◌,
 abbrev pub bytes_at : List ℕ → ℕ → ℕ → List ℕ
 bytes_at bytes offset size = take size (drop offset bytes)
 
--- part is what the source holds from the offset on, and ends where the source does or before, where its bytes are known
+-- part is what the source holds from the offset on, up to its end or to before, where its bytes are known
 abbrev pub IsPart : Option (List ℕ) → ℕ → List ℕ → Type 0
 IsPart known offset part = IfSome known (λ bytes. (offset + length part ≤ length bytes) × (part ≡ bytes_at bytes offset (length part)))
 
--- as many bytes as size from the offset on may be missed: the source may fail, or it ends before them, where its bytes are known
+-- a read of size bytes from the offset on may fail: the source may fail, or it ends before, where its bytes are known
 abbrev pub MayMiss : Bool → Option (List ℕ) → ℕ → ℕ → Type 0
 MayMiss may_fail known offset size = (may_fail ≡ true) ⊎ IfSome known (λ bytes. length bytes < offset + size)

@@ -10,7 +10,7 @@ use Rattle.binfarce_bytes.specs.SectionEntries.{SectionEntry}
 abbrev pub function_view : FunctionSymbol → Entry
 function_view f = record { name = f.name.now; address = f.address; size = f.size }
 
--- the value is these entries as function symbols, and the size
+-- the value has these entries as function symbols, and the size
 abbrev pub HoldsFunctions : Listed → Vec FunctionSymbol × ℕ → Type 0
 HoldsFunctions listed answer = (map function_view answer.0.items ≡ listed.entries) × (answer.1 ≡ listed.section_size)
 
@@ -18,6 +18,6 @@ HoldsFunctions listed answer = (map function_view answer.0.items ≡ listed.entr
 abbrev pub section_function_view : SectionFunction → SectionEntry
 section_function_view f = record { section = f.section; entry = function_view f.function }
 
--- the value is these entries as function symbols with their sections
+-- the value has these entries as function symbols with their sections
 abbrev pub HoldsSectionFunctions : List SectionEntry → Vec SectionFunction → Type 0
 HoldsSectionFunctions entries functions = map section_function_view functions.items ≡ entries

@@ -6,7 +6,7 @@ use Rattle.std.specs.Prelude.{ℕ, ◌≡◌, ◌≢◌, [], ◌∷◌, ◌++◌
 use Rattle.std.specs.Option.{option_and_then}
 use Rattle.std.specs.Str.{IsUtf8, is_utf8}
 
--- where the first NUL stands
+-- the position of the first NUL
 abbrev pub nul_at : List ℕ → Option ℕ
 nul_at bytes = position (λ b. nat_eq b 0) bytes
 
@@ -22,7 +22,7 @@ utf8_of bytes = if is_utf8 bytes then Some bytes else None
 abbrev pub text_of : List ℕ → Option (List ℕ)
 text_of bytes = if nat_lt 0 (length bytes) then utf8_of bytes else None
 
--- what stands at an offset up to the first NUL, where there is one and it is a text
+-- the bytes from an offset up to the first NUL, where there is a NUL and they are a text
 unfoldable pub text_at : List ℕ → ℕ → Option (List ℕ)
 text_at bytes start = option_and_then (λ n. text_of (take n (drop start bytes))) (nul_at (drop start bytes))
 
@@ -34,14 +34,14 @@ padded_name bytes = text_of (up_to_nul bytes)
 unfoldable pub padded_text : List ℕ → Option (List ℕ)
 padded_text bytes = utf8_of (up_to_nul bytes)
 
--- text stands at the offset: a non-empty UTF-8 text without NUL, and a NUL after it
+-- text is at the offset: a non-empty UTF-8 text without NUL, and a NUL after it
 pub record IsTextAt (bytes : List ℕ) (start : ℕ) (text : List ℕ) : Type 0 where
   pub stands : (rest : List ℕ) × (drop start bytes ≡ text ++ 0 ∷ rest)
   pub no_nul : All (λ b. b ≢ 0) text
   pub utf8 : IsUtf8 text
   pub not_empty : text ≢ []
 
--- what is found there is the text that stands there; where nothing is found, none does
+-- what is found is the text at the offset; where nothing is found, there is no text
 abbrev pub FindsText : List ℕ → ℕ → Option (List ℕ) → Type 0
 FindsText bytes start None = (text : List ℕ) → ¬ (IsTextAt bytes start text)
 FindsText bytes start (Some text) = IsTextAt bytes start text

@@ -1,4 +1,4 @@
-//! Which format a file's first bytes name.
+//! The format of a file, by its first bytes.
 
 ghost use Rattle.std.specs.Prelude.{◌≡◌};
 ghost use Rattle.binfarce_bytes.specs.Format.{format_of, elf_format_of, begins_macho};
@@ -20,7 +20,7 @@ pub enum Format {
         /// The order of the numbers' bytes.
         byte_order: ByteOrder,
     },
-    /// Mach-O of any kind. `macho::parse` reads each as one of 64 bits in little-endian order.
+    /// Mach-O of any kind. `macho::parse` reads each as a 64-bit little-endian file.
     Macho,
     /// A file that begins with the MS-DOS stub of a PE file: for `pe::parse`.
     PE,
@@ -32,7 +32,7 @@ pub enum Format {
 /// Identification"), PE's `4D 5A`, the five magic numbers of Mach-O. A file of fewer than 8 bytes is `Unknown`, and so
 /// is an ELF file of another class or order. Nothing is allocated.
 ///
-/// The readers themselves never look at a magic number.
+/// The readers themselves don't check magic numbers.
 #[tactic(auto, unfolding(crate::specs::Format::format_of))]
 pub fn detect_format(data: &[u8]) -> Format
     ensures { result ≡ format_of data.now }

@@ -1,4 +1,4 @@
-//! Equality is equality of values; and worked examples, which are computed from the definitions alone.
+//! Equality is equality of values. Worked examples, computed from the definitions alone.
 
 ghost use Rattle.std.specs.Prelude.{◌≡◌, ◌↔◌, IsTrue, [], ◌∷◌, Some, None, pos, ◌-ℤ◌};
 ghost use Rattle.binfarce_bytes.specs.declared.ByteOrder.TheVariants.{LittleEndian, BigEndian};

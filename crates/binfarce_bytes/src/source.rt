@@ -1,4 +1,4 @@
-//! What is read at offsets: a file, or bytes in memory.
+//! Sources that are read at offsets: a file, or bytes in memory.
 
 ghost use Rattle.std.specs.Prelude.{◌≡◌, ◌⊎◌, Bool, true, List, ℕ, Option, None, IfOk, IfErr, OnOk, IfSome, length};
 ghost use Rattle.std.specs.IoError.{error_kind};
@@ -10,15 +10,15 @@ use std::fs::File;
 use std::io::{self, Error, ErrorKind};
 use std::os::unix::fs::FileExt;
 
-/// What is read at offsets.
+/// A source that is read at offsets.
 pub trait Source {
     // All its bytes, where they are known.
     ghost bytes: { Self → Option (List ℕ) } = { λ _. None };
 
-    // It may fail to tell its length, or to give bytes that it has.
+    // Whether it may fail to give its length, or bytes that it has.
     ghost may_fail: { Self → Bool } = { λ _. true };
 
-    /// How many bytes it has. An error where it can't be read at offsets.
+    /// Its length in bytes. An error where it can't be read at offsets.
     fn length(&self) -> io::Result<u64>
         ensures length { IfOk result (λ n. IfSome (bytes self.now) (λ all. n ≡ length all)) }
         ensures failed { IfErr result (λ _. may_fail self.now ≡ true) };
@@ -69,7 +69,7 @@ impl Source for &[u8] {
 
 /// The `size` bytes from the offset on, in memory of that size.
 ///
-/// Refused with the source's error, and as `OutOfMemory` where the allocation fails.
+/// Fails with the source's error, and with `OutOfMemory` where the allocation fails.
 pub fn read_part<S: Source>(
     alloc: Global,
     source: &S,

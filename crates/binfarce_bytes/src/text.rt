@@ -1,11 +1,11 @@
-//! Texts at an offset, and in a field of their own.
+//! Texts at an offset, and texts in fixed-size fields.
 
 ghost use Rattle.std.specs.Prelude.{◌≡◌, ◌<◌, ◌≤◌, length, nat_eq, take, false};
 ghost use Rattle.binfarce_bytes.specs.Text.{text_at, nul_at, up_to_nul, utf8_of, text_of, FindsText};
 ghost use Rattle.std.specs.List.{list_any};
 ghost use Rattle.std.specs.Option.{option_map};
 
-/// The bytes up to the first NUL, or all where there is none; a part of `bytes`.
+/// The bytes up to the first NUL, or all where there is none; a slice of `bytes`.
 pub fn up_to_nul(bytes: &[u8]) -> &[u8]
     ensures { result.now ≡ up_to_nul bytes.now }
 {
@@ -15,7 +15,7 @@ pub fn up_to_nul(bytes: &[u8]) -> &[u8]
     }
 }
 
-/// The text from `start` to the first NUL, which is a part of `bytes`.
+/// The text from `start` to the first NUL, as a slice of `bytes`.
 ///
 /// `None` where `start` is past the end, there is no NUL, the text is empty, or it isn't UTF-8.
 #[tactic(auto, using(crate::proofs::Texts::finds_text))]
@@ -39,7 +39,7 @@ fn text_from(bytes: &[u8], start: usize) -> Option<&str>
     }
 }
 
-// How many bytes are looked at together: first so many, and then fewer.
+// How many bytes are compared at a time: first so many, and then fewer.
 const STRIDE: usize = 32;
 
 const LAST_STRIDE: usize = 8;
@@ -55,7 +55,7 @@ fn find_nul(bytes: &[u8]) -> Option<usize>
     }
 }
 
-// The offset after the strides from `start` on that have no NUL, where none stands before `start`.
+// The offset after the strides from `start` on that have no NUL, where there is none before `start`.
 #[inline(always)]
 fn past_strides(bytes: &[u8], start: usize, stride: usize) -> usize
     requires stride { 0 < stride }
@@ -80,7 +80,7 @@ fn first_nul(bytes: &[u8]) -> Option<usize>
     bytes.iter().position(|b| *b == 0)
 }
 
-// Without an early end, so that the bytes are compared side by side.
+// Without an early exit, so that the comparisons are vectorized.
 #[inline(always)]
 fn has_nul(bytes: &[u8]) -> bool
     ensures { result ≡ list_any (λ b. nat_eq b 0) bytes.now }
@@ -104,7 +104,7 @@ fn first_text(bytes: &[u8], len: usize) -> Option<&str>
     utf8_text(&bytes[..len])
 }
 
-/// The bytes as a text, which is a part of them; `None` where they aren't UTF-8.
+/// The bytes as a text, without a copy; `None` where they aren't UTF-8.
 #[tactic(auto, using(crate::proofs::Texts::utf8_is, crate::proofs::Texts::utf8_none))]
 pub fn utf8_text(bytes: &[u8]) -> Option<&str>
     ensures { option_map (λ t. t.now) result ≡ utf8_of bytes.now }

@@ -5,7 +5,7 @@ use Rattle.std.specs.List.{sum_by}
 use Rattle.std.specs.List.Sorted.{IsStableByKey}
 use Rattle.std.specs.Ordering.{nat_cmp}
 
--- a name, and the size of what it names
+-- a name and a size
 pub record Row : Type 0 where
   pub name : List ℕ
   pub size : ℕ
@@ -13,11 +13,11 @@ pub record Row : Type 0 where
 abbrev pub total : List Row → ℕ
 total rows = sum_by (λ r. r.size) rows
 
--- no size is greater than one that stands before it
+-- no size is greater than one before it
 abbrev pub Falls : List Row → Type 0
 Falls rows = (i j : ℕ) (d : Row) → i ≤ j → j < length rows → (slice_index_or rows j d).size ≤ (slice_index_or rows i d).size
 
--- rows of one size stand in the order in which they were given
+-- rows of one size keep their given order
 abbrev pub KeepsOrder : List Row → List Row → Type 0
 KeepsOrder given falling = IsStableByKey (λ (r : Row). r.size) nat_cmp given falling
 
@@ -25,11 +25,11 @@ KeepsOrder given falling = IsStableByKey (λ (r : Row). r.size) nat_cmp given fa
 abbrev pub others_label : ℕ → List ℕ
 others_label count = codes "[" ++ (decimal count ++ codes " others]")
 
--- the row that stands for these
+-- the row that sums up these
 abbrev pub others : List Row → Row
 others rows = record { name = others_label (length rows); size = total rows }
 
--- the rows that are shown: all of up to 40, and of more the first 39 and one for the others
+-- the rows that are shown: all of up to 40; of more, the first 39 and one for the others
 abbrev pub shown : List Row → List Row
 shown rows = if nat_le (length rows) 40 then rows else (take 39 rows ++ (others (drop 39 rows) ∷ []))
 
@@ -37,7 +37,7 @@ shown rows = if nat_le (length rows) 40 then rows else (take 39 rows ++ (others 
 abbrev pub whole : ℕ
 whole = 10000
 
--- how much of the whole is before a point, rounded down
+-- the share of the whole before a point, rounded down
 abbrev pub edge : ℕ → ℕ → ℕ
 edge total before = (whole * before) / total
 

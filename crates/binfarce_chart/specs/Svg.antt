@@ -9,7 +9,7 @@ use Rattle.binfarce_chart.specs.Chart.{Row, Falls, KeepsOrder, bar_length, perce
 abbrev pub hex_byte : ℕ → List ℕ
 hex_byte b = codes "\\x" ++ (digit_glyph false (b / 16 % 16) ∷ digit_glyph false (b % 16) ∷ [])
 
--- a byte of a name: as an entity where it means something in XML, as itself where it is printable ASCII, and else in digits
+-- a byte of a name: as an entity if it is special in XML, unchanged if it is other printable ASCII, and otherwise hex-escaped
 unfoldable pub escaped_byte : ℕ → List ℕ
 escaped_byte b =
     if nat_eq b (byte "<") then codes "&lt;"
@@ -26,7 +26,7 @@ escaped name = flat_map escaped_byte name
 abbrev pub IsPlain : ℕ → Type 0
 IsPlain b = (byte " " ≤ b) × (b ≤ byte "~") × (b ≢ byte "<") × (b ≢ byte ">") × (b ≢ byte "\"")
 
--- where a row begins, so far from the top; its name ends where the bars begin
+-- the beginning of a row, so far from the top; its name ends where the bars begin
 unfoldable pub row_start : ℕ → List ℕ
 row_start top = codes "<svg y=\"" ++ (decimal top ++ codes "\" height=\"24\"><svg width=\"236\"><text x=\"8\" y=\"17\">")
 
@@ -51,11 +51,11 @@ rows total before top (r ∷ others) = row top r (bar_length total before r.size
 unfoldable pub opening : ℕ → List ℕ
 opening height = codes "<svg xmlns=\"http://www.w3.org/2000/svg\" width=\"800\" height=\"" ++ (decimal height ++ (codes "\" viewBox=\"0 0 800 " ++ (decimal height ++ codes "\" font-family=\"sans-serif\" font-size=\"14\">\n")))
 
--- a title, a white ground, and a line that tells the sum and the section's size
+-- a title, a white background, and a line with the sum and the section's size
 unfoldable pub caption : ℕ → ℕ → List ℕ
 caption sum size = codes "<title>Size by crate</title>\n<rect width=\"800\" height=\"100%\" fill=\"#fff\"/>\n<text x=\"8\" y=\"25\">sum " ++ (decimal sum ++ (codes ", text " ++ (decimal size ++ codes ": bytes and share of the sum by crate</text>\n")))
 
--- what stands before so many rows
+-- the text before so many rows
 unfoldable pub head : ℕ → ℕ → ℕ → List ℕ
 head count sum size = opening (24 * count + 48) ++ caption sum size
 
@@ -63,6 +63,6 @@ head count sum size = opening (24 * count + 48) ++ caption sum size
 abbrev pub picture : List Row → ℕ → ℕ → List ℕ
 picture bars sum size = head (length bars) sum size ++ (rows sum 0 40 bars ++ codes "</svg>\n")
 
--- text is the picture of the section's size and of the rows: the largest first, rows of one size in the order in which they were given
+-- text is the picture of the section's size and of the rows: the largest first, rows of one size in their given order
 abbrev pub IsChartOf : List Row → ℕ → List ℕ → Type 0
 IsChartOf all size text = (falling : List Row) × IsPermutation all falling × Falls falling × KeepsOrder all falling × (text ≡ picture (shown falling) (total falling) size)

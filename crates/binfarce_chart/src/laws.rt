@@ -1,4 +1,4 @@
-//! Laws of pictures, which their definitions keep.
+//! Laws of pictures, proved from their definitions.
 
 ghost use Rattle.std.specs.Prelude.{◌≡◌, ◌<◌, All, map};
 ghost use Rattle.std.specs.List.{AllZip};
@@ -8,7 +8,7 @@ ghost use Rattle.binfarce_chart.specs.Views.{bar_view};
 
 use crate::bars::Bar;
 
-/// The lengths of bars add up to the whole and each is within one unit of its share, where any bar has a size.
+/// The lengths of bars add up to the whole, and each is within one unit of its share, if any size is above 0.
 pub fn lengths_add_up(bars: &[Bar<'_>])
     ensures sum { 0 < total (map bar_view bars.now)
         → Rattle.std.specs.List.sum_by
@@ -20,7 +20,7 @@ pub fn lengths_add_up(bars: &[Bar<'_>])
     let _ = bars;
 }
 
-/// An escaped name has printable ASCII characters alone, and none that begins or ends a tag or an attribute's value.
+/// An escaped name has only printable ASCII characters, and none that begins or ends a tag or an attribute's value.
 pub fn escaped_is_plain(name: &str)
     ensures { All IsPlain (escaped name.now) }
 {

@@ -10,11 +10,11 @@ ghost use Rattle.binfarce_chart.specs.Views.{bar_view};
 use crate::bars::{Bar, MOST_BARS, falling, length_of, others, size_of_all};
 use std::alloc::{AllocError, Global};
 
-/// The picture of these sizes, as an SVG document of its own: a bar for each, the greatest first.
+/// The picture of these sizes, as a whole SVG document: a bar for each, the greatest first.
 ///
-/// The sum of the sizes has to be below 2^64. Of more than 40 bars the last one stands for all from the 40th on. The
+/// The sum of the sizes has to be below 2^64. Of more than 40 bars, the last one sums up all from the 40th on. The
 /// lengths are shares of the sum in hundredths of a per cent, and are written beside the bars; they add up to 100.00.
-/// Names are escaped. Refused: an allocation that fails.
+/// Names are escaped. The only error is a failed allocation.
 pub fn chart(alloc: Global, bars: &[Bar<'_>], section_size: u64) -> Result<String, AllocError>
     requires { total (map bar_view bars.now) < 2 ^ 64 }
     ensures { IfOk result (λ t. IsChartOf (map bar_view bars.now) section_size (string_bytes t)) }
@@ -37,7 +37,7 @@ fn picture_of(alloc: Global, bars: &[Bar<'_>], section_size: u64) -> Result<Stri
     Ok(text)
 }
 
-// What stands before so many rows.
+// The text before so many rows.
 #[tactic(auto, unfolding(crate::specs::Svg::head))]
 fn push_head(text: &mut String, count: usize, sum: u64, section_size: u64) -> Result<(), AllocError>
     ensures { OnOk result (string_bytes text.new ≡ string_bytes text.old ++ head count sum section_size) }
@@ -85,7 +85,7 @@ fn push_shown(
     push_others(alloc, text, rest, sum)
 }
 
-// The row that stands for these bars, below 39 others.
+// The row that sums up these bars, below 39 others.
 fn push_others(
     alloc: Global,
     text: &mut String,
@@ -171,7 +171,7 @@ fn push_percents(text: &mut String, length: u64) -> Result<(), AllocError>
     write!(text, "{}.{}{}", length / 100, length / 10 % 10, length % 10)
 }
 
-// A name in which every character stands for itself.
+// A name, escaped so that XML takes every character literally.
 #[tactic(auto, unfolding(crate::specs::Svg::escaped))]
 fn push_escaped(text: &mut String, name: &str) -> Result<(), AllocError>
     ensures { OnOk result (string_bytes text.new ≡ string_bytes text.old ++ escaped name.now) }

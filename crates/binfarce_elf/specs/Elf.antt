@@ -1,4 +1,4 @@
--- ELF files of both classes: tables of offsets and widths, and the values there (System V gABI, chapter 4).
+-- ELF files of both classes: the offsets and widths of fields, and their values (System V gABI, chapter 4).
 use Rattle.std.specs.Prelude.{◌≡◌, ℕ, ◌+◌, ◌-◌, ◌*◌, ◌/◌, ◌&&◌, List, length, map, Option, Some, None, nat_eq, nat_lt, nat_le, min, if◌then◌else◌}
 use Rattle.std.specs.List.{range_with_len}
 use Rattle.binfarce_bytes.specs.declared.ByteOrder.{ByteOrder}
@@ -160,7 +160,7 @@ header_of class order file = record {
   shstrndx = value_at order file 0 class.header.shstrndx;
 }
 
--- what a section header says, and the section's index
+-- the values of a section header, and the section's index
 pub record Section : Type 0 where
   pub index : ℕ
   pub name_offset : ℕ
@@ -193,7 +193,7 @@ pub record ElfFile : Type 0 where
   pub order : ByteOrder
   pub bytes : List ℕ
 
--- a file, and what its header says of the section header table: its offset, its count, and the index of the section names
+-- a file, and its section header table as the file header states it: its offset, its count, and the index of the section names
 pub record SectionTable : Type 0 where
   pub order : ByteOrder
   pub file : List ℕ
@@ -229,7 +229,7 @@ walk class table = record {
 abbrev pub contents : List ℕ → Section → Option (List ℕ)
 contents file section = if nat_le (section.offset + section.size) (length file) then Some (bytes_at file section.offset section.size) else None
 
--- the section of the section names, where its header is whole; that its index is below the count isn't asked
+-- the section of the section names, where its header is whole; its index isn't checked against the count
 abbrev pub names_section : ElfClass → SectionTable → Option Section
 names_section class table = if nat_lt table.shstrndx (whole_headers class table) then Some (section_of class table table.shstrndx) else None
 

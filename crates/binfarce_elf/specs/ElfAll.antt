@@ -10,7 +10,7 @@ use Rattle.binfarce_elf.specs.ElfSymbols.{symbol_at, entry_of, rows_in}
 use Rattle.binfarce_elf.specs.declared.all.AllFunctions.{AllFunctions}
 use Rattle.binfarce_elf.specs.declared.symbol_table.SymbolTable.{SymbolTable}
 
--- a section index is that of one of so many sections: above SHN_UNDEF (0), and below SHN_LORESERVE (0xff00)
+-- the index of one of so many sections: above SHN_UNDEF (0), and below SHN_LORESERVE (0xff00)
 abbrev pub is_of_section : ℕ → ℕ → Bool
 is_of_section count index = nat_lt 0 index && nat_lt index 65280 && nat_lt index count
 

@@ -1,4 +1,4 @@
--- What the symbols of a section need, found in the section headers and the section names.
+-- The sections that the symbols of a section need, found in the section headers and the section names.
 use Rattle.std.specs.Prelude.{ℕ, List, Option, Result, Ok, nat_eq}
 use Rattle.binfarce_bytes.specs.declared.ByteOrder.{ByteOrder}
 use Rattle.binfarce_bytes.specs.Refusal.{◌>>=◌, Refusal, symbols_section_is_missing, section_is_missing}
@@ -9,7 +9,7 @@ use Rattle.binfarce_elf.specs.ElfViews.{section_view}
 use Rattle.binfarce_elf.specs.SymbolTables.{section_type, table_name, strings_name}
 use Rattle.binfarce_elf.specs.declared.symbol_table.SymbolTable.{SymbolTable}
 
--- the section that was asked for, the symbol table, and the section of its strings
+-- the requested section, the symbol table, and the section of its strings
 pub record NeededSections : Type 0 where
   pub section : Section
   pub symbols : Section

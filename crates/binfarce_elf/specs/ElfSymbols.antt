@@ -79,13 +79,13 @@ rows_in which class table = do
   rows ← whole_rows class table_bytes
   Ok (record { strings = strings; rows = rows })
 
--- the section that was asked for, the string table's bytes, and the symbol table's
+-- the requested section, the string table's bytes, and the symbol table's
 pub record Located : Type 0 where
   pub section : Section
   pub strings : List ℕ
   pub rows : List ℕ
 
--- the refusals in order: that the section is missing, and those of the symbol table; else where the symbols are
+-- the refusals in order: the section is missing, and those of the symbol table; else where the symbols are
 unfoldable pub located_in : SymbolTable → ElfClass → SectionTable → List ℕ → Result Located Refusal
 located_in which class table name = do
   section ← sought symbols_section_is_missing (λ s. is_named name (name_of class table s)) (walk class table)
@@ -96,13 +96,13 @@ located_in which class table name = do
 unfoldable pub located : ElfClass → SectionTable → List ℕ → Result Located Refusal
 located class table name = located_in Symtab class table name
 
--- the entries of all rows, and the size of the section that was asked for
+-- the entries of all rows, and the size of the requested section
 unfoldable pub elf_answer : ElfClass → SectionTable → List ℕ → Result Listed Refusal
 elf_answer class table name = do
   found ← located class table name
   Ok (record { entries = entries_from class table.order found.strings found.section.index found.rows 0; section_size = found.section.size })
 
--- the same of this symbol table
+-- the same for this symbol table
 unfoldable pub answer_in : SymbolTable → ElfClass → SectionTable → List ℕ → Result Listed Refusal
 answer_in which class table name = do
   found ← located_in which class table name

@@ -1,4 +1,4 @@
--- What clauses see of the types of both classes, where `number` is the number that a word is.
+-- What clauses see of the types of both classes; `number` gives the number of a word.
 use Rattle.std.specs.Prelude.{ℕ, List}
 use Rattle.binfarce_elf.specs.declared.sections.Section.{Section}
 use Rattle.binfarce_elf.specs.declared.header.Header.{Header}

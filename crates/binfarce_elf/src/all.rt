@@ -17,7 +17,7 @@ use binfarce_bytes::parser::UnexpectedEof;
 use binfarce_bytes::{ByteOrder, ParseError};
 use std::marker::PhantomData;
 
-/// The function symbols of all sections, by this symbol table.
+/// The function symbols of all sections, from this symbol table.
 #[tactic(auto, unfolding(crate::specs::ElfAll::all_answer))]
 pub fn all_functions<'a, C: Class>(
     table: Table<'a>,
@@ -46,7 +46,7 @@ fn whole_sections<C: Class>(table: Table<'_>) -> Result<Half, UnexpectedEof>
 
 /// The function symbols of all sections that are left, each with the index of its section, in the order of the symbol table.
 ///
-/// Rows are read as they are asked for, and names stay in the file: nothing is allocated or copied.
+/// Rows are read on demand, and names stay in the file: nothing is allocated or copied.
 #[must_use = "iterators are lazy and do nothing unless consumed"]
 #[derive(Drop)]
 pub struct AllFunctions<'a, C> {
@@ -130,7 +130,7 @@ fn section_function(strings: &[u8], count: Half, row: SymbolRow) -> Option<Secti
     })
 }
 
-// Whether a section index is that of one of so many sections.
+// Whether this is the index of one of so many sections.
 fn is_of_section(count: Half, index: Half) -> bool
     ensures { result ≡ is_of_section count index }
 {

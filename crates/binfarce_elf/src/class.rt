@@ -1,4 +1,4 @@
-//! The two classes of ELF files: their words, and what they lay out differently.
+//! The two classes of ELF files: their words, and their different layouts.
 
 ghost use Rattle.std.specs.Prelude.{◌≡◌, ◌+◌, ◌*◌, ◌<◌, ◌≤◌, ℕ, List, length, MatchResult};
 ghost use Rattle.binfarce_bytes.specs.Number.{number};
@@ -9,14 +9,14 @@ ghost use Rattle.binfarce_elf.specs.machine.RawElf.{symbol_view, fields_of_heade
 use binfarce_bytes::ByteOrder;
 use binfarce_bytes::parser::{RawNumber, Stream, UnexpectedEof, slice_at};
 
-// The standard's data types (gABI, "Data Representation"); a word of the class stands for its addresses and offsets.
+// The standard's data types (gABI, "Data Representation"); addresses and offsets are words of the class.
 pub type Half = u16;
 
 pub type Word = u32;
 
 pub type XWord = u64;
 
-/// A row of a symbol table, with values as wide as the wider class has them.
+/// A row of a symbol table, with values of the wider class's widths.
 #[derive(Clone, Copy)]
 pub struct SymbolRow {
     pub name: Word,
@@ -27,7 +27,7 @@ pub struct SymbolRow {
     pub section: Half,
 }
 
-/// A class of ELF files, known by its word: `u32` for ELFCLASS32, `u64` for ELFCLASS64.
+/// A class of ELF files, named by its word: `u32` for ELFCLASS32, `u64` for ELFCLASS64.
 ///
 /// Addresses, offsets in the file, and the sizes of sections have a word's width.
 pub trait Class: RawNumber + Copy + Drop {
@@ -52,11 +52,11 @@ pub trait Class: RawNumber + Copy + Drop {
     /// The length of a symbol table entry in bytes.
     const SYMBOL_LENGTH: usize;
 
-    /// The word as the wider class has it.
+    /// The word in the wider class's type.
     fn widened(self) -> u64
         ensures { result ≡ number_of self };
 
-    /// How many entries of a size there are in this size; 0 where that size is 0.
+    /// How many entries of a size there are in this size; 0 where the entry size is 0.
     fn entries_of(self, entry_size: Self) -> Self
         ensures { number_of result ≡ entry_count (number_of self) (number_of entry_size) };
 
@@ -208,8 +208,8 @@ impl Class for u64 {
     ghost some_symbol = { lit< tt };
 }
 
-// The row of the class of 32 bits that these bytes begin with; refused where it is truncated. Where they are those of one
-// row, whose number is known when this is compiled, no field's reading tests the length.
+// The row of a 32-bit file at the front of these bytes; refused where it is truncated. For a slice of one row, whose
+// length the compiler knows, no read of a field checks bounds.
 #[inline(always)]
 #[tactic(auto, unfolding(crate::specs::Elf::elf32, crate::specs::ElfSymbols::symbol_at))]
 fn row_of_32(bytes: &[u8], byte_order: ByteOrder) -> Result<SymbolRow, UnexpectedEof>
@@ -234,7 +234,7 @@ fn row_of_32(bytes: &[u8], byte_order: ByteOrder) -> Result<SymbolRow, Unexpecte
     })
 }
 
-// The same of the class of 64 bits.
+// The same for a 64-bit file.
 #[inline(always)]
 #[tactic(auto, unfolding(crate::specs::Elf::elf64, crate::specs::ElfSymbols::symbol_at))]
 fn row_of_64(bytes: &[u8], byte_order: ByteOrder) -> Result<SymbolRow, UnexpectedEof>

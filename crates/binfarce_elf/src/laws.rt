@@ -1,11 +1,11 @@
-//! Worked examples, which are computed from the definitions alone.
+//! Worked examples, computed from the definitions alone.
 
 ghost use Rattle.std.specs.Prelude.{◌≡◌, [], ◌∷◌};
 ghost use Rattle.binfarce_bytes.specs.declared.ByteOrder.TheVariants.{LittleEndian, BigEndian};
 ghost use Rattle.binfarce_elf.specs.Elf.{elf32, elf64, section_at};
 ghost use Rattle.binfarce_elf.specs.ElfSymbols.{entries_from};
 
-/// A section header of 32 bits in big endian: `PROGBITS`, at 0x34, of 0x20 bytes, of which an entry has 4.
+/// A 32-bit big-endian section header: `PROGBITS`, at 0x34, of 0x20 bytes, with entries of 4 bytes.
 #[tactic(auto, unfolding(crate::specs::Elf::elf32, crate::specs::Elf::section_at, binfarce_bytes::proofs::Computing::computing))]
 fn worked_section()
     ensures { section_at elf32 BigEndian
@@ -23,7 +23,7 @@ fn worked_section()
         } }
 {}
 
-/// A row of the function `f` at 0x1000, of 16 bytes, in section 1: as it stands in both classes, and as an object.
+/// A row of the function `f` at 0x1000, of 16 bytes, in section 1: in both classes, and as an object.
 #[tactic(auto, unfolding(crate::specs::Elf::elf32, crate::specs::Elf::elf64, crate::specs::ElfSymbols::symbol_at, crate::specs::ElfSymbols::function_name, binfarce_bytes::proofs::Computing::computing))]
 fn worked_rows()
     ensures of_32_bits { entries_from elf32 BigEndian (0 ∷ 0x66 ∷ 0 ∷ []) 1

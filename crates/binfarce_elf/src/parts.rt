@@ -1,4 +1,4 @@
-//! What the symbols of a section need, found in the section headers alone.
+//! The sections that the symbols of a section need, found in the section headers alone.
 
 ghost use Rattle.std.specs.Prelude.{◌≡◌};
 ghost use Rattle.std.specs.Option.{option_map};
@@ -25,8 +25,8 @@ pub struct Needed<C> {
     pub strings: Section<C>,
 }
 
-/// These sections, found in `count` section headers, whose names are among `names`. Refused as `functions` and
-/// `dynamic_functions` of a reader are, up to the string table's kind.
+/// These sections, found in `count` section headers, whose names are in `names`. Refused as `functions` and
+/// `dynamic_functions` of a reader are, up to the string table's type.
 pub fn needed_sections<C: Class>(
     headers: &[u8],
     byte_order: ByteOrder,
@@ -47,14 +47,15 @@ pub fn needed_sections<C: Class>(
     )
 }
 
-/// The sections of `count` section headers, in order; `UnexpectedEof` where the headers end before, or there are no bytes.
+/// The sections of `count` section headers, in order; `UnexpectedEof` where a header is truncated, or there are no
+/// bytes.
 pub fn sections_in<C: Class>(headers: &[u8], byte_order: ByteOrder, count: Half) -> Sections<'_, C>
     ensures { result ≡ walk C.table (headers_alone byte_order headers.entry.now count) }
 {
     sections_of::<C>(headers_alone(headers, byte_order, count))
 }
 
-/// The section's name among these section names.
+/// The section's name in these section names.
 pub fn name_in<'a, C: Class>(names: Option<&'a [u8]>, section: &Section<C>) -> Option<&'a str>
     ensures { option_map
         (λ t. t.now) result ≡ name_among (option_map (λ b. b.now) names.entry)

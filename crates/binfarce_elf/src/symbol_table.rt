@@ -10,7 +10,7 @@ use crate::class::Word;
 pub enum SymbolTable {
     /// The symbol table (`SHT_SYMTAB`), which a stripped file lacks.
     Symtab,
-    /// The dynamic symbol table (`SHT_DYNSYM`), which a dynamic linker reads.
+    /// The dynamic symbol table (`SHT_DYNSYM`), for the dynamic linker. A stripped file keeps it.
     Dynsym,
 }
 

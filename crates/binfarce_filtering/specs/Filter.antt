@@ -39,7 +39,7 @@ begins_v0 run = starts_with nat_eq run (codes "_R") && list_any (λ letter. slic
 abbrev pub begins_symbol : (run : List ℕ) → Bool
 begins_symbol run = begins_legacy run || begins_v0 run
 
--- the same, or first in its run behind the `_` that some platforms put before each symbol
+-- the same, or first in its run after the `_` that some platforms put before each symbol
 abbrev pub begins_name : (first : Bool) (run : List ℕ) → Bool
 begins_name first run = begins_symbol run || (first && begins_symbol (drop 1 run))
 
@@ -52,13 +52,13 @@ ends_name (b ∷ rest) = is_dot b
 abbrev pub IsLegacyUpTo : (run : List ℕ) (n : ℕ) → Type 0
 IsLegacyUpTo run n = (elements : List Element) × Reads (drop 3 run) elements (drop n run) × (ends_name (drop n run) ≡ true)
 
--- the length of the name with which a run begins. A v0 name ends before the first `.`; a legacy name after its `E`, and where
--- the run begins with no legacy mangling, all of the run counts as one name
+-- the length of the name at the front of a run. A v0 name ends before the first `.`, and a legacy name after its `E`; where the run begins with no
+-- legacy mangling, all of it counts as one name
 abbrev pub IsSymbolLength : (is_v0 : Bool) (run : List ℕ) (n : ℕ) → Type 0
 IsSymbolLength true run n = n ≡ prefix_len (λ b. not (is_dot b)) run
 IsSymbolLength false run n = IsLegacyUpTo run n ⊎ ((n ≡ length run) × ((k : ℕ) → ¬ (IsLegacyUpTo run k)))
 
--- how many `_` a platform has added before the symbol with which a run begins
+-- how many `_` a platform has added before the symbol at the front of a run
 abbrev pub added : (run : List ℕ) → ℕ
 added run = if begins_symbol run then 0 else 1
 
@@ -81,11 +81,12 @@ text_of false answer = answer.trimmed
 abbrev pub has_control : (text : List ℕ) → Bool
 has_control text = list_any is_control (chars text)
 
--- what is shown of a name: the text of its answer, which is the name itself where it isn't mangled; the name itself where that text has a control character
+-- the readable form of a name: the text of its answer, or the name itself where that text has a control character
 abbrev pub IsReadable : (full : Bool) (name shown : List ℕ) → Type 0
 IsReadable full name shown = (answer : Name) × IsNamed name answer × (shown ≡ (if has_control (text_of full answer) then name else text_of full answer))
 
--- shown replaces a run, or its rest, from left to right: each name by its readable text, `.llvm.` and a number behind it by nothing, and each other byte by itself
+-- shown replaces a run, or its rest, from left to right: each name by its readable form, `.llvm.` and a number after a name by nothing, and each
+-- other byte by itself
 pub data IsRead (full : Bool) : (first : Bool) (run shown : List ℕ) → Type 0 where
   no_more : (first : Bool) → IsRead full first [] []
   byte_then : (first : Bool) (b : ℕ) (run shown : List ℕ) → begins_name first (b ∷ run) ≡ false → IsRead full false run shown → IsRead full first (b ∷ run) (b ∷ shown)
@@ -96,7 +97,7 @@ pub data IsRead (full : Bool) : (first : Bool) (run shown : List ℕ) → Type 0
 abbrev pub is_too_long : (run : List ℕ) → Bool
 is_too_long run = nat_lt MAX_RUN (length run)
 
--- shown replaces a run, by the run itself where it is too long
+-- shown replaces a run; a run that is too long is unchanged
 abbrev pub IsShownIf : (too_long full : Bool) (run shown : List ℕ) → Type 0
 IsShownIf true full run shown = shown ≡ run
 IsShownIf false full run shown = IsRead full true run shown
@@ -104,7 +105,7 @@ IsShownIf false full run shown = IsRead full true run shown
 abbrev pub IsShown : (full : Bool) (run shown : List ℕ) → Type 0
 IsShown full run shown = IsShownIf (is_too_long run) full run shown
 
--- filtered replaces the text: each run, from a `_` to the next byte that no run has, by what is shown of it, and each other byte by itself
+-- filtered replaces the text: each run, from a `_` to the next byte that no run has, by its replacement, and each other byte by itself
 pub data IsFiltered (full : Bool) : (text filtered : List ℕ) → Type 0 where
   nothing : IsFiltered full [] []
   other_then : (b : ℕ) (text filtered : List ℕ) → (b == byte "_") ≡ false → IsFiltered full text filtered → IsFiltered full (b ∷ text) (b ∷ filtered)

@@ -1,4 +1,4 @@
-//! Makes the mangled names within a text readable.
+//! Demangles the names within a text.
 
 ghost use Rattle.std.specs.Prelude.{◌≡◌, ◌++◌, ◌∷◌, ◌+◌, ◌-◌, ◌^◌, ◌<◌, ◌≤◌, ◌≢◌, ℕ, List, Bool, true, false, not, [], length, take, drop, slice_index, IfOk, OnOk};
 ghost use Rattle.std.specs.List.{list_all, prefix_len};
@@ -19,7 +19,7 @@ use std::simd::prelude::*;
 /// The length in bytes of the longest run that may hold names. A longer one stays unchanged.
 pub const MAX_RUN: usize = 1 << 20;
 
-// How many bytes are looked at together.
+// How many bytes are compared at a time.
 const STRIDE: usize = 16;
 
 // The limit, which the definition cites by name, is 1 MiB.
@@ -27,14 +27,14 @@ fn limit_is()
     ensures { MAX_RUN ≡ 2 ^ 20 }
 {}
 
-/// The text with each mangled name in it made readable: by its trimmed text, or `full` by its complete one.
+/// The text with each mangled name replaced by its trimmed text, or if `full` by its complete text.
 ///
-/// A run begins with the first `_` among ASCII letters, digits, `_`, `$` and `.`, and ends before the next other byte. In a
-/// run that is no longer than `MAX_RUN`, names are looked for from left to right. A name begins with `_ZN` and a digit, or
-/// with `_R` and one of `N`, `I`, `M`, `X` and `Y`; at the run's first byte another `_` may come before. It ends where its
-/// mangling does, before a `.` or the run's end. `.llvm.` and a number behind a name are left out. A name whose readable
-/// text has a control character stays unchanged, as all other bytes do; they need not be UTF-8. Behind `_ZN` and a digit that
-/// begin no such name nothing of the run is replaced.
+/// A run begins with the first `_` among ASCII letters, digits, `_`, `$` and `.`, and ends before the next other byte.
+/// In a run that is no longer than `MAX_RUN`, names are looked for from left to right. A name begins with `_ZN` and a
+/// digit, or with `_R` and one of `N`, `I`, `M`, `X` and `Y`; at the run's first byte another `_` may come before. It
+/// ends where its mangling does, before a `.` or the run's end. `.llvm.` and a number after a name are left out. A name
+/// whose readable text has a control character stays unchanged. So do all other bytes, which need not be UTF-8. After a
+/// `_ZN` and a digit that begin no such name, the rest of the run stays unchanged.
 ///
 /// # Errors
 ///
@@ -60,7 +60,8 @@ pub struct TextFilter {
 impl TextFilter {
     ghost use Rattle.binfarce_filtering.specs.FilterViews.{Goes, Holds, IsBetweenRuns, IsDone, Shows};
 
-    /// A filter of a text of which nothing came yet. A name is shown by its trimmed text, or `full` by its complete one.
+    /// A filter at the beginning of a text. It replaces a name by its trimmed text, or if `full` by its complete text.
+    /// Nothing is allocated.
     pub fn new(alloc: Global, full: bool) -> TextFilter
         ensures { Holds full result [] [] }
     {
@@ -70,12 +71,12 @@ impl TextFilter {
         }
     }
 
-    /// Takes the next part of the text, and writes after `out` what is shown of the text so far. What is held back is
-    /// the run that it ends in, from its first `_`, unless that is too long.
+    /// Takes the next part of the text, and appends the output so far to `out`. The run at the end of the text is held
+    /// back from its first `_` on, unless it is longer than `MAX_RUN`.
     ///
     /// # Errors
     ///
-    /// `AllocError` where an allocation failed. The filter must not be used any more then.
+    /// `AllocError` where an allocation failed. Don't use the filter after that.
     pub fn push(&mut self, alloc: Global, part: &[u8], out: &mut Vec<u8>) -> Result<(), AllocError>
         ensures { OnOk result
             ((more : List ℕ) × Goes self.old self.new part.now more × (out.new.items ≡ out.old.items ++ more)) }
@@ -91,7 +92,8 @@ impl TextFilter {
         self.push_text(alloc, &part[len + 1..], out)
     }
 
-    /// Ends the text, and writes what is left to be shown after `out`. The filter must not be used any more, however that ends.
+    /// Ends the text, and appends the rest of the output to `out`. Don't use the filter after that, whatever the
+    /// result.
     ///
     /// # Errors
     ///
@@ -149,7 +151,7 @@ impl TextFilter {
         Ok(())
     }
 
-    // Writes what is left to be shown of the run, which ends with these bytes.
+    // Writes the rest of the output for the run, which ends with these bytes.
     fn show_run(&mut self, alloc: Global, bytes: &[u8], out: &mut Vec<u8>) -> Result<(), AllocError>
         requires { is_run (self.now.run.items ++ bytes.now) ≡ true }
         ensures shown { OnOk result
@@ -164,7 +166,7 @@ impl TextFilter {
     }
 }
 
-// Writes what is shown of the text before the run that it ends in, and gives where that run begins.
+// Writes the output for the text before the run at its end, and returns where that run begins.
 fn push_ended(
     alloc: Global,
     full: bool,
@@ -202,7 +204,7 @@ fn plain_len(text: &[u8]) -> usize
     run_start(text, mark_at(text))
 }
 
-// Where the first `Z` or `R` is that follows a `_`, or the text's length.
+// The position of the first `Z` or `R` that follows a `_`, or the text's length.
 fn mark_at(text: &[u8]) -> usize
     ensures within { result ≤ length text.now }
     ensures plain { is_plain false (take result text.now) ≡ true }
@@ -258,7 +260,7 @@ fn others_among(bytes: &[u8]) -> usize
     }
 }
 
-// Where the run begins that the text ends in before a position, or the position.
+// Where the run begins that ends at a position of the text; that position where none does.
 fn run_start(text: &[u8], end: usize) -> usize
     requires within { end ≤ length text.now }
     requires after { end < length text.now → (0 < end) × (slice_index text.now (end - 1) ≡ 95) }
@@ -304,7 +306,7 @@ fn is_too_long(run: &[u8]) -> bool
     run.len() > MAX_RUN
 }
 
-// Writes what is shown of a run.
+// Writes the output for a run.
 fn push_run(alloc: Global, full: bool, run: &[u8], out: &mut Vec<u8>) -> Result<(), AllocError>
     requires { is_run run.now ≡ true }
     ensures { OnOk result ((shown : List ℕ) × IsShown full run.now shown × (out.new.items ≡ out.old.items ++ shown)) }
@@ -315,7 +317,7 @@ fn push_run(alloc: Global, full: bool, run: &[u8], out: &mut Vec<u8>) -> Result<
     push_names(alloc, full, run, out)
 }
 
-// Writes what is shown of a run that isn't too long.
+// Writes the output for a run that isn't too long.
 fn push_names(alloc: Global, full: bool, run: &[u8], out: &mut Vec<u8>) -> Result<(), AllocError>
     requires { list_all is_run_byte run.now ≡ true }
     ensures { OnOk result
@@ -329,7 +331,7 @@ fn push_names(alloc: Global, full: bool, run: &[u8], out: &mut Vec<u8>) -> Resul
     Ok(())
 }
 
-// Writes what is shown of the name, or else the byte, with which a run or its rest begins. Returns how many bytes that
+// Writes the output for the name, or else the byte, at the front of a run or its rest. Returns how many bytes that
 // replaces.
 fn push_next(
     alloc: Global,
@@ -381,7 +383,7 @@ fn begins_v0(run: &[u8]) -> bool
     run.starts_with(b"_R") && run.len() > 2 && matches!(run[2], b'N' | b'I' | b'M' | b'X' | b'Y')
 }
 
-// The length of the name with which a run begins.
+// The length of the name at the front of a run.
 fn name_len(run: &[u8]) -> usize
     requires { (first : Bool) × (begins_name first run.now ≡ true) }
     ensures within { (0 < result) × (result ≤ length run.now) }
@@ -394,7 +396,7 @@ fn name_len(run: &[u8]) -> usize
     }
 }
 
-// The same without a `_` that a platform has added before it.
+// The same for a run without a `_` that a platform has added.
 fn symbol_len(run: &[u8]) -> usize
     requires { begins_symbol run.now ≡ true }
     ensures within { (0 < result) × (result ≤ length run.now) }
@@ -414,7 +416,7 @@ fn symbol_len(run: &[u8]) -> usize
     }
 }
 
-// Where the first `.` is, or the length.
+// The position of the first `.`, or the length.
 fn dot_at(run: &[u8]) -> usize
     ensures within { result ≤ length run.now }
     ensures at { result ≡ prefix_len (λ b. not (is_dot b)) run.now }
@@ -433,7 +435,7 @@ fn ends_name(rest: &[u8]) -> bool
     rest.is_empty() || rest[0] == b'.'
 }
 
-// The length of the `.llvm.` and the number with which the rest behind a name begins, or 0.
+// The length of the `.llvm.` and the number at the front of the rest after a name, or 0.
 fn llvm_len(rest: &[u8]) -> usize
     ensures within { result ≤ length rest.now }
     ensures len { result ≡ llvm_length rest.now }
@@ -445,7 +447,7 @@ fn llvm_len(rest: &[u8]) -> usize
     if ends_name(&rest[end..]) { end } else { 0 }
 }
 
-// The length of the digits of LLVM with which a text begins.
+// The length of the run of LLVM's digits at the front of a text.
 fn digits_len(text: &[u8]) -> usize
     ensures within { result ≤ length text.now }
     ensures len { result ≡ prefix_len is_llvm_digit text.now }
@@ -457,7 +459,7 @@ fn digits_len(text: &[u8]) -> usize
     len
 }
 
-// Writes what is shown of a name.
+// Writes the output for a name.
 fn push_name(alloc: Global, full: bool, name: &[u8], out: &mut Vec<u8>) -> Result<(), AllocError>
     requires { list_all is_run_byte name.now ≡ true }
     ensures { OnOk result

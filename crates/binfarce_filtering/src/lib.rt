@@ -1,4 +1,4 @@
-//! Text in which mangled names are made readable: whole, in parts, and as it comes.
+//! Demangles the names in a text: whole, in parts, or as a stream.
 #![tactic(auto)]
 
 pub mod filter;

@@ -72,7 +72,7 @@ abbrev pub entry_length : ElfClass → Part → ℕ
 entry_length class (Bytes name kind link body) = 0
 entry_length class (Table name link rows) = class.symbol_length
 
--- where the bodies of the parts end, the first of which begins at this place
+-- where the bodies of the parts end, if the first begins at this offset
 abbrev pub bodies_end : ElfClass → ℕ → List Part → ℕ
 bodies_end class place [] = place
 bodies_end class place (part ∷ parts) = bodies_end class (place + body_length class part) parts
@@ -88,7 +88,7 @@ symbol_numbers class row =
     ∷ (class.symbol.section, row.section)
     ∷ []
 
--- the numbers of a section header, whose part's body begins at this place; its other fields are 0
+-- the numbers of a section header, for a part whose body begins at this offset; its other fields are 0
 abbrev pub section_numbers : ElfClass → ℕ → Part → List (Field × ℕ)
 section_numbers class place part =
     (class.section.name, name_offset part)
@@ -121,7 +121,7 @@ identification layout = 0x7F ∷ 0x45 ∷ 0x4C ∷ 0x46 ∷ class_byte layout �
 unfoldable pub symbol_bytes : ElfClass → ByteOrder → Row → List ℕ
 symbol_bytes class order row = filled order (replicate class.symbol_length 0) (symbol_numbers class row)
 
--- what a part has in a file: its bytes, or its rows in order
+-- the content of a part in a file: its bytes, or its rows in order
 abbrev pub body : ElfClass → ByteOrder → Part → List ℕ
 body class order (Bytes name kind link bytes) = bytes.items
 body class order (Table name link rows) = flat_map (symbol_bytes class order) rows.items
@@ -130,7 +130,7 @@ body class order (Table name link rows) = flat_map (symbol_bytes class order) ro
 unfoldable pub section_bytes : ElfClass → ByteOrder → ℕ → Part → List ℕ
 section_bytes class order place part = filled order (replicate class.section_length 0) (section_numbers class place part)
 
--- the section headers of the parts; each body begins where the one before it ends, the first at this place
+-- the section headers of the parts; each body begins where the one before it ends, the first at this offset
 abbrev pub section_headers : ElfClass → ByteOrder → ℕ → List Part → List ℕ
 section_headers class order place [] = []
 section_headers class order place (part ∷ parts) =

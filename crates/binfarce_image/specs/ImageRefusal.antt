@@ -1,4 +1,4 @@
--- Why an image isn't laid out, and the words that are printed.
+-- Why an image isn't laid out, and the text that is printed.
 use Rattle.std.specs.Prelude.{◌≡◌, ◌^◌, ◌&&◌, ℕ, Bool, true, false, List, length, codes, Option, Some, None, Result, Ok, Err, is_none, nat_eq, nat_lt, nat_le, not, count_by, if◌then◌else◌}
 use Rattle.std.specs.List.{list_any, slice_get}
 use Rattle.std.specs.Option.{option_and_then}
@@ -11,7 +11,7 @@ use Rattle.binfarce_image.specs.declared.image.Part.{Part}
 use Rattle.binfarce_image.specs.declared.image.Part.TheVariants.{Bytes, Table}
 use Rattle.binfarce_image.specs.Image.{bytes}
 
--- what is printed
+-- the printed text
 abbrev pub image_words : ImageError → List ℕ
 image_words TooManySections = codes "too many sections"
 image_words TableCount = codes "image needs exactly one symbol table"
@@ -50,7 +50,7 @@ refusal_due image layout =
     else if nat_le (2 ^ 32) (length (bytes image layout)) then Some TooLarge
     else None
 
--- an image is refused as it is due; `OutOfMemory` is reported only where nothing else is due
+-- a refusal that is due is returned; `OutOfMemory` only where none is due
 abbrev pub Refuses : Option ImageError → Result (Vec ℕ) ImageError → Type 0
 Refuses due (Ok file) = due ≡ None
 Refuses due (Err OutOfMemory) = due ≡ None

@@ -28,17 +28,17 @@ abbrev pub strings_of : Part → Result (List ℕ) Refusal
 strings_of (Bytes name kind link body) = if nat_eq kind 3 then Ok body.items else Err (unexpected_section_type 3 kind)
 strings_of (Table name link rows) = Err (unexpected_section_type 3 2)
 
--- the rows of a table; it is asked of the first table alone, so that nothing is asked of other parts
+-- the rows of a table; this is used for the first table alone
 abbrev pub rows_of : Part → List Row
 rows_of (Bytes name kind link body) = []
 rows_of (Table name link rows) = rows.items
 
--- how much a part holds. The law is about names whose first part isn't the table, so that the number of a table's rows says nothing there
+-- the size of a part. The law is about names whose first part isn't the table, so a table's number of rows doesn't matter there
 abbrev pub part_size : Part → ℕ
 part_size (Bytes name kind link body) = length body.items
 part_size (Table name link rows) = length rows.items
 
--- what a symbol table entry says
+-- the values of a symbol table entry
 abbrev pub symbol_of : Row → SymbolRow ℕ
 symbol_of row = record { name = row.name; value = row.address; size = row.size; info = row.info; other = row.other; section = row.section }
 
@@ -46,7 +46,7 @@ symbol_of row = record { name = row.name; value = row.address; size = row.size; 
 abbrev pub entries_of : List ℕ → ℕ → List Row → List Entry
 entries_of strings index rows = filter_map (λ row. entry_of strings index (symbol_of row)) rows
 
--- the refusals in order; else the entries of the table's rows, and the size of the part that was asked for
+-- the refusals in order; else the entries of the table's rows, and the size of the requested part
 unfoldable pub symbols_of : Image → List ℕ → Result Listed Refusal
 symbols_of image name = do
   found ← required symbols_section_is_missing (part_named image name)
@@ -60,7 +60,7 @@ abbrev pub IsNotTable : Option (ℕ × Part) → Type 0
 IsNotTable None = Unit {0}
 IsNotTable (Some found) = is_table found.1 ≡ false
 
--- the readers answer of this file, in the layout's class and order, what the image holds
+-- the readers' answer for this file, in the layout's class and order, is the content of the image
 abbrev pub ReadsBack : ElfLayout → Image → List ℕ → Type 0
 ReadsBack layout image file =
     (name : List ℕ) → IsNotTable (part_named image name)

@@ -15,7 +15,7 @@ unfoldable pub number_bytes : ByteOrder → ℕ → ℕ → List ℕ
 number_bytes LittleEndian width n = little_endian_bytes width n
 number_bytes BigEndian width n = reverse (little_endian_bytes width n)
 
--- the bytes with others in place of those from a place on
+-- the bytes, overwritten from an offset on with others
 abbrev pub written_at : List ℕ → ℕ → List ℕ → List ℕ
 written_at bytes place others = take place bytes ++ (others ++ drop (place + length others) bytes)
 

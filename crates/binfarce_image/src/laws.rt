@@ -1,4 +1,4 @@
-//! The law of layouts, which the definitions keep.
+//! The law of layouts, proved from the definitions.
 
 ghost use Rattle.std.specs.Prelude.{◌≡◌};
 ghost use Rattle.binfarce.specs.Format.{format_of};
@@ -8,7 +8,7 @@ ghost use Rattle.binfarce_image.specs.ImageSymbols.{LayoutsAgree};
 
 use crate::image::Image;
 
-/// In each of the four layouts an image's file reads back to what the image holds, value or refusal.
+/// In each of the four layouts an image's file reads back to the content of the image, value or refusal.
 pub fn layouts_agree(image: &Image)
     ensures { LayoutsAgree image.now }
 {

@@ -1,4 +1,4 @@
--- The legacy mangling that `rustc` writes: `_ZN`, elements that are each counted, and `E`.
+-- The legacy mangling that `rustc` writes: `_ZN`, elements that each follow their length, and `E`.
 use Rattle.std.specs.Prelude.{◌≡◌, ◌⊎◌, ℕ, zero, suc, ◌+◌, ◌-◌, ◌<◌, Bool, ◌&&◌, not, List, [], ◌∷◌, ◌++◌, length, take, drop, Option, Some, None, if◌then◌else◌, ◌==◌, nat_eq, nat_lt, slice_index, codes, IsTrue, ⊤}
 use Rattle.std.proofs.Common.{refl, arith}
 use Rattle.std.specs.Option.{option_map, option_or, unwrap_or}
@@ -11,7 +11,7 @@ use Rattle.binfarce_text.specs.Characters.{is_scalar}
 use Rattle.binfarce_text.specs.Prefixes.{after_prefix}
 use Rattle.binfarce_text.specs.Suffixes.{is_allowed_rest}
 
--- what stands after the prefix: `_ZN`, `ZN` or `__ZN`
+-- the part after the prefix, which is `_ZN`, `ZN` or `__ZN`
 unfoldable pub part_after_prefix : (text : List ℕ) → Option (List ℕ)
 part_after_prefix text = after_prefix (codes "_ZN" ∷ codes "ZN" ∷ codes "__ZN" ∷ []) text
 
@@ -20,7 +20,7 @@ pub record Element : Type 0 where
   pub digits : List ℕ
   pub name : List ℕ
 
--- elements as they stand in a mangling: each with its digits in front, `E`, and the rest after it
+-- elements as a mangling writes them: each with its digits in front, then `E`, and the rest after it
 abbrev pub mangled : (elements : List Element) (rest : List ℕ) → List ℕ
 mangled [] rest = codes "E" ++ rest
 mangled (e ∷ elements) rest = e.digits ++ (e.name ++ mangled elements rest)
@@ -41,20 +41,19 @@ AreCounted (e ∷ elements) rest = IsCounted e (mangled elements rest) × AreCou
 abbrev pub Reads : (part : List ℕ) (elements : List Element) (rest : List ℕ) → Type 0
 Reads part elements rest = AreCounted elements rest × (part ≡ mangled elements rest)
 
--- text is a legacy mangling of these elements: part stands after its prefix, and the rest after
--- its `E`
+-- text is a legacy mangling of these elements: part follows its prefix, and rest follows its `E`
 pub record IsLegacy (text part : List ℕ) (elements : List Element) (rest : List ℕ) : Type 0 where
   pub prefix : part_after_prefix text ≡ Some part
   pub ascii : IsAscii part
   pub reads : Reads part elements rest
   pub allowed : IsTrue (is_allowed_rest rest)
 
--- a piece of an element's name: how many bytes it has there, and the characters that it stands for
+-- a piece of an element's name: its length in bytes, and the characters that it denotes
 pub record Piece : Type 0 where
   pub len : ℕ
   pub chars : List ℕ
 
--- the escapes that have a name, and the character that each stands for
+-- the named escapes, and the character that each denotes
 abbrev pub named_escapes : List (List ℕ × List ℕ)
 named_escapes =
     (codes "$LT$", codes "<") ∷ (codes "$GT$", codes ">") ∷ (codes "$RF$", codes "&") ∷ (codes "$C$", codes ",")
@@ -66,7 +65,7 @@ named_escape name =
     option_map (λ e. record { len = length e.0; chars = e.1 })
     (find (λ e. starts_with nat_eq name e.0) named_escapes)
 
--- a character that is printed: a scalar value that is no control character
+-- a character that is printed: a scalar value that isn't a control character
 abbrev pub is_printed : (c : ℕ) → Bool
 is_printed c = is_scalar c && not (is_control c)
 
@@ -79,8 +78,8 @@ numbered_escape name =
     then Some (record { len = 3 + length digits; chars = digits_value 16 digits ∷ [] })
     else None
 
--- the piece that begins a name: `..` is `::`, an escape is its character, a `$` that begins no
--- escape keeps all the rest as it is, and any other byte is itself
+-- the first piece of a name: `..` denotes `::`, and an escape its character. A `$` that begins no escape keeps all the rest unchanged; any other byte
+-- denotes itself
 unfoldable pub first_piece : (name : List ℕ) → Piece
 first_piece name =
     if starts_with nat_eq name (codes "..") then record { len = 2; chars = codes "::" }
@@ -95,7 +94,7 @@ pieces skip [] = []
 pieces (suc skip) (b ∷ name) = pieces skip name
 pieces zero (b ∷ name) = first_piece (b ∷ name) ∷ pieces ((first_piece (b ∷ name)).len - 1) name
 
--- the characters that a name stands for: a leading `_` is dropped before a `$`
+-- the characters that a name denotes: a leading `_` is dropped before a `$`
 unfoldable pub name_chars : (name : List ℕ) → List ℕ
 name_chars name =
     flat_map (λ p. p.chars) (pieces (if starts_with nat_eq name (codes "_$") then 1 else 0) name)
@@ -104,14 +103,14 @@ name_chars name =
 unfoldable pub legacy_chars : (elements : List Element) → List ℕ
 legacy_chars elements = join_by (λ e. name_chars e.name) (codes "::") elements
 
--- what stands before the last `:` and the one character in front of it; empty where that `:` is first, and all where there is none
+-- the characters before the last `:`, without the one right before it: none where that `:` is first, and all where there is no `:`
 unfoldable pub without_last_part : (chars : List ℕ) → List ℕ
 without_last_part chars =
     if list_any (λ c. c == ':') chars
     then (let front = before_last (λ c. c == ':') chars in take (length front - 1) front)
     else chars
 
--- front is the path, or what stands of it up to the end of a `::`, or the `<` that it begins with
+-- front is the path, or the path up to the end of a `::`, or the `<` that it begins with
 abbrev pub IsFront : (front path : List ℕ) → Type 0
 IsFront front path =
     (front ≡ path)

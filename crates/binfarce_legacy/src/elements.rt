@@ -1,4 +1,4 @@
-//! The elements of a legacy mangling: how long each says that it is, and where all of them end.
+//! The elements of a legacy mangling: the length of each, and where all of them end.
 
 ghost use Rattle.std.specs.Prelude.{◌≡◌, ℕ, ◌+◌, ◌-◌, ◌*◌, ◌^◌, ◌<◌, ◌≤◌, List, MatchOption, SomeIff, IfSome, length, take, drop, min};
 ghost use Rattle.std.specs.List.{prefix_len};
@@ -7,8 +7,7 @@ ghost use Rattle.std.specs.Str.Parse.{digits_value};
 ghost use Rattle.binfarce_legacy.specs.Legacy.{Element, Reads};
 ghost use Rattle.binfarce_legacy.specs.machine.Reading.{name_start, name_end, HasElement};
 
-// How long the run of digits is that `text` begins with, and the number that they write, where it
-// is below `usize::MAX`.
+// The length of the run of digits that `text` begins with, and the number that they write, if it is below `usize::MAX`.
 fn count(text: &[u8]) -> (usize, usize)
     ensures digits { result.0 ≡ prefix_len is_ascii_digit text.now }
     ensures number { result.1 ≡ min (digits_value 10 (take result.0 text.now)) (2 ^ 64 - 1) }
@@ -26,8 +25,8 @@ fn count(text: &[u8]) -> (usize, usize)
     (digits, number)
 }
 
-// The same where `text` begins with one digit or two and has more than two bytes, as nearly every
-// length does. None doesn't say that there is no digit.
+// The same where `text` begins with one or two digits and has more than two bytes: nearly every length is so short.
+// `None` doesn't mean that there is no digit.
 #[inline(always)]
 fn few_digits(text: &[u8]) -> Option<(usize, usize)>
     ensures digits { IfSome result (λ few. few.0 ≡ prefix_len is_ascii_digit text.now) }
@@ -47,7 +46,7 @@ fn few_digits(text: &[u8]) -> Option<(usize, usize)>
     Some((2, first * 10 + usize::from(text[1] - b'0')))
 }
 
-// A number with one more digit after it, where it is below `usize::MAX`.
+// A number with one more digit after it, if that is below `usize::MAX`.
 #[inline(always)]
 fn with_digit(number: usize, digit: u8) -> usize
     requires { digit < 10 }
@@ -60,7 +59,7 @@ fn with_digit(number: usize, digit: u8) -> usize
     }
 }
 
-// Where the name of the element that stands at `at` begins and ends.
+// Where the name of the element at `at` begins and ends.
 pub(crate) fn element(text: &[u8], at: usize) -> Option<(usize, usize)>
     requires { at ≤ length text.now }
     ensures { SomeIff result (HasElement (drop at text.now))
@@ -78,8 +77,9 @@ pub(crate) fn element(text: &[u8], at: usize) -> Option<(usize, usize)>
     Some((start, start + number))
 }
 
-/// Where the elements that `text` begins with end, after their `E`. None where it begins with no elements and `E`. `text` is
-/// what follows the prefix of a legacy mangling; what follows the `E` isn't looked at. Nothing is allocated.
+/// The position after the `E` that ends the elements at the front of `text`. `None` where `text` doesn't begin with
+/// elements and an `E`. `text` is what follows the prefix of a legacy mangling; bytes after the `E` aren't checked.
+/// Nothing is allocated.
 pub fn elements_end(text: &[u8]) -> Option<usize>
     ensures { MatchOption result
         ((elements : List Element) (rest : List ℕ) → ¬ (Reads text.now elements rest))

@@ -37,8 +37,8 @@ fn named_escape(name: &[u8]) -> Option<(char, usize)>
     }
 }
 
-// How long the run of hexadecimal digits is that `text` begins with, and the number that they
-// write, where it is below 0x110000.
+// The length of the run of hexadecimal digits that `text` begins with, and the number that they write, if it is below
+// 0x110000.
 fn hex_count(text: &[u8]) -> (usize, u32)
     ensures digits { result.0 ≡ prefix_len is_hex_digit text.now }
     ensures number { result.1 ≡ min (digits_value 16 (take result.0 text.now)) 0x110000 }
@@ -58,7 +58,7 @@ fn hex_count(text: &[u8]) -> (usize, u32)
     (digits, number)
 }
 
-// The number that two hexadecimal digits before a `$` write, as those of nearly every escape do.
+// The number that two hexadecimal digits before a `$` write: nearly every escape has two.
 #[inline(always)]
 fn two_hex_digits(text: &[u8]) -> Option<u32>
     ensures digits { IfSome result (λ _. 2 ≡ prefix_len is_hex_digit text.now) }
@@ -73,7 +73,7 @@ fn two_hex_digits(text: &[u8]) -> Option<u32>
     Some(u32::from(first) * 16 + u32::from(second))
 }
 
-// A character that is printed: a scalar value that is no control character.
+// A character that is printed: a scalar value that isn't a control character.
 fn is_printed(code: u32) -> bool
     ensures { result ≡ is_printed code }
 {

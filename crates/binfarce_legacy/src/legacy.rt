@@ -1,4 +1,4 @@
-//! The legacy mangling: `_ZN`, elements that are each counted, and `E`.
+//! The legacy mangling: `_ZN`, elements that each follow their length, and `E`.
 
 ghost use Rattle.std.specs.Prelude.{◌≡◌, ℕ, ◌<◌, ◌≤◌, ◌++◌, List, MatchOption, IfOk, OnOk, OnErr, false, IsTrue, length, take, drop, slice_index};
 ghost use Rattle.std.specs.Option.{option_copied};
@@ -15,7 +15,7 @@ use binfarce_text::prefixes::after_prefix;
 use binfarce_text::suffixes::is_allowed_rest;
 use std::alloc::{AllocError, Global};
 
-// What stands after the prefix of a legacy mangling.
+// The part of a text after the prefix of a legacy mangling.
 #[tactic(auto, unfolding(crate::specs::Legacy::part_after_prefix))]
 fn part_after_prefix(text: &str) -> Option<&str>
     ensures { option_copied result ≡ part_after_prefix text.now }
@@ -23,8 +23,8 @@ fn part_after_prefix(text: &str) -> Option<&str>
     after_prefix(text, "_ZN", "ZN", "__ZN")
 }
 
-/// The mangling that `text` is, without its prefix and with what may follow its `E`. None where `text` is no legacy
-/// mangling. Nothing is copied.
+/// The part of `text` after the prefix of a legacy mangling, with any suffix after its `E`. `None` where `text` isn't a
+/// legacy mangling. Nothing is copied.
 pub fn mangling(text: &str) -> Option<&str>
     ensures { MatchOption result
         ((part : List ℕ) (elements : List Element) (rest : List ℕ) → ¬ (IsLegacy text.now part elements rest))
@@ -42,7 +42,7 @@ pub fn mangling(text: &str) -> Option<&str>
     Some(part)
 }
 
-// How long the mark is that is dropped at the front of `name`: `_` before a `$`.
+// The length of the mark that is dropped from the front of `name`: a `_` before a `$`.
 fn mark_len(name: &[u8]) -> usize
     ensures within { result ≤ length name.now }
     ensures value { name_chars name.now ≡ chars_left (drop result name.now) }
@@ -82,7 +82,7 @@ fn push_piece(text: &mut String, name: &str) -> Result<usize, AllocError>
     }
 }
 
-// Writes bytes that stand for themselves. Where there are none, as between two escapes, nothing is called.
+// Writes bytes that denote themselves. Where there are none, as between two escapes, it calls nothing.
 #[inline(always)]
 fn push_run(text: &mut String, run: &str) -> Result<(), AllocError>
     ensures bytes { OnOk result (string_bytes text.new ≡ string_bytes text.old ++ run.now) }
@@ -115,8 +115,8 @@ fn push_name(text: &mut String, name: &str, wide: &[u8]) -> Result<(), AllocErro
     Ok(())
 }
 
-// Whether an element's name is the last part of a path, as it stands: where the name ends at `end`, the elements end, and it
-// has no mark.
+// Whether an element's name is, byte for byte, the last part of a path: the elements end where the name ends, at `end`,
+// and it has no mark.
 #[inline(always)]
 fn is_last_part(part: &[u8], name: &[u8], end: usize) -> bool
     ensures { IsTrue result → (slice_index part.now end ≡ 69) × (list_any is_mark name.now ≡ false) }
@@ -124,8 +124,8 @@ fn is_last_part(part: &[u8], name: &[u8], end: usize) -> bool
     end < part.len() && part[end] == b'E' && !has_mark(name)
 }
 
-// Writes the path of a mangling, of which `part` stands after the prefix, after the text. Where it is to be `trimmed`, its
-// last part is left out if that is the last element's name as it stands, and not the first: whether it was left out.
+// Appends the path of a mangling to the text; `part` is what follows its prefix. If `trimmed`, the last part is left
+// out where it is, byte for byte, the name of the last element, and not the first. Returns whether it was left out.
 fn push_path(text: &mut String, part: &str, trimmed: bool) -> Result<bool, AllocError>
     requires { IsAscii part.now }
     ensures bytes { IfOk result (λ left_out. (elements : List Element) (rest : List ℕ)
@@ -150,8 +150,7 @@ fn push_path(text: &mut String, part: &str, trimmed: bool) -> Result<bool, Alloc
     Ok(false)
 }
 
-/// The readable text of a mangling, of which `part` stands after the prefix. The only refusal is that an allocation was
-/// refused.
+/// The readable text of a mangling; `part` is what follows its prefix. The only error is a failed allocation.
 pub fn complete(alloc: Global, part: &str) -> Result<String, AllocError>
     requires { IsAscii part.now }
     ensures { IfOk result (λ text. (elements : List Element) (rest : List ℕ)
@@ -162,9 +161,9 @@ pub fn complete(alloc: Global, part: &str) -> Result<String, AllocError>
     Ok(text)
 }
 
-/// Writes what the readable text of a mangling begins with after the text: its first element's name in readable form, and
-/// where another element follows, `::`; of a name that begins with an escaped `<` no more than that `<`. `part` is what
-/// stands after the prefix. The only refusal is that an allocation was refused.
+/// Appends the beginning of a mangling's readable text to `text`: the first element's name in readable form, and `::`
+/// if another element follows. Of a name that begins with an escaped `<`, only that `<` is written. `part` is what
+/// follows the prefix. The only error is a failed allocation.
 pub fn push_front(text: &mut String, part: &str) -> Result<(), AllocError>
     requires { IsAscii part.now }
     ensures front { OnOk result ((elements : List Element) (rest : List ℕ) → Reads part.now elements rest
@@ -187,8 +186,8 @@ pub fn push_front(text: &mut String, part: &str) -> Result<(), AllocError>
     text.push_str("::")
 }
 
-/// Writes the readable text of a mangling without its last part after the text. The only refusal is that an allocation
-/// was refused; the text is then as it was.
+/// Appends the readable text of a mangling, without its last part, to `text`. The only error is a failed allocation;
+/// `text` is then unchanged.
 pub fn push_trimmed(text: &mut String, part: &str) -> Result<(), AllocError>
     requires { IsAscii part.now }
     ensures bytes { OnOk result ((elements : List Element) (rest : List ℕ)
@@ -212,8 +211,8 @@ pub fn push_trimmed(text: &mut String, part: &str) -> Result<(), AllocError>
     }
 }
 
-// `complete` without its last part, whether that is a hash or not: up to the character before its last `:`, and all of it
-// where it has no `:`. Nothing is copied.
+// `complete` without its last part, whether or not that is a hash: up to the character before its last `:`, or all of
+// it if there is no `:`. Nothing is copied.
 fn without_last_part(complete: &str) -> &str
     ensures front { result.now ≡ take (length result.now) complete.now }
     ensures text { (chars : List ℕ) → complete.now ≡ encode_utf8_all chars
@@ -229,7 +228,7 @@ fn without_last_part(complete: &str) -> &str
     }
 }
 
-/// A copy of `complete` without its last part. The only refusal is that an allocation failed.
+/// A copy of `complete` without its last part. The only error is a failed allocation.
 pub fn trimmed(alloc: Global, complete: &str) -> Result<String, AllocError>
     ensures { IfOk result (λ text. (chars : List ℕ)
         → complete.now ≡ encode_utf8_all chars → string_bytes text ≡ encode_utf8_all (without_last_part chars)) }

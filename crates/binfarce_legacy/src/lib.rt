@@ -1,4 +1,4 @@
-//! Legacy names of Rust symbols: reading them, and printing what they mean.
+//! Legacy names of Rust symbols: reading them, and printing their readable form.
 #![tactic(auto)]
 
 pub mod elements;

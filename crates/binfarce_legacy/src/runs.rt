@@ -1,4 +1,4 @@
-//! Runs of a name's bytes that stand for themselves: bytes that are compared side by side, 16 together.
+//! Runs of a name's bytes that denote themselves, compared 16 at a time.
 
 ghost use Rattle.std.specs.Prelude.{◌≡◌, ◌+◌, ◌<◌, ◌≤◌, false, length, take, drop, slice_index};
 ghost use Rattle.std.specs.List.{list_any, prefix_len};
@@ -6,10 +6,10 @@ ghost use Rattle.binfarce_legacy.specs.machine.Reading.{is_mark, is_plain};
 
 use std::simd::prelude::*;
 
-// How many bytes of a name are looked at together.
+// How many bytes of a name are compared at a time.
 const STRIDE: usize = 16;
 
-// Whether a byte stands for itself.
+// Whether a byte denotes itself.
 #[inline(always)]
 fn is_plain(b: u8) -> bool
     ensures { result ≡ is_plain b }
@@ -17,7 +17,7 @@ fn is_plain(b: u8) -> bool
     b != b'.' && b != b'$'
 }
 
-// How many of 16 bytes stand for themselves before one that doesn't.
+// How many of 16 bytes denote themselves before the first that doesn't.
 #[inline(always)]
 fn plain_run(bytes: &[u8]) -> usize
     requires { length bytes.now ≡ 16 }
@@ -32,8 +32,8 @@ fn plain_run(bytes: &[u8]) -> usize
     }
 }
 
-// Where the bytes from `at` on end that stand for themselves. `wide` begins with the name: what it has after the name is
-// looked at too, so that the last bytes of a name needn't be taken one by one, and is no part of the answer.
+// The end of the run of bytes from `at` on that denote themselves. `wide` begins with the name, and has bytes after it.
+// These are compared too, so that a name's last bytes needn't be taken one by one; they don't change the result.
 #[inline(always)]
 pub(crate) fn plain_end(name: &[u8], wide: &[u8], at: usize) -> usize
     requires at { at ≤ length name.now }
@@ -53,7 +53,7 @@ pub(crate) fn plain_end(name: &[u8], wide: &[u8], at: usize) -> usize
     plain_end_slowly(name, end.min(name.len()))
 }
 
-// The same, a byte at a time.
+// The same, one byte at a time.
 fn plain_end_slowly(name: &[u8], at: usize) -> usize
     requires { at ≤ length name.now }
     ensures { result ≡ at + prefix_len is_plain (drop at name.now) }
@@ -101,7 +101,7 @@ pub(crate) fn has_mark(name: &[u8]) -> bool
     has_mark_slowly(&name[at..])
 }
 
-// The same of fewer bytes.
+// The same for fewer bytes.
 #[inline(always)]
 fn has_mark_slowly(bytes: &[u8]) -> bool
     ensures { result ≡ list_any is_mark bytes.now }

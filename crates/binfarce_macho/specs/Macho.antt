@@ -1,4 +1,4 @@
--- 64-bit Mach-O files, which are always little endian (Apple's <mach-o/loader.h>): tables of offsets and widths, and what stands there.
+-- 64-bit little-endian Mach-O files (Apple's <mach-o/loader.h>): the offsets and widths of fields, and their values.
 use Rattle.std.specs.Prelude.{ℕ, zero, suc, ◌+◌, ◌-◌, ◌*◌, ◌/◌, Bool, ◌&&◌, List, [], ◌∷◌, length, Option, Some, None, Result, nat_eq, nat_lt, nat_le, min, if◌then◌else◌}
 use Rattle.std.specs.List.{range_with_len, filter_map}
 use Rattle.std.specs.Str.{bytes_eq}
@@ -63,7 +63,8 @@ command_at file offset = record { offset = offset; kind = number_in file offset 
 abbrev pub body_of : Command → ℕ
 body_of command = command.offset + command_length
 
--- at most n commands from an offset on, each right after the one before it. They end where none fits, and with a refusal at a size that doesn't count the command itself: that command isn't given
+-- at most n commands from an offset on, each right after the one before it. They end where no further one fits. They end with a refusal at a command
+-- whose size is below its own 8 bytes; that command isn't given
 unfoldable pub commands_from : List ℕ → ℕ → ℕ → Walk Command
 commands_from file zero offset = ended None
 commands_from file (suc n) offset =
@@ -71,7 +72,7 @@ commands_from file (suc n) offset =
     else if nat_lt (command_at file offset).size command_length then ended (Some malformed_input)
     else ahead_of (command_at file offset) (commands_from file n (offset + (command_at file offset).size))
 
--- the file's commands, as many as the header says at most, from its end on
+-- the file's commands, at most as many as the header states, from its end on
 abbrev pub commands : List ℕ → Walk Command
 commands file = commands_from file (header_of file).ncmds header_length
 
@@ -128,14 +129,14 @@ section_at file start = do
 abbrev pub section_count : List ℕ → ℕ → ℕ
 section_count file body = number_in file body (field 56 4)
 
--- the body up to the end of that number, and the whole body, after which the sections stand
+-- the body up to the end of that number, and the whole body, which the sections follow
 abbrev pub segment_read : ℕ
 segment_read = 60
 
 abbrev pub segment_length : ℕ
 segment_length = 64
 
--- where structure i of a segment command stands
+-- the offset of section structure i of a segment command
 abbrev pub section_offset : ℕ → ℕ → ℕ
 section_offset body i = body + segment_length + i * section_length
 

@@ -14,7 +14,7 @@ use Rattle.binfarce_macho.specs.Macho.{Command, commands, body_of, is_segment, s
 use Rattle.binfarce_macho.specs.MachoParts.{named_table}
 use Rattle.binfarce_macho.specs.MachoSymbols.{SymbolTable, SymbolRow, symbol_of, symbol_length, symbol_command, slice_at, row_addresses, macho_size, sized_entry, kept, Located, located, macho_answer}
 
--- MAX_SECT: a row states the number of its section in one byte
+-- MAX_SECT: a row has the number of its section in one byte
 abbrev pub greatest_section : ℕ
 greatest_section = 255
 
@@ -22,19 +22,19 @@ greatest_section = 255
 unfoldable pub end_at : List ℕ → ℕ → ℕ
 end_at file start = number_in file start section_fields.address + number_in file start section_fields.size
 
--- the ends of the first sections of a segment command with this body, as many as that
+-- the ends of the first so many sections of a segment command with this body
 abbrev pub first_ends : List ℕ → ℕ → ℕ → List ℕ
 first_ends file body count = map (λ i. end_at file (section_offset body i)) (range_with_len 0 count)
 
--- of all its sections
+-- the ends of all its sections
 abbrev pub ends_in : List ℕ → ℕ → List ℕ
 ends_in file body = first_ends file body (section_count file body)
 
--- those of the segments among these commands
+-- the ends of the sections of the segments among these commands
 abbrev pub ends_among : List ℕ → List Command → List ℕ
 ends_among file commands = flat_map (λ command. if is_segment command then ends_in file (body_of command) else []) commands
 
--- those of the file, which numbers its sections from 1 on, also a section whose name isn't valid: the first 255. Refused as the walk over the sections is
+-- the ends of the file's first 255 sections. Sections are numbered from 1 on, also those with invalid names. Refused as the walk over the sections is
 unfoldable pub section_ends : List ℕ → Result (List ℕ) Refusal
 section_ends file = unless (walk file).refusal (take greatest_section (ends_among file (commands file).items))
 
@@ -47,7 +47,7 @@ pub record Symbols : Type 0 where
   pub strings : List ℕ
   pub rows : List ℕ
 
--- what the command of the symbol table names, which lies in the file
+-- the tables that the symbol table's command names, which have to lie in the file
 abbrev pub symbols_by : List ℕ → Option (SymbolTable ℕ) → Result (Option Symbols) Refusal
 symbols_by file None = Ok None
 symbols_by file (Some table) = do
@@ -55,7 +55,7 @@ symbols_by file (Some table) = do
   rows ← slice_at file table.symbol_offset (symbol_length * table.row_count)
   Ok (Some (record { strings = strings; rows = rows }))
 
--- the symbols, or that there is no symbol table
+-- the symbols, or None where there is no symbol table
 unfoldable pub symbols_of : List ℕ → Result (Option Symbols) Refusal
 symbols_of file = do
   command ← symbol_command file
@@ -78,7 +78,7 @@ checked_end end = if nat_lt end (2 ^ 64) then Ok end else Err malformed_input
 abbrev pub numbered : ℕ → Option Entry → Option SectionEntry
 numbered number entry = option_map (λ e. record { section = number; entry = e }) entry
 
--- what such a row gives in its section, by the same rule as in the text
+-- the entry of such a row in its section, by the same rule as in the text
 abbrev pub entry_in : Symbols → RowAddress → SymbolRow ℕ → Option ℕ → Result (Option SectionEntry) Refusal
 entry_in symbols at row None = Ok None
 entry_in symbols at row (Some end) = do
@@ -86,7 +86,7 @@ entry_in symbols at row (Some end) = do
   size ← macho_size (addresses_of (row_addresses symbols.rows)) section_end at.address
   Ok (numbered row.section (sized_entry at.address size (text_at symbols.strings row.name)))
 
--- what a row with an address gives: nothing, its entry, or the refusal of its section's end or of its size
+-- the result for a row with an address: nothing, its entry, or the refusal of its section's end or of its size
 unfoldable pub section_entry : List ℕ → Symbols → RowAddress → Result (Option SectionEntry) Refusal
 section_entry ends symbols at =
     if is_defined (symbol_of symbols.rows at.row) then entry_in symbols at (symbol_of symbols.rows at.row) (end_of ends (symbol_of symbols.rows at.row).section)
@@ -103,7 +103,7 @@ all_of ends (Some symbols) = do
   entries ← kept (section_entry ends symbols) (arranged (row_addresses symbols.rows))
   Ok (by_section (length ends) entries)
 
--- the refusals in order: that of the sections, the symbol table's, and those of its rows
+-- the refusals in order: those of the sections, of the symbol table, and of its rows
 unfoldable pub all_answer : List ℕ → Result (List SectionEntry) Refusal
 all_answer file = do
   ends ← section_ends file

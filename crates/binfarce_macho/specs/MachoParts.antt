@@ -1,4 +1,4 @@
--- What the function symbols need of a Mach-O file, found in its header and its load commands.
+-- The tables that the function symbols of a Mach-O file need, found in its header and its load commands.
 use Rattle.std.specs.Prelude.{◌≢◌, ℕ, zero, suc, ◌+◌, ◌*◌, Bool, true, false, ◌&&◌, List, [], length, Option, Some, None, Result, Ok, nat_eq, nat_lt, nat_le, if◌then◌else◌}
 use Rattle.std.specs.Option.{option_map}
 use Rattle.binfarce_bytes.specs.Refusal.{◌>>=◌, Refusal}
@@ -9,7 +9,7 @@ use Rattle.binfarce_macho.specs.Macho.{Command, Section, header_of, header_lengt
 use Rattle.binfarce_macho.specs.MachoSymbols.{SymbolTable, symbol_table_length, symbol_length, text_section, some_size, symbol_command, whole_table, slice_at, text_end_of, Located, row_addresses}
 use Rattle.binfarce_macho.specs.MachoViews.{section_view}
 
--- the text, and what the command of the symbol table names, where there is one
+-- the text section, and the symbol table's command, if any
 pub record NeededTables : Type 0 where
   pub text : Section
   pub table : Option (SymbolTable ℕ)
@@ -18,7 +18,7 @@ abbrev pub named_table : List ℕ → Option Command → Result (Option (SymbolT
 named_table file None = Ok None
 named_table file (Some command) = whole_table file command >>= λ table. Ok (Some table)
 
--- the refusals in order; else what is needed
+-- the refusals in order; else these tables
 unfoldable pub needed : List ℕ → Result NeededTables Refusal
 needed file = do
   found ← text_section file
@@ -35,23 +35,23 @@ located_in file text table = do
   text_end ← text_end_of text
   Ok (record { text_end = text_end; text_size = text.size; strings = strings; rows = rows })
 
--- where the symbols of that table are, or that there is none
+-- where the symbols of that table are; None where there is no table
 abbrev pub of_table : List ℕ → Section → Option (SymbolTable ℕ) → Result (Option Located) Refusal
 of_table file text None = Ok None
 of_table file text (Some table) = located_in file text table >>= λ found. Ok (Some found)
 
--- the same by what is needed
+-- the same for the needed tables
 abbrev pub tables_in : List ℕ → NeededTables → Result (Option Located) Refusal
 tables_in file n = of_table file n.text n.table
 
--- what is read of a command's body lies in these bytes: of a segment command all its sections, of a symbol table's the four numbers
+-- the fields that are read of a command's body lie in these bytes: all sections of a segment command, the four numbers of a symbol table's
 abbrev pub holds_body : List ℕ → Command → Bool
 holds_body bytes command =
     if is_segment command then nat_le (body_of command + segment_read) (length bytes) && nat_le (section_count bytes (body_of command)) (whole_headers bytes (body_of command))
     else if nat_eq command.kind 2 then nat_le (body_of command + symbol_table_length) (length bytes)
     else true
 
--- so do at most n commands from an offset on, and what is read of them, up to one that is refused for its size
+-- so do at most n commands from an offset on, with these fields, up to one that is refused for its size
 unfoldable pub holds_from : List ℕ → ℕ → ℕ → Bool
 holds_from bytes zero offset = true
 holds_from bytes (suc n) offset =

@@ -98,7 +98,7 @@ pub record Located : Type 0 where
   pub strings : List ℕ
   pub rows : List ℕ
 
--- what the command of the symbol table names; an offset past the file is refused even where nothing is read there
+-- the tables that the symbol table's command names; an offset past the file is refused even where nothing is read there
 unfoldable pub located_by : List ℕ → Section → Option Command → Result (Option Located) Refusal
 located_by file text None = Ok None
 located_by file text (Some command) = do
@@ -108,7 +108,7 @@ located_by file text (Some command) = do
   text_end ← text_end_of text
   Ok (Some (record { text_end = text_end; text_size = text.size; strings = strings; rows = rows }))
 
--- the refusals in order; else where the symbols stand, or that the file has no symbol table
+-- the refusals in order; else where the symbols are, or None where the file has no symbol table
 unfoldable pub located : List ℕ → Result (Option Located) Refusal
 located file = do
   found ← text_section file
@@ -120,7 +120,7 @@ located file = do
 abbrev pub address_of : List ℕ → ℕ → Option RowAddress
 address_of rows k = if nat_eq (symbol_of rows k).value 0 then None else Some (record { address = (symbol_of rows k).value; row = k })
 
--- the addresses of a table: the values that aren't 0, of any section or kind, in table order
+-- the addresses of a table: the values that aren't 0, of any section or type, in table order
 abbrev pub row_addresses : List ℕ → List RowAddress
 row_addresses rows = filter_map (address_of rows) (range_with_len 0 (length rows / symbol_length))
 
@@ -146,7 +146,7 @@ sized_entry address None name = None
 sized_entry address (Some size) None = None
 sized_entry address (Some size) (Some name) = Some (record { name = name; address = address; size = size })
 
--- what a row with an address gives: nothing, its entry, or the refusal of a candidate's size, whether or not its name is valid
+-- the result for a row with an address: nothing, its entry, or the refusal of a candidate's size, whether or not its name is valid
 unfoldable pub entry_of : Located → RowAddress → Result (Option Entry) Refusal
 entry_of found at =
     if is_candidate (symbol_of found.rows at.row)
@@ -162,7 +162,7 @@ kept f (x ∷ xs) = do
   ys ← kept f xs
   Ok (cons_option y ys)
 
--- what these rows of a table list: what is kept of each, in their order, and the size of the text
+-- the list for these rows of a table: what is kept of each, in their order, and the size of the text
 abbrev pub listed_of : Located → List RowAddress → Result Listed Refusal
 listed_of found rows = do
   entries ← kept (entry_of found) rows

@@ -1,4 +1,4 @@
-//! What a section holds: the values of its structure.
+//! The values of a section's structure.
 
 ghost use Rattle.std.specs.Prelude.{◌≡◌};
 ghost use Rattle.binfarce_macho.specs.MachoViews.{section_view};
@@ -6,14 +6,14 @@ ghost use Rattle.binfarce_macho.specs.MachoViews.{section_view};
 use crate::sections::Section;
 
 impl<'a> Section<'a> {
-    /// The section's name (`sectname`), a part of the file, as `__text`.
+    /// The section's name (`sectname`), as `__text`; a slice of the file.
     pub fn name(&self) -> &'a str
         ensures { result.now ≡ (section_view self.now).section_name }
     {
         self.section_name
     }
 
-    /// The name of the segment that the section belongs to (`segname`), a part of the file, as `__TEXT`.
+    /// The name of the section's segment (`segname`), as `__TEXT`; a slice of the file.
     pub fn segment_name(&self) -> &'a str
         ensures { result.now ≡ (section_view self.now).segment_name }
     {

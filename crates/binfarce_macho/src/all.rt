@@ -27,7 +27,7 @@ use binfarce_bytes::sizes::{RowAddress, arrange};
 use binfarce_bytes::{ByteOrder, ParseError};
 use std::alloc::{AllocError, Global};
 
-// The greatest number of a section that a row can state (`MAX_SECT`).
+// The greatest section number that a row can have (`MAX_SECT`).
 const MAX_SECT: usize = 255;
 
 /// Where a section is in memory: the address of its first byte, and its size in bytes.
@@ -44,8 +44,8 @@ pub struct SymbolBytes<'a> {
     pub rows: &'a [u8],
 }
 
-/// The function symbols of all sections of a file, which has this header: the answer of `all_functions` of a reader, with its
-/// refusals. `OutOfMemory` comes only where the file has a section.
+/// The function symbols of all sections of a file with this header: the answer of `all_functions` of a reader, with its
+/// refusals. `OutOfMemory` only where the file has a section.
 pub fn functions_of_sections<'a>(
     alloc: Global,
     data: &'a [u8],
@@ -61,8 +61,8 @@ pub fn functions_of_sections<'a>(
     }
 }
 
-/// Where the sections of a file are in memory, in the order of their numbers, up to number 255. Refused as `find_section` of
-/// a reader is with a callback that accepts none; `OutOfMemory` comes only where the file has a section.
+/// Where the sections of a file are in memory, in the order of their numbers, up to number 255. Refused as
+/// `find_section` of a reader is with a callback that accepts none; `OutOfMemory` only where the file has a section.
 pub fn extents(alloc: Global, file: &[u8], header: MachoHeader) -> Result<Vec<Extent>, ParseError>
     requires { header_view header ≡ header_of file.now }
     ensures { MatchResult result
@@ -129,7 +129,7 @@ fn extent_at(file: &[u8], start: usize) -> Extent
     }
 }
 
-/// The string table and the symbol table of a file, which has this header; `None` without a symbol table. Refused as
+/// The string table and the symbol table of a file with this header; `None` without a symbol table. Refused as
 /// `functions` of a reader is, from the symbol table's command on and up to the rows.
 #[tactic(auto, unfolding(crate::specs::MachoAll::symbols_of))]
 pub fn symbol_bytes(file: &[u8], header: MachoHeader) -> Result<Option<SymbolBytes<'_>>, ParseError>
@@ -159,9 +159,10 @@ fn symbols_by(
     }
 }
 
-/// The function symbols of all these sections, of which the first is number 1: by section, and in each by address and at
-/// equal addresses in table order. `MalformedInput` where the end of a section passes an address that a row of it would be
-/// kept with, or such a row lies past that end with no address above it. `OutOfMemory` comes only where there is a section.
+/// The function symbols of all these sections, of which the first is number 1: by section, and in each by address and
+/// at equal addresses in table order. `MalformedInput` where the end of a section with a row to keep exceeds 64 bits,
+/// or where such a row lies past its section's end with no address above it. `OutOfMemory` only where there is a
+/// section.
 pub fn functions_of_extents<'a>(
     alloc: Global,
     sections: &[Extent],
@@ -180,7 +181,7 @@ pub fn functions_of_extents<'a>(
     Ok(functions)
 }
 
-// The function symbols of the rows in the order that they stand in, given what is above each.
+// The function symbols of the rows in their order, given the least address above each.
 fn list_all<'a>(
     alloc: Global,
     sections: &[Extent],
@@ -204,7 +205,7 @@ fn list_all<'a>(
     Ok(functions)
 }
 
-// The entry of a row, given what is above its address.
+// The entry of a row, given the least address above its own.
 #[tactic(auto, unfolding(crate::specs::MachoAll::section_entry, crate::specs::MachoSymbols::macho_size))]
 fn section_entry<'a>(
     sections: &[Extent],
@@ -230,7 +231,7 @@ fn section_entry<'a>(
     Ok(numbered(row.section, sized_entry(at.address, size, name)))
 }
 
-// Where the section of this number is, where there is one.
+// The extent of the section of this number, if any.
 fn extent_of(sections: &[Extent], number: u8) -> Option<Extent>
     ensures { option_map extent_end result ≡ end_of (map extent_end sections.now) number }
 {

@@ -1,4 +1,4 @@
-//! Worked examples, which are computed from the definitions alone.
+//! Worked examples, computed from the definitions alone.
 
 ghost use Rattle.std.specs.Prelude.{◌≡◌, [], ◌∷◌, ◌++◌, replicate, codes, Some, None, Ok};
 ghost use Rattle.binfarce_bytes.specs.Refusal.{malformed_input};
@@ -13,7 +13,7 @@ fn worked_commands()
     ensures truncated { commands_from (1 ∷ 0 ∷ 0 ∷ 0 ∷ 7 ∷ 0 ∷ 0 ∷ []) 1 0 ≡ ended None }
 {}
 
-/// The section `__text` of `__TEXT`, at the address 0x1000, of 0x100 bytes, which stand at 0x200 in the file.
+/// The section `__text` of `__TEXT`, at the address 0x1000, of 0x100 bytes, at the offset 0x200 of the file.
 #[tactic(auto, unfolding(crate::specs::Macho::section_at, crate::specs::Macho::section_fields, binfarce_bytes::proofs::Computing::computing))]
 fn worked_section()
     ensures { section_at (codes "__text" ++ (replicate 10 0 ++ (codes "__TEXT" ++ (replicate 10 0
@@ -34,7 +34,7 @@ fn worked_row()
         ≡ record { name = 1; kind = 0x0F; section = 1; value = 0x1000 } }
 {}
 
-/// Sizes in a text that ends at 0x1100, where the last address is that end, and where one more stands in section 2.
+/// Sizes in a text that ends at 0x1100, where the last address is that end, and where section 2 has another one.
 #[tactic(auto, unfolding(crate::specs::MachoSymbols::macho_size, binfarce_bytes::specs::Sizes::least_above))]
 fn worked_sizes()
     ensures equal_addresses { macho_size (0x1000 ∷ 0x1000 ∷ 0x1040 ∷ 0x1100 ∷ []) 0x1100 0x1000 ≡ Ok (Some 64) }

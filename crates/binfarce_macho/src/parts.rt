@@ -1,4 +1,4 @@
-//! What the function symbols of a file need, found in its header and its load commands alone.
+//! The tables that the function symbols of a file need, found in its header and its load commands alone.
 
 ghost use Rattle.std.specs.Prelude.{◌≡◌, ◌+◌, ◌≤◌, ◌&&◌, length, nat_le};
 ghost use Rattle.std.specs.Option.{option_map};
@@ -16,15 +16,15 @@ use crate::symbols::{some_size, symbol_command, symbol_table_at, text_section};
 use binfarce_bytes::parser::number_at;
 use binfarce_bytes::{ByteOrder, ParseError};
 
-/// The text, and what the command of the symbol table names, where there is one. The text's names are parts of the file.
+/// The text section, and the symbol table's command, if any. The section's names are slices of the file.
 #[derive(Clone, Copy)]
 pub struct Needed<'a> {
     pub text: Section<'a>,
     pub table: Option<SymbolTable>,
 }
 
-/// What the function symbols of a file need, which has this header. Refused as `functions` of a reader is, up to the symbol
-/// table's command.
+/// The tables that the function symbols of a file with this header need. Refused as `functions` of a reader is, up to
+/// the symbol table's command.
 #[tactic(auto, unfolding(crate::specs::MachoParts::needed))]
 pub fn needed_tables(file: &[u8], header: MachoHeader) -> Result<Needed<'_>, ParseError>
     requires { header_view header ≡ header_of file.now }
@@ -50,15 +50,15 @@ pub(crate) fn named_table(
     }
 }
 
-/// Where the load commands end, as the header says (`sizeofcmds`).
+/// Where the load commands end, as the header states (`sizeofcmds`).
 pub fn commands_end(header: MachoHeader) -> usize
     ensures { result ≡ header_length + (header_view header).sizeofcmds }
 {
     HEADER_LENGTH + header.sizeofcmds as usize
 }
 
-/// Whether the load commands that this header states, and what is read of them, lie in these bytes: then a file that begins with them has the
-/// same sections and the same symbol table, whatever follows.
+/// Whether the load commands that this header states, with the fields that are read, lie in these bytes. A file that
+/// begins with these bytes then has the same sections and the same symbol table, whatever follows.
 pub fn holds_commands(file: &[u8], header: MachoHeader) -> bool
     requires { header_view header ≡ header_of file.now }
     ensures { result ≡ holds_commands file.now }

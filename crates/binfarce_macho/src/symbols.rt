@@ -1,4 +1,4 @@
-//! The symbol table (Apple's `<mach-o/nlist.h>`) and the functions of the first section in it.
+//! The symbol table (Apple's `<mach-o/nlist.h>`) and its functions of the first section.
 
 ghost use Rattle.std.specs.Prelude.{◌≡◌, ◌≢◌, ℕ, ◌+◌, ◌*◌, ◌<◌, ◌≤◌, [], length, map, nat_eq, not, All, Some, IfOk, OnErr, MatchResult};
 ghost use Rattle.std.specs.Option.{option_map};
@@ -36,8 +36,8 @@ pub struct Located<'a> {
     pub rows: &'a [u8],
 }
 
-/// The function symbols of the first section of a file, which has this header, in the order of their addresses, and the
-/// text's size in bytes: what `functions` of a reader gives.
+/// The function symbols of the first section of a file with this header, in the order of their addresses, and the
+/// text's size in bytes: the answer of `functions` of a reader.
 pub fn functions_of_file<'a>(
     alloc: Global,
     data: &'a [u8],
@@ -126,8 +126,8 @@ fn located_in<'a>(
     })
 }
 
-/// What the body of a symbol table's command names (`symtab_command`): where the symbol table is in the file and how many
-/// rows it has, and where the string table is and how many bytes it has.
+/// The body of a symbol table's command (`symtab_command`): the offset and the number of rows of the symbol table, and
+/// the offset and the size in bytes of the string table.
 #[derive(Clone, Copy)]
 pub struct SymbolTable {
     pub symbol_offset: u32,
@@ -156,7 +156,7 @@ pub(crate) fn symbol_table_at(bytes: &[u8], command: Command) -> Result<SymbolTa
     })
 }
 
-/// Where the text ends; `MalformedInput` where that passes an address.
+/// The address where the text ends; `MalformedInput` where that exceeds 64 bits.
 pub fn text_end(text: Section<'_>) -> Result<u64, ParseError>
     ensures { Gives refusal_of (λ n. n) (text_end_of (section_view text.entry)) result }
 {
@@ -195,8 +195,8 @@ pub(crate) fn symbol_at(rows: &[u8], start: usize) -> Result<SymbolRow, Unexpect
     })
 }
 
-/// The function symbols of a table, in the order of their addresses, and the text's size in bytes. Refused where a row that
-/// would be kept lies past the text's end with no address above it; `OutOfMemory` comes only where a row has an address.
+/// The function symbols of a table, in the order of their addresses, and the text's size in bytes. Refused where a row
+/// that would be kept lies past the text's end with no address above it; `OutOfMemory` only where a row has an address.
 pub fn functions_of<'a>(
     alloc: Global,
     found: Located<'a>,
@@ -230,7 +230,7 @@ pub(crate) fn row_addresses(alloc: Global, rows: &[u8]) -> Result<Vec<RowAddress
     Ok(addresses)
 }
 
-// The function symbols of the rows in the order that they stand in, given what is above each.
+// The function symbols of the rows in their order, given the least address above each.
 fn list_functions<'a>(
     alloc: Global,
     found: Located<'a>,
@@ -253,7 +253,7 @@ fn list_functions<'a>(
     Ok((functions, found.text_size))
 }
 
-// The entry of a row, given what is above its address.
+// The entry of a row, given the least address above its own.
 #[tactic(auto, unfolding(crate::specs::MachoSymbols::entry_of, crate::specs::MachoSymbols::macho_size))]
 fn entry_of<'a>(
     found: Located<'a>,
@@ -285,7 +285,7 @@ fn is_candidate(row: SymbolRow) -> bool
     is_defined(row) && row.section == 1
 }
 
-// Whether a row may be a function symbol of its section, whichever that is.
+// Whether a row may be a function symbol of its section, whatever section that is.
 pub(crate) fn is_defined(row: SymbolRow) -> bool
     ensures { result ≡ is_defined (symbol_view row) }
 {

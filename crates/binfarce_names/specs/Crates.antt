@@ -1,4 +1,4 @@
--- The crate that a name tells.
+-- The crate of a name.
 use Rattle.std.specs.Prelude.{◌≡◌, ℕ, List, [], ◌∷◌, ◌++◌, Bool, Option, Some, None, is_some, unwrap_or, nat_eq, codes, if◌then◌else◌}
 use Rattle.std.specs.List.{starts_with}
 use Rattle.binfarce_names.specs.declared.demangle.Kind.{Kind}
@@ -10,17 +10,17 @@ abbrev pub first_part : (path : List ℕ) → List ℕ
 first_part [] = []
 first_part (b ∷ path) = if starts_with nat_eq (b ∷ path) (codes "::") then [] else b ∷ first_part path
 
--- the crate that a path begins with, unless it is a type or a trait that it begins with
+-- the crate that a path begins with; none where it begins with a type or a trait
 abbrev pub path_crate : (path : List ℕ) → Option (List ℕ)
 path_crate path = if starts_with nat_eq path (codes "<") then None else Some (first_part path)
 
--- the crate that a name of this kind tells, which has this crate root and this path
+-- the crate of a name of this kind, with this crate root and this path
 abbrev pub told_crate : (kind : Kind) (root : Option (List ℕ)) (path : List ℕ) → Option (List ℕ)
 told_crate Legacy root path = path_crate path
 told_crate V0 root path = root
 told_crate Unknown root path = None
 
--- the crate that a name tells: a legacy name by its path, and a v0 name by its crate root
+-- the crate of a name: of a legacy name by its path, and of a v0 name by its crate root
 unfoldable pub crate_of : (name : Name) → Option (List ℕ)
 crate_of name = told_crate name.kind name.crate_name name.complete
 

@@ -48,7 +48,7 @@ abbrev pub Means : (text complete trimmed : List ℕ) (crate_name : Option (List
 Means text complete trimmed crate_name =
     IsNamed text (record { complete = complete; trimmed = trimmed; crate_name = crate_name; kind = V0 })
 
--- what stands after a prefix unfolds to a tree of so many levels and steps
+-- the part after a prefix unfolds to a tree of so many levels and steps
 pub record Counts (part : List ℕ) (levels steps : ℕ) : Type 0 where
   pub tree : PathTree
   pub unfolds : UnfoldsTo part tree

@@ -13,15 +13,15 @@ pub record Name : Type 0 where
   pub crate_name : Option (List ℕ)
   pub kind : Kind
 
--- a `SymbolName`, its texts as their bytes
+-- a `SymbolName`, its texts as bytes
 abbrev pub name_view : (s : SymbolName) → Name
 name_view s = record { complete = string_bytes s.complete; trimmed = string_bytes s.trimmed; crate_name = option_map string_bytes s.crate_name; kind = s.kind }
 
--- which mangling a text is, and the part of it that is kept
+-- the kind of a name, and the part of it that is kept
 pub record Mangled : Type 0 where
   pub part : List ℕ
   pub kind : Kind
 
--- a `Demangled`, the text that it holds as its bytes
+-- a `Demangled`, its text as bytes
 abbrev pub mangled_view : (d : Demangled) → Mangled
 mangled_view d = record { part = d.part.now; kind = d.kind }

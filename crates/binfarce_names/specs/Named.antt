@@ -20,11 +20,11 @@ legacy elements = record {
   kind = Legacy;
 }
 
--- a name that is no mangling stands unchanged
+-- a name that isn't a mangling is unchanged
 abbrev pub unknown : (text : List ℕ) → Name
 unknown text = record { complete = text; trimmed = text; crate_name = None; kind = Unknown }
 
--- text is no legacy mangling
+-- text isn't a legacy mangling
 abbrev pub IsNotLegacy : (text : List ℕ) → Type 0
 IsNotLegacy text =
     (part : List ℕ) (elements : List Element) (rest : List ℕ)
@@ -39,7 +39,7 @@ v0 tree = record {
   kind = V0;
 }
 
--- text is no v0 mangling
+-- text isn't a v0 mangling
 abbrev pub IsNotV0 : (text : List ℕ) → Type 0
 IsNotV0 text = (part : List ℕ) → ¬ (IsV0 (without_llvm text) part)
 
@@ -51,8 +51,7 @@ pub record IsLegacyName (text : List ℕ) (name : Name) : Type 0 where
   pub mangling : IsLegacy (without_llvm text) part elements rest
   pub name_is : name ≡ legacy elements
 
--- text is a v0 mangling, and name is the one of the tree that it unfolds to within the limits. No v0 mangling is a legacy one too, since no
--- prefix is one of both
+-- text is a v0 mangling, and name is the one of the tree that it unfolds to within the limits. No text is both, since the prefixes differ
 pub record IsV0Name (text : List ℕ) (name : Name) : Type 0 where
   pub part : List ℕ
   pub mangling : IsV0 (without_llvm text) part
@@ -60,7 +59,7 @@ pub record IsV0Name (text : List ℕ) (name : Name) : Type 0 where
   pub unfolds : UnfoldsTo part tree
   pub name_is : name ≡ v0 tree
 
--- text is no mangling, or a v0 mangling that unfolds to no tree within the limits, and name is text
+-- text isn't a mangling, or is a v0 mangling that unfolds to no tree within the limits; name is text itself
 pub record StandsUnchanged (text : List ℕ) (name : Name) : Type 0 where
   pub not_legacy : IsNotLegacy text
   pub no_tree : HasNoTree (without_llvm text)
@@ -82,7 +81,7 @@ pub record IsV0Mangled (text : List ℕ) (m : Mangled) : Type 0 where
   pub mangling : IsV0 (without_llvm text) m.part
   pub kind_is : m.kind ≡ V0
 
--- m keeps all of text, which is no mangling
+-- m keeps all of text, which isn't a mangling
 pub record IsNotMangled (text : List ℕ) (m : Mangled) : Type 0 where
   pub not_legacy : IsNotLegacy text
   pub not_v0 : IsNotV0 text

@@ -1,4 +1,4 @@
-//! Laws of names, which their definitions keep.
+//! Laws of names, proved from their definitions.
 
 ghost use Rattle.binfarce_names.specs.Laws.{
   HasAnAnswer,
@@ -52,7 +52,7 @@ pub fn names_an_earlier_position(name: &[u8])
     let _ = name;
 }
 
-/// Text and crate of a name don't depend on the limits.
+/// The texts and the crate of a name don't depend on the limits.
 pub fn knows_no_limit(name: &[u8])
     ensures { KnowsNoLimit name.now }
 {

@@ -1,4 +1,4 @@
-//! Readable names of Rust symbols: which mangling a name is, and what it means.
+//! Readable names of Rust symbols: the kind of a name, its readable form, and its crate.
 #![tactic(auto)]
 
 pub mod demangle;

@@ -60,7 +60,7 @@ section_unread = 16
 abbrev pub signature_offset : List ℕ → ℕ
 signature_offset file = number LittleEndian (bytes_at file 0x3C 4)
 
--- what stands between the signature's begin and the optional header: the signature of 4 bytes, and the file header of 20
+-- the length of the signature and the file header together: 4 and 20 bytes
 abbrev pub headers_length : ℕ
 headers_length = 24
 
@@ -87,7 +87,7 @@ header_of file = header_after file (signature_offset file)
 abbrev pub sections_offset : List ℕ → ℕ
 sections_offset file = signature_offset file + headers_length + (header_of file).size_of_optional_header
 
--- what a section header says, and the section's index
+-- the values of a section header, and the section's index
 pub record Section : Type 0 where
   pub name : List ℕ
   pub virtual_size : ℕ
@@ -118,7 +118,8 @@ section_of file i = section_at file (sections_offset file + i * section_length) 
 abbrev pub whole_headers : List ℕ → ℕ
 whole_headers file = (length file + section_unread - sections_offset file) / section_length
 
--- the sections are those numbered below the count, up to the first whose header is truncated, without those that have no name; a table that doesn't begin in the file is refused even where it is empty
+-- the sections are those numbered below the count, up to the first whose header is truncated, without those that have no valid name. A table that
+-- doesn't begin in the file is refused even where it is empty
 unfoldable pub walk : List ℕ → Walk Section
 walk file = record {
   items = filter_map (section_of file) (range_with_len 0 (min (header_of file).number_of_sections (whole_headers file)));

@@ -25,7 +25,7 @@ all_entries sections symbols = flat_map (section_entries sections symbols) (rang
 abbrev pub whole_sections : SectionTable → Result SectionTable Refusal
 whole_sections sections = unless (table_walk sections).refusal sections
 
--- the refusals in order: that of the section headers, and the symbol table's; else the entries of all sections
+-- the refusals in order: those of the section headers and of the symbol table; else the entries of all sections
 unfoldable pub all_answer : List ℕ → Result (List SectionEntry) Refusal
 all_answer file = do
   sections ← whole_sections (section_table file)

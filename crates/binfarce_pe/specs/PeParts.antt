@@ -1,4 +1,4 @@
--- What the symbols of a PE file need, found in the file header and in the section headers alone.
+-- The tables that the symbols of a PE file need, found in the file header and the section headers alone.
 use Rattle.std.specs.Prelude.{ℕ, ◌+◌, ◌-◌, ◌*◌, ◌/◌, ◌&&◌, List, length, codes, Option, Some, None, Result, Ok, nat_lt, nat_le, min, if◌then◌else◌}
 use Rattle.std.specs.List.{range_with_len, filter_map}
 use Rattle.binfarce_bytes.specs.Refusal.{◌>>=◌, Refusal, required, symbols_section_is_missing, unexpected_eof}
@@ -15,7 +15,7 @@ pub record TablePlaces : Type 0 where
   pub symbols : ℕ
   pub symbols_size : ℕ
 
--- as the file header says after a signature at this offset
+-- as the file header after a signature at this offset states them
 abbrev pub places_after : ℕ → Header ℕ → TablePlaces
 places_after signature header = record {
   sections = signature + headers_length + header.size_of_optional_header;
@@ -31,7 +31,7 @@ places_of file = places_after (signature_offset file) (header_of file)
 abbrev pub places_view : Places → TablePlaces
 places_view p = record { sections = p.sections; section_count = p.section_count; symbols = p.symbols; symbols_size = p.symbols_size }
 
--- section headers: the bytes that they lie in, where they begin there, and how many there are
+-- section headers: the bytes that hold them, their offset in these bytes, and their number
 pub record SectionTable : Type 0 where
   pub bytes : List ℕ
   pub offset : ℕ
@@ -53,7 +53,7 @@ whole_in table = (length table.bytes + section_unread - table.offset) / section_
 abbrev pub section_in : SectionTable → ℕ → Option Section
 section_in table i = section_at table.bytes (table.offset + i * section_length) i
 
--- the sections of a table, which for that of a file are the file's
+-- the sections of a table; for the table of a file, the sections of the file
 unfoldable pub table_walk : SectionTable → Walk Section
 table_walk table = record {
   items = filter_map (section_in table) (range_with_len 0 (min table.count (whole_in table)));

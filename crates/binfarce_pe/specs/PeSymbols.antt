@@ -48,7 +48,7 @@ symbol_at file start = record {
 abbrev pub symbol_length : ℕ
 symbol_length = 18
 
--- a symbol table: its records, and the file from the string table on, which follows them
+-- a symbol table: its records, and the file from the string table on, which comes after them
 pub record SymbolTable : Type 0 where
   pub rows : List ℕ
   pub strings : List ℕ
@@ -60,7 +60,7 @@ record_count table = length table.rows / symbol_length
 abbrev pub symbol_of : SymbolTable → ℕ → SymbolRow ℕ
 symbol_of table k = symbol_at table.rows (k * symbol_length)
 
--- the rows' numbers from k on, in at most n steps: after a row stand its auxiliary records, and then the next row
+-- the rows' numbers from k on, in at most n steps: a row is followed by its auxiliary records, and then by the next row
 unfoldable pub rows_from : SymbolTable → ℕ → ℕ → List ℕ
 rows_from table zero k = []
 rows_from table (suc n) k =
@@ -70,13 +70,14 @@ rows_from table (suc n) k =
 abbrev pub row_numbers : SymbolTable → List ℕ
 row_numbers table = rows_from table (record_count table) 0
 
--- the name of row k, which is this record, where it can be read: that in its own 8 bytes, or the text in the string table at its offset
+-- the name of row k, with this record, where it can be read: the short name in its 8 bytes, or the text in the string table at its offset
 unfoldable pub name_of : SymbolTable → ℕ → SymbolRow ℕ → Option (List ℕ)
 name_of table k row =
     if nat_eq row.zeroes 0 then text_at table.strings row.offset
     else padded_text (bytes_at table.rows (k * symbol_length) 8)
 
--- a function (the complex type, from bit 4 of the type on, is 2) that is external (class 2), in the section of this index, which the file numbers from 1 on
+-- a function (the complex type, from bit 4 of the type on, is 2) that is external (class 2), in the section of this index; the file numbers sections
+-- from 1 on
 abbrev pub is_function_of : ℕ → SymbolRow ℕ → Bool
 is_function_of index row = nat_eq (row.kind / 16) 2 && nat_eq row.storage_class 2 && nat_eq row.section_number (index + 1)
 
@@ -96,7 +97,7 @@ kept_rows table index = filter_map (kept_row table index) (row_numbers table)
 abbrev pub size_among : List ℕ → ℕ → ℕ
 size_among members address = unwrap_or (option_map (λ above. above - address) (least_above members address)) 0
 
--- what sizes are taken from: the section's size and the addresses of the kept rows
+-- the bounds that sizes end at: the section's size and the addresses of the kept rows
 abbrev pub size_members : ℕ → List RowAddress → List ℕ
 size_members text_size rows = text_size ∷ addresses_of rows
 

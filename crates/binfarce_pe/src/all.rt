@@ -21,8 +21,8 @@ use binfarce_bytes::{ByteOrder, ParseError};
 use std::alloc::{AllocError, Global};
 use std::mem;
 
-/// The function symbols of all sections of a file, whose places these are: the answer of `all_functions` of a reader, with its
-/// refusals. `OutOfMemory` comes only where the file has a section.
+/// The function symbols of all sections of a file whose tables are at these places: the answer of `all_functions` of a
+/// reader, with its refusals. `OutOfMemory` only where the file has a section.
 #[tactic(auto, unfolding(crate::specs::PeAll::all_answer))]
 pub fn functions_of_sections<'a>(
     alloc: Global,

@@ -1,4 +1,4 @@
-//! Worked examples, which are computed from the definitions alone.
+//! Worked examples, computed from the definitions alone.
 
 ghost use Rattle.std.specs.Prelude.{◌≡◌, [], ◌∷◌, ◌++◌, replicate, codes, Some};
 ghost use Rattle.binfarce_pe.specs.Pe.{section_at};

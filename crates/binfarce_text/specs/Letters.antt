@@ -1,12 +1,12 @@
--- The letters, the digits and the other characters that names give a meaning to, each by its byte. A byte after the end of a text is 0 for
--- `slice_index`, which is none of these: so a letter that stands at a position stands within the text.
+-- The letters, digits and other characters that have a meaning in names, each by its byte. `slice_index` gives 0 past the end of a text. None of
+-- these is 0, so a position with such a letter lies within the text.
 use Rattle.std.specs.Prelude.{ℕ, Bool, ◌||◌}
 use Rattle.std.specs.Int.{is_in_range}
 
 abbrev pub '$' : ℕ
 '$' = 36
 
--- "." and "@", which no name of a definition can hold
+-- "." and "@", which can't be in the name of a definition
 abbrev pub dot : ℕ
 dot = 46
 

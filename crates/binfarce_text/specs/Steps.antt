@@ -1,4 +1,4 @@
--- Steps of which each needs what the ones before gave.
+-- Steps that use the results of the steps before them, for `do`.
 use Rattle.std.specs.Prelude.{Option, option_and_then}
 
 infixl 10 ◌>>=◌

@@ -1,4 +1,4 @@
--- What LLVM adds to a mangled name: the `.llvm.` suffix, which is a number after `.llvm.`, and other words that begin with `.`.
+-- The suffixes that LLVM adds to a mangled name: `.llvm.` with a number, and other words that begin with `.`.
 use Rattle.std.specs.Prelude.{◌≡◌, ℕ, Bool, true, ◌&&◌, ◌||◌, List, [], ◌∷◌, if◌then◌else◌, ◌==◌, nat_eq, codes, drop}
 use Rattle.std.proofs.Common.{refl}
 use Rattle.std.specs.List.{list_all, starts_with}
@@ -10,8 +10,8 @@ use Rattle.binfarce_text.specs.Letters.{dot, at_sign, 'A', 'F'}
 abbrev pub is_llvm_digit : (byte : ℕ) → Bool
 is_llvm_digit byte = is_ascii_digit byte || is_in_range 'A' 'F' byte || byte == at_sign
 
--- the text without its `.llvm.` suffix: the first `.llvm.` and all after it are left out where all after it are such bytes, and also where
--- nothing stands after it. No later `.llvm.` is looked at
+-- the text without its `.llvm.` suffix: the first `.llvm.` and all after it are left out where only such bytes, or none, follow it. A later `.llvm.`
+-- isn't considered
 unfoldable pub without_llvm : (text : List ℕ) → List ℕ
 without_llvm [] = []
 without_llvm (b ∷ text) =
@@ -19,7 +19,7 @@ without_llvm (b ∷ text) =
     then (if list_all is_llvm_digit (drop 6 (b ∷ text)) then [] else b ∷ text)
     else b ∷ without_llvm text
 
--- what may stand after a mangling: nothing, or printable ASCII without spaces of which the first is `.`
+-- what may follow a mangling: nothing, or printable ASCII without spaces that begins with `.`
 unfoldable pub is_allowed_rest : (rest : List ℕ) → Bool
 is_allowed_rest [] = true
 is_allowed_rest (b ∷ rest) = b == dot && list_all is_ascii_graphic (b ∷ rest)

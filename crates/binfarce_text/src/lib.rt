@@ -1,4 +1,4 @@
-//! Texts of Rust symbols that both manglings share: the digits of their numbers, and what LLVM adds to a mangled name.
+//! What both manglings of Rust symbols share: prefixes, hexadecimal digits, and the suffixes that LLVM adds.
 #![tactic(auto)]
 
 pub mod digits;

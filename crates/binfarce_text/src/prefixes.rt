@@ -1,11 +1,11 @@
-//! What stands before a mangled name.
+//! The prefixes of mangled names.
 
 ghost use Rattle.std.specs.Prelude.{◌≡◌, ◌∷◌, [], Some, None, if◌then◌else◌, nat_eq, length, drop};
 ghost use Rattle.std.specs.Option.{option_copied};
 ghost use Rattle.std.specs.List.{starts_with};
 ghost use Rattle.binfarce_text.specs.Prefixes.{after_prefix};
 
-// What stands after a prefix.
+// The rest of a text after a prefix.
 #[tactic(auto, using(crate::proofs::PrefixLemmas::stripped))]
 fn after<'a>(text: &'a str, prefix: &str) -> Option<&'a str>
     ensures { option_copied result
@@ -14,7 +14,8 @@ fn after<'a>(text: &'a str, prefix: &str) -> Option<&'a str>
     text.strip_prefix(prefix)
 }
 
-/// What stands after the first of three prefixes that `text` begins with. Nothing is copied.
+/// The rest of `text` after the first of three prefixes that it begins with. `None` where it begins with none of them.
+/// Nothing is copied.
 pub fn after_prefix<'a>(text: &'a str, first: &str, second: &str, third: &str) -> Option<&'a str>
     ensures { option_copied result ≡ after_prefix (first.now ∷ second.now ∷ third.now ∷ []) text.now }
 {

@@ -1,4 +1,4 @@
-//! What LLVM adds to a mangled name: the `.llvm.` suffix, and other words that begin with `.`.
+//! The suffixes that LLVM adds to a mangled name: `.llvm.` with a number, and other words that begin with `.`.
 
 ghost use Rattle.std.specs.Prelude.{◌≡◌, ℕ, ◌<◌, ◌≤◌, true, false, MatchBool, nat_eq, codes, length, take, drop, slice_index};
 ghost use Rattle.std.specs.List.{list_all, starts_with};
@@ -13,7 +13,7 @@ fn is_llvm_digit(byte: u8) -> bool
     matches!(byte, b'0'..=b'9' | b'A'..=b'F' | b'@')
 }
 
-// Whether `.llvm.` stands at `at`.
+// Whether `.llvm.` is at `at`.
 fn has_llvm_at(text: &[u8], at: usize) -> bool
     requires { at ≤ length text.now }
     ensures { result ≡ starts_with nat_eq (drop at text.now) (codes ".llvm.") }
@@ -21,7 +21,7 @@ fn has_llvm_at(text: &[u8], at: usize) -> bool
     text[at..].starts_with(b".llvm.")
 }
 
-// Whether a `.llvm.` begins below `end`.
+// Whether a `.llvm.` begins before `end`.
 fn has_llvm_below(text: &[u8], end: usize) -> bool
     requires { end ≤ length text.now }
     ensures { MatchBool result
@@ -36,7 +36,7 @@ fn has_llvm_below(text: &[u8], end: usize) -> bool
     false
 }
 
-// Where the digits of a number after `.llvm.` begin that `text` ends in.
+// Where the trailing digits of `text` begin, of the kind that follows `.llvm.`.
 fn digits_start(text: &[u8]) -> usize
     ensures { EndsInDigits text.now result }
 {
@@ -47,8 +47,7 @@ fn digits_start(text: &[u8]) -> usize
     end
 }
 
-// The length of `text` without its `.llvm.` suffix. Only the bytes from the end back are looked
-// at, unless they are such a suffix.
+// The length of `text` without its `.llvm.` suffix. Only the end of `text` is read, unless it is such a suffix.
 fn len_without_llvm(text: &[u8]) -> usize
     ensures within { result ≤ length text.now }
     ensures value { take result text.now ≡ without_llvm text.now }
@@ -66,8 +65,8 @@ fn len_without_llvm(text: &[u8]) -> usize
     }
 }
 
-/// The text without its `.llvm.` suffix: all before the first `.llvm.`, where every byte after it is a digit, `A` to `F`
-/// or `@`, and else the whole text. Nothing is copied.
+/// The text without its `.llvm.` suffix: all before the first `.llvm.`, if every byte after it is a digit, `A` to `F`
+/// or `@`; otherwise the whole text. Nothing is copied.
 pub fn without_llvm(text: &str) -> &str
     ensures { result.now ≡ without_llvm text.now }
 {
@@ -75,14 +74,14 @@ pub fn without_llvm(text: &str) -> &str
     &text[..len]
 }
 
-// Whether each byte is printable ASCII and no space.
+// Whether each byte is printable ASCII and not a space.
 fn are_rest_bytes(bytes: &[u8]) -> bool
     ensures { result ≡ list_all is_ascii_graphic bytes.now }
 {
     bytes.iter().all(|byte| matches!(*byte, b'!'..=b'~'))
 }
 
-/// Whether `rest` may stand after a mangling: it is empty, or printable ASCII without spaces that begins with `.`.
+/// Whether `rest` may follow a mangling: it is empty, or printable ASCII without spaces that begins with `.`.
 #[tactic(auto, using(crate::proofs::TextLemmas::rests))]
 pub fn is_allowed_rest(rest: &[u8]) -> bool
     ensures { result ≡ is_allowed_rest rest.now }

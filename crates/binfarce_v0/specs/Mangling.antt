@@ -1,4 +1,5 @@
--- Rust's v0 manglings (RFC 2603, "Symbol name": <symbol-name> = "_R" [<decimal-number>] <path> [<instantiating-crate>]; no encoding version is defined, and a name with that number isn't read).
+-- Rust's v0 manglings (RFC 2603, "Symbol name": <symbol-name> = "_R" [<decimal-number>] <path> [<instantiating-crate>]). The number is an encoding
+-- version; none is defined, so a name with one isn't read.
 use Rattle.std.specs.Prelude.{◌≡◌, ℕ, ◌≤◌, List, [], ◌∷◌, Option, Some, Bool, true, false, slice_index, drop, codes}
 use Rattle.std.proofs.Common.{refl, arith}
 use Rattle.std.proofs.lemmas.Str.Ascii.{IsAscii-cons, IsAscii-nil}
@@ -15,7 +16,7 @@ use Rattle.binfarce_v0_grammar.specs.Reading.{ReadsPath}
 use Rattle.binfarce_v0_grammar.specs.Unfolding.{UnfoldsTo}
 use Rattle.binfarce_v0_grammar.specs.declared.limits.TheConstants.{MAX_LEVELS}
 
--- what stands after the prefix, "_R", or "R" or "__R" where a platform drops or adds a "_": positions are counted from there
+-- the part after the prefix, which is "_R", or "R" or "__R" where a platform drops or adds a "_": positions are counted from there
 unfoldable pub part_after_prefix : (text : List ℕ) → Option (List ℕ)
 part_after_prefix text = after_prefix (codes "_R" ∷ codes "R" ∷ codes "__R" ∷ []) text
 
@@ -29,7 +30,7 @@ pub record PathStands (part : List ℕ) (at after : ℕ) : Type 0 where
   pub reads : ReadsPath part tree at after
   pub levels : path_height tree ≤ MAX_LEVELS
 
--- the path of the instantiating crate, where an upper-case letter stands
+-- the path of the instantiating crate, where there is an upper-case letter
 abbrev pub SecondPath : (is_there : Bool) (part : List ℕ) (at after : ℕ) → Type 0
 SecondPath true part at after = PathStands part at after
 SecondPath false part at after = after ≡ at
@@ -40,14 +41,14 @@ pub record ReadsPaths (part : List ℕ) (after : ℕ) : Type 0 where
   pub path : PathStands part 0 mid
   pub instantiating_crate : SecondPath (is_upper_at part mid) part mid after
 
--- the v0 mangling that a text begins with: what stands after its prefix, and the position there after its paths
+-- the v0 mangling that a text begins with: part follows its prefix, and after is the position in part after its paths
 pub record IsMangling (text part : List ℕ) (after : ℕ) : Type 0 where
   pub prefix : part_after_prefix text ≡ Some part
   pub begins : is_upper_at part 0 ≡ true
   pub ascii : IsAscii part
   pub paths : ReadsPaths part after
 
--- text is a v0 mangling, of which part is what stands after the prefix
+-- text is a v0 mangling, and part follows its prefix
 pub record IsV0 (text part : List ℕ) : Type 0 where
   pub after : ℕ
   pub mangling : IsMangling text part after
@@ -62,7 +63,7 @@ worked_prefix : part_after_prefix (codes "__RNvC1a1b") ≡ Some (codes "NvC1a1b"
 unfolding part_after_prefix
 worked_prefix = refl
 
--- the whole name reads: its one path ends at position 3 of what follows the prefix, where nothing is left
+-- the whole name reads: its one path ends at position 3 of the part, where nothing is left
 worked_mangling : IsV0 (codes "_RC1a") (codes "C1a")
 unfolding part_after_prefix is_allowed_rest ReadsPath path_height path_form base_62_number digit_62 optional_base_62_number length_at identifier_of identifier_bytes undisambiguated_identifier identifier
 worked_mangling = record {

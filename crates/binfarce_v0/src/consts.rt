@@ -13,7 +13,7 @@ use binfarce_v0_state::fragments::Production;
 use binfarce_v0_state::state::Printer;
 use std::alloc::AllocError;
 
-/// `<const>`: it is kept where a back reference may mean it.
+/// `<const>`. It is kept where a back reference may name it.
 #[cycle(printing)]
 pub fn print_const(printer: &mut Printer<'_>, levels_left: usize) -> Result<(), AllocError>
     requires levels { levels_left ≤ MAX_LEVELS }

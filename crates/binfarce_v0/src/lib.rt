@@ -1,4 +1,4 @@
-//! Rust's v0 manglings (RFC 2603): a name is read by the grammar, and what it means is printed.
+//! Rust's v0 manglings (RFC 2603): a name is read by the grammar, and printed in readable form.
 #![tactic(auto)]
 
 pub mod consts;

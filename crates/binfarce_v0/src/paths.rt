@@ -29,7 +29,7 @@ fn is_namespace(letter: u8) -> bool
     letter.is_ascii_alphabetic()
 }
 
-/// `<path>`: whether it was left open. It is kept where a back reference may mean it.
+/// `<path>`. Returns whether it was left open. It is kept where a back reference may name it.
 #[cycle(printing)]
 pub fn print_path(
     printer: &mut Printer<'_>,
@@ -110,7 +110,7 @@ pub(crate) fn print_path_by_letter(
     }
 }
 
-// A path that is never left open: it has no arguments and is no back reference.
+// A path that is never left open: it has no arguments and isn't a back reference.
 #[cycle(printing)]
 #[inline(always)]
 #[tactic(auto, using(crate::proofs::Shown::root_state), unfolding(binfarce_v0_state::specs::machine::Printing::path_rule, binfarce_v0_grammar::specs::Forms::path_form))]

@@ -1,4 +1,4 @@
-//! Printing a path, a type or a const, once for every production: it is kept where a back reference may mean it.
+//! Printing a path, a type or a const, once for every production: it is kept where a back reference may name it.
 
 ghost use Rattle.std.specs.Prelude.{◌≡◌, ◌+◌, IfOk, OnOk, Some};
 ghost use Rattle.binfarce_v0_state.specs.machine.Kept.{production_view, left_open_of, read};
@@ -12,7 +12,7 @@ use binfarce_v0_state::fragments::{FragmentKey, Production};
 use binfarce_v0_state::state::Printer;
 use std::alloc::AllocError;
 
-// A production: whether it was left open.
+// A production. Returns whether it was left open.
 #[cycle(printing)]
 #[inline(always)]
 pub fn print(
@@ -119,7 +119,7 @@ fn print_by_letter(
     Ok(false)
 }
 
-// What a back reference stands for: a production like any other, printed from its target.
+// The target of a back reference: a production, printed from the position that it names.
 #[cycle(printing)]
 pub fn print_target(
     printer: &mut Printer<'_>,

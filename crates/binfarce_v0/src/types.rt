@@ -23,7 +23,7 @@ use binfarce_v0_state::state::Printer;
 use binfarce_v0_state::text::{Binder, DynLifetime, ReferenceLifetime};
 use std::alloc::AllocError;
 
-// What stands after the items of a tuple of so many.
+// The text after the items of a tuple, by their number.
 #[inline(always)]
 fn single_mark(count: usize) -> &'static str
     ensures { result.now ≡ (if count == 1 then codes "," else []) }
@@ -31,7 +31,7 @@ fn single_mark(count: usize) -> &'static str
     if count == 1 { "," } else { "" }
 }
 
-/// `<type>`: it is kept where a back reference may mean it.
+/// `<type>`. It is kept where a back reference may name it.
 #[cycle(printing)]
 pub fn print_type(
     printer: &mut Printer<'_>,
@@ -79,7 +79,7 @@ pub(crate) fn print_type_by_letter(
     }
 }
 
-// A type that is no basic type.
+// A type that isn't a basic type.
 #[cycle(printing)]
 #[tactic(auto, unfolding(binfarce_v0_state::specs::machine::Printing::type_rule, binfarce_v0_grammar::specs::Forms::type_form_by))]
 fn print_other_type(
@@ -363,7 +363,7 @@ fn print_dyn(
     print_dyn_lifetime(printer, binder_depth)
 }
 
-// The lifetime of a dyn type, which stands after its binder.
+// The lifetime of a dyn type, which is outside its binder.
 fn print_dyn_lifetime(printer: &mut Printer<'_>, binder_depth: usize) -> Result<(), AllocError>
     ensures { OnOk result
         ((binder : ℕ) (items : Items)

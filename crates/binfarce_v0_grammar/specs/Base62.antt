@@ -1,5 +1,5 @@
--- Numbers of a v0 mangling (RFC 2603, "Base-62-Numbers"). `part` is all that follows the prefix, and positions count from its start.
--- What is read at a position is a value, and the position after it.
+-- Numbers of a v0 mangling (RFC 2603, "Base-62-Numbers"). `part` is all that follows the prefix, and positions count from its start. A number read at
+-- a position is its value, and the position after it.
 use Rattle.std.specs.Prelude.{◌≡◌, ℕ, ◌+◌, ◌-◌, ◌*◌, ◌^◌, List, Option, Some, None, if◌then◌else◌, ◌==◌, nat_lt, nat_le, slice_index, drop, length, fold, codes}
 use Rattle.std.proofs.Common.{refl}
 use Rattle.std.specs.List.{take_while}
@@ -12,7 +12,7 @@ unfoldable pub digit_62 : (byte : ℕ) → ℕ
 digit_62 byte =
     if is_ascii_digit byte then byte - '0' else (if is_ascii_lowercase byte then byte - 'a' + 10 else byte - 'A' + 36)
 
--- what digits write
+-- the number that digits write
 abbrev pub value_62 : (digits : List ℕ) → ℕ
 value_62 digits = fold (λ value byte. value * 62 + digit_62 byte) 0 digits
 
@@ -20,7 +20,8 @@ value_62 digits = fold (λ value byte. value * 62 + digit_62 byte) 0 digits
 abbrev pub limited : (value after : ℕ) → Option (ℕ × ℕ)
 limited value after = if nat_lt value (2 ^ 64) then Some (value, after) else None
 
--- <base-62-number> = {<0-9a-zA-Z>} "_": the longest run of digits, and a "_" after it. No digits are 0, and others one more than what they write
+-- <base-62-number> = {<0-9a-zA-Z>} "_": the longest run of digits, and a "_" after it. No digits mean 0; others mean one more than the number that
+-- they write
 unfoldable pub base_62_number : (part : List ℕ) (at : ℕ) → Option (ℕ × ℕ)
 base_62_number part at =
     let digits = take_while is_ascii_alphanumeric (drop at part) in
@@ -34,7 +35,7 @@ unfoldable pub optional_base_62_number : (part : List ℕ) (tag at : ℕ) → Op
 optional_base_62_number part tag at =
     if slice_index part at == tag then (base_62_number part (at + 1) >>= λ r. limited (r.0 + 1) r.1) else Some (0, at)
 
--- <backref> = "B" <base-62-number>, with its "B" at this position: the position that it names, which is an earlier one
+-- <backref> = "B" <base-62-number>, with its "B" at this position: its target, which is an earlier position
 unfoldable pub back_reference : (part : List ℕ) (at : ℕ) → Option (ℕ × ℕ)
 back_reference part at =
     base_62_number part (at + 1) >>= λ r. (if nat_lt r.0 at then Some r else None)
@@ -46,7 +47,7 @@ hex_digits part at =
     let end = at + length digits in
     if slice_index part end == '_' then Some (digits, end + 1) else None
 
--- the value of a hexadecimal digit; no other byte is ever asked for
+-- the value of a hexadecimal digit; it isn't used for any other byte
 abbrev pub hex_digit : (byte : ℕ) → ℕ
 hex_digit byte = if is_hex_digit byte then digit_value byte else 0
 

@@ -1,5 +1,5 @@
--- Which form of the grammar stands at a position of a v0 mangling: the front of each row, up to where it asks for a path, a type or a const
--- (RFC 2603, "Syntax of mangled names"). A position is None after invalid syntax, where no form stands.
+-- The form of the grammar at a position of a v0 mangling: the front of a production, up to its first path, type or const (RFC 2603, "Syntax of
+-- mangled names"). A position is None after invalid syntax; there is no form there.
 use Rattle.std.specs.Prelude.{◌≡◌, ℕ, ◌+◌, List, Option, Some, None, Bool, true, false, ◌||◌, ◌&&◌, not, if◌then◌else◌, ◌==◌, nat_lt, slice_index, length, codes}
 use Rattle.std.proofs.Common.{refl}
 use Rattle.std.specs.Option.{option_map_or}
@@ -10,17 +10,17 @@ use Rattle.binfarce_text.specs.Steps.{◌>>=◌}
 use Rattle.binfarce_v0_grammar.specs.Base62.{digit_62, base_62_number, optional_base_62_number, back_reference, hex_digits, hex_number}
 use Rattle.binfarce_v0_grammar.specs.Identifiers.{is_empty, UndisambiguatedIdentifier, undisambiguated_identifier, Identifier, identifier, past}
 
--- a byte stands at a position
+-- a position has this byte
 abbrev pub stands : (part : List ℕ) (byte : ℕ) (at : Option ℕ) → Bool
 stands part byte None = false
 stands part byte (Some at) = slice_index part at == byte
 
--- the position after a byte that stands there
+-- the position after a byte
 abbrev pub after_byte : (at : Option ℕ) → Option ℕ
 after_byte None = None
 after_byte (Some at) = Some (at + 1)
 
--- an identifier asked for at a position, which may be none
+-- the identifier at a position, where there is a position
 abbrev pub identifier_at : (part : List ℕ) (at : Option ℕ) → Option (Identifier × ℕ)
 identifier_at part at = at >>= identifier part
 
@@ -62,7 +62,7 @@ path_form part (Some at) =
     if tag == 'I' then WithArguments (at + 1) else (
     if tag == 'B' then option_map_or (λ b. BackToPath b.0 b.1) (back_reference part at) NoPathForm else NoPathForm))))))
 
--- a lifetime that may stand at a position
+-- an optional lifetime
 pub data Lifetime : Type 0 where
   -- no "L"
   NoLifetime : Lifetime
@@ -158,7 +158,7 @@ function_form part (Some b) =
     let is_unsafe = slice_index part b.1 == 'U' in
     option_map_or (λ a. FunctionOf (record { binder = b.0; is_unsafe = is_unsafe; abi = a.0 }) a.1) (abi part (past part 'U' b.1)) (InvalidAbi b.0)
 
--- a type that is no basic type, by its letter
+-- a type that isn't a basic type, by its letter
 unfoldable pub type_form_by : (part : List ℕ) (at tag : ℕ) → TypeForm
 type_form_by part at tag =
     if tag == 'R' then reference_form false (lifetime part (Some (at + 1))) else (
@@ -180,7 +180,7 @@ type_form part (Some at) =
 
 -- the value of a const
 pub data ConstValue : Type 0 where
-  -- an integer: whether a sign stands before its digits, and its hexadecimal digits
+  -- an integer: whether it has a sign, and its hexadecimal digits
   Integer : (negative : Bool) (digits : List ℕ) → ConstValue
   Boolean : (value : Bool) → ConstValue
   -- a char, by its code point
@@ -224,7 +224,7 @@ boolean_of n = if n == 0 then Some (Boolean false) else (if n == 1 then Some (Bo
 abbrev pub character_of : (n : ℕ) → Option ConstValue
 character_of n = if is_scalar n then Some (Character n) else None
 
--- what hexadecimal digits write as a value of a type
+-- hexadecimal digits as a value of a type
 unfoldable pub value_of : (letter : ℕ) (negative : Bool) (digits : List ℕ) → Option ConstValue
 value_of letter negative digits =
     if letter == 'b' then (hex_number digits >>= boolean_of) else (

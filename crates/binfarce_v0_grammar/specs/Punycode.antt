@@ -80,9 +80,8 @@ pub record Decoder : Type 0 where
   pub bias : ℕ
   pub output : List ℕ
 
--- 6.2: delta moves i on. Each time that i would pass the end of the output, it begins again at the front, and n is one
--- more. Then the character n is inserted at i, and i stands after it. The RFC takes a delta for the first one where i
--- was 0 before it, which it can be at no later delta
+-- 6.2: delta moves i on. Each time that i would pass the end of the output, it begins again at the front, and n is one more. Then the character n is
+-- inserted at i, and i moves past it. The RFC takes a delta for the first one where i was 0 before it; no later delta begins with 0
 unfoldable pub decoder_after : Decoder → (delta : ℕ) → Decoder
 decoder_after decoder delta =
     let characters = length decoder.output + 1 in
@@ -107,15 +106,15 @@ text_of (suc room) decoder (byte ∷ code) =
     if is_scalar next.n then text else None)
     (integer decoder.bias 0 (byte ∷ code))
 
--- the text of an ASCII part, whose bytes are its first characters, and a code. There is none where the code isn't all
--- read as integers, where a character is no scalar value, and where there are too many of them
+-- the text of an ASCII part, whose bytes are its first characters, and a code. There is none where some of the code isn't an integer, where a
+-- character isn't a scalar value, and where there are too many characters
 unfoldable pub punycode_decoded : (ascii code : List ℕ) → Option (List ℕ)
 punycode_decoded ascii code =
     let start : Decoder = record { n = initial_n; i = 0; bias = initial_bias; output = ascii } in
     let text = text_of (most_characters - length ascii) start code in
     if nat_le (length ascii) most_characters then text else None
 
--- the code `kva` puts `ü` into `bcher`
+-- the code `kva` inserts `ü` into `bcher`
 worked_word : punycode_decoded (codes "bcher") (codes "kva") ≡ Some (codes "bücher")
 unfolding digit_of weight integer scaled_bias adapted_bias decoder_after text_of punycode_decoded
 worked_word = refl

@@ -1,8 +1,8 @@
--- Reading a v0 mangling by the grammar alone (RFC 2603, "Symbol grammar summary"): a position reads to a tree up to the position after it.
--- A back reference is a leaf that names an earlier position; what stands there isn't looked at, nor is it looked at what a lifetime's index means.
--- This stands beside `Unfolding` since the two decide different things: this one whether a text is a v0 mangling at all, which every byte of
--- it has to keep to and no limit of steps bounds; that one which tree it means, where invalid syntax behind a back reference is shown as `?`.
--- `part` is all that follows the prefix. `front` is the position after a form's front, where what the form asks for begins.
+-- Reading a v0 mangling by the grammar alone (RFC 2603, "Symbol grammar summary"): a position reads to a tree up to the position after it. A back
+-- reference is a leaf that names an earlier position: neither its target nor the meaning of a lifetime's index is checked. `Reading` decides whether
+-- a text is a v0 mangling: every byte has to be valid, and there is no limit of steps. `Unfolding` decides which tree it means, with `?` for invalid
+-- syntax behind a back reference. `part` is all that follows the prefix. `front` is the position after a form's front, where its first path, type or
+-- const begins.
 use Rattle.std.specs.Prelude.{◌≡◌, ℕ, ◌+◌, List, [], Some, true, false, codes}
 use Rattle.std.proofs.Common.{refl}
 use Rattle.binfarce_text.specs.Letters.{'E', 'K', 'L', 'p', 'u'}
@@ -16,7 +16,7 @@ ReadsConst part UntypedPlaceholder at after = const_form part (Some at) ≡ Unty
 ReadsConst part (Placeholder type_name) at after = const_form part (Some at) ≡ PlaceholderConst type_name after
 ReadsConst part (Value type_name value) at after = const_form part (Some at) ≡ ValueConst type_name value after
 ReadsConst part (ConstTarget target) at after = const_form part (Some at) ≡ BackToConst target after
--- what is invalid doesn't read
+-- invalid syntax doesn't read
 ReadsConst part _ at after = ⊥
 
 unfoldable mutual
@@ -33,7 +33,7 @@ unfoldable mutual
   ReadsPath part (Generic p items) at after =
       (front : ℕ) × (mid : ℕ) × (path_form part (Some at) ≡ WithArguments front) × ReadsPath part p front mid × ReadsItems part Arguments items mid after
   ReadsPath part (PathTarget target) at after = path_form part (Some at) ≡ BackToPath target after
-  -- what is invalid doesn't read
+  -- invalid syntax doesn't read
   ReadsPath part _ at after = ⊥
 
   pub ReadsType : (part : List ℕ) (tree : TypeTree) (at after : ℕ) → Type 0
@@ -56,7 +56,7 @@ unfoldable mutual
       (front : ℕ) × (end : ℕ) × (type_form part (Some at) ≡ DynOf binder front) × ReadsItems part Traits items front end × (stands part 'L' (Some end) ≡ true) × (lifetime part (Some end) ≡ (life, Some after))
   ReadsType part (Named p) at after = (type_form part (Some at) ≡ PathType) × ReadsPath part p at after
   ReadsType part (TypeTarget target) at after = type_form part (Some at) ≡ BackToType target after
-  -- what is invalid doesn't read
+  -- invalid syntax doesn't read
   ReadsType part _ at after = ⊥
 
   pub ReadsItem : (part : List ℕ) (listed : Listed) (i : Item) (at after : ℕ) → Type 0

@@ -1,4 +1,4 @@
--- What a v0 mangling means: trees of paths, types and consts, and what is counted of a tree. No byte of a mangling is seen here.
+-- What a v0 mangling means: trees of paths, types and consts, with their levels and steps. No byte of a mangling appears here.
 use Rattle.std.specs.Prelude.{◌≡◌, ℕ, suc, ◌+◌, List, [], Option, Some, None, Bool, false, nat_le, codes, max}
 use Rattle.std.proofs.Common.{refl}
 use Rattle.std.specs.Option.{option_or}
@@ -6,21 +6,21 @@ use Rattle.binfarce_v0_grammar.specs.Identifiers.{UndisambiguatedIdentifier, Ide
 use Rattle.binfarce_v0_grammar.specs.Forms.{Lifetime, NoLifetime, Signature, ConstValue}
 
 pub data ConstTree : Type 0 where
-  -- what is invalid
+  -- invalid syntax
   NoConst : ConstTree
   UntypedPlaceholder : ConstTree
   Placeholder : (type_name : List ℕ) → ConstTree
   Value : (type_name : List ℕ) (value : ConstValue) → ConstTree
   -- a value that is invalid, and whether it has a sign
   InvalidValue : (negative : Bool) (type_name : List ℕ) → ConstTree
-  -- what a back reference stands for, in an unfolding
+  -- the target of a back reference, in an unfolding
   BackConst : ConstTree → ConstTree
-  -- the position that a back reference names, in a reading
+  -- the position of a back reference's target, in a reading
   ConstTarget : (target : ℕ) → ConstTree
 
 mutual
   pub data PathTree : Type 0 where
-    -- what is invalid
+    -- invalid syntax
     NoPath : PathTree
     Crate : (root : Identifier) → PathTree
     Nested : (namespace : ℕ) (parent : PathTree) (name : Identifier) → PathTree
@@ -33,13 +33,13 @@ mutual
     -- <T as Trait>
     OfTrait : (self_type : TypeTree) (trait_path : PathTree) → PathTree
     Generic : (path : PathTree) (arguments : Items) → PathTree
-    -- what a back reference stands for, in an unfolding
+    -- the target of a back reference, in an unfolding
     BackPath : PathTree → PathTree
-    -- the position that a back reference names, in a reading
+    -- the position of a back reference's target, in a reading
     PathTarget : (target : ℕ) → PathTree
 
   pub data TypeTree : Type 0 where
-    -- what is invalid
+    -- invalid syntax
     NoType : TypeTree
     Basic : (name : List ℕ) → TypeTree
     Reference : (mutable : Bool) (life : Lifetime) (to : TypeTree) → TypeTree
@@ -55,9 +55,9 @@ mutual
     Dyn : (binder : ℕ) (traits : Items) (life : Lifetime) → TypeTree
     InvalidDynType : TypeTree
     Named : PathTree → TypeTree
-    -- what a back reference stands for, in an unfolding
+    -- the target of a back reference, in an unfolding
     BackType : TypeTree → TypeTree
-    -- the position that a back reference names, in a reading
+    -- the position of a back reference's target, in a reading
     TypeTarget : (target : ℕ) → TypeTree
 
   -- an item of a list: an argument, a type, or a trait with its bindings
@@ -79,7 +79,7 @@ mutual
     -- a binding whose name is invalid
     InvalidBinding : Bindings
 
--- what the items of a list are: arguments, types or traits
+-- the kind of a list's items: arguments, types or traits
 pub data Listed : Type 0 where
   Arguments : Listed
   Types : Listed
@@ -91,7 +91,7 @@ abbrev pub const_height : (c : ConstTree) → ℕ
 const_height (BackConst c) = suc (const_height c)
 const_height _ = 1
 
--- levels: 1 and the greatest height of what a tree asks for
+-- levels: 1 plus the greatest height of a tree's parts
 unfoldable mutual
   pub path_height : PathTree → ℕ
   path_height (Nested namespace p name) = suc (path_height p)

@@ -1,7 +1,7 @@
--- What a position of a v0 mangling unfolds to (RFC 2603, "Symbol grammar summary" and "Compression/Substitution"), whatever the limits.
--- A position is None after invalid syntax. From there a path, a type or a const is a tree of its own that is shown as `?`, a byte that may
--- stand is not there, and a list ends. A tree is unfolded from a position, under a depth of binders, up to the position after it.
--- `part` is all that follows the prefix. `front` is the position after a form's front, where what the form asks for begins.
+-- What a position of a v0 mangling unfolds to (RFC 2603, "Symbol grammar summary" and "Compression/Substitution"), whatever the limits. A position is
+-- None after invalid syntax. From there a path, a type or a const is a tree of its own, shown as `?`; an optional byte is absent, and a list ends. A
+-- tree is unfolded from a position, under a depth of binders, up to the position after it. `part` is all that follows the prefix. `front` is the
+-- position after a form's front, where its first path, type or const begins.
 use Rattle.std.specs.Prelude.{◌≡◌, ℕ, ◌+◌, ◌≤◌, List, Option, Some, None, Bool, true, false, if◌then◌else◌, not, codes}
 use Rattle.std.proofs.Common.{refl, arith}
 use Rattle.binfarce_text.specs.Letters.{'E', 'K', 'L', 'p', 'u'}
@@ -11,14 +11,13 @@ use Rattle.binfarce_v0_grammar.specs.Forms.{basic_type, type_form_by, Lifetime, 
 use Rattle.binfarce_v0_grammar.specs.Tree.{PathTree, TypeTree, ConstTree, Item, Items, Bindings, NoConst, UntypedPlaceholder, Placeholder, Value, InvalidValue, BackConst, ConstTarget, NoPath, Crate, Nested, InvalidNested, OfType, OfImpl, OfTrait, Generic, BackPath, PathTarget, NoType, Basic, Reference, InvalidReferenceType, Pointer, Slice, Array, Tuple, Function, FunctionTo, InvalidFunction, Dyn, InvalidDynType, Named, BackType, TypeTarget, LifetimeItem, TypeItem, ConstItem, TraitItem, NoItems, ItemThen, Listed, Arguments, Types, Traits, NoBindings, Binding, InvalidBinding, path_height, path_steps, is_announced, worked_tree}
 use Rattle.binfarce_v0_grammar.specs.declared.limits.TheConstants.{MAX_LEVELS, MAX_STEPS}
 
--- the position after a lifetime that may stand there: none where no binder announces its index. An invalid one is never asked for, since it
--- makes an `InvalidReference`
+-- the position after an optional lifetime: none where no binder announces its index. An invalid one makes an `InvalidReference`, and doesn't get here
 unfoldable pub bound_end : (binder_depth : ℕ) (life : Lifetime) (after : Option ℕ) → Option ℕ
 bound_end binder_depth NoLifetime after = after
 bound_end binder_depth InvalidLifetime after = None
 bound_end binder_depth (IndexedLifetime k) after = if is_announced binder_depth k then after else None
 
--- the same of a lifetime that has to stand there
+-- the same for a required lifetime
 abbrev pub required_end : (binder_depth : ℕ) (life : Lifetime) (after : Option ℕ) → Option ℕ
 required_end binder_depth (IndexedLifetime k) after = bound_end binder_depth (IndexedLifetime k) after
 required_end binder_depth _ after = None
@@ -40,7 +39,7 @@ IsConst part (InvalidValue negative type_name) at after =
     (const_form part at ≡ InvalidConst negative type_name) × (after ≡ None)
 IsConst part (BackConst c) at after =
     (target : ℕ) × (front : ℕ) × (end : Option ℕ) × (const_form part at ≡ BackToConst target front) × IsConst part c (Some target) end × (after ≡ Some front)
--- a position stands in readings alone
+-- positions occur in readings alone
 IsConst part (ConstTarget target) at after = ⊥
 
 unfoldable mutual
@@ -62,7 +61,7 @@ unfoldable mutual
       (front : ℕ) × (mid : Option ℕ) × (path_form part at ≡ WithArguments front) × IsPath part p (Some front) binder_depth mid × AreItems part Arguments items mid binder_depth after
   IsPath part (BackPath p) at binder_depth after =
       (target : ℕ) × (front : ℕ) × (end : Option ℕ) × (path_form part at ≡ BackToPath target front) × IsPath part p (Some target) binder_depth end × (after ≡ Some front)
-  -- a position stands in readings alone
+  -- positions occur in readings alone
   IsPath part (PathTarget target) at binder_depth after = ⊥
 
   pub IsType : (part : List ℕ) (tree : TypeTree) (at : Option ℕ) (binder_depth : ℕ) (after : Option ℕ) → Type 0
@@ -91,7 +90,7 @@ unfoldable mutual
   IsType part (Named p) at binder_depth after = (type_form part at ≡ PathType) × IsPath part p at binder_depth after
   IsType part (BackType t) at binder_depth after =
       (target : ℕ) × (front : ℕ) × (end : Option ℕ) × (type_form part at ≡ BackToType target front) × IsType part t (Some target) binder_depth end × (after ≡ Some front)
-  -- a position stands in readings alone
+  -- positions occur in readings alone
   IsType part (TypeTarget target) at binder_depth after = ⊥
 
   -- an item of a list, where the list goes on
@@ -121,8 +120,8 @@ unfoldable mutual
   AreBindings part InvalidBinding at binder_depth after =
       (stands part 'p' at ≡ true) × (undisambiguated_at part (after_byte at) ≡ None) × (after ≡ None)
 
--- the first path of a mangling unfolds to a tree within some limits. `part` is all that follows the prefix, the rest after the paths too, since
--- a back reference may lead there. `after` may be anything, also none: where the paths have to end is for `Reading` to say
+-- the first path of a mangling unfolds to a tree within some limits. `part` is all that follows the prefix, with the rest after the paths, since a
+-- back reference may lead there. `after` may be anything, even None: `Reading` decides where the paths end
 pub record UnfoldsWithin (most_levels most_steps : ℕ) (part : List ℕ) (tree : PathTree) : Type 0 where
   pub after : Option ℕ
   pub is_path : IsPath part tree (Some 0) 0 after
@@ -133,7 +132,7 @@ pub record UnfoldsWithin (most_levels most_steps : ℕ) (part : List ℕ) (tree 
 abbrev pub UnfoldsTo : (part : List ℕ) (tree : PathTree) → Type 0
 UnfoldsTo part tree = UnfoldsWithin MAX_LEVELS MAX_STEPS part tree
 
--- `a::<&u8, &u8>`: the back reference unfolds to what stands at position 4
+-- `a::<&u8, &u8>`: the back reference unfolds to the type at position 4
 worked_unfolding : UnfoldsTo (codes "IC1aRhB3_E") worked_tree
 unfolding IsPath bound_end path_height path_steps path_form type_form type_form_by basic_type lifetime back_reference base_62_number digit_62 optional_base_62_number length_at identifier_of identifier_bytes undisambiguated_identifier identifier
 worked_unfolding = record {

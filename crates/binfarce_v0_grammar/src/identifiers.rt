@@ -16,7 +16,7 @@ use crate::numbers::{
 pub struct UndisambiguatedIdentifier<'a> {
     /// The characters before the last `_` of a Punycode identifier, and all of any other.
     pub ascii: &'a str,
-    /// What stands after that `_`, empty where the identifier isn't Punycode.
+    /// The characters after that `_`; empty where the identifier isn't Punycode.
     pub punycode: &'a str,
 }
 
@@ -99,8 +99,8 @@ fn identifier_bytes<'a>(
 
 /// `<undisambiguated-identifier> = ["u"] <decimal-number> ["_"] <bytes>` at a position, and the position after it.
 ///
-/// None where no number stands there, where the part ends before as many bytes as it says, and where a Punycode identifier
-/// has no Punycode.
+/// `None` where there is no number, where the part ends before as many bytes, and where a Punycode identifier has no
+/// Punycode.
 #[inline(always)]
 #[tactic(auto, unfolding(crate::specs::Identifiers::undisambiguated_identifier))]
 pub fn undisambiguated_at<'a>(

@@ -1,5 +1,5 @@
-//! Numbers of a v0 name (RFC 2603, "Base-62-Numbers"): from a position to the value and the position after it. A number is
-//! below 2^64, and one that isn't is invalid.
+//! Numbers of a v0 name (RFC 2603, "Base-62-Numbers"): from a position to the value and the position after it. A number
+//! of 2^64 or more is invalid.
 
 ghost use Rattle.std.specs.Prelude.{◌≡◌, ◌+◌, ◌-◌, ◌*◌, ◌^◌, ◌<◌, ◌≤◌, IfSome, IsTrue, MatchOption, SomeIff, drop, length, slice_index, take, true};
 ghost use Rattle.std.specs.Char.{is_ascii_alphanumeric, is_ascii_digit};
@@ -21,7 +21,7 @@ pub fn byte_at(part: &[u8], at: usize) -> u8
     if at < part.len() { part[at] } else { 0 }
 }
 
-/// The position after a byte that may stand at a position, and else that position.
+/// The position after an optional byte; the same position where that byte isn't there.
 #[inline(always)]
 pub fn past(part: &[u8], byte: u8, at: usize) -> usize
     requires { 0 < byte }
@@ -34,7 +34,7 @@ pub fn past(part: &[u8], byte: u8, at: usize) -> usize
     }
 }
 
-// What each byte is worth as a base-62 digit; 62 where it is none.
+// The value of each byte as a base-62 digit; 62 for any other byte.
 const VALUES: [u8; 256] = [
     62, 62, 62, 62, 62, 62, 62, 62, 62, 62, 62, 62, 62, 62, 62, 62, 62, 62, 62, 62, 62, 62, 62, 62,
     62, 62, 62, 62, 62, 62, 62, 62, 62, 62, 62, 62, 62, 62, 62, 62, 62, 62, 62, 62, 62, 62, 62, 62,
@@ -49,7 +49,7 @@ const VALUES: [u8; 256] = [
     62, 62, 62, 62, 62, 62, 62, 62, 62, 62, 62, 62, 62, 62,
 ];
 
-// The value of a base-62 digit: one look, where a disambiguator has eleven.
+// The value of a base-62 digit, by one table lookup: a disambiguator has up to eleven digits.
 #[inline(always)]
 fn digit_62(c: u8) -> Option<u8>
     ensures { SomeIff result (is_ascii_alphanumeric c ≡ true) (digit_62 c) }
@@ -80,7 +80,7 @@ fn with_digit(value: u64, base: u64, digit: u8) -> Option<u64>
 // How many base-62 digits always write a number below 2^64.
 const FEW_DIGITS: usize = 10;
 
-// Base-62 digits up to a `_`: one more than what they write.
+// Base-62 digits up to a `_`: one more than the number that they write.
 #[inline(always)]
 #[tactic(auto, using(crate::proofs::NumberLemmas::number_from_step, crate::proofs::NumberLemmas::number_from_past))]
 fn digits_62(part: &[u8], start: usize) -> Option<(u64, usize)>
@@ -99,7 +99,7 @@ fn digits_62(part: &[u8], start: usize) -> Option<(u64, usize)>
     more_digits_62(part, value, end)
 }
 
-// The same after digits that are worth `worth`.
+// The same after digits of the value `worth`.
 #[inline(always)]
 #[tactic(auto, using(crate::proofs::NumberLemmas::number_from_step, crate::proofs::NumberLemmas::number_from_large, crate::proofs::NumberLemmas::number_from_over))]
 fn more_digits_62(part: &[u8], before: u64, start: usize) -> Option<(u64, usize)>
@@ -130,8 +130,8 @@ pub fn base_62_number(part: &[u8], at: usize) -> Option<(u64, usize)>
     }
 }
 
-/// A number after a tag, as a disambiguator after `s` or a binder after `G`: 0 where the tag doesn't stand there, and else
-/// one more than the number. None where the number is invalid.
+/// A number after a tag, as a disambiguator after `s` or a binder after `G`: 0 without the tag, and one more than the
+/// number with it. `None` where the number is invalid.
 #[inline(always)]
 #[tactic(auto, unfolding(crate::specs::Base62::optional_base_62_number))]
 pub fn optional_base_62_number(part: &[u8], tag: u8, at: usize) -> Option<(u64, usize)>
@@ -146,10 +146,10 @@ pub fn optional_base_62_number(part: &[u8], tag: u8, at: usize) -> Option<(u64, 
     }
 }
 
-// How many bytes are looked at together.
+// How many bytes are compared at a time.
 const STRIDE: usize = 16;
 
-// How many of 16 bytes are base-62 digits before one that isn't.
+// How many of 16 bytes are base-62 digits before the first that isn't.
 #[inline(always)]
 fn digit_run(bytes: &[u8]) -> usize
     requires { length bytes.now ≡ 16 }
@@ -183,7 +183,7 @@ fn digits_end(part: &[u8], start: usize) -> usize
     digits_end_slowly(part, start)
 }
 
-// The same, a byte at a time.
+// The same, one byte at a time.
 #[inline(never)]
 fn digits_end_slowly(part: &[u8], start: usize) -> usize
     requires { start ≤ length part.now }
@@ -197,7 +197,7 @@ fn digits_end_slowly(part: &[u8], start: usize) -> usize
     end
 }
 
-// Whether two digits are worth less than 1362. Below 2^64 - 2 is then what they write with nine more after them.
+// Whether two digits write less than 1362. With nine more digits they then write less than 2^64 - 2.
 #[inline(always)]
 fn are_small(first: u8, second: u8) -> bool
     ensures { IsTrue result → digit_62 first * 62 + digit_62 second < 1362 }
@@ -208,7 +208,7 @@ fn are_small(first: u8, second: u8) -> bool
     }
 }
 
-// Whether the digits from `start` to `end` write a number below 2^64 - 2, as far as their count and the first two tell.
+// Whether the digits from `start` to `end` surely write a number below 2^64 - 2, by their count and the first two.
 #[inline(always)]
 fn write_small(part: &[u8], start: usize, end: usize) -> bool
     requires run { end ≡ start + prefix_len is_ascii_alphanumeric (drop start part.now) }
@@ -220,7 +220,7 @@ fn write_small(part: &[u8], start: usize, end: usize) -> bool
     count <= 10 || (count == 11 && are_small(part[start], part[start + 1]))
 }
 
-/// The position after what `tagged` reads, whose digits are checked and decoded only where they may write too much.
+/// The position after the number after a tag. Its digits are decoded only where the number may be too large.
 #[inline(always)]
 #[tactic(auto, using(crate::proofs::SkipLemmas::skips_nothing, crate::proofs::SkipLemmas::skips_small))]
 pub fn skip_optional_base_62_number(part: &[u8], tag: u8, at: usize) -> Option<usize>
@@ -242,8 +242,8 @@ pub fn skip_optional_base_62_number(part: &[u8], tag: u8, at: usize) -> Option<u
     }
 }
 
-/// `<backref>`, with its `B` at `at`: the position that it names, and the position after it. None where its number is
-/// invalid or names no position before the `B`.
+/// `<backref>`, with its `B` at `at`: its target, and the position after it. `None` where its number is invalid or
+/// names no position before the `B`.
 #[inline(always)]
 #[tactic(auto, unfolding(crate::specs::Base62::back_reference))]
 pub fn back_reference(part: &[u8], at: usize) -> Option<(usize, usize)>
@@ -288,7 +288,7 @@ fn digits_10(part: &[u8], start: usize) -> Option<(u64, usize)>
     Some((value, after))
 }
 
-// The longest run of decimal digits, of which one stands there. Most runs have one digit or two, which need no loop.
+// The longest run of decimal digits at a position with one. Most runs have one or two digits, which need no loop.
 #[inline(always)]
 fn few_digits_10(part: &[u8], start: usize, first: u8) -> Option<(u64, usize)>
     requires within { start < length part.now }

@@ -9,7 +9,7 @@ ghost use Rattle.binfarce_v0_grammar.specs.machine.View.{lifetime_view};
 use crate::forms::Lifetime;
 use crate::numbers::byte_at;
 
-/// The position after a byte. None where the byte doesn't stand there.
+/// The position after a byte. `None` where that byte isn't there.
 #[inline(always)]
 pub fn eat(part: &[u8], byte: u8, at: Option<usize>) -> Option<usize>
     requires { 0 < byte }
@@ -40,7 +40,7 @@ pub fn list_end(part: &[u8], at: Option<usize>) -> Option<Option<usize>>
     }
 }
 
-/// How many steps a lifetime is: 1 for an `L` that stands there.
+/// The steps of an optional lifetime: 1 if there is an `L`.
 #[inline(always)]
 pub fn lifetime_steps(life: Lifetime) -> u64
     ensures { result ≡ lifetime_steps (lifetime_view life) }
@@ -51,7 +51,7 @@ pub fn lifetime_steps(life: Lifetime) -> u64
     }
 }
 
-/// The position after a lifetime that may stand there: None for one that is invalid, or that the binders around it don't
+/// The position after an optional lifetime: `None` for one that is invalid, or that the binders around it don't
 /// announce.
 #[inline(always)]
 #[tactic(auto, unfolding(crate::specs::Unfolding::bound_end))]
@@ -71,7 +71,7 @@ pub fn bound_end(binder_depth: usize, life: Lifetime, after: Option<usize>) -> O
     }
 }
 
-/// The position after a lifetime that has to stand there: None for one that isn't there either.
+/// The position after a required lifetime: `None` also where there is no lifetime.
 #[inline(always)]
 pub fn required_end(binder_depth: usize, life: Lifetime, after: Option<usize>) -> Option<usize>
     ensures { result ≡ required_end binder_depth (lifetime_view life) after }

@@ -1,4 +1,4 @@
-//! Reading a v0 name by the grammar alone: it is validated in one pass, without memory.
+//! Reading a v0 name by the grammar alone: it is validated in one pass, without allocation.
 
 ghost use Rattle.std.specs.Prelude.{◌≡◌, ◌≤◌, length, suc};
 ghost use Rattle.std.specs.Str.{IsAscii};
@@ -40,8 +40,8 @@ fn read_lifetime(part: &str, at: usize) -> Option<usize>
     after
 }
 
-/// The position after the `<path>` that stands at a position. None where no path stands there, and where it has more than
-/// `levels_left` levels. What a back reference names isn't looked at, nor what a lifetime's index means.
+/// The position after the `<path>` at a position. `None` where there is no path, and where it has more than
+/// `levels_left` levels. The target of a back reference and the meaning of a lifetime's index aren't checked.
 #[cycle(reading)]
 #[tactic(auto, using(crate::proofs::ReadingComplete::path_end_at, crate::proofs::ReadingComplete::path_end_none), unfolding(crate::specs::machine::Ends::path_end))]
 pub fn read_path(part: &str, levels_left: usize, at: usize) -> Option<usize>

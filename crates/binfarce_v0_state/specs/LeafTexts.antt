@@ -18,7 +18,7 @@ use Rattle.binfarce_v0_grammar.specs.Tree.{is_announced}
 abbrev pub is_unnamed : (i : UndisambiguatedIdentifier) → Bool
 is_unnamed i = is_empty i.ascii && is_empty i.punycode
 
--- Punycode that can't be decoded is shown as it stands
+-- the text of Punycode that can't be decoded
 abbrev pub undecoded : (ascii punycode : List ℕ) → List ℕ
 undecoded ascii punycode =
     codes "punycode{" ++ ((if is_empty ascii then [] else ascii ++ codes "-") ++ (punycode ++ codes "}"))
@@ -55,32 +55,32 @@ binder_text binder_depth zero = []
 binder_text binder_depth (suc n) =
     codes "for<" ++ (lifetime_text (binder_depth + 1) 1 ++ (more_announced (binder_depth + 1) n ++ codes "> "))
 
--- the lifetime of a reference. An invalid one is never asked for: such a reference is an `InvalidReferenceType`
+-- the lifetime of a reference. It isn't used for an invalid one: such a reference is an `InvalidReferenceType`
 abbrev pub reference_lifetime : (binder_depth : ℕ) (life : Lifetime) → List ℕ
 reference_lifetime binder_depth (IndexedLifetime k) = if k == 0 then [] else lifetime_text binder_depth k ++ codes " "
 reference_lifetime binder_depth _ = []
 
--- the lifetime of an argument. One that isn't there is never asked for: an "L" is what makes an argument a lifetime
+-- the lifetime of an argument. There always is one: the "L" makes the argument a lifetime
 abbrev pub argument_lifetime : (binder_depth : ℕ) (life : Lifetime) → List ℕ
 argument_lifetime binder_depth (IndexedLifetime k) = lifetime_text binder_depth k
 argument_lifetime binder_depth _ = codes "?"
 
--- the lifetime of a dyn type, which has to stand there
+-- the lifetime of a dyn type, which is required
 abbrev pub dyn_lifetime : (binder_depth : ℕ) (life : Lifetime) → List ℕ
 dyn_lifetime binder_depth (IndexedLifetime k) = if k == 0 then [] else codes " + " ++ lifetime_text binder_depth k
 dyn_lifetime binder_depth _ = codes "?"
 
--- a crate's disambiguator in lower-case hexadecimal, where it is asked for
+-- a crate's disambiguator in lower-case hexadecimal, in the complete text
 abbrev pub disambiguator_text : (full : Bool) (disambiguator : ℕ) → List ℕ
 disambiguator_text false disambiguator = []
 disambiguator_text true disambiguator = codes "[" ++ (digits 16 false disambiguator ++ codes "]")
 
--- the words of a special namespace, as "closure"
+-- the name of a special namespace, as "closure"
 abbrev pub namespace_text : (namespace : ℕ) → List ℕ
 namespace_text namespace =
     if namespace == 'C' then codes "closure" else (if namespace == 'S' then codes "shim" else namespace ∷ [])
 
--- an identifier behind a mark, or nothing where it has no character
+-- an identifier after a mark, or nothing where it has no character
 abbrev pub after_mark : (mark : List ℕ) (name : UndisambiguatedIdentifier) → List ℕ
 after_mark mark name = if is_unnamed name then [] else mark ++ identifier_text name
 
@@ -96,7 +96,7 @@ abbrev pub mutable_text : (flag : Bool) (set unset : List ℕ) → List ℕ
 mutable_text true set unset = set
 mutable_text false set unset = unset
 
--- the name of an ABI, in which "_" stands for "-"
+-- the name of an ABI, in which "_" means "-"
 abbrev pub abi_text : (abi : Option (List ℕ)) → List ℕ
 abi_text None = []
 abi_text (Some name) = codes "extern \"" ++ (map (λ c. if c == '_' then '-' else c) name ++ codes "\" ")
@@ -105,7 +105,7 @@ abi_text (Some name) = codes "extern \"" ++ (map (λ c. if c == '_' then '-' els
 unfoldable pub signature_text : (s : Signature) → List ℕ
 signature_text s = mutable_text s.is_unsafe (codes "unsafe ") [] ++ (abi_text s.abi ++ codes "fn(")
 
--- at most 16 hexadecimal digits are shown in decimal, and more as they stand
+-- at most 16 hexadecimal digits are shown in decimal, and more in hexadecimal
 unfoldable pub number_text : (hex : List ℕ) → List ℕ
 number_text hex = option_map_or decimal (hex_number hex) (codes "0x" ++ hex)
 
@@ -113,14 +113,14 @@ abbrev pub sign_text : (negative : Bool) → List ℕ
 sign_text true = codes "-"
 sign_text false = []
 
--- "'" and "\", which no name of a definition can hold
+-- "'" and "\", which can't be in the name of a definition
 abbrev pub quote : ℕ
 quote = 0x27
 
 abbrev pub backslash : ℕ
 backslash = 0x5C
 
--- printable ASCII stands for itself between quotes, but for a quote and a backslash
+-- printable ASCII is shown unescaped between quotes, except a quote and a backslash
 abbrev pub stands_for_itself : (c : ℕ) → Bool
 stands_for_itself c = is_in_range 0x20 0x7E c && not (c == quote || c == backslash)
 

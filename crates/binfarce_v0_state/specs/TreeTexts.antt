@@ -11,8 +11,8 @@ pub data Position : Type 0 where
   InType : Position
   OpenTrait : Position
 
--- where the path within a path is shown: as a type where the whole is an open trait, since only the arguments that end a trait's path stay
--- open. A back reference hands its own position on
+-- where the path within a path is shown: as a type where the whole is an open trait, since only the arguments that end a trait's path stay open. A
+-- back reference passes its own position on
 abbrev pub parent_position : (position : Position) → Position
 parent_position OpenTrait = InType
 parent_position position = position
@@ -24,7 +24,7 @@ const_text (Placeholder type_name) = codes "_" ++ (codes ": " ++ type_name)
 const_text (Value type_name value) = value_text value ++ (codes ": " ++ type_name)
 const_text (InvalidValue negative type_name) = (sign_text negative ++ codes "?") ++ (codes ": " ++ type_name)
 const_text (BackConst c) = const_text c
--- a position stands in readings alone, which are never shown
+-- positions occur in readings alone, which are never shown
 const_text (ConstTarget at) = []
 
 -- "::" before the arguments of a value
@@ -47,7 +47,7 @@ is_left_open (Generic p items) position = is_open_trait position
 is_left_open (BackPath p) position = is_left_open p position
 is_left_open _ position = false
 
--- what stands before an item: nothing before the first
+-- the text before an item: nothing before the first
 abbrev pub separator : (is_first : Bool) (between : List ℕ) → List ℕ
 separator true between = []
 separator false between = between
@@ -85,7 +85,7 @@ unfoldable mutual
   path_text full (Generic p items) position binder_depth =
       path_text full p (parent_position position) binder_depth ++ (value_mark position ++ (codes "<" ++ (items_text full items (codes ", ") true binder_depth ++ closing position)))
   path_text full (BackPath p) position binder_depth = path_text full p position binder_depth
-  -- a position stands in readings alone, which are never shown
+  -- positions occur in readings alone, which are never shown
   path_text full (PathTarget at) position binder_depth = []
 
   pub type_text : (full : Bool) (tree : TypeTree) (binder_depth : ℕ) → List ℕ
@@ -111,7 +111,7 @@ unfoldable mutual
   type_text full InvalidDynType binder_depth = codes "dyn ??"
   type_text full (Named p) binder_depth = path_text full p InType binder_depth
   type_text full (BackType t) binder_depth = type_text full t binder_depth
-  -- a position stands in readings alone, which are never shown
+  -- positions occur in readings alone, which are never shown
   type_text full (TypeTarget at) binder_depth = []
 
   pub item_text : (full : Bool) (i : Item) (binder_depth : ℕ) → List ℕ

@@ -1,4 +1,4 @@
-//! What a printing keeps of its own text: a back reference's target that was printed whole isn't read again.
+//! Fragments that a printing keeps of its own text: a back reference's target that was printed whole isn't read again.
 
 ghost use Rattle.std.specs.Prelude.{◌≡◌, ◌-◌, ◌≤◌, ◌^◌, min, ◌++◌, ◌∷◌, [], IfOk, IfSome, OnOk, OnErr, MatchOption, Some, true, false, is_ok, if◌then◌else◌};
 ghost use Rattle.std.specs.String.{string_bytes};
@@ -21,8 +21,8 @@ pub enum Production {
     Const,
 }
 
-/// What a back reference asks for: what a position of the name unfolds to under a depth of binders. A const has no depth:
-/// its depth is 0.
+/// The key of a fragment, by which a back reference looks it up: a kind of production, its position, and the depth of
+/// binders, which is 0 for a const.
 #[derive(Clone, Copy, PartialEq, Eq, PartialOrd, Ord)]
 pub struct FragmentKey {
     pub production: Production,
@@ -45,7 +45,7 @@ pub struct Fragment {
     pub muted: bool,
 }
 
-/// Where a printing stands before what it will keep.
+/// The state of a printing before a path, type or const that it may keep.
 #[derive(Clone, Copy)]
 pub struct Mark {
     pub at: usize,
@@ -58,17 +58,17 @@ pub struct Mark {
 /// The fragments of a printing.
 #[derive(Drop)]
 pub struct Fragments {
-    /// What the name's back references may mean: nothing else is kept.
+    /// The possible targets of the name's back references: nothing else is kept.
     pub targets: Targets,
     /// The targets were looked for.
     looked_for: bool,
-    /// What is muted is kept too, and the targets are looked for only in a name that takes `MANY_VISITS`.
+    /// Muted parts are kept too, and the targets are looked for only in a name that takes `MANY_VISITS`.
     silent: bool,
     /// In the order in which they were printed.
     pub fragments: Vec<Fragment>,
-    /// Where each stands in `fragments`, but for the first `LINEAR_SEARCH`, which are looked through.
+    /// The index of each in `fragments`, except the first `LINEAR_SEARCH`, which are searched one by one.
     index: BTreeMap<FragmentKey, usize>,
-    /// What is written again, for a moment.
+    /// A buffer for the text that is written again.
     copy: String,
     /// The same without the disambiguators of crates.
     trimmed_copy: String,
@@ -79,11 +79,11 @@ const LINEAR_SEARCH: usize = 16;
 // The bytes of a fragment, 80, and at most 96 of its entry in the index.
 const FRAGMENT_BYTES: usize = 176;
 
-// How much of a name is read silently before its back references' targets are looked for: most names that programs hold
+// How much of a name a silent printing reads before it looks for the targets of back references: most names in programs
 // end before.
 const MANY_VISITS: usize = 256;
 
-/// Nothing is kept of a text that an allocation was refused for.
+/// Forgets all fragments where an allocation failed: their ranges may no longer fit the text.
 #[inline(always)]
 pub fn or_forget(
     kept: &mut Vec<Fragment>,
@@ -99,7 +99,7 @@ pub fn or_forget(
     written
 }
 
-/// What was written to `text` goes to two others, and `text` is empty.
+/// Appends `text` to two other texts, and empties it. The only error is a failed allocation.
 pub fn share(
     complete: &mut String,
     trimmed: &mut String,
@@ -148,7 +148,7 @@ impl Fragments {
         self.targets.look_for(part)
     }
 
-    // How many bytes they have room for.
+    // How many bytes their memory has.
     pub(crate) fn bytes(&self) -> usize
         ensures { result ≡ min (fragments_bytes self.now) (2 ^ 64 - 1) }
     {
@@ -273,7 +273,7 @@ impl<'a> Printer<'a> {
         self.kept.keep(fragment)
     }
 
-    // The fragment of a number, where it is the one that is asked for.
+    // The fragment of this index, where it has this key.
     #[inline(always)]
     fn fragment_at(&self, number: usize, key: FragmentKey) -> Option<&Fragment>
         ensures { IfSome result (λ f. IsFragmentFor self.now.part self.now.state key f.now) }
@@ -290,7 +290,7 @@ impl<'a> Printer<'a> {
         }
     }
 
-    // The fragment that a back reference asks for, among the first.
+    // The fragment with this key, among the first.
     fn first_fragments(&self, key: FragmentKey) -> Option<&Fragment>
         ensures { IfSome result (λ f. IsFragmentFor self.now.part self.now.state key f.now) }
     {
@@ -303,7 +303,7 @@ impl<'a> Printer<'a> {
         None
     }
 
-    // The fragment that a back reference asks for.
+    // The fragment with this key.
     fn fragment(&self, key: FragmentKey) -> Option<&Fragment>
         ensures { IfSome result (λ f. IsFragmentFor self.now.part self.now.state key f.now) }
     {
@@ -314,7 +314,7 @@ impl<'a> Printer<'a> {
         self.fragment_at(*self.kept.index.get(&key)?, key)
     }
 
-    // Writes what a fragment holds of both texts again, where that begins and ends with characters.
+    // Writes a fragment's ranges of both texts again, where they begin and end at character boundaries.
     #[tactic(auto, using(crate::proofs::KeptLemmas::grown_alike))]
     fn write_again(&mut self, fragment: Fragment) -> Result<bool, AllocError>
         ensures { IfOk result
@@ -339,7 +339,7 @@ impl<'a> Printer<'a> {
         Ok(true)
     }
 
-    // Writes what a fragment holds of both texts again, each after its own.
+    // Writes a fragment's ranges of both texts again, each after its own text.
     fn write_both_again(&mut self, fragment: Fragment) -> Result<bool, AllocError>
         requires full { self.old.state.full ≡ true }
         requires muted { self.old.state.muted ≡ false }
@@ -370,8 +370,8 @@ impl<'a> Printer<'a> {
         Ok(true)
     }
 
-    /// Writes what is kept of a back reference's target, and reads on after the reference: whether it was left open.
-    /// None, and nothing is done, where nothing is kept or a limit would be passed.
+    /// Writes the fragment of a back reference's target, and continues after the reference. Returns whether it was left
+    /// open. `None`, and nothing is done, where no fragment is kept or a limit would be passed.
     pub fn print_kept(
         &mut self,
         levels_left: usize,

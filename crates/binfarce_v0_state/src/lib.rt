@@ -1,5 +1,5 @@
-//! The state of the printing of a v0 name of a Rust symbol (RFC 2603): where it reads, what it has counted and written, and
-//! what it may write again.
+//! The state of the printing of a v0 name of a Rust symbol (RFC 2603): its position, its counts, its texts, and the
+//! fragments that it may write again.
 #![tactic(auto)]
 
 mod disambiguators;

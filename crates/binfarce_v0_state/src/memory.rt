@@ -7,8 +7,8 @@ ghost use Rattle.binfarce_v0_state.specs.declared.memory.TheConstants.{MOST_BYTE
 use crate::state::Buffers;
 use std::alloc::Global;
 
-/// The memory that names are printed in, one after the other: at most `MOST_BYTES`. A printing sees nothing of what its
-/// buffers held.
+/// The memory that names are printed in, one after the other: at most `MOST_BYTES`. A printing doesn't see earlier
+/// contents of its buffers.
 #[derive(Drop)]
 pub struct Memory {
     pub alloc: Global,

@@ -23,7 +23,7 @@ pub fn parent(position: Position) -> Position
     }
 }
 
-/// What stands before the arguments of a path.
+/// The text before the arguments of a path.
 #[inline(always)]
 pub fn value_mark(position: Position) -> &'static str
     ensures { result.now ≡ value_mark (position_view position) }
@@ -34,7 +34,7 @@ pub fn value_mark(position: Position) -> &'static str
     }
 }
 
-/// What stands after the arguments of a path.
+/// The text after the arguments of a path.
 #[inline(always)]
 pub fn closing(position: Position) -> &'static str
     ensures { result.now ≡ closing (position_view position) }

@@ -1,4 +1,4 @@
-//! The texts of the leaves of a v0 name: what a printing writes whole.
+//! The texts of the leaves of a v0 name, which a printing writes whole.
 
 ghost use Rattle.std.specs.Prelude.{◌≡◌, ◌+◌, ◌^◌, ◌<◌, ◌++◌, OnOk, encode_utf8_all, Some, true, length};
 ghost use Rattle.std.specs.String.{string_bytes};
@@ -15,13 +15,13 @@ use binfarce_v0_grammar::punycode::decode;
 use std::alloc::AllocError;
 use std::fmt::Write;
 
-/// What a printing writes whole, without reading on.
+/// A leaf, whose text a printing writes whole, without reading on.
 pub trait Leaf {
     ghost use Rattle.std.specs.Prelude.{ℕ, List};
 
     ghost text: { Self → List ℕ };
 
-    /// Writes its text at the end of another.
+    /// Appends its text to another.
     fn push(self, out: &mut String) -> Result<(), AllocError>
         ensures { OnOk result (string_bytes out.new ≡ string_bytes out.old ++ text self) };
 }
@@ -180,7 +180,7 @@ impl<'a> Leaf for AfterMark<'a> {
     }
 }
 
-// The word of a special namespace.
+// The name of a special namespace.
 fn push_namespace(text: &mut String, namespace: u8) -> Result<(), AllocError>
     requires { namespace < 128 }
     ensures { OnOk result (string_bytes text.new ≡ string_bytes text.old ++ namespace_text namespace) }
@@ -254,7 +254,7 @@ fn push_number(text: &mut String, hex: &str) -> Result<(), AllocError>
     }
 }
 
-// Whether a character stands for itself between quotes.
+// Whether a character is shown unescaped between quotes.
 fn stands_for_itself(c: char) -> bool
     ensures { result ≡ stands_for_itself c }
 {
@@ -303,7 +303,7 @@ impl<'a> Leaf for Signature<'a> {
     }
 }
 
-// Punycode that can't be decoded, as it stands.
+// The text of Punycode that can't be decoded.
 fn push_undecoded(text: &mut String, name: UndisambiguatedIdentifier<'_>) -> Result<(), AllocError>
     ensures { OnOk result
         (string_bytes text.new ≡ string_bytes text.old ++ undecoded name.entry.ascii.now name.entry.punycode.now) }

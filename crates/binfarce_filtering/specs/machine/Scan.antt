@@ -1,4 +1,4 @@
--- What is found out about a text from left to right.
+-- The state of a scan of a text from left to right.
 use Rattle.std.specs.Prelude.{◌≡◌, ℕ, Bool, true, false, not, ◌&&◌, ◌||◌, ◌==◌, List, [], ◌∷◌}
 use Rattle.binfarce_filtering.specs.Filter.{is_run_byte}
 
@@ -33,6 +33,6 @@ ends_inside inside (b ∷ text) = ends_inside (goes_inside inside b) text
 abbrev pub IsOutside : (text : List ℕ) → Type 0
 IsOutside text = ends_inside false text ≡ false
 
--- after the text, this byte is no `Z` or `R` behind a `_`
+-- after the text, this byte isn't a `Z` or `R` that follows a `_`
 abbrev pub MayGoOn : (text : List ℕ) (b : ℕ) → Type 0
 MayGoOn text b = (ends_after false text && is_mark b) ≡ false

@@ -40,11 +40,11 @@ fits length f = nat_le (f.offset + f.width) length && nat_le f.width 8
 abbrev pub all_fit : ℕ → List (field.Field × ℕ) → Bool
 all_fit length numbers = list_all (λ number. fits length number.0) numbers
 
--- the numbers of a part that stand in its body fit their types
+-- the numbers in the body of a part fit their types
 abbrev pub BodyFits : Part → Type 0
 BodyFits (Bytes name kind link body) = Unit {0}
 BodyFits (Table name link rows) = AllByRecursion RowFits rows.items
 
--- the numbers of a part that stand in its section header fit their types
+-- the numbers in the section header of a part fit their types
 abbrev pub HeaderFits : Part → Type 0
 HeaderFits part = (name_offset part < 2 ^ 32) × (part_kind part < 2 ^ 32) × (part_link part < 2 ^ 32)

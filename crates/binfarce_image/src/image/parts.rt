@@ -1,4 +1,4 @@
-//! What is asked of an image's parts.
+//! Checks and lengths of an image's parts.
 
 ghost use Rattle.std.specs.Prelude.{◌≡◌, ◌-◌, ◌^◌, is_some, min, count_by};
 ghost use Rattle.std.specs.List.{list_any};
@@ -58,7 +58,7 @@ pub(super) fn has_names(image: &Image) -> bool
     }
 }
 
-/// Where the bodies end, or `usize::MAX` where that is no number.
+/// Where the bodies end, or `usize::MAX` on overflow.
 pub(super) fn bodies_end(parts: &[Part], class: Class) -> usize
     ensures { result ≡ min (bodies_end (class_view class) class.header_length parts.now) (2 ^ 64 - 1) }
 {
@@ -69,7 +69,7 @@ pub(super) fn bodies_end(parts: &[Part], class: Class) -> usize
     end
 }
 
-/// How many bytes a part has in a file, or `usize::MAX` where that is no number.
+/// How many bytes a part has in a file, or `usize::MAX` on overflow.
 pub(super) fn body_length(part: &Part, class: Class) -> usize
     ensures { result ≡ min (body_length (class_view class) part.now) (2 ^ 64 - 1) }
 {

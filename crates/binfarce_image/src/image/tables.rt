@@ -1,7 +1,7 @@
-//! The tables of both classes: the lengths of structures, and the places and widths of their fields (System V gABI,
+//! The tables of both classes: the lengths of structures, and the offsets and widths of their fields (System V gABI,
 //! chapter 4).
 
-/// Where a field stands in its structure, and how many bytes it has.
+/// The offset of a field in its structure, and its width in bytes.
 #[derive(Clone, Copy)]
 pub(super) struct Field(pub(super) usize, pub(super) usize);
 

@@ -6,7 +6,7 @@ use Rattle.std.specs.Char.{is_ascii_digit}
 use Rattle.std.specs.Str.Parse.{digits_value}
 use Rattle.binfarce_legacy.specs.Legacy.{Element, Piece, pieces, legacy_chars, without_last_part}
 
--- a byte that stands for itself whatever follows it
+-- a byte that denotes itself, whatever follows it
 abbrev pub is_plain : ℕ → Bool
 is_plain b = not (b == 46) && not (b == 36)
 
@@ -33,7 +33,7 @@ name_end text = name_start text + digits_value 10 (take (name_start text) text)
 abbrev pub HasElement : List ℕ → Type 0
 HasElement text = (0 < name_start text) × (name_end text ≤ length text)
 
--- the characters of what is left of a name
+-- the characters of the rest of a name
 unfoldable pub chars_left : List ℕ → List ℕ
 chars_left name = flat_map (λ p. p.chars) (pieces zero name)
 
@@ -41,6 +41,6 @@ chars_left name = flat_map (λ p. p.chars) (pieces zero name)
 abbrev pub path_chars : Bool → List Element → List ℕ
 path_chars left_out elements = if left_out then without_last_part (legacy_chars elements) else legacy_chars elements
 
--- a text that grows: what stood there, and then more
+-- a text that grows: the old text, and then more
 abbrev pub Grows : List ℕ → List ℕ → Type 0
 Grows old new = (more : List ℕ) × (new ≡ old ++ more)

@@ -24,7 +24,7 @@ damage_refusal Truncated = unexpected_eof
 abbrev pub commands_left : MachoCommandsIterator → Walk macho.Command
 commands_left it = macho.commands_from it.bytes.now it.left it.offset
 
--- what the command iterator gives of a walk, and what is left then
+-- what the command iterator gives of a walk, and the rest after that
 abbrev pub Takes : Walk macho.Command → Option (Result Command Damage) → Walk macho.Command → Type 0
 Takes = YieldsNext damage_refusal command_view
 
@@ -44,7 +44,7 @@ abbrev pub sections_from : List ℕ → Segment → Walk macho.Command → Walk 
 sections_from file segment commands =
     and_then (segment_from file segment).items (segment_from file segment).refusal (macho.sections_of file commands.items commands.refusal)
 
--- what the search for the next segment command gives of the sections that commands have left, and the commands that are left then
+-- the result of the search for the next segment command, and the commands that are left then
 abbrev pub StepsSegment : List ℕ → Walk macho.Command → Option (Result Segment Damage) → Walk macho.Command → Type 0
 StepsSegment file commands None left = (macho.sections_of file commands.items commands.refusal ≡ ended None) × (left ≡ ended None)
 StepsSegment file commands (Some (Ok segment)) left =

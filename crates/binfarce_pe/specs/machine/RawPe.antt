@@ -1,4 +1,4 @@
--- Definitions that only private contracts cite: what they see of the values that a PE file is read into.
+-- What private contracts see of the values that a PE file is read into.
 use Rattle.std.specs.Prelude.{◌≡◌, ℕ, ◌+◌, ◌-◌, ◌<◌, ◌≤◌, List, [], ◌∷◌, length, map, Option, Some, None, Result, IfOk, min, get_or}
 use Rattle.std.specs.Global.{Vec}
 use Rattle.std.specs.declared.alloc.AllocError.{AllocError}
@@ -62,7 +62,7 @@ pub record HoldsKept (table : symbols.SymbolTable) (kept rows : List RowAddress)
 abbrev pub HoldsSection : symbols.SymbolTable → ℕ → Kept → Type 0
 HoldsSection table index k = HoldsKept table (symbols.kept_rows table index) (rows_view k.rows.items) (map (λ t. t.now) k.names.items)
 
--- what lists those of whatever section they are, which has this size
+-- the list of the kept rows of a section with this size
 abbrev pub ListsKept : Kept → ℕ → Result (Vec FunctionSymbol) AllocError → Type 0
 ListsKept kept size result =
     (table : symbols.SymbolTable) (index : ℕ) → HoldsSection table index kept → IfOk result (λ v. map function_view v.items ≡ symbols.entries_of table index size)

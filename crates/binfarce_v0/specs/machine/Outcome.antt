@@ -1,4 +1,4 @@
--- What a whole printing tells of a name.
+-- The outcome of a whole printing.
 use Rattle.std.specs.Prelude.{◌≡◌, ◌⊎◌, ℕ, List, [], if◌then◌else◌, Option, Some, None, Bool, true, false, ⊤}
 use Rattle.std.specs.Option.{option_map}
 use Rattle.std.specs.Str.{IsAscii}
@@ -15,11 +15,11 @@ abbrev pub ReadsUpTo : List ℕ → Option ℕ → Type 0
 ReadsUpTo part None = ⊤
 ReadsUpTo part (Some after) = PathStands part 0 after
 
--- text may be a v0 mangling, of which part is what stands after the prefix
+-- text may be a v0 mangling, and part follows its prefix
 abbrev pub IsCandidate : (text part : List ℕ) → Type 0
 IsCandidate text part = (part_after_prefix text ≡ Some part) × (is_upper_at part 0 ≡ true) × IsAscii part
 
--- they are the text, the trimmed one where both were printed, the crate root, the levels and the steps of the tree that a name unfolds to
+-- the outcome has the text, the trimmed one where both were printed, the crate root, the levels and the steps of the tree that a name unfolds to
 -- within the limits; no text where it was muted
 pub record IsOutcome (part : List ℕ) (full muted : Bool) (outcome : Outcome) : Type 0 where
   pub tree : PathTree

@@ -1,4 +1,4 @@
-//! The form of a const that stands at a position of a v0 name, and its value.
+//! The form of the const at a position of a v0 name, and its value.
 
 ghost use Rattle.std.specs.Prelude.{◌≡◌, ◌<◌, IfSome, IsTrue, Some, length};
 ghost use Rattle.std.specs.Option.{option_map};
@@ -14,7 +14,7 @@ use crate::numbers::{back_reference, byte_at, hex_end, hex_number};
 /// The value of a const.
 #[derive(Clone, Copy)]
 pub enum ConstValue<'a> {
-    /// An integer: whether a sign stands before its digits, and its hexadecimal digits.
+    /// An integer: whether it has a sign, and its hexadecimal digits.
     Integer(bool, &'a str),
     Boolean(bool),
     Character(char),
@@ -31,13 +31,13 @@ pub enum ConstForm<'a> {
     Placeholder(&'static str, usize),
     /// `<type> <const-data>`, with the name of the type.
     Value(&'static str, ConstValue<'a>, usize),
-    /// The same with an invalid value: whether a sign stands before it.
+    /// The same with an invalid value: whether it has a sign.
     Invalid(bool, &'static str),
     /// `<backref>`, with the position that it names.
     Back(usize, usize),
 }
 
-/// The form of a const that stands at a position, where there is one.
+/// The form of the const at a position, where there is a position.
 #[tactic(auto, unfolding(crate::specs::Forms::const_form))]
 pub fn const_form<'a>(part: &'a str, at: Option<usize>) -> ConstForm<'a>
     requires ascii { IsAscii part.now }
@@ -135,7 +135,7 @@ fn hex_digits<'a>(part: &'a str, at: usize) -> Option<(&'a str, usize)>
     Some((ascii_slice(part, at, end), end + 1))
 }
 
-// What digits write as a value of a type.
+// Hexadecimal digits as a value of a type.
 #[tactic(auto, unfolding(crate::specs::Forms::value_of))]
 fn value_of<'a>(letter: u8, negative: bool, digits: &'a str) -> Option<ConstValue<'a>>
     ensures { option_map value_view result ≡ value_of letter negative digits.now }

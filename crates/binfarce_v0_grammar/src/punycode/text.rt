@@ -3,7 +3,7 @@
 ghost use Rattle.std.specs.Prelude.{◌≡◌, ◌≤◌, length, take};
 ghost use Rattle.binfarce_v0_grammar.specs.declared.punycode.text.TheConstants.{MOST_CHARACTERS};
 
-/// The most characters of a decoded text, so that it needs no memory.
+/// The most characters of a decoded text, so that it needs no allocation.
 pub const MOST_CHARACTERS: usize = 128;
 
 /// A decoded text.

@@ -58,8 +58,8 @@ read R (PathProduction position) binder_depth s = R.path position binder_depth s
 read R TypeProduction binder_depth s = R.ty binder_depth s
 read R ConstProduction binder_depth s = R.constant s
 
--- the text from `start` to `end` is that of the tree that a position unfolds to, without invalid syntax at its end, and the trimmed text
--- from `trimmed_start` to `trimmed_end` is that of the same tree; where it was muted, nothing is said of either
+-- the text from `start` to `end` is that of the tree that a position unfolds to, without invalid syntax at its end, and the trimmed text from
+-- `trimmed_start` to `trimmed_end` is that of the same tree; nothing is claimed of either where it was muted
 pub record Kept (part : List ℕ) (full : Bool) (text trimmed : List ℕ) (production : Production) (at binder_depth start end trimmed_start trimmed_end steps height : ℕ) (left_open muted : Bool) : Type 0 where
   pub tree : TreeOf production
   pub after : ℕ
@@ -72,7 +72,7 @@ pub record Kept (part : List ℕ) (full : Bool) (text trimmed : List ℕ) (produ
   pub height_is : height_of production tree ≡ height
   pub open_is : left_open_of production tree ≡ left_open
 
--- what a fragment says of itself holds
+-- the fields of a fragment are true of it
 abbrev pub IsKept : List ℕ → Bool → (text trimmed : List ℕ) → fragment.Fragment → Type 0
 IsKept part full text trimmed f =
     Kept part full text trimmed (production_view f.key.production) f.key.at f.key.binder_depth f.start f.end f.trimmed_start f.trimmed_end f.steps f.height f.left_open f.muted
@@ -93,7 +93,7 @@ lowered least_levels_left s = record s { least_levels_left = min least_levels_le
 abbrev pub again : fragment.Fragment → State → State
 again f s = write_both (slice_range s.text f.start f.end) (slice_range s.trimmed f.trimmed_start f.trimmed_end) s
 
--- where a printing stands
+-- the state of a printing at a mark
 abbrev pub IsMark : State → mark.Mark → Type 0
 IsMark s m = (s.at ≡ Some m.at) × (m.start ≡ length s.text) × (m.trimmed_start ≡ length s.trimmed) × (m.steps_left ≡ s.steps_left) × (m.least_levels_left ≡ s.least_levels_left)
 

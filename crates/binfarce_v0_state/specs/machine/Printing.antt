@@ -28,7 +28,7 @@ pub record State : Type 0 where
   pub muted : Bool
   -- disambiguators of crates are written
   pub full : Bool
-  -- within what a back reference stands for
+  -- within the target of a back reference
   pub in_back_reference : Bool
   -- the first crate root
   pub root : Option UndisambiguatedIdentifier
@@ -359,12 +359,12 @@ readers part (suc levels_left) =
 abbrev pub WithinLevels : (levels_left binder_depth : ℕ) → Type 0
 WithinLevels levels_left binder_depth = (levels_left ≤ MAX_LEVELS) × (binder_depth ≤ MAX_STEPS * (MAX_LEVELS - levels_left))
 
--- a printing at its beginning, muted where all of it is to be read and nothing to be written
+-- a printing at its beginning; a muted one reads all and writes nothing
 abbrev pub first_state : (full muted : Bool) → State
 first_state full muted =
     record { at = Some 0; steps_left = MAX_STEPS; least_levels_left = MAX_LEVELS; limit_exceeded = false; text = []; trimmed = []; muted = muted; full = full; in_back_reference = false; root = None }
 
--- what clauses see of a printer: the part that it prints, which stays, and the state of the printing
+-- what clauses see of a printer: the part that it prints, which doesn't change, and the state of the printing
 pub record Printing : Type 0 where
   pub part : List ℕ
   pub state : State

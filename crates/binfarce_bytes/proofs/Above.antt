@@ -1,4 +1,4 @@
--- The least member above: what it is, that it is one, and where it stands among addresses that rise.
+-- The least member above: its meaning, that it is a member, and its position among rising addresses.
 use Rattle.std.proofs.Common.{◌≡◌, ℕ, suc, ◌<◌, ◌≤◌, Bool, true, false, cond, inl, inr, List, [], ◌∷◌, All, Contains, filter, Option, Some, None, min, nat_lt, refl, sym, ap, subst, arith, IsPermutation}
 use Rattle.std.proofs.lemmas.Bool.{ltb-true, ltb-false, cases_lt}
 use Rattle.std.proofs.lemmas.List.Elements.{All-nil, All-cons, All-weaker, All-contains}

@@ -6,7 +6,7 @@ use Rattle.std.proofs.lemmas.List.Sorted.{All-permutation}
 use Rattle.binfarce_bytes.specs.Sizes.{RowAddress, comes_before, put_in, arranged, IsArrangementOf}
 use Rattle.binfarce_bytes.proofs.Arranging.{put_in_all, arranged_same, is_order}
 
--- each comes before all that stand after it
+-- each comes before all later ones
 abbrev pub Strict : List RowAddress → Type 0
 Strict [] = Unit {0}
 Strict (x ∷ xs) = All (λ y. comes_before x y ≡ true) xs × Strict xs

@@ -14,11 +14,11 @@ use Rattle.binfarce_bytes.specs.Sizes.{RowAddress, comes_before, put_in, arrange
 abbrev pub Before : RowAddress → RowAddress → Type 0
 Before x y = (x.address < y.address) ⊎ ((x.address ≡ y.address) × (x.row < y.row))
 
-before_tells : (a b r s : ℕ) → (nat_lt a b || (nat_eq a b && nat_lt r s)) ≡ true → (a < b) ⊎ ((a ≡ b) × (r < s))
-before_tells a b r s e = grind (arith, nat_tests)
+before_means : (a b r s : ℕ) → (nat_lt a b || (nat_eq a b && nat_lt r s)) ≡ true → (a < b) ⊎ ((a ≡ b) × (r < s))
+before_means a b r s e = grind (arith, nat_tests)
 
-not_before_tells : (a b r s : ℕ) → (nat_lt a b || (nat_eq a b && nat_lt r s)) ≡ false → (b < a) ⊎ ((a ≡ b) × (s ≤ r))
-not_before_tells a b r s e = grind (arith, nat_tests)
+not_before_means : (a b r s : ℕ) → (nat_lt a b || (nat_eq a b && nat_lt r s)) ≡ false → (b < a) ⊎ ((a ≡ b) × (s ≤ r))
+not_before_means a b r s e = grind (arith, nat_tests)
 
 before_from : (a b r s : ℕ) → (a < b) ⊎ ((a ≡ b) × (r < s)) → (nat_lt a b || (nat_eq a b && nat_lt r s)) ≡ true
 before_from a b r s h = grind (arith, nat_tests)
@@ -34,10 +34,10 @@ lt_is x y = lt_is_at x.address y.address x.row y.row
     lt_is_at a b r s = grind (arith, nat_tests)
 
 one_way : (x y : RowAddress) → comes_before x y ≡ true → comes_before y x ≡ false
-one_way x y e = not_before_from y.address x.address y.row x.row (elim (before_tells x.address y.address x.row y.row e) [ inl lt ↦ inl lt | inr same ↦ inr (sym same.0, omega arith) ])
+one_way x y e = not_before_from y.address x.address y.row x.row (elim (before_means x.address y.address x.row y.row e) [ inl lt ↦ inl lt | inr same ↦ inr (sym same.0, omega arith) ])
 
 chain : (x y z : RowAddress) → comes_before x y ≡ false → comes_before y z ≡ false → comes_before x z ≡ false
-chain x y z e f = not_before_from x.address z.address x.row z.row (chained (not_before_tells x.address y.address x.row y.row e) (not_before_tells y.address z.address y.row z.row f))
+chain x y z e f = not_before_from x.address z.address x.row z.row (chained (not_before_means x.address y.address x.row y.row e) (not_before_means y.address z.address y.row z.row f))
   where
     chained : (y.address < x.address) ⊎ ((x.address ≡ y.address) × (y.row ≤ x.row)) → (z.address < y.address) ⊎ ((y.address ≡ z.address) × (z.row ≤ y.row)) → (z.address < x.address) ⊎ ((x.address ≡ z.address) × (z.row ≤ x.row))
     chained (inl p) (inl q) = inl (omega arith)
@@ -55,7 +55,7 @@ same_row x y p q =
 
 -- of two rows of which neither comes first, there is one
 pub tied : (x y : RowAddress) → comes_before x y ≡ false → comes_before y x ≡ false → x ≡ y
-tied x y e f = ties (not_before_tells x.address y.address x.row y.row e) (not_before_tells y.address x.address y.row x.row f)
+tied x y e f = ties (not_before_means x.address y.address x.row y.row e) (not_before_means y.address x.address y.row x.row f)
   where
     ties : (y.address < x.address) ⊎ ((x.address ≡ y.address) × (y.row ≤ x.row)) → (x.address < y.address) ⊎ ((y.address ≡ x.address) × (x.row ≤ y.row)) → x ≡ y
     ties (inl p) (inl q) = absurd (omega arith)
@@ -63,7 +63,7 @@ tied x y e f = ties (not_before_tells x.address y.address x.row y.row e) (not_be
     ties (inr p) (inl q) = absurd (omega (arith, p.0))
     ties (inr p) (inr q) = same_row x y p.0 (omega (arith, p.1, q.1))
 
--- none comes before one that stands before it
+-- none comes before an earlier one
 abbrev pub InOrder : List RowAddress → Type 0
 InOrder [] = Unit {0}
 InOrder (x ∷ xs) = All (λ y. comes_before y x ≡ false) xs × InOrder xs
@@ -159,4 +159,4 @@ pub addresses_rise : (xs : List RowAddress) → IsSortedBy comes_before xs → I
 addresses_rise xs up i j d le lt = no_fall (get_or xs i d) (get_or xs j d) (sorted_far comes_before is_order xs up i j d le lt)
   where
     no_fall : (x y : RowAddress) → comes_before y x ≡ false → x.address ≤ y.address
-    no_fall x y e = elim (not_before_tells y.address x.address y.row x.row e) [ inl lt ↦ omega arith | inr same ↦ omega (arith, same.0) ]
+    no_fall x y e = elim (not_before_means y.address x.address y.row x.row e) [ inl lt ↦ omega arith | inr same ↦ omega (arith, same.0) ]

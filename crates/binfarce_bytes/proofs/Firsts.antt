@@ -32,14 +32,14 @@ pub first_is : {T S E : Type 0} (why : E → Refusal) (seen : T → S) (post : T
     → Computes seen post test → FirstAccepted why seen post sections result → Gives why (option_map seen) (first test sections) result
 first_is why seen post test sections (Ok (Some value)) computes f =
     let found : find test sections.items ≡ Some (seen value) =
-    ap (find test) f.stands ∙ find_past_refused seen post test f.before (seen value ∷ f.after) computes f.refused ∙ rw (← computes value true f.accepted) refl in
+    ap (find test) f.occurs ∙ find_past_refused seen post test f.before (seen value ∷ f.after) computes f.refused ∙ rw (← computes value true f.accepted) refl in
     ap (λ (o : Option _). found_or_end o sections.refusal) found
 first_is why seen post test sections (Ok None) computes f =
     ap (λ (o : Option _). found_or_end o sections.refusal) (find_none seen post test sections.items computes f.refused) ∙ ap end_of f.end_is
 first_is why seen post test sections (Err e) computes f =
     ap (λ (o : Option _). found_or_end o sections.refusal) (find_none seen post test sections.items computes f.refused) ∙ ap end_of f.end_is
 
--- without an error, it doesn't matter how errors are told
+-- without an error, the view of errors doesn't matter
 pub retold : {T S E F : Type 0} (why : E → Refusal) (other : F → Refusal) (seen : T → S) (post : T → Bool → Type 0) (sections same : Walk S) (found : Option T)
     → sections ≡ same → FirstAccepted why seen post sections (Ok found) → FirstAccepted other seen post same (Ok found)
 retold {T} {S} {E} {F} why other seen post sections same (Some value) e f = subst (λ (w : Walk S). IsFirstAccepted seen post w value) e f

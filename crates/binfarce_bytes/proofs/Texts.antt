@@ -48,29 +48,29 @@ nul_not b ne = by_test (is_nul b) refl
     by_test true e = absurd (ne (eqb-true b 0 e))
     by_test false e = refl
 
--- what stands up to the first NUL stands there as a text
-stands_to_nul : (bytes : List ℕ) (start n : ℕ) (text : List ℕ) → nul_at (drop start bytes) ≡ Some n → text_of (take n (drop start bytes)) ≡ Some text → IsTextAt bytes start text
-stands_to_nul bytes start n text at e =
+-- the bytes up to the first NUL are a text there
+occurs_to_nul : (bytes : List ℕ) (start n : ℕ) (text : List ℕ) → nul_at (drop start bytes) ≡ Some n → text_of (take n (drop start bytes)) ≡ Some text → IsTextAt bytes start text
+occurs_to_nul bytes start n text at e =
     let xs = drop start bytes in
     let p = position-Some is_nul xs n 1 at in
     let t = taken (take n xs) text e in
     let nul : get_or xs n 1 ≡ 0 = eqb-true (get_or xs n 1) 0 p.1 in
     let whole : xs ≡ take n xs ++ 0 ∷ drop (suc n) xs = sym (take-append-drop n xs) ∙ ap (λ (ys : List ℕ). take n xs ++ ys) (drop-cons xs n 1 p.0 ∙ ap (λ (b : ℕ). b ∷ drop (suc n) xs) nul) in
     record {
-      stands = (drop (suc n) xs, whole ∙ ap (λ (ys : List ℕ). ys ++ 0 ∷ drop (suc n) xs) (sym t.0));
+      occurs = (drop (suc n) xs, whole ∙ ap (λ (ys : List ℕ). ys ++ 0 ∷ drop (suc n) xs) (sym t.0));
       no_nul = All-same (λ (b : ℕ). b ≢ 0) text (take n xs) t.0 (λ k d lt. let below : k < n = omega (arith, length-take n xs) in not_nul (get_or (take n xs) k d) (rw (get_or-take n xs k d below) (rw (get_or_default xs k d 1 (omega arith)) (p.2 k below))));
       utf8 = subst IsUtf8 (sym t.0) t.2;
       not_empty = λ empty. absurd (omega (arith, t.1, ap length (sym t.0 ∙ empty)));
     }
 
--- the text that stands there is the one that is found
+-- the text at an offset is the one that is found
 pub only_text : (bytes : List ℕ) (start : ℕ) (text : List ℕ) → IsTextAt bytes start text → text_at bytes start ≡ Some text
 unfolding text_at
 only_text bytes start text h =
     let xs = drop start bytes in
     let n = length text in
-    let rest = h.stands.0 in
-    let whole : xs ≡ text ++ 0 ∷ rest = h.stands.1 in
+    let rest = h.occurs.0 in
+    let whole : xs ≡ text ++ 0 ∷ rest = h.occurs.1 in
     let long : n < length xs = omega (arith, ap length whole, length-append text (0 ∷ rest)) in
     let before : (k : ℕ) → k < n → is_nul (get_or xs k 1) ≡ false =
     λ k lt. nul_not (get_or xs k 1) (rw whole (rw (get_or_append_left text (0 ∷ rest) 1 k lt) (h.no_nul k 1 lt))) in
@@ -88,25 +88,25 @@ only_text bytes start text h =
     positive [] ne = absurd (ne refl)
     positive (b ∷ t) ne = omega arith
 
--- what is found stands there
+-- what is found is there
 pub found_text : (bytes : List ℕ) (start : ℕ) (text : List ℕ) → text_at bytes start ≡ Some text → IsTextAt bytes start text
 unfolding text_at
 found_text bytes start text e = by_place (nul_at (drop start bytes)) refl e
   where
     by_place : (o : Option ℕ) → nul_at (drop start bytes) ≡ o → option_and_then (λ (k : ℕ). text_of (take k (drop start bytes))) o ≡ Some text → IsTextAt bytes start text
-    by_place (Some n) at e = stands_to_nul bytes start n text at e
+    by_place (Some n) at e = occurs_to_nul bytes start n text at e
     by_place None at e = absurd cc
 
 pub finds_text : (bytes : List ℕ) (start : ℕ) (o : Option (List ℕ)) → o ≡ text_at bytes start → FindsText bytes start o
 finds_text bytes start (Some text) e = found_text bytes start text (sym e)
 finds_text bytes start None e = λ text h. cc (e, only_text bytes start text h)
 
--- a text in a part of a file stands in the file
-pub part_stands : (file : List ℕ) (at size start : ℕ) (text : List ℕ) → IsTextAt (bytes_at file at size) start text → bytes_at file (at + start) (length text) ≡ text
-part_stands file at size start text h =
+-- a text in a part of a file is in the file
+pub part_occurs : (file : List ℕ) (at size start : ℕ) (text : List ℕ) → IsTextAt (bytes_at file at size) start text → bytes_at file (at + start) (length text) ≡ text
+part_occurs file at size start text h =
     let n = length text in
-    let rest = h.stands.0 in
-    let whole : drop start (take size (drop at file)) ≡ text ++ 0 ∷ rest = h.stands.1 in
+    let rest = h.occurs.0 in
+    let whole : drop start (take size (drop at file)) ≡ text ++ 0 ∷ rest = h.occurs.1 in
     let some : 0 < n = positive text h.not_empty in
     let long : start + n < size = omega (arith, ap length whole, length-append text (0 ∷ rest), length-drop start (take size (drop at file)), length-take size (drop at file)) in
     let xs = drop at file in

@@ -36,7 +36,7 @@ padded_text bytes = utf8_of (up_to_nul bytes)
 
 -- text is at the offset: a non-empty UTF-8 text without NUL, and a NUL after it
 pub record IsTextAt (bytes : List ℕ) (start : ℕ) (text : List ℕ) : Type 0 where
-  pub stands : (rest : List ℕ) × (drop start bytes ≡ text ++ 0 ∷ rest)
+  pub occurs : (rest : List ℕ) × (drop start bytes ≡ text ++ 0 ∷ rest)
   pub no_nul : All (λ b. b ≢ 0) text
   pub utf8 : IsUtf8 text
   pub not_empty : text ≢ []

@@ -61,7 +61,7 @@ Answered {T} seen post answer item = (value : T) × (seen value ≡ item) × pos
 pub record IsFirstAccepted {T S : Type 0} (seen : T → S) (post : T → Bool → Type 0) (walk : Walk S) (value : T) : Type 0 where
   pub before : List S
   pub after : List S
-  pub stands : walk.items ≡ before ++ seen value ∷ after
+  pub occurs : walk.items ≡ before ++ seen value ∷ after
   pub accepted : post value true
   pub refused : All (Answered seen post false) before
 

@@ -9,7 +9,7 @@ use Rattle.binfarce_bytes.specs.Steps.{◌>>=◌}
 use Rattle.binfarce_bytes.specs.Text.{text_at}
 use Rattle.binfarce_elf.specs.ElfSymbols.{section_data}
 use Rattle.binfarce_elf.specs.Elf.{ElfClass, SectionTable, Section, names_section, contents, name_of, NameIsInFile}
-use Rattle.binfarce_bytes.proofs.Texts.{found_text, part_stands}
+use Rattle.binfarce_bytes.proofs.Texts.{found_text, part_occurs}
 
 contents_are : (file : List ℕ) (section : Section) (strings : List ℕ) → contents file section ≡ Some strings → strings ≡ bytes_at file section.offset section.size
 contents_are file section strings e = by_test (leb (section.offset + section.size) (length file)) e
@@ -27,7 +27,7 @@ name_is_in_file class table section name e = by_names (names_section class table
     by_strings names is (Some strings) at e = (
       names,
       is,
-      part_stands table.file names.offset names.size section.name_offset name
+      part_occurs table.file names.offset names.size section.name_offset name
           (found_text (bytes_at table.file names.offset names.size) section.name_offset name (ap (λ (s : List ℕ). text_at s section.name_offset) (sym (contents_are table.file names strings at)) ∙ e)),
     )
     by_strings names is None at e = absurd cc

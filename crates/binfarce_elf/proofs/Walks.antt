@@ -86,7 +86,7 @@ accepted_at class table seen post i value lt room is accepted refused =
     record {
       before = numbered_below class table i;
       after = b.0;
-      stands = sections_is class table n refl ∙ b.1 ∙ ap (λ (s : Section). numbered_below class table i ++ s ∷ b.0) (sym is);
+      occurs = sections_is class table n refl ∙ b.1 ∙ ap (λ (s : Section). numbered_below class table i ++ s ∷ b.0) (sym is);
       accepted = accepted;
       refused = refused;
     }

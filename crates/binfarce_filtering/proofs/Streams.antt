@@ -54,7 +54,7 @@ less_begins full text shown beginning others is begins = (
   begins.0,
   begins.1,
   begins.2,
-  λ filtered stands. let more = begins.3 filtered stands in (
+  λ filtered is_replaced. let more = begins.3 filtered is_replaced in (
     others ++ more.0,
     filtered_same full _ _ _ _ refl (ap (λ (x : List ℕ). x ++ more.0) is ∙ append_assoc beginning others more.0) more.1,
   ),
@@ -62,7 +62,7 @@ less_begins full text shown beginning others is begins = (
 
 -- what has been shown whole is a beginning of itself
 pub whole_begins : (full : Bool) (text filtered : List ℕ) → IsFiltered full text filtered → IsBeginning full text filtered
-whole_begins full text filtered is = (text, [], sym (append-nil text), λ others stands. ([], filtered_same full _ _ _ _ refl (sym (append-nil filtered)) is))
+whole_begins full text filtered is = (text, [], sym (append-nil text), λ others is_replaced. ([], filtered_same full _ _ _ _ refl (sym (append-nil filtered)) is))
 
 -- a run that is too long was shown, whatever comes after it
 passed_begins : (full : Bool) (before written run part : List ℕ) → Continues full before written → is_run run ≡ true → is_too_long run ≡ true → IsBeginning full (before ++ (run ++ part)) (written ++ run)
@@ -109,7 +109,7 @@ held_by full false filter text shown part holds kept =
       λ filtered is. (filtered, filtered_same full _ _ _ _ whole (ap (λ (x : List ℕ). x ++ filtered) (sym written)) (has.continues (run ++ part) filtered is)),
     )
 
--- what a filter has shown is a beginning of what stands in place of its text, and of any part after it
+-- the output of a filter is a beginning of the replacement of its text and of any part after it
 pub held_begins : (full : Bool) (filter : TextFilter) (text shown part : List ℕ) → Holds full filter text shown → IsBeginning full (text ++ part) shown
 held_begins full filter text shown part holds = held_by full (is_too_long holds.run) filter text shown part holds refl
 

@@ -1,4 +1,4 @@
--- What stands in the fields of a structure after numbers were put into some.
+-- The fields of a structure after numbers were put into some.
 use Rattle.std.proofs.Common.{◌≡◌, ℕ, ◌+◌, ◌-◌, ◌^◌, ◌<◌, ◌≤◌, Bool, true, false, cond, ◌&&◌, ◌||◌, leb, eqb, List, [], ◌∷◌, ◌++◌, length, take, drop, Option, Some, None, inl, inr, refl, sym, ap, ◌∙◌, append_assoc, arith}
 use Rattle.std.specs.List.{list_all}
 use Rattle.std.proofs.lemmas.Bool.{leb-true, eqb-true, and_parts, or_cases}
@@ -12,7 +12,7 @@ use Rattle.binfarce_image.proofs.Bytes.{length-number_bytes}
 use Rattle.binfarce_image.proofs.Lengths.{length-put, length-filled}
 use Rattle.binfarce_image.proofs.NumbersBack.{number_back}
 
--- what was written stands there
+-- what was written is there
 there : (bytes others : List ℕ) (place : ℕ) → place ≤ length bytes → bytes_at (written_at bytes place others) place (length others) ≡ others
 there bytes others place inside =
     let rest = drop (place + length others) bytes in
@@ -124,7 +124,7 @@ put_back order len f n (x ∷ numbers) bytes long inside small last =
     put_back_by order len f n x numbers bytes (is_field f x.0 && untouched f numbers) long i.0 i.1 small refl last
     (λ e. put_back order len f n numbers (put order bytes x) (length_put order bytes x len long i.0) i.1 small e)
 
--- a structure's field is read where the structure stands in a file
+-- a structure's field is read where the structure is in a file
 value_in : (order : ByteOrder) (front bytes behind : List ℕ) (f : Field) (start len : ℕ) → length front ≡ start → length bytes ≡ len → fits len f ≡ true
     → value_at order (front ++ (bytes ++ behind)) start f ≡ held order bytes f
 value_in order front bytes behind f start len at long inside =
@@ -140,7 +140,7 @@ pub record IsPut (len : ℕ) (f : Field) (numbers : List (Field × ℕ)) (n boun
   pub last : put_last f numbers ≡ Some n
   pub room : (fits len f && leb bound (256 ^ f.width)) ≡ true
 
--- what was put into a structure's field is read where the structure stands in a file
+-- a number that was put into a structure's field is read where the structure is in a file
 pub field_back : (order : ByteOrder) (front bytes behind : List ℕ) (f : Field) (numbers : List (Field × ℕ)) (start len n bound : ℕ) → length front ≡ start → length bytes ≡ len
     → all_fit len numbers ≡ true → n < bound → IsPut len f numbers n bound → value_at order (front ++ (filled order bytes numbers ++ behind)) start f ≡ n
 field_back order front bytes behind f numbers start len n bound at long inside small is =

@@ -14,7 +14,7 @@ use Rattle.binfarce_image.specs.Image.{header_bytes, bytes, layout_format}
 long : (a b c d e f g h : ℕ) (rest : List ℕ) → ltb (length (a ∷ b ∷ c ∷ d ∷ e ∷ f ∷ g ∷ h ∷ rest)) 8 ≡ false
 long a b c d e f g h rest = le-ltb (length (a ∷ b ∷ c ∷ d ∷ e ∷ f ∷ g ∷ h ∷ rest)) 8 (omega arith)
 
--- eight bytes that begin with the magic number of ELF name the class and the order that stand there
+-- eight bytes that begin with the magic number of ELF name the class and the order that they hold
 elf_named : (class order g h : ℕ) (rest : List ℕ) → format_of (0x7F ∷ 0x45 ∷ 0x4C ∷ 0x46 ∷ class ∷ order ∷ g ∷ h ∷ rest) ≡ elf_format_of class order
 unfolding format_of
 elf_named class order g h rest = ap (λ (b : Bool). if b then Unknown else elf_format_of class order) (long 0x7F 0x45 0x4C 0x46 class order g h rest)

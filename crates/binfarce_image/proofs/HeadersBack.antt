@@ -87,17 +87,17 @@ module _ (layout : ElfLayout) where
   pub headers_back : (file front : List ℕ) (shoff place i : ℕ) (parts : List Part) → file ≡ front ++ section_headers class order place parts → length front ≡ shoff + i * class.section_length
       → AllByRecursion PartFits parts → bodies_end class place parts < 2 ^ 32
       → map (λ k. section_at class order file (shoff + k * class.section_length) k) (range_with_len i (length parts)) ≡ sections_from class place i parts
-  headers_back file front shoff place i [] stands at fits room = refl
-  headers_back file front shoff place i (part ∷ parts) stands at fits room =
+  headers_back file front shoff place i [] split_is at fits room = refl
+  headers_back file front shoff place i (part ∷ parts) split_is at fits room =
       let start = shoff + i * class.section_length in
       let header = section_bytes class order place part in
       let next = place + body_length class part in
       let rest = section_headers class order next parts in
       let fit = numbers_fit place part fits.0 (omega (arith, bodies_end_above class next parts)) in
       let here : section_at class order file start i ≡ section_of_part class place i part =
-      ap (λ (bytes : List ℕ). section_at class order bytes start i) stands ∙ section_back front rest start place i part fit at in
+      ap (λ (bytes : List ℕ). section_at class order bytes start i) split_is ∙ section_back front rest start place i part fit at in
       let further : length (front ++ header) ≡ shoff + (i + 1) * class.section_length =
       length-append front header ∙ ap (λ (n : ℕ). n + length header) at ∙ ap (λ (n : ℕ). start + n) (length-section_bytes layout order place part) ∙ next_start shoff i class.section_length in
-      let others = headers_back file (front ++ header) shoff next (i + 1) parts (stands ∙ sym (append_assoc front header rest)) further fits.1 room in
+      let others = headers_back file (front ++ header) shoff next (i + 1) parts (split_is ∙ sym (append_assoc front header rest)) further fits.1 room in
       ap (λ (s : Section). s ∷ map (λ k. section_at class order file (shoff + k * class.section_length) k) (range_with_len (i + 1) (length parts))) here
       ∙ ap (λ (xs : List Section). section_of_part class place i part ∷ xs) others

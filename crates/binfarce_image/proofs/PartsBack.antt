@@ -29,7 +29,7 @@ Holds image layout = IsSectionOf (class_of layout) (order_of layout) (bytes imag
 contents_back : (class : ElfClass) (order : ByteOrder) (file : List ℕ) (section : Section) (found : ℕ × Part) → IsSectionOf class order file section found → contents file section ≡ Some (body class order found.1)
 contents_back class order file section found r =
     let inside = r.inside in
-    ap (contents file) r.is ∙ rw (le-leb (r.place + body_length class found.1) (length file) inside) (ap (λ (xs : List ℕ). Some xs) r.stands)
+    ap (contents file) r.is ∙ rw (le-leb (r.place + body_length class found.1) (length file) inside) (ap (λ (xs : List ℕ). Some xs) r.split_is)
 
 -- the part of the file that a section is, is the body
 pub part_back : (class : ElfClass) (order : ByteOrder) (file : List ℕ) (section : Section) (found : ℕ × Part) → IsSectionOf class order file section found → length file < 2 ^ 32
@@ -39,7 +39,7 @@ part_back class order file section found r small =
     let inside = r.inside in
     let low : r.place + body_length class found.1 < 2 ^ 64 = omega arith in
     ap (section_data file) r.is
-    ∙ rw (lt-leb (2 ^ 64) (r.place + body_length class found.1) low, le-ltb (length file) (r.place + body_length class found.1) inside) (ap (λ (xs : List ℕ). Ok xs) r.stands)
+    ∙ rw (lt-leb (2 ^ 64) (r.place + body_length class found.1) low, le-ltb (length file) (r.place + body_length class found.1) inside) (ap (λ (xs : List ℕ). Ok xs) r.split_is)
 
 -- where the section names are
 pub record NamesAt (image : Image) (part : Part) (names : List ℕ) : Type 0 where

@@ -54,14 +54,14 @@ module _ (layout : ElfLayout) where
   pub rows_back : (strings : List ℕ) (index : ℕ) (bytes front : List ℕ) (i : ℕ) (rows : List Row) → bytes ≡ front ++ flat_map (symbol_bytes class order) rows → length front ≡ i * class.symbol_length
       → AllByRecursion RowFits rows
       → filter_map (λ k. entry_of strings index (symbol_at class order bytes (k * class.symbol_length))) (range_with_len i (length rows)) ≡ filter_map (λ row. entry_of strings index (symbol_of row)) rows
-  rows_back strings index bytes front i [] stands at fits = refl
-  rows_back strings index bytes front i (row ∷ rows) stands at fits =
+  rows_back strings index bytes front i [] split_is at fits = refl
+  rows_back strings index bytes front i (row ∷ rows) split_is at fits =
       let start = i * class.symbol_length in
       let written = symbol_bytes class order row in
       let rest = flat_map (symbol_bytes class order) rows in
-      let here : symbol_at class order bytes start ≡ symbol_of row = ap (λ (xs : List ℕ). symbol_at class order xs start) stands ∙ symbol_back front rest start row fits.0 at in
+      let here : symbol_at class order bytes start ≡ symbol_of row = ap (λ (xs : List ℕ). symbol_at class order xs start) split_is ∙ symbol_back front rest start row fits.0 at in
       let further : length (front ++ written) ≡ (i + 1) * class.symbol_length =
       length-append front written ∙ ap (λ (n : ℕ). n + length written) at ∙ ap (λ (n : ℕ). start + n) (length-symbol_bytes layout order row) ∙ next_row i class.symbol_length in
-      let others = rows_back strings index bytes (front ++ written) (i + 1) rows (stands ∙ sym (append_assoc front written rest)) further fits.1 in
+      let others = rows_back strings index bytes (front ++ written) (i + 1) rows (split_is ∙ sym (append_assoc front written rest)) further fits.1 in
       ap (λ (s : SymbolRow ℕ). cons_option (entry_of strings index s) (filter_map (λ k. entry_of strings index (symbol_at class order bytes (k * class.symbol_length))) (range_with_len (i + 1) (length rows)))) here
       ∙ ap (λ (xs : List Entry). cons_option (entry_of strings index (symbol_of row)) xs) others

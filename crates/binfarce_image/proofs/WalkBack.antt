@@ -22,7 +22,7 @@ use Rattle.binfarce_image.proofs.Classes.{HeaderPut, is_class}
 use Rattle.binfarce_image.proofs.HeadersBack.{sections_from, headers_back}
 use Rattle.binfarce_image.proofs.BodiesBack.{IsSectionOf, bodies_back}
 
--- nothing stands against laying the image out
+-- no refusal is due for the image
 pub record LaysOut (image : Image) (layout : ElfLayout) : Type 0 where
   pub few : length image.parts.items ≤ 65535
   pub tables : count_by is_table image.parts.items ≡ 1
@@ -133,11 +133,11 @@ module _ (image : Image) (layout : ElfLayout) where
   pub sections_back : LaysOut image layout → AllByRecursion PartFits parts → map (section_of class (table_of image layout)) (range_with_len 0 (length parts)) ≡ sections_from class class.header_length 0 parts
   sections_back due fits =
       let front = header_bytes layout image ++ bodies in
-      let stands : bytes image layout ≡ front ++ headers = bytes_is ∙ sym (append_assoc (header_bytes layout image) bodies headers) in
+      let split_is : bytes image layout ≡ front ++ headers = bytes_is ∙ sym (append_assoc (header_bytes layout image) bodies headers) in
       let at : length front ≡ shoff + 0 * class.section_length =
       omega (arith, length-append (header_bytes layout image) bodies, length-header_bytes layout image, length-bodies layout order class.header_length parts) in
       let below : shoff < 2 ^ 32 = omega (arith, length-bytes image layout, due.small) in
-      headers_back layout (bytes image layout) front shoff class.header_length 0 parts stands at fits below
+      headers_back layout (bytes image layout) front shoff class.header_length 0 parts split_is at fits below
 
   -- and each says where its part is
   pub parts_back : LaysOut image layout → AllByRecursion PartFits parts → AllZip (IsSectionOf class order (bytes image layout)) (sections_from class class.header_length 0 parts) (enumerate_from 0 parts)

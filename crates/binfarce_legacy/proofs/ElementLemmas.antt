@@ -41,7 +41,7 @@ first_is text e after counted is =
       after_is = sym (sym (drop-drop (digits_value 10 (take n text)) n text) ∙ ap (drop (digits_value 10 (take n text))) rest ∙ drop_at e.name after (digits_value 10 (take n text)) v);
     }
 
--- what stands after a first element reads as the others
+-- the text after a first element reads as the others
 pub reads_after : (text : List ℕ) (e : Element) (elements : List Element) (rest : List ℕ)
     → Reads text (e ∷ elements) rest → Reads (drop (name_end text) text) elements rest
 reads_after text e elements rest r =
@@ -108,7 +108,7 @@ same_element x y d n =
     let make : List ℕ → List ℕ → Element = λ ds ns. record { digits = ds; name = ns } in
     ap (λ ds. make ds x.name) d ∙ ap (λ ns. make y.digits ns) n
 
--- a text has its elements, and what stands after them, in one way
+-- a text has only one list of elements, and one rest after them
 pub reads_one_way : (text : List ℕ) (xs ys : List Element) (r s : List ℕ) → Reads text xs r → Reads text ys s → (xs ≡ ys) × (r ≡ s)
 reads_one_way text [] ys r s a b =
     let e = reads_end text ys s (ap (λ (x : List ℕ). get_or x 0 0) a.1) b in

@@ -38,7 +38,7 @@ pub hits : (v : List ℕ) (n y : ℕ) → length v ≡ n → zip2 hit (take n v)
 hits v n y long =
     ap (λ (xs : List ℕ). zip2 hit xs (replicate n y)) (ap (λ k. take k v) (sym long) ∙ take-length v) ∙ zip2_splat hit v n y long
 
--- the bytes that don't stand for themselves
+-- the bytes that don't denote themselves
 pub special_mask : (v : List ℕ) → length v ≡ 16 → ((k : ℕ) → Fits w8 (get_or v k 0))
     → mask_l (map (top 7) (zip2 bit_or (zip2 hit (take 16 v) (replicate 16 46)) (zip2 hit (take 16 v) (replicate 16 36)))) % 2 ^ 64 ≡ mask_l (map (λ x. not (is_plain x)) v)
 special_mask v long fits =

@@ -1,4 +1,4 @@
--- A last element whose name stands for itself: the text without its last part is what was written before it.
+-- A last element whose name denotes itself: the text without its last part is what was written before it.
 use Rattle.std.proofs.Common.{◌≡◌, ℕ, zero, suc, ◌+◌, ◌-◌, ◌<◌, Bool, true, false, eqb, not, ◌&&◌, ◌||◌, List, [], ◌∷◌, ◌++◌, length, get_or, drop, take, codes, refl, ap, sym, ◌∙◌, arith, append_assoc, append-nil, length-append}
 use Rattle.std.specs.Prelude.{nat_eq}
 use Rattle.std.proofs.lemmas.Bool.{cond-true, or_parts, eq-eqb, ne_eqb}
@@ -56,9 +56,9 @@ unmarked (a ∷ (b ∷ name)) h =
     let q = or_parts (is_mark b) (list_any is_mark name) p.1 in
     both_false (eqb 95 a) (eqb 36 b && true) (ap (λ x. x && true) (swapped b 36 (not_mark b q.0).1.0))
 
--- a name without a mark stands for itself
-as_it_stands : (name : List ℕ) → list_any is_mark name ≡ false → name_chars name ≡ name
-as_it_stands name h =
+-- a name without a mark denotes itself
+unescaped : (name : List ℕ) → list_any is_mark name ≡ false → name_chars name ≡ name
+unescaped name h =
     name_chars-unmarked name (unmarked name h) ∙ chars_left-plain name
     ∙ ap (λ n. take n name ++ chars_left (drop n name)) (all_plain name h)
     ∙ ap (λ l. take (length name) name ++ chars_left l) (drop-length name)
@@ -91,7 +91,7 @@ left_out part at end before printed name elements rest left is has ends named as
     let first : get_or (drop end part) 0 0 ≡ 69 = get_or-drop end part 0 0 ∙ ap (λ k. get_or part k 0) (let e : end + 0 ≡ end = omega arith in e) ∙ last in
     let none : HasElement (drop end part) → ⊥ = λ h. not_digit (get_or (drop end part) 0 0) first (prefix_len_passes is_ascii_digit (drop end part) 0 0 h.0) in
     let all : more ≡ before ++ encode_utf8_all (legacy_chars elements) = left_at_end part end before more elements rest step.0 step.1 none in
-    let shown : encode_utf8_all (name_chars name) ≡ encode_utf8_all name = ap encode_utf8_all (as_it_stands name plain) in
+    let shown : encode_utf8_all (name_chars name) ≡ encode_utf8_all name = ap encode_utf8_all (unescaped name plain) in
     let wrote : more ≡ before ++ encode_utf8_all (chars ++ (58 ∷ 58 ∷ name)) =
     append_assoc printed (separator at) (encode_utf8_all (name_chars name))
     ∙ ap (λ (x : List ℕ). x ++ (separator at ++ encode_utf8_all (name_chars name))) is.printed_is.1

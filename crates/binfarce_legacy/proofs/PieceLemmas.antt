@@ -14,7 +14,7 @@ use Rattle.binfarce_legacy.specs.Legacy.{Piece, is_printed, numbered_escape, nam
 use Rattle.binfarce_legacy.specs.machine.Reading.{is_plain, piece_or_all, chars_left}
 use Rattle.binfarce_text.proofs.TextLemmas.{begins, begins-not, begins-from}
 
--- pieces after the first k bytes are those of what stands there
+-- the pieces after the first k bytes are those of the rest
 pub pieces-skip : (k : ℕ) (name : List ℕ) → pieces k name ≡ pieces 0 (drop k name)
 pieces-skip zero name = refl
 pieces-skip (suc k) [] = refl
@@ -83,7 +83,7 @@ first_piece-numbered name dollar h =
     ∙ cond-true (starts_with nat_eq name (codes "$")) _ _ (begins_dollar name dollar)
     ∙ ap (λ (e : Option Piece). piece_or_all name (option_or e (numbered_escape name))) (named-none name h)
 
--- bytes that stand for themselves, before anything else
+-- bytes that denote themselves, before anything else
 pub chars_left-plain : (name : List ℕ) → chars_left name
     ≡ take (prefix_len is_plain name) name ++ chars_left (drop (prefix_len is_plain name) name)
 chars_left-plain [] = refl

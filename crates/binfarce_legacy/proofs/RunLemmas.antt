@@ -85,7 +85,7 @@ ends_later p name wide at end m r is within seen least found = elim (cases_lt en
       )
 ]
 
--- the end of a run stands in the list, and what stands there doesn't pass
+-- the end of a run lies in the list, and the item there isn't of the run
 pub end_within : (p : ℕ → Bool) (name : List ℕ) (at r : ℕ) → at ≤ length name → r ≡ at + prefix_len p (drop at name) → (at ≤ r) × (r ≤ length name)
 end_within p name at r within is =
     (omega (arith, is), omega (arith, is, within, prefix_len-le-length p (drop at name), length-drop at name))

@@ -78,7 +78,7 @@ inside file (suc n) offset command left e = by_head (ltb (length file) (offset +
     by_head true is e = nothing e
     by_head false is e = by_size (ltb (command_at file offset).size 8) (ltb-false (length file) (offset + 8) is) e
 
--- what an item tells of a walk
+-- what an item shows of a walk
 pub takes_ok : (walk left : Walk Command) (item : Result raw.Command Damage) (command : raw.Command) → item ≡ Ok command → Takes walk (Some item) left → walk ≡ ahead_of (command_view command) left
 takes_ok walk left item command is takes = rw is at takes
 

@@ -71,10 +71,10 @@ module _ {T : Type 0} (seen : T → Section) (file : List ℕ) (body count : ℕ
   may_be_asked pre i value all lt room at =
       let n = min count (whole_headers file body) in
       let b = kept_after (λ i. section_at file (section_offset body i)) n i (omega arith) in
-      let stands : (segment file body).items ≡ sections_below file body i ++ seen value ∷ b.0 =
+      let occurs : (segment file body).items ≡ sections_below file body i ++ seen value ∷ b.0 =
       segment_sections file body count n whole is refl ∙ b.1 ∙ ap (λ (o : Option Section). sections_below file body i ++ cons_option o b.0) (sym at) in
       let found : Contains (sections_below file body i ++ seen value ∷ b.0) (seen value) = Contains-append_right (sections_below file body i) (seen value ∷ b.0) (seen value) (0, omega arith, refl) in
-      All-contains (MayBeAsked seen pre) (sections_below file body i ++ seen value ∷ b.0) (seen value) (All-same (MayBeAsked seen pre) (sections_below file body i ++ seen value ∷ b.0) (segment file body).items (sym stands) all) found value refl
+      All-contains (MayBeAsked seen pre) (sections_below file body i ++ seen value ∷ b.0) (seen value) (All-same (MayBeAsked seen pre) (sections_below file body i ++ seen value ∷ b.0) (segment file body).items (sym occurs) all) found value refl
 
   -- the callback accepted section i, and refused those before it
   pub accepted_at : (post : T → Bool → Type 0) (i : ℕ) (value : T) → i < count → i < whole_headers file body
@@ -86,7 +86,7 @@ module _ {T : Type 0} (seen : T → Section) (file : List ℕ) (body count : ℕ
       record {
         before = sections_below file body i;
         after = b.0;
-        stands = segment_sections file body count n whole is refl ∙ b.1 ∙ ap (λ (o : Option Section). sections_below file body i ++ cons_option o b.0) (sym at);
+        occurs = segment_sections file body count n whole is refl ∙ b.1 ∙ ap (λ (o : Option Section). sections_below file body i ++ cons_option o b.0) (sym at);
         accepted = accepted;
         refused = refused;
       }
@@ -136,16 +136,16 @@ refused_with {E = E} why seen post sections error (Err e) is none = subst (λ (d
 -- a walk as a loop goes over it: what is left of it, and before that sections that the callback refused
 pub record Reaches {T : Type 0} (seen : T → Section) (post : T → Bool → Type 0) (whole left : Walk Section) : Type 0 where
   pub before : List Section
-  pub stands : whole.items ≡ before ++ left.items
+  pub occurs : whole.items ≡ before ++ left.items
   pub ends : whole.refusal ≡ left.refusal
   pub refused : All (Answered seen post false) before
 
 module _ {T : Type 0} (seen : T → Section) (post : T → Bool → Type 0) (whole : Walk Section) where
   pub reaches_start : Reaches seen post whole whole
-  reaches_start = record { before = []; stands = refl; ends = refl; refused = All-nil (Answered seen post false) }
+  reaches_start = record { before = []; occurs = refl; ends = refl; refused = All-nil (Answered seen post false) }
 
   pub reaches_same : (left same : Walk Section) → left ≡ same → Reaches seen post whole left → Reaches seen post whole same
-  reaches_same left same e r = record { before = r.before; stands = r.stands ∙ ap (λ (w : Walk Section). r.before ++ w.items) e; ends = r.ends ∙ ap (λ (w : Walk Section). w.refusal) e; refused = r.refused }
+  reaches_same left same e r = record { before = r.before; occurs = r.occurs ∙ ap (λ (w : Walk Section). r.before ++ w.items) e; ends = r.ends ∙ ap (λ (w : Walk Section). w.refusal) e; refused = r.refused }
 
   -- the callback refused all of a part without a refusal
   pub reaches_after : (part : Walk Section) (left : Walk Section) → NoneAccepted seen post part None → Reaches seen post whole (and_then part.items part.refusal left) → Reaches seen post whole left
@@ -154,7 +154,7 @@ module _ {T : Type 0} (seen : T → Section) (post : T → Bool → Type 0) (who
       let r' = reaches_same (and_then part.items part.refusal left) (and_then part.items None left) there r in
       record {
         before = r'.before ++ part.items;
-        stands = r'.stands ∙ sym (append_assoc r'.before part.items left.items);
+        occurs = r'.occurs ∙ sym (append_assoc r'.before part.items left.items);
         ends = r'.ends;
         refused = All-append (Answered seen post false) r'.before part.items r'.refused none.refused;
       }
@@ -163,9 +163,9 @@ module _ {T : Type 0} (seen : T → Section) (post : T → Bool → Type 0) (who
   pub accepted_after : (part left : Walk Section) (value : T) → IsFirstAccepted seen post part value → Reaches seen post whole (and_then part.items part.refusal left) → IsFirstAccepted seen post whole value
   accepted_after part left value f r = by_end part.refusal refl
     where
-      stands_so : (rest : List Section) → r.before ++ (part.items ++ rest) ≡ (r.before ++ f.before) ++ seen value ∷ (f.after ++ rest)
-      stands_so rest =
-          ap (λ (xs : List Section). r.before ++ (xs ++ rest)) f.stands
+      occurs_so : (rest : List Section) → r.before ++ (part.items ++ rest) ≡ (r.before ++ f.before) ++ seen value ∷ (f.after ++ rest)
+      occurs_so rest =
+          ap (λ (xs : List Section). r.before ++ (xs ++ rest)) f.occurs
           ∙ ap (λ (xs : List Section). r.before ++ xs) (append_assoc f.before (seen value ∷ f.after) rest)
           ∙ sym (append_assoc r.before f.before (seen value ∷ (f.after ++ rest)))
 
@@ -173,32 +173,32 @@ module _ {T : Type 0} (seen : T → Section) (post : T → Bool → Type 0) (who
       by_end None e = record {
         before = r.before ++ f.before;
         after = f.after ++ left.items;
-        stands = r.stands ∙ ap (λ (o : Option Refusal). r.before ++ (and_then part.items o left).items) e ∙ stands_so left.items;
+        occurs = r.occurs ∙ ap (λ (o : Option Refusal). r.before ++ (and_then part.items o left).items) e ∙ occurs_so left.items;
         accepted = f.accepted;
         refused = All-append (Answered seen post false) r.before f.before r.refused f.refused;
       }
       by_end (Some why) e = record {
         before = r.before ++ f.before;
         after = f.after;
-        stands = r.stands ∙ ap (λ (o : Option Refusal). r.before ++ (and_then part.items o left).items) e ∙ ap (λ (xs : List Section). r.before ++ xs) f.stands ∙ sym (append_assoc r.before f.before (seen value ∷ f.after));
+        occurs = r.occurs ∙ ap (λ (o : Option Refusal). r.before ++ (and_then part.items o left).items) e ∙ ap (λ (xs : List Section). r.before ++ xs) f.occurs ∙ sym (append_assoc r.before f.before (seen value ∷ f.after));
         accepted = f.accepted;
         refused = All-append (Answered seen post false) r.before f.before r.refused f.refused;
       }
 
-  -- the part has a refusal, and the callback refused what stands before it
+  -- the part has a refusal, and the callback refused the sections before it
   pub refused_after : (part left : Walk Section) (why : Refusal) → NoneAccepted seen post part (Some why) → Reaches seen post whole (and_then part.items part.refusal left) → NoneAccepted seen post whole (Some why)
   refused_after part left why none r =
       let there : and_then part.items part.refusal left ≡ and_then part.items (Some why) left = ap (λ (o : Option Refusal). and_then part.items o left) none.end_is in
       let r' = reaches_same (and_then part.items part.refusal left) (and_then part.items (Some why) left) there r in
       record {
-        refused = All-same (Answered seen post false) whole.items (r'.before ++ part.items) r'.stands (All-append (Answered seen post false) r'.before part.items r'.refused none.refused);
+        refused = All-same (Answered seen post false) whole.items (r'.before ++ part.items) r'.occurs (All-append (Answered seen post false) r'.before part.items r'.refused none.refused);
         end_is = r'.ends;
       }
 
   -- nothing is left
   pub reaches_end : (end : Option Refusal) → Reaches seen post whole (ended end) → NoneAccepted seen post whole end
   reaches_end end r = record {
-    refused = All-same (Answered seen post false) whole.items r.before (r.stands ∙ append-nil r.before) r.refused;
+    refused = All-same (Answered seen post false) whole.items r.before (r.occurs ∙ append-nil r.before) r.refused;
     end_is = r.ends;
   }
 
@@ -210,8 +210,8 @@ module _ {T : Type 0} (seen : T → Section) (post : T → Bool → Type 0) (who
       of_part rest e = All-from_contains part.items (λ s found. All-contains P (r.before ++ (part.items ++ rest)) s (All-same P (r.before ++ (part.items ++ rest)) whole.items (sym e) all) (Contains-append_right r.before (part.items ++ rest) s (Contains-append_left part.items rest s found)))
 
       by_end : (o : Option Refusal) → part.refusal ≡ o → All P part.items
-      by_end None e = of_part left.items (r.stands ∙ ap (λ (o : Option Refusal). r.before ++ (and_then part.items o left).items) e)
-      by_end (Some why) e = of_part [] (r.stands ∙ ap (λ (o : Option Refusal). r.before ++ (and_then part.items o left).items) e ∙ ap (λ (xs : List Section). r.before ++ xs) (sym (append-nil part.items)))
+      by_end None e = of_part left.items (r.occurs ∙ ap (λ (o : Option Refusal). r.before ++ (and_then part.items o left).items) e)
+      by_end (Some why) e = of_part [] (r.occurs ∙ ap (λ (o : Option Refusal). r.before ++ (and_then part.items o left).items) e ∙ ap (λ (xs : List Section). r.before ++ xs) (sym (append-nil part.items)))
 
 -- the sections that commands have left
 abbrev pub sections_left : List ℕ → Walk Command → Walk Section

@@ -26,7 +26,7 @@ lacks_less s none = not_true (starts_with nat_eq s (codes "<")) (λ is.
     let e = (bytes_eq-Decides (codes "<") (take 1 s)).0 is in
     none (drop 1 s) (sym (take-append-drop 1 s) ∙ ap (λ (front : List ℕ). front ++ drop 1 s) (sym e)))
 
--- where `::` first stands
+-- where the first `::` is
 pub before_match : (i : ℕ) (s : List ℕ) → ((k : ℕ) → k < i → LacksTextAt (codes "::") s k) → (rest : List ℕ) → drop i s ≡ codes "::" ++ rest → first_part s ≡ take i s
 before_match zero [] none rest at = refl
 before_match zero (x ∷ xs) none rest at = rw (begins (x ∷ xs) rest at) refl
@@ -34,7 +34,7 @@ before_match (suc i) [] none rest at = refl
 before_match (suc i) (x ∷ xs) none rest at =
     rw (lacks (x ∷ xs) (none 0 (omega arith)), before_match i xs (λ k below. none (suc k) (omega arith)) rest at) refl
 
--- where `::` stands nowhere
+-- where there is no `::`
 pub no_match : (s : List ℕ) → ((k : ℕ) → k ≤ length s → LacksTextAt (codes "::") s k) → first_part s ≡ s
 no_match [] none = refl
 no_match (x ∷ xs) none = rw (lacks (x ∷ xs) (none 0 (omega arith)), no_match xs (λ k below. none (suc k) (omega arith))) refl
@@ -45,12 +45,12 @@ split_first [] more = refl
 split_first (x ∷ []) more = rw (split_first [] more) refl
 split_first (x ∷ y ∷ first) more = rw (split_first (y ∷ first) more) refl
 
-begins_alike : (first more : List ℕ) → starts_with nat_eq ((first ++ codes "::") ++ more) (codes "<") ≡ starts_with nat_eq (first ++ codes "::") (codes "<")
-begins_alike [] more = refl
-begins_alike (x ∷ first) more = refl
+begins_same : (first more : List ℕ) → starts_with nat_eq ((first ++ codes "::") ++ more) (codes "<") ≡ starts_with nat_eq (first ++ codes "::") (codes "<")
+begins_same [] more = refl
+begins_same (x ∷ first) more = refl
 
 crate_before : (first more : List ℕ) → path_crate (first ++ codes "::") ≡ path_crate ((first ++ codes "::") ++ more)
-crate_before first more = rw (begins_alike first more, split_first first more) refl
+crate_before first more = rw (begins_same first more, split_first first more) refl
 
 -- the crate that a path begins with is that of its front
 pub crate_of_front : (front path : List ℕ) → IsFront front path → path_crate front ≡ path_crate path
@@ -69,7 +69,7 @@ first_part_front : (s : List ℕ) → first_part s ≡ take (length (first_part 
 first_part_front [] = refl
 first_part_front (x ∷ xs) = one_more (starts_with nat_eq (x ∷ xs) (codes "::")) x (first_part xs) xs (first_part_front xs)
 
--- and stands at the front of a path
-pub stands : (path first front : List ℕ) → first ≡ first_part path → path ≡ front → first ≡ take (length first) front
-stands path first front is same =
+-- and it is a prefix of the path
+pub taken_whole : (path first front : List ℕ) → first ≡ first_part path → path ≡ front → first ≡ take (length first) front
+taken_whole path first front is same =
     is ∙ first_part_front path ∙ ap (λ (s : List ℕ). take (length s) path) (sym is) ∙ ap (take (length first)) same

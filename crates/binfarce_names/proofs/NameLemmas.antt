@@ -37,7 +37,7 @@ one_of p q r text part e = elim (cases_Bool (starts_with nat_eq text p)) [
   ]
 ]
 
--- a text begins with a letter, which stands after no `_`, one or two
+-- a text begins with no `_`, one or two, and then a letter
 abbrev BeginsWith : ℕ → List ℕ → Type 0
 BeginsWith letter text =
     ((get_or text 0 0 ≡ 95) × (get_or text 1 0 ≡ letter))
@@ -112,7 +112,7 @@ named_unknown text m name is k e = elim is [
   ]
 ]
 
--- what a text is tells its answer: a v0 mangling is printed, or passes a limit
+-- the kind of a text determines its answer: a v0 mangling is printed, or exceeds a limit
 pub has_answer : (text : List ℕ) (m : Mangled) → IsMangled text m → HasAnAnswer text
 unfolding IsMangled IsNamed
 has_answer text m is = elim is [

@@ -1,4 +1,4 @@
--- What is answered of a name: its answer, a text that grows by its trimmed text, and the crate that it tells.
+-- The answers for a name: its record, a text that grows by its trimmed text, and its crate.
 use Rattle.std.proofs.Common.{◌≡◌, ℕ, Bool, false, List, ◌++◌, Option, Result, Ok, Err, inl, inr, refl, ap, subst, ◌∙◌}
 use Rattle.std.specs.Prelude.{OnOk, encode_utf8_all, if◌then◌else◌}
 use Rattle.std.specs.Result.{is_ok}
@@ -13,7 +13,7 @@ use Rattle.binfarce_names.specs.Crates.{GrowsByCrate, crate_of, path_crate}
 use Rattle.binfarce_names.specs.Name.{Name}
 use Rattle.binfarce_names.specs.Named.{IsNotLegacy, IsNamed, legacy, unknown, v0}
 
--- what stood before, and then the trimmed text of a name's answer
+-- the old text, and then the trimmed text of a name's answer
 abbrev pub Grows : List ℕ → List ℕ → List ℕ → Type 0
 Grows text old new = (n : Name) × IsNamed text n × (new ≡ old ++ n.trimmed)
 
@@ -27,7 +27,7 @@ pub on_ok : {T E : Type 0} (P Q : Type 0) (r : Result T E) → (P → Q) → OnO
 on_ok P Q (Ok x) f h = f h
 on_ok P Q (Err e) f h = tt
 
--- text is what stands of a name before LLVM's suffix, and no legacy mangling
+-- text is a name without LLVM's suffix, and isn't a legacy mangling
 pub record IsOther (name text : List ℕ) : Type 0 where
   pub stripped : text ≡ without_llvm name
   pub not_legacy : (part : List ℕ) (elements : List Element) (rest : List ℕ) → IsLegacy text part elements rest → ⊥
@@ -70,26 +70,26 @@ tree_grows name text part outcome old new o v is grown =
     let has : HasTree text is.tree = record { part = part; mangling = v; unfolds = is.unfolds } in
     (v0 is.tree, named_v0 name text is.tree (v0 is.tree) o has refl, grown ∙ ap (λ (t : List ℕ). old ++ t) is.text_is)
 
--- a name that stands unchanged was written
+-- an unchanged name was written
 pub unchanged_grows : (name text old new : List ℕ) → IsOther name text → HasNoTree text → new ≡ old ++ name → Grows name old new
 unchanged_grows name text old new o none grown = (unknown name, named_unchanged name text (unknown name) o none refl, grown)
 
--- an answer of a name, and a text that grew by the crate that it tells
-abbrev pub Tells : (name : List ℕ) (told : Bool) (old new : List ℕ) → Type 0
-Tells name told old new = (n : Name) × IsNamed name n × GrowsByCrate (crate_of n) told old new
+-- a name has an answer, and a text grew by its crate
+abbrev pub GrewByCrate : (name : List ℕ) (crate_found : Bool) (old new : List ℕ) → Type 0
+GrewByCrate name crate_found old new = (n : Name) × IsNamed name n × GrowsByCrate (crate_of n) crate_found old new
 
--- a legacy mangling tells the crate of its path
-pub legacy_tells : (name text part rest : List ℕ) (elements : List Element) (told : Bool) (old new : List ℕ) → text ≡ without_llvm name → IsLegacy text part elements rest
-    → ((elements : List Element) (rest : List ℕ) → Reads part elements rest → GrowsByCrate (path_crate (encode_utf8_all (legacy_chars elements))) told old new)
-    → Tells name told old new
+-- the crate of a legacy mangling is that of its path
+pub legacy_grew : (name text part rest : List ℕ) (elements : List Element) (crate_found : Bool) (old new : List ℕ) → text ≡ without_llvm name → IsLegacy text part elements rest
+    → ((elements : List Element) (rest : List ℕ) → Reads part elements rest → GrowsByCrate (path_crate (encode_utf8_all (legacy_chars elements))) crate_found old new)
+    → GrewByCrate name crate_found old new
 unfolding crate_of
-legacy_tells name text part rest elements told old new e is path =
+legacy_grew name text part rest elements crate_found old new e is path =
     (legacy elements, named_legacy name text part rest elements (legacy elements) e is refl, path elements rest is.reads)
 
--- a v0 mangling tells its crate root, if it unfolds to a tree, and any other name tells none
-pub other_tells : (name text : List ℕ) (c : Option (List ℕ)) (told : Bool) (old new : List ℕ) → IsOther name text → IsCrateName text c → GrowsByCrate c told old new → Tells name told old new
+-- the crate of a v0 mangling that unfolds to a tree is its crate root, and any other name has none
+pub other_grew : (name text : List ℕ) (c : Option (List ℕ)) (crate_found : Bool) (old new : List ℕ) → IsOther name text → IsCrateName text c → GrowsByCrate c crate_found old new → GrewByCrate name crate_found old new
 unfolding crate_of
-other_tells name text c told old new o root grown = elim root [
-  | inl t ↦ (v0 t.0, named_v0 name text t.0 (v0 t.0) o t.1 refl, subst (λ (x : Option (List ℕ)). GrowsByCrate x told old new) t.2 grown)
-  | inr none ↦ (unknown name, named_unchanged name text (unknown name) o none.0 refl, subst (λ (x : Option (List ℕ)). GrowsByCrate x told old new) none.1 grown)
+other_grew name text c crate_found old new o root grown = elim root [
+  | inl t ↦ (v0 t.0, named_v0 name text t.0 (v0 t.0) o t.1 refl, subst (λ (x : Option (List ℕ)). GrowsByCrate x crate_found old new) t.2 grown)
+  | inr none ↦ (unknown name, named_unchanged name text (unknown name) o none.0 refl, subst (λ (x : Option (List ℕ)). GrowsByCrate x crate_found old new) none.1 grown)
 ]

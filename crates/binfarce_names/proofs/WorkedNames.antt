@@ -83,7 +83,7 @@ unfolding IsNamed
 means_unread text part l b p =
     inr (inr (record { not_legacy = not_legacy text l; no_tree = λ other tree v u. not_mangling (without_llvm text) part b p other v.after v.mangling; name_is = refl }))
 
--- levels and steps of what stands after a prefix
+-- levels and steps of the part after a prefix
 pub counts : (part : List ℕ) (levels steps : ℕ) → (printed part true false).1.limit_exceeded ≡ false
     → path_height (printed part true false).0 ≡ levels → path_steps (printed part true false).0 ≡ steps
     → Counts part levels steps

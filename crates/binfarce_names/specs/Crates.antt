@@ -15,15 +15,15 @@ abbrev pub path_crate : (path : List ℕ) → Option (List ℕ)
 path_crate path = if starts_with nat_eq path (codes "<") then None else Some (first_part path)
 
 -- the crate of a name of this kind, with this crate root and this path
-abbrev pub told_crate : (kind : Kind) (root : Option (List ℕ)) (path : List ℕ) → Option (List ℕ)
-told_crate Legacy root path = path_crate path
-told_crate V0 root path = root
-told_crate Unknown root path = None
+abbrev pub crate_of_kind : (kind : Kind) (root : Option (List ℕ)) (path : List ℕ) → Option (List ℕ)
+crate_of_kind Legacy root path = path_crate path
+crate_of_kind V0 root path = root
+crate_of_kind Unknown root path = None
 
 -- the crate of a name: of a legacy name by its path, and of a v0 name by its crate root
 unfoldable pub crate_of : (name : Name) → Option (List ℕ)
-crate_of name = told_crate name.kind name.crate_name name.complete
+crate_of name = crate_of_kind name.kind name.crate_name name.complete
 
--- told says whether there is a crate, and new is old with its name after it, if there is one
-abbrev pub GrowsByCrate : (crate_name : Option (List ℕ)) (told : Bool) (old new : List ℕ) → Type 0
-GrowsByCrate crate_name told old new = (told ≡ is_some crate_name) × (new ≡ old ++ unwrap_or crate_name [])
+-- crate_found says whether there is a crate; new is old with the crate's name after it, if there is one
+abbrev pub GrowsByCrate : (crate_name : Option (List ℕ)) (crate_found : Bool) (old new : List ℕ) → Type 0
+GrowsByCrate crate_name crate_found old new = (crate_found ≡ is_some crate_name) × (new ≡ old ++ unwrap_or crate_name [])

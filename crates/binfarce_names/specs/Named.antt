@@ -60,14 +60,14 @@ pub record IsV0Name (text : List ℕ) (name : Name) : Type 0 where
   pub name_is : name ≡ v0 tree
 
 -- text isn't a mangling, or is a v0 mangling that unfolds to no tree within the limits; name is text itself
-pub record StandsUnchanged (text : List ℕ) (name : Name) : Type 0 where
+pub record IsUnchanged (text : List ℕ) (name : Name) : Type 0 where
   pub not_legacy : IsNotLegacy text
   pub no_tree : HasNoTree (without_llvm text)
   pub name_is : name ≡ unknown text
 
 -- name is the answer of text
 unfoldable pub IsNamed : (text : List ℕ) (name : Name) → Type 0
-IsNamed text name = IsLegacyName text name ⊎ (IsV0Name text name ⊎ StandsUnchanged text name)
+IsNamed text name = IsLegacyName text name ⊎ (IsV0Name text name ⊎ IsUnchanged text name)
 
 -- m keeps of text the part after the prefix of a legacy mangling
 pub record IsLegacyMangled (text : List ℕ) (m : Mangled) : Type 0 where

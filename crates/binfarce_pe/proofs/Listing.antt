@@ -42,7 +42,7 @@ rising_at (x ∷ xs) up i zero d lt within = absurd (omega arith)
 rising_at (x ∷ xs) up zero (suc j) d lt within = up.0 j d (omega arith)
 rising_at (x ∷ xs) up (suc i) (suc j) d lt within = rising_at xs up.1 i j d (omega arith) (omega arith)
 
--- numbers that rise together compare alike
+-- numbers that rise together have the same order
 same_test : (i j a b : ℕ) → (i < j → a < b) → (j < i → b < a) → (i ≡ j → a ≡ b) → nat_lt i j ≡ nat_lt a b
 same_test i j a b up down same = elim (cases_lt i j) [
   | inl lt ↦ rw (lt-ltb i j lt, lt-ltb a b (up lt)) refl
@@ -65,12 +65,12 @@ agree kept up x q y p is also =
     (λ same. ap (λ (r : RowAddress). r.row) (sym is.1 ∙ ap (λ (i : ℕ). get_or kept i none) same ∙ also.1)) in
     rw (is.2, also.2, test) refl
 
-module _ (R : RowAddress → RowAddress → Type 0) (alike : (x q y p : RowAddress) → R x q → R y p → comes_before x y ≡ comes_before q p) where
+module _ (R : RowAddress → RowAddress → Type 0) (same_order : (x q y p : RowAddress) → R x q → R y p → comes_before x y ≡ comes_before q p) where
   put_in_pairs : (x q : RowAddress) (xs ys : List RowAddress) → R x q → AllZip R xs ys → AllZip R (put_in x xs) (put_in q ys)
   put_in_pairs x q [] [] r all = (r, tt)
   put_in_pairs x q [] (p ∷ ys) r all = absurd all
   put_in_pairs x q (y ∷ xs) [] r all = absurd all
-  put_in_pairs x q (y ∷ xs) (p ∷ ys) r all = by_test (comes_before y x) (comes_before p q) (alike y p x q all.0 r) (put_in_pairs x q xs ys r all.1)
+  put_in_pairs x q (y ∷ xs) (p ∷ ys) r all = by_test (comes_before y x) (comes_before p q) (same_order y p x q all.0 r) (put_in_pairs x q xs ys r all.1)
     where
       by_test : (a b : Bool) → a ≡ b → AllZip R (put_in x xs) (put_in q ys) → AllZip R (cond a (y ∷ put_in x xs) (x ∷ y ∷ xs)) (cond b (p ∷ put_in q ys) (q ∷ p ∷ ys))
       by_test true true e rest = (all.0, rest)
@@ -85,12 +85,12 @@ module _ (R : RowAddress → RowAddress → Type 0) (alike : (x q y p : RowAddre
   arranged_pairs (x ∷ xs) [] all = absurd all
   arranged_pairs (x ∷ xs) (y ∷ ys) all = put_in_pairs x y (arranged xs) (arranged ys) all.0 (arranged_pairs xs ys all.1)
 
--- arranged by their numbers among the kept, rows stand as by their numbers in the table
+-- rows arranged by their numbers among the kept have the same order as by their numbers in the table
 abbrev pub arranged_numbers : List RowAddress → List RowAddress
 arranged_numbers kept = arranged (numbered 0 (addresses_of kept))
 
-arranged_alike : (table : SymbolTable) (index : ℕ) → AllZip (IsNumbered (kept_rows table index)) (arranged_numbers (kept_rows table index)) (arranged (kept_rows table index))
-arranged_alike table index =
+arranged_rows_same : (table : SymbolTable) (index : ℕ) → AllZip (IsNumbered (kept_rows table index)) (arranged_numbers (kept_rows table index)) (arranged (kept_rows table index))
+arranged_rows_same table index =
     let kept = kept_rows table index in
     arranged_pairs (IsNumbered kept) (agree kept (kept_rise table index)) (numbered 0 (addresses_of kept)) kept (all_numbered kept)
 
@@ -105,7 +105,7 @@ pub all_have_names : (table : SymbolTable) (index : ℕ) (held : List RowAddress
     → HoldsKept table (kept_rows table index) held names → rows_view rows ≡ arranged held → n ≡ length names → All (λ r. r.index < n) rows
 all_have_names table index held names rows n h are long k d lt =
     let kept = kept_rows table index in
-    let all : All (λ r. r.row < length kept) (rows_view rows) = subst (λ (rs : List RowAddress). All (λ r. r.row < length kept) rs) (sym (are ∙ ap arranged h.rows_are)) (numbers_below kept (arranged_numbers kept) (arranged kept) (arranged_alike table index)) in
+    let all : All (λ r. r.row < length kept) (rows_view rows) = subst (λ (rs : List RowAddress). All (λ r. r.row < length kept) rs) (sym (are ∙ ap arranged h.rows_are)) (numbers_below kept (arranged_numbers kept) (arranged kept) (arranged_rows_same table index)) in
     let below : (get_or rows k d).index < length kept = rw (get_or-map row_view rows k d (row_view d) lt) at (all k (row_view d) (omega (arith, length-map rows row_view))) in
     omega (arith, AllZip-long (IsNameOf table) kept names h.names_are)
 
@@ -166,7 +166,7 @@ unfolding entries_of
 entries_are table index t held in_order names h are =
     let kept = kept_rows table index in
     ap (λ (rs : List RowAddress). map (function_at names (size_members t rs)) rs) (are ∙ ap arranged h.rows_are)
-    ∙ entries_listed table (size_members t (arranged_numbers kept)) kept names h.names_are (arranged_numbers kept) (arranged kept) (arranged_alike table index)
+    ∙ entries_listed table (size_members t (arranged_numbers kept)) kept names h.names_are (arranged_numbers kept) (arranged kept) (arranged_rows_same table index)
     ∙ entries_same table (size_members t (arranged_numbers kept)) (size_members t kept) (λ a. sizes_same t a kept) (arranged kept)
 
 greater : (xs : List ℕ) (a : ℕ) (o : Option ℕ) → LeastAbove xs a o → IfSome o (λ b. a < b)

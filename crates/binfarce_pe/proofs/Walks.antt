@@ -68,7 +68,7 @@ accepted_at table seen post i value lt room is accepted refused =
     record {
       before = held_below (section_in table) i;
       after = b.0;
-      stands = sections_is table n refl ∙ b.1;
+      occurs = sections_is table n refl ∙ b.1;
       accepted = accepted;
       refused = refused;
     }

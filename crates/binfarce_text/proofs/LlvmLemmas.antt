@@ -1,4 +1,4 @@
--- Where the first `.llvm.` of a text stands, and what is left where the text ends before it.
+-- The position of the first `.llvm.` of a text, and the text before it.
 use Rattle.std.proofs.Common.{◌≡◌, ℕ, zero, suc, ◌+◌, ◌-◌, ◌<◌, ◌≤◌, ◌⊎◌, inl, inr, Bool, true, false, cond, List, [], ◌∷◌, length, get_or, drop, take, nat_eq, refl, ap, sym, ◌∙◌, arith, codes, length-drop}
 use Rattle.std.proofs.lemmas.Bool.{both_ways, false≢true, cases_Bool, cases_eq, cases_lt, cond-true, cond-false}
 use Rattle.std.proofs.lemmas.List.{get_or-drop}
@@ -7,7 +7,7 @@ use Rattle.binfarce_text.specs.Suffixes.{is_llvm_digit, without_llvm}
 use Rattle.binfarce_text.specs.machine.Suffixes.{EndsInDigits}
 use Rattle.binfarce_text.proofs.TextLemmas.{begins-length, begins-at, list_all-each, list_all-from}
 
--- a `.llvm.` stands at k
+-- a `.llvm.` is at k
 abbrev pub llvm_at : List ℕ → ℕ → Bool
 llvm_at t k = starts_with nat_eq (drop k t) (codes ".llvm.")
 
@@ -68,7 +68,7 @@ llvm_at-begins t i h = ap (λ k. get_or t k 0) (omega arith) ∙ sym (get_or-dro
 dot-not : (x : ℕ) → x ≡ 46 → is_llvm_digit x ≡ true → ⊥
 dot-not x e h = false≢true (sym (ap is_llvm_digit e) ∙ h)
 
--- where the digits after the first `.llvm.` reach the end, it stands right before them
+-- where the digits after the first `.llvm.` reach the end, it is right before them
 at_digits : (t : List ℕ) (n i : ℕ) → EndsInDigits t n → llvm_at t i ≡ true
     → list_all is_llvm_digit (drop 6 (drop i t)) ≡ true → n ≡ i + 6
 at_digits t n i ends here all =
@@ -87,7 +87,7 @@ at_digits t n i ends here all =
       | inr l ↦ omega arith
     ]
 
--- a text stays as it is where no `.llvm.` stands before its last digits, or one stands earlier
+-- a text is unchanged where no `.llvm.` is before its last digits, or where there is an earlier one
 pub without_llvm-kept : (t : List ℕ) (n : ℕ) → EndsInDigits t n
     → ((i : ℕ) → n ≡ i + 6 → llvm_at t i ≡ true → NoneBelow t i → ⊥) → without_llvm t ≡ t
 without_llvm-kept t n ends lacks = elim (first_llvm t (length t)) [
@@ -98,7 +98,7 @@ without_llvm-kept t n ends lacks = elim (first_llvm t (length t)) [
   | inr none ↦ without_llvm-none t none
 ]
 
--- it is left out where the first one stands before its last digits
+-- it is left out where the first one is right before its last digits
 pub without_llvm-left_out : (t : List ℕ) (n i : ℕ) → EndsInDigits t n → n ≡ i + 6
     → llvm_at t i ≡ true → NoneBelow t i → without_llvm t ≡ take i t
 without_llvm-left_out t n i ends e here none =

@@ -40,7 +40,7 @@ list_all-from p (x ∷ xs) h =
 pub begins-not : (t p : List ℕ) → (get_or t 0 0 ≡ get_or p 0 0 → ⊥) → 0 < length p → starts_with nat_eq t p ≡ false
 begins-not t p ne l = false_from_ne_true (starts_with nat_eq t p) (λ h. ne (begins-at t p 0 h l))
 
--- what may stand after a mangling
+-- what may follow a mangling
 pub is_allowed_rest-empty : (rest : List ℕ) → length rest ≡ 0 → true ≡ is_allowed_rest rest
 unfolding is_allowed_rest
 is_allowed_rest-empty [] h = refl

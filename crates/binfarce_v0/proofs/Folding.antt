@@ -4,7 +4,7 @@ use Rattle.std.proofs.lemmas.Bool.{not-false, not-true}
 use Rattle.binfarce_v0_grammar.specs.Base62.{base_62_number}
 use Rattle.binfarce_v0_grammar.proofs.ReadingForward.{indexed_lifetime}
 use Rattle.binfarce_v0_grammar.specs.Identifiers.{Identifier, identifier}
-use Rattle.binfarce_v0_grammar.specs.Forms.{Lifetime, NoLifetime, InvalidLifetime, IndexedLifetime, stands, after_byte, identifier_at, lifetime, path_form, type_form, const_form, CrateRoot, BackToPath, BasicType, BackToType, UntypedPlaceholderConst, PlaceholderConst, ValueConst, BackToConst}
+use Rattle.binfarce_v0_grammar.specs.Forms.{Lifetime, NoLifetime, InvalidLifetime, IndexedLifetime, has_byte, after_byte, identifier_at, lifetime, path_form, type_form, const_form, CrateRoot, BackToPath, BasicType, BackToType, UntypedPlaceholderConst, PlaceholderConst, ValueConst, BackToConst}
 use Rattle.binfarce_v0_grammar.specs.Tree.{PathTree, TypeTree, ConstTree, Item, Items, Bindings, NoConst, UntypedPlaceholder, Placeholder, Value, InvalidValue, BackConst, ConstTarget, NoPath, Crate, Nested, InvalidNested, OfType, OfImpl, OfTrait, Generic, BackPath, PathTarget, NoType, Basic, Reference, InvalidReferenceType, Pointer, Slice, Array, Tuple, Function, FunctionTo, InvalidFunction, Dyn, InvalidDynType, Named, BackType, TypeTarget, LifetimeItem, TypeItem, ConstItem, TraitItem, NoItems, ItemThen, NoBindings, Binding, InvalidBinding, path_height, type_height, const_height, item_height, items_height, bindings_height, Listed, Arguments, Types, Traits, is_announced}
 use Rattle.binfarce_v0_grammar.specs.Unfolding.{bound_end, required_end, IsConst, IsPath, IsType, IsItem, AreItems, AreBindings}
 use Rattle.binfarce_v0_grammar.specs.Reading.{ReadsConst, ReadsPath, ReadsType, ReadsItem, ReadsItems, ReadsBindings}
@@ -146,10 +146,10 @@ unfolding lifetime
 lifetime_from part (Some at) life after e = (at, refl)
 lifetime_from part None life after e = let f = ap (λ l. l.1) e in absurd cc
 
--- a lifetime that was asked for stands there
-lifetime_stands : (part : List ℕ) (at binder_depth : ℕ) (life : Lifetime) (last : Option ℕ) (after : ℕ) → lifetime part (Some at) ≡ (life, last) → Some after ≡ required_end binder_depth life last → stands part 76 (Some at) ≡ true
+-- a required lifetime is there
+lifetime_is_at : (part : List ℕ) (at binder_depth : ℕ) (life : Lifetime) (last : Option ℕ) (after : ℕ) → lifetime part (Some at) ≡ (life, last) → Some after ≡ required_end binder_depth life last → has_byte part 76 (Some at) ≡ true
 unfolding lifetime
-lifetime_stands part at binder_depth life last after e r = by (eqb (get_or part at 0) 76) e
+lifetime_is_at part at binder_depth life last after e r = by (eqb (get_or part at 0) 76) e
   where
     none : (l : Lifetime) → NoLifetime ≡ l → Some after ≡ required_end binder_depth l last → false ≡ true
     none NoLifetime f r = absurd cc
@@ -242,20 +242,20 @@ mutual
   type_folds (Function signature items) part at binder_depth after is =
       let e = after_from is.1 after is.5 in
       let f = items_fold items part Types is.0 (binder_depth + signature.binder) e.0 (subst (λ x. AreItems part Types items (Some is.0) (binder_depth + signature.binder) x) e.1 is.3) in
-      record { tree = Function signature f.tree; reads = (is.0, e.0, is.2, f.reads, subst (λ x. stands part 117 x ≡ true) e.1 is.4, same_position after (e.0 + 1) (subst (λ x. Some after ≡ after_byte x) e.1 is.5)); levels = omega (arith, f.levels) }
+      record { tree = Function signature f.tree; reads = (is.0, e.0, is.2, f.reads, subst (λ x. has_byte part 117 x ≡ true) e.1 is.4, same_position after (e.0 + 1) (subst (λ x. Some after ≡ after_byte x) e.1 is.5)); levels = omega (arith, f.levels) }
   type_folds (FunctionTo signature items t) part at binder_depth after is =
       let inner = binder_depth + signature.binder in
       let e = type_from t part is.1 inner after is.5 in
       let f = items_fold items part Types is.0 inner e.0 (subst (λ x. AreItems part Types items (Some is.0) inner x) e.1 is.3) in
       let g = type_folds t part e.0 inner after (subst (λ x. IsType part t x inner (Some after)) e.1 is.5) in
-      record { tree = FunctionTo signature f.tree g.tree; reads = (is.0, e.0, is.2, f.reads, subst (λ x. stands part 117 x ≡ false) e.1 is.4, g.reads); levels = omega (arith, f.levels, g.levels) }
+      record { tree = FunctionTo signature f.tree g.tree; reads = (is.0, e.0, is.2, f.reads, subst (λ x. has_byte part 117 x ≡ false) e.1 is.4, g.reads); levels = omega (arith, f.levels, g.levels) }
   type_folds (InvalidFunction binder) part at binder_depth after is = let e = is.1 in absurd cc
   type_folds (Dyn binder items life) part at binder_depth after is =
       let last = required_last binder_depth life is.2 after is.6 in
       let e = lifetime_from part is.1 life after (is.5 ∙ ap (λ (x : Option ℕ). (life, x)) last) in
       let there = subst (λ x. lifetime part x ≡ (life, is.2)) e.1 is.5 in
       let f = items_fold items part Traits is.0 (binder_depth + binder) e.0 (subst (λ x. AreItems part Traits items (Some is.0) (binder_depth + binder) x) e.1 is.4) in
-      record { tree = Dyn binder f.tree life; reads = (is.0, e.0, is.3, f.reads, lifetime_stands part e.0 binder_depth life is.2 after there is.6, there ∙ ap (λ (x : Option ℕ). (life, x)) last); levels = omega (arith, f.levels) }
+      record { tree = Dyn binder f.tree life; reads = (is.0, e.0, is.3, f.reads, lifetime_is_at part e.0 binder_depth life is.2 after there is.6, there ∙ ap (λ (x : Option ℕ). (life, x)) last); levels = omega (arith, f.levels) }
   type_folds InvalidDynType part at binder_depth after is = let e = is.1 in absurd cc
   type_folds (Named p) part at binder_depth after is =
       let f = path_folds p part at binder_depth after is.1 in
@@ -291,12 +291,12 @@ mutual
 
   pub items_fold : (items : Items) (part : List ℕ) (listed : Listed) (at binder_depth after : ℕ) → AreItems part listed items (Some at) binder_depth (Some after) → ItemsFold part listed at after (items_height items)
   items_fold NoItems part listed at binder_depth after is =
-      record { tree = NoItems; reads = (not-false (stands part 69 (Some at)) is.0, same_position after (at + 1) is.1); levels = omega arith }
+      record { tree = NoItems; reads = (not-false (has_byte part 69 (Some at)) is.0, same_position after (at + 1) is.1); levels = omega arith }
   items_fold (ItemThen i items) part listed at binder_depth after is =
       let m = items_from items part listed is.0 binder_depth after is.3 in
       let f = item_folds i part listed at binder_depth m.0 (subst (λ x. IsItem part listed i (Some at) binder_depth x) m.1 is.2) in
       let g = items_fold items part listed m.0 binder_depth after (subst (λ x. AreItems part listed items x binder_depth (Some after)) m.1 is.3) in
-      record { tree = ItemThen f.tree g.tree; reads = (m.0, not-true (stands part 69 (Some at)) is.1, f.reads, g.reads); levels = omega (arith, f.levels, g.levels) }
+      record { tree = ItemThen f.tree g.tree; reads = (m.0, not-true (has_byte part 69 (Some at)) is.1, f.reads, g.reads); levels = omega (arith, f.levels, g.levels) }
 
   pub bindings_fold : (bound : Bindings) (part : List ℕ) (at binder_depth after : ℕ) → AreBindings part bound (Some at) binder_depth (Some after) → BindingsFold part at after (bindings_height bound)
   bindings_fold NoBindings part at binder_depth after is =

@@ -1,7 +1,7 @@
 -- One more item of a list.
 use Rattle.std.proofs.Common.{◌≡◌, ℕ, zero, suc, ◌-◌, ◌<◌, Bool, true, false, List, ◌==◌, if◌then◌else◌, refl, ap, arith}
 use Rattle.std.specs.Prelude.{codes, []}
-use Rattle.binfarce_v0_grammar.specs.Forms.{stands}
+use Rattle.binfarce_v0_grammar.specs.Forms.{has_byte}
 use Rattle.binfarce_v0_grammar.specs.Tree.{Items, NoItems, ItemThen, NoBindings, Listed}
 use Rattle.binfarce_v0_state.specs.TreeTexts.{single_mark, separator}
 use Rattle.binfarce_v0_grammar.specs.Unfolding.{list_goes_on}
@@ -13,7 +13,7 @@ unfolding items_rule
 items_step part R binder_depth listed between zero is_first s h = absurd (omega arith)
 items_step part R binder_depth listed between (suc n) is_first s h = let e : n ≡ suc n - 1 = omega arith in rw (← e) refl
 
-pub bindings_step : (part : List ℕ) (R : Readers) (binder_depth n : ℕ) (is_open : Bool) (s : State) → 0 < n → bindings_rule part R binder_depth n is_open s ≡ binding_rule part R binder_depth (bindings_rule part R binder_depth (n - 1)) is_open s (stands part 112 s.at)
+pub bindings_step : (part : List ℕ) (R : Readers) (binder_depth n : ℕ) (is_open : Bool) (s : State) → 0 < n → bindings_rule part R binder_depth n is_open s ≡ binding_rule part R binder_depth (bindings_rule part R binder_depth (n - 1)) is_open s (has_byte part 112 s.at)
 unfolding bindings_rule
 bindings_step part R binder_depth zero is_open s h = absurd (omega arith)
 bindings_step part R binder_depth (suc n) is_open s h = let e : n ≡ suc n - 1 = omega arith in rw (← e) refl

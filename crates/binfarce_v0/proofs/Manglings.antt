@@ -6,7 +6,7 @@ use Rattle.binfarce_v0_grammar.specs.Tree.{PathTree, path_height, path_steps}
 use Rattle.binfarce_v0_state.specs.TreeTexts.{InValue}
 use Rattle.binfarce_v0_grammar.specs.Unfolding.{IsPath, UnfoldsTo}
 use Rattle.binfarce_v0_grammar.specs.declared.limits.TheConstants.{MAX_LEVELS, MAX_STEPS}
-use Rattle.binfarce_v0.specs.Mangling.{is_upper_at, PathStands, SecondPath, ReadsPaths, IsMangling, IsV0, part_after_prefix}
+use Rattle.binfarce_v0.specs.Mangling.{is_upper_at, HasPathAt, SecondPath, ReadsPaths, IsMangling, IsV0, part_after_prefix}
 use Rattle.binfarce_v0.specs.machine.Mangling.{paths_end}
 use Rattle.binfarce_v0_state.specs.machine.Outcome.{Outcome, outcome_of}
 use Rattle.binfarce_v0.specs.machine.Outcome.{ReadsUpTo, HasBegun, IsOutcome, IsOutcomeOf, AreTexts}
@@ -62,21 +62,21 @@ printed_over part full muted o tree u =
     let both : true ≡ false = sym o ∙ not_over in cc
 
 -- a path that the reading reads
-pub path_stands : (part : List ℕ) (at after : ℕ) → (ends part MAX_LEVELS).path at ≡ Some after → PathStands part at after
-path_stands part at after e =
+pub path_is_at : (part : List ℕ) (at after : ℕ) → (ends part MAX_LEVELS).path at ≡ Some after → HasPathAt part at after
+path_is_at part at after e =
     let H = ends_read part MAX_LEVELS in
     let f = H.path at after e in record { tree = f.tree; reads = f.reads; levels = f.height }
 
-pub path_read_at : (part : List ℕ) (at after : ℕ) → PathStands part at after → (ends part MAX_LEVELS).path at ≡ Some after
+pub path_read_at : (part : List ℕ) (at after : ℕ) → HasPathAt part at after → (ends part MAX_LEVELS).path at ≡ Some after
 path_read_at part at after p = path_ends p.tree part MAX_LEVELS at after p.reads p.levels
 
 -- a first path that is known to be read need not be read again
 pub first_path_known : (part : List ℕ) (first : Option ℕ) (mid : ℕ) → ReadsUpTo part first → first ≡ Some mid → (ends part MAX_LEVELS).path 0 ≡ Some mid
 first_path_known part first mid reads e =
-    let stands : PathStands part 0 mid = subst (ReadsUpTo part) e reads in path_read_at part 0 mid stands
+    let has_byte : HasPathAt part 0 mid = subst (ReadsUpTo part) e reads in path_read_at part 0 mid has_byte
 
 second_path : (part : List ℕ) (at after : ℕ) (b : Bool) → (cond b ((ends part MAX_LEVELS).path at) (Some at)) ≡ Some after → SecondPath b part at after
-second_path part at after true e = path_stands part at after e
+second_path part at after true e = path_is_at part at after e
 second_path part at after false e = cc
 
 second_read : (part : List ℕ) (at after : ℕ) (b : Bool) → SecondPath b part at after → (cond b ((ends part MAX_LEVELS).path at) (Some at)) ≡ Some after
@@ -88,7 +88,7 @@ paths_read part after e =
     let b = between ((ends part MAX_LEVELS).path 0) (λ mid. cond (is_upper_at part mid) ((ends part MAX_LEVELS).path mid) (Some mid)) after e in
     record {
       mid = b.mid;
-      path = path_stands part 0 b.mid b.first;
+      path = path_is_at part 0 b.mid b.first;
       instantiating_crate = second_path part b.mid after (is_upper_at part b.mid) b.second;
     }
 

@@ -31,7 +31,7 @@ pub is_v0 : (text part : List ℕ) (after : ℕ) → part_after_prefix text ≡ 
 is_v0 text part after e upper ascii ends allowed =
     record { after = after; mangling = mangles text part after e upper ascii ends; rest = allowed }
 
--- what a test tells
+-- the meaning of a test
 pub when : (b : Bool) (P Q : Type 0) → b ≡ true → MatchBool b P Q → P
 when true P Q e h = h
 when false P Q e h = absurd cc

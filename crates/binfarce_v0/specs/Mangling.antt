@@ -25,20 +25,20 @@ abbrev pub is_upper_at : (part : List ℕ) (at : ℕ) → Bool
 is_upper_at part at = is_ascii_uppercase (slice_index part at)
 
 -- a path of at most 500 levels (`MAX_LEVELS`) reads from a position up to another
-pub record PathStands (part : List ℕ) (at after : ℕ) : Type 0 where
+pub record HasPathAt (part : List ℕ) (at after : ℕ) : Type 0 where
   pub tree : PathTree
   pub reads : ReadsPath part tree at after
   pub levels : path_height tree ≤ MAX_LEVELS
 
 -- the path of the instantiating crate, where there is an upper-case letter
 abbrev pub SecondPath : (is_there : Bool) (part : List ℕ) (at after : ℕ) → Type 0
-SecondPath true part at after = PathStands part at after
+SecondPath true part at after = HasPathAt part at after
 SecondPath false part at after = after ≡ at
 
 -- the one path or two of a mangling read up to a position
 pub record ReadsPaths (part : List ℕ) (after : ℕ) : Type 0 where
   pub mid : ℕ
-  pub path : PathStands part 0 mid
+  pub path : HasPathAt part 0 mid
   pub instantiating_crate : SecondPath (is_upper_at part mid) part mid after
 
 -- the v0 mangling that a text begins with: part follows its prefix, and after is the position in part after its paths

@@ -113,7 +113,7 @@ first_at s at = get_or-drop at s 0 0 ∙ ap (λ k. get_or s k 0) (let e : at + 0
 abbrev next_62 : ℕ → ℕ → ℕ
 next_62 n c = n * 62 + digit_62 c
 
--- what n digits write, which stand after others, where a "_" stands after them
+-- the number that n digits after others write, before a "_"
 abbrev ends_62 : List ℕ → ℕ → ℕ → ℕ → Option (ℕ × ℕ)
 ends_62 s value at n =
     cond (eqb (get_or s n 0) 95) (limited (fold next_62 value (take n s) + 1) (at + n + 1)) None
@@ -209,7 +209,7 @@ not_nine c ne h = grind (arith, nat_tests)
 is_nine : (c : ℕ) → is_in_range 49 57 c ≡ true → is_ascii_digit c ≡ true
 is_nine c h = grind (arith, nat_tests)
 
--- where no "0" stands first
+-- where the first digit isn't "0"
 length_more : (s : List ℕ) (at : ℕ) → (get_or s at 0 ≡ 48 → ⊥)
     → cond (eqb (prefix_len is_ascii_digit (drop at s)) 0) None (limited (digits_value_after 10 0 (take (prefix_len is_ascii_digit (drop at s)) (drop at s))) (at + prefix_len is_ascii_digit (drop at s)))
     ≡ cond (is_in_range 49 57 (get_or s at 0)) (length_from (drop at s) 0 at) None

@@ -4,7 +4,7 @@ use Rattle.std.proofs.lemmas.Bool.Decides.{nat_tests}
 use Rattle.std.proofs.lemmas.List.{get_or_past}
 use Rattle.binfarce_text.specs.Steps.{◌>>=◌}
 use Rattle.binfarce_v0_grammar.specs.Identifiers.{identifier}
-use Rattle.binfarce_v0_grammar.specs.Forms.{stands, path_form, type_form, const_form}
+use Rattle.binfarce_v0_grammar.specs.Forms.{has_byte, path_form, type_form, const_form}
 use Rattle.binfarce_v0_grammar.specs.Tree.{PathTree, TypeTree, ConstTree, Item, Items, Bindings, NoConst, UntypedPlaceholder, Placeholder, Value, InvalidValue, BackConst, ConstTarget, NoPath, Crate, Nested, InvalidNested, OfType, OfImpl, OfTrait, Generic, BackPath, PathTarget, NoType, Basic, Reference, InvalidReferenceType, Pointer, Slice, Array, Tuple, Function, FunctionTo, InvalidFunction, Dyn, InvalidDynType, Named, BackType, TypeTarget, LifetimeItem, TypeItem, ConstItem, TraitItem, NoItems, ItemThen, NoBindings, Binding, InvalidBinding, path_height, type_height, const_height, item_height, items_height, bindings_height, Listed, Arguments, Types, Traits}
 use Rattle.binfarce_v0_grammar.specs.Reading.{ReadsConst, ReadsPath, ReadsType, ReadsItem, ReadsItems, ReadsBindings}
 use Rattle.binfarce_v0_grammar.specs.machine.Ends.{const_end, identifier_end, bound_from, bindings_end, item_end, items_end, type_end, path_end, ends}
@@ -40,8 +40,8 @@ pub const_end_none : (part : List ℕ) (l at : ℕ) → l ≡ 0 → (ends part l
 unfolding ends
 const_end_none part l at h = rw h refl
 
--- a byte that stands at a position is one of the part
-pub within : (part : List ℕ) (byte at : ℕ) → stands part (suc byte) (Some at) ≡ true → at < length part
+-- a byte at a position is one of the part
+pub within : (part : List ℕ) (byte at : ℕ) → has_byte part (suc byte) (Some at) ≡ true → at < length part
 within part byte at e = grind (arith, nat_tests, get_or_past)
 
 pub if_so : {T : Type 0} (b : Bool) (x y : T) → b ≡ true → (if b then x else y) ≡ x

@@ -1,4 +1,4 @@
--- What is read stands before the position after it.
+-- A reading moves forward.
 use Rattle.std.proofs.Common.{◌≡◌, ℕ, ◌+◌, ◌^◌, ◌≤◌, ◌<◌, Bool, true, false, not, ◌&&◌, List, drop, Option, Some, None, cond, eqb, nat_lt, nat_le, length, get_or, refl, subst, arith}
 use Rattle.std.specs.Prelude.{⊤, codes}
 use Rattle.std.specs.Option.{option_map_or}
@@ -10,7 +10,7 @@ use Rattle.binfarce_text.specs.Letters.{is_hex_digit}
 use Rattle.binfarce_text.specs.Steps.{◌>>=◌}
 use Rattle.binfarce_v0_grammar.specs.Base62.{limited, value_62, base_62_number, optional_base_62_number, back_reference, hex_digits}
 use Rattle.binfarce_v0_grammar.specs.Identifiers.{is_empty, UndisambiguatedIdentifier, Identifier, length_at, past, identifier_of, identifier_bytes, undisambiguated_identifier, identifier}
-use Rattle.binfarce_v0_grammar.specs.Forms.{Lifetime, NoLifetime, stands, InvalidLifetime, IndexedLifetime, lifetime, basic_type, const_type, has_sign, value_of, const_value, abi, path_form, type_form_by, type_form, reference_form, function_form, const_form, typed_form, PathForm, NoPathForm, CrateRoot, NestedIn, InherentImpl, TraitImpl, TraitDefinition, WithArguments, BackToPath, TypeForm, NoTypeForm, BasicType, ReferenceTo, InvalidReference, PointerTo, SliceOf, ArrayOf, TupleOf, FunctionOf, InvalidAbi, DynOf, InvalidDyn, BackToType, PathType, ConstValue, ConstForm, NoConstForm, UntypedPlaceholderConst, PlaceholderConst, ValueConst, InvalidConst, BackToConst}
+use Rattle.binfarce_v0_grammar.specs.Forms.{Lifetime, NoLifetime, has_byte, InvalidLifetime, IndexedLifetime, lifetime, basic_type, const_type, has_sign, value_of, const_value, abi, path_form, type_form_by, type_form, reference_form, function_form, const_form, typed_form, PathForm, NoPathForm, CrateRoot, NestedIn, InherentImpl, TraitImpl, TraitDefinition, WithArguments, BackToPath, TypeForm, NoTypeForm, BasicType, ReferenceTo, InvalidReference, PointerTo, SliceOf, ArrayOf, TupleOf, FunctionOf, InvalidAbi, DynOf, InvalidDyn, BackToType, PathType, ConstValue, ConstForm, NoConstForm, UntypedPlaceholderConst, PlaceholderConst, ValueConst, InvalidConst, BackToConst}
 use Rattle.binfarce_v0_grammar.specs.Tree.{PathTree, TypeTree, ConstTree, Item, Items, Bindings, NoConst, UntypedPlaceholder, Placeholder, Value, InvalidValue, BackConst, ConstTarget, NoPath, Crate, Nested, InvalidNested, OfType, OfImpl, OfTrait, Generic, BackPath, PathTarget, NoType, Basic, Reference, InvalidReferenceType, Pointer, Slice, Array, Tuple, Function, FunctionTo, InvalidFunction, Dyn, InvalidDynType, Named, BackType, TypeTarget, LifetimeItem, TypeItem, ConstItem, TraitItem, NoItems, ItemThen, NoBindings, Binding, InvalidBinding, Listed, Arguments, Types, Traits}
 use Rattle.binfarce_v0_grammar.specs.Reading.{ReadsConst, ReadsPath, ReadsType, ReadsItem, ReadsItems, ReadsBindings}
 
@@ -30,7 +30,7 @@ after_then : {A B : Type 0} (at : ℕ) (o : Option A) (f : A → Option (B × �
 after_then at None f h = tt
 after_then at (Some a) f h = h a refl
 
--- what is made of an answer, and what stands in its place where there is none
+-- a function of an answer, and its value without an answer
 mapped_after : {A B : Type 0} (P : B → Type 0) (at : ℕ) (f : A × ℕ → B) (o : Option (A × ℕ)) (d : B) → ((r : A × ℕ) → at ≤ r.1 → P (f r)) → P d → After at o → P (option_map_or f o d)
 mapped_after P at f None d h k a = k
 mapped_after P at f (Some r) d h k a = h r a
@@ -120,7 +120,7 @@ lifetime_after part at =
     each (λ (l : Lifetime × Option ℕ). PositionAfter at l.1) (eqb (get_or part at 0) 76) (indexed_lifetime (base_62_number part (at + 1))) (NoLifetime, Some at) (indexed_after at (base_62_number part (at + 1)) (after_less at (at + 1 + 1) _ (omega arith) (number_after part (at + 1)))) (omega arith)
 
 -- an "L" that is read
-lifetime_forward : (part : List ℕ) (at after : ℕ) (life : Lifetime) → stands part 76 (Some at) ≡ true → lifetime part (Some at) ≡ (life, Some after) → at < after
+lifetime_forward : (part : List ℕ) (at after : ℕ) (life : Lifetime) → has_byte part 76 (Some at) ≡ true → lifetime part (Some at) ≡ (life, Some after) → at < after
 unfolding lifetime
 lifetime_forward part at after life e r =
     let past : PositionAfter (at + 1) (lifetime part (Some at)).1 = rw e (indexed_after (at + 1) (base_62_number part (at + 1)) (after_less (at + 1) (at + 1 + 1) _ (omega arith) (number_after part (at + 1)))) in

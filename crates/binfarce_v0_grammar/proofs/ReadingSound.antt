@@ -2,7 +2,7 @@
 use Rattle.std.proofs.Common.{◌≡◌, ℕ, zero, suc, ◌+◌, ◌≤◌, Bool, true, false, List, Option, Some, None, cond, length, refl, ap, arith}
 use Rattle.binfarce_text.specs.Steps.{◌>>=◌}
 use Rattle.binfarce_v0_grammar.specs.Identifiers.{UndisambiguatedIdentifier, Identifier, identifier, undisambiguated_identifier}
-use Rattle.binfarce_v0_grammar.specs.Forms.{Lifetime, stands, lifetime, path_form, type_form, const_form, PathForm, NoPathForm, CrateRoot, NestedIn, InherentImpl, TraitImpl, TraitDefinition, WithArguments, BackToPath, TypeForm, NoTypeForm, BasicType, ReferenceTo, InvalidReference, PointerTo, SliceOf, ArrayOf, TupleOf, FunctionOf, InvalidAbi, DynOf, InvalidDyn, BackToType, PathType, ConstForm, NoConstForm, UntypedPlaceholderConst, PlaceholderConst, ValueConst, InvalidConst, BackToConst}
+use Rattle.binfarce_v0_grammar.specs.Forms.{Lifetime, has_byte, lifetime, path_form, type_form, const_form, PathForm, NoPathForm, CrateRoot, NestedIn, InherentImpl, TraitImpl, TraitDefinition, WithArguments, BackToPath, TypeForm, NoTypeForm, BasicType, ReferenceTo, InvalidReference, PointerTo, SliceOf, ArrayOf, TupleOf, FunctionOf, InvalidAbi, DynOf, InvalidDyn, BackToType, PathType, ConstForm, NoConstForm, UntypedPlaceholderConst, PlaceholderConst, ValueConst, InvalidConst, BackToConst}
 use Rattle.binfarce_v0_grammar.specs.Tree.{PathTree, TypeTree, ConstTree, Item, Items, Bindings, UntypedPlaceholder, Placeholder, Value, ConstTarget, Crate, Nested, OfType, OfImpl, OfTrait, Generic, PathTarget, Basic, Reference, Pointer, Slice, Array, Tuple, Function, FunctionTo, Dyn, Named, TypeTarget, LifetimeItem, TypeItem, ConstItem, TraitItem, NoItems, ItemThen, NoBindings, Binding, path_height, type_height, const_height, item_height, items_height, bindings_height, Listed, Arguments, Types, Traits}
 use Rattle.binfarce_v0_grammar.specs.Reading.{ReadsConst, ReadsPath, ReadsType, ReadsItem, ReadsItems, ReadsBindings}
 use Rattle.binfarce_v0_grammar.specs.machine.Ends.{Ends, const_end, identifier_end, lifetime_end, bound_from, bindings_end, argument_end, item_end, items_end, list_end, return_end, type_end, path_end, ends}
@@ -69,9 +69,9 @@ bindings_read : (part : List ℕ) (levels_left : ℕ) (R : Ends) → ReadsTrees 
 unfolding bindings_end ReadsBindings bindings_height
 bindings_read part levels_left R H zero at after e = cc
 bindings_read part levels_left R H (suc n) at after e =
-    by (bindings_read part levels_left R H n) (stands part 112 (Some at)) refl e
+    by (bindings_read part levels_left R H n) (has_byte part 112 (Some at)) refl e
   where
-    bound : ((at after : ℕ) → bindings_end part R n at ≡ Some after → BindingsRead part levels_left at after) → stands part 112 (Some at) ≡ true → (i : Option (UndisambiguatedIdentifier × ℕ)) → undisambiguated_identifier part (at + 1) ≡ i → bound_from R (bindings_end part R n) i ≡ Some after → BindingsRead part levels_left at after
+    bound : ((at after : ℕ) → bindings_end part R n at ≡ Some after → BindingsRead part levels_left at after) → has_byte part 112 (Some at) ≡ true → (i : Option (UndisambiguatedIdentifier × ℕ)) → undisambiguated_identifier part (at + 1) ≡ i → bound_from R (bindings_end part R n) i ≡ Some after → BindingsRead part levels_left at after
     bound M t None ei e = cc
     bound M t (Some i) ei e =
         let b = between (R.ty i.1) (bindings_end part R n) after e in
@@ -83,16 +83,16 @@ bindings_read part levels_left R H (suc n) at after e =
           height = omega arith;
         }
 
-    by : ((at after : ℕ) → bindings_end part R n at ≡ Some after → BindingsRead part levels_left at after) → (b : Bool) → stands part 112 (Some at) ≡ b → cond b (bound_from R (bindings_end part R n) (undisambiguated_identifier part (at + 1))) (Some at) ≡ Some after → BindingsRead part levels_left at after
+    by : ((at after : ℕ) → bindings_end part R n at ≡ Some after → BindingsRead part levels_left at after) → (b : Bool) → has_byte part 112 (Some at) ≡ b → cond b (bound_from R (bindings_end part R n) (undisambiguated_identifier part (at + 1))) (Some at) ≡ Some after → BindingsRead part levels_left at after
     by M true t e = bound M t (undisambiguated_identifier part (at + 1)) refl e
     by M false t e =
         let here : after ≡ at = cc in record { tree = NoBindings; reads = (t, here); height = omega arith }
 
 argument_read : (part : List ℕ) (levels_left : ℕ) (R : Ends) → ReadsTrees part levels_left R → (at after : ℕ) → argument_end part R at ≡ Some after → ItemRead part Arguments levels_left at after
 unfolding ReadsItem item_height
-argument_read part levels_left R H at after e = by (stands part 76 (Some at)) (stands part 75 (Some at)) refl refl e
+argument_read part levels_left R H at after e = by (has_byte part 76 (Some at)) (has_byte part 75 (Some at)) refl refl e
   where
-    by : (a b : Bool) → stands part 76 (Some at) ≡ a → stands part 75 (Some at) ≡ b → cond a (lifetime part (Some at)).1 (cond b (R.constant (at + 1)) (R.ty at)) ≡ Some after → ItemRead part Arguments levels_left at after
+    by : (a b : Bool) → has_byte part 76 (Some at) ≡ a → has_byte part 75 (Some at) ≡ b → cond a (lifetime part (Some at)).1 (cond b (R.constant (at + 1)) (R.ty at)) ≡ Some after → ItemRead part Arguments levels_left at after
     by true b ea eb e =
         let f : Option ℕ → Lifetime × Option ℕ = λ x. ((lifetime part (Some at)).0, x) in
         record { tree = LifetimeItem (lifetime part (Some at)).0; reads = (ea, ap f e); height = omega arith }
@@ -117,9 +117,9 @@ pub items_read : (part : List ℕ) (levels_left : ℕ) (R : Ends) → ReadsTrees
 unfolding items_end ReadsItems items_height
 items_read part levels_left R H listed zero at after e = cc
 items_read part levels_left R H listed (suc n) at after e =
-    by (items_read part levels_left R H listed n) (stands part 69 (Some at)) refl e
+    by (items_read part levels_left R H listed n) (has_byte part 69 (Some at)) refl e
   where
-    by : ((at after : ℕ) → items_end part R listed n at ≡ Some after → ItemsRead part listed levels_left at after) → (b : Bool) → stands part 69 (Some at) ≡ b → cond b (Some (at + 1)) (item_end part R listed at >>= items_end part R listed n) ≡ Some after → ItemsRead part listed levels_left at after
+    by : ((at after : ℕ) → items_end part R listed n at ≡ Some after → ItemsRead part listed levels_left at after) → (b : Bool) → has_byte part 69 (Some at) ≡ b → cond b (Some (at + 1)) (item_end part R listed at >>= items_end part R listed n) ≡ Some after → ItemsRead part listed levels_left at after
     by M true t e =
         let here : after ≡ at + 1 = cc in record { tree = NoItems; reads = (t, here); height = omega arith }
     by M false t e =
@@ -158,9 +158,9 @@ type_read part levels_left R H at after (TupleOf q) e p =
 type_read part levels_left R H at after (FunctionOf signature q) e p =
     let b = between (list_end part R Types q) (return_end part R) after p in
     let f = items_read part levels_left R H Types (suc (length part)) q b.mid b.first in
-    by b.mid f (stands part 117 (Some b.mid)) refl b.second
+    by b.mid f (has_byte part 117 (Some b.mid)) refl b.second
   where
-    by : (mid : ℕ) → ItemsRead part Types levels_left q mid → (b : Bool) → stands part 117 (Some mid) ≡ b → cond b (Some (mid + 1)) (R.ty mid) ≡ Some after → TypeRead part (suc levels_left) at after
+    by : (mid : ℕ) → ItemsRead part Types levels_left q mid → (b : Bool) → has_byte part 117 (Some mid) ≡ b → cond b (Some (mid + 1)) (R.ty mid) ≡ Some after → TypeRead part (suc levels_left) at after
     by mid f true t s =
         let here : after ≡ mid + 1 = cc in
         record { tree = Function signature f.tree; reads = (q, mid, e, f.reads, t, here); height = omega arith }
@@ -171,9 +171,9 @@ type_read part levels_left R H at after (InvalidAbi binder) e p = cc
 type_read part levels_left R H at after (DynOf binder q) e p =
     let b = between (list_end part R Traits q) (lifetime_end part) after p in
     let f = items_read part levels_left R H Traits (suc (length part)) q b.mid b.first in
-    by b.mid f (stands part 76 (Some b.mid)) refl b.second
+    by b.mid f (has_byte part 76 (Some b.mid)) refl b.second
   where
-    by : (mid : ℕ) → ItemsRead part Traits levels_left q mid → (b : Bool) → stands part 76 (Some mid) ≡ b → cond b (lifetime part (Some mid)).1 None ≡ Some after → TypeRead part (suc levels_left) at after
+    by : (mid : ℕ) → ItemsRead part Traits levels_left q mid → (b : Bool) → has_byte part 76 (Some mid) ≡ b → cond b (lifetime part (Some mid)).1 None ≡ Some after → TypeRead part (suc levels_left) at after
     by mid f true t s =
         let g : Option ℕ → Lifetime × Option ℕ = λ x. ((lifetime part (Some mid)).0, x) in
         record { tree = Dyn binder f.tree (lifetime part (Some mid)).0; reads = (q, mid, e, f.reads, t, ap g s); height = omega arith }

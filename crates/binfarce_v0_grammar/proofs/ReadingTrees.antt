@@ -2,7 +2,7 @@
 use Rattle.std.proofs.Common.{◌≡◌, ℕ, zero, suc, ◌+◌, ◌-◌, ◌≤◌, ◌<◌, List, Option, Some, None, max, if◌then◌else◌, length, refl, ap, sym, ◌∙◌, arith}
 use Rattle.binfarce_text.specs.Steps.{◌>>=◌}
 use Rattle.binfarce_v0_grammar.specs.Identifiers.{identifier, undisambiguated_identifier}
-use Rattle.binfarce_v0_grammar.specs.Forms.{stands, lifetime, path_form, type_form, const_form, PathForm, NoPathForm, CrateRoot, NestedIn, InherentImpl, TraitImpl, TraitDefinition, WithArguments, BackToPath, TypeForm, NoTypeForm, BasicType, ReferenceTo, InvalidReference, PointerTo, SliceOf, ArrayOf, TupleOf, FunctionOf, InvalidAbi, DynOf, InvalidDyn, BackToType, PathType, ConstForm, NoConstForm, UntypedPlaceholderConst, PlaceholderConst, ValueConst, InvalidConst, BackToConst}
+use Rattle.binfarce_v0_grammar.specs.Forms.{has_byte, lifetime, path_form, type_form, const_form, PathForm, NoPathForm, CrateRoot, NestedIn, InherentImpl, TraitImpl, TraitDefinition, WithArguments, BackToPath, TypeForm, NoTypeForm, BasicType, ReferenceTo, InvalidReference, PointerTo, SliceOf, ArrayOf, TupleOf, FunctionOf, InvalidAbi, DynOf, InvalidDyn, BackToType, PathType, ConstForm, NoConstForm, UntypedPlaceholderConst, PlaceholderConst, ValueConst, InvalidConst, BackToConst}
 use Rattle.binfarce_v0_grammar.specs.Tree.{PathTree, TypeTree, ConstTree, Item, Items, Bindings, NoConst, UntypedPlaceholder, Placeholder, Value, InvalidValue, BackConst, ConstTarget, NoPath, Crate, Nested, InvalidNested, OfType, OfImpl, OfTrait, Generic, BackPath, PathTarget, NoType, Basic, Reference, InvalidReferenceType, Pointer, Slice, Array, Tuple, Function, FunctionTo, InvalidFunction, Dyn, InvalidDynType, Named, BackType, TypeTarget, LifetimeItem, TypeItem, ConstItem, TraitItem, NoItems, ItemThen, NoBindings, Binding, InvalidBinding, path_height, type_height, const_height, item_height, items_height, bindings_height, Listed, Arguments, Types, Traits}
 use Rattle.binfarce_v0_grammar.specs.Reading.{ReadsConst, ReadsPath, ReadsType, ReadsItem, ReadsItems, ReadsBindings}
 use Rattle.binfarce_v0_grammar.proofs.ReadingComplete.{if_so, if_not, suc-one, within, items_within}
@@ -31,18 +31,18 @@ placed b o = o >>= λ q. Some (b, q)
 bindings_tree : List ℕ → Trees → ℕ → ℕ → Option (Bindings × ℕ)
 bindings_tree part R zero at = None
 bindings_tree part R (suc n) at =
-    if stands part 112 (Some at) then (undisambiguated_identifier part (at + 1) >>= λ i. (R.ty i.1 >>= λ t. made (bindings_tree part R n t.1) (Binding i.0 t.0))) else Some (NoBindings, at)
+    if has_byte part 112 (Some at) then (undisambiguated_identifier part (at + 1) >>= λ i. (R.ty i.1 >>= λ t. made (bindings_tree part R n t.1) (Binding i.0 t.0))) else Some (NoBindings, at)
 
 item_tree : List ℕ → Trees → Listed → ℕ → Option (Item × ℕ)
 item_tree part R Arguments at =
-    if stands part 76 (Some at) then placed (LifetimeItem (lifetime part (Some at)).0) (lifetime part (Some at)).1 else (if stands part 75 (Some at) then made (R.constant (at + 1)) ConstItem else made (R.ty at) TypeItem)
+    if has_byte part 76 (Some at) then placed (LifetimeItem (lifetime part (Some at)).0) (lifetime part (Some at)).1 else (if has_byte part 75 (Some at) then made (R.constant (at + 1)) ConstItem else made (R.ty at) TypeItem)
 item_tree part R Types at = made (R.ty at) TypeItem
 item_tree part R Traits at = R.path at >>= λ p. made (bindings_tree part R (suc (length part)) p.1) (TraitItem p.0)
 
 items_tree : List ℕ → Trees → Listed → ℕ → ℕ → Option (Items × ℕ)
 items_tree part R listed zero at = None
 items_tree part R listed (suc n) at =
-    if stands part 69 (Some at) then Some (NoItems, at + 1) else (item_tree part R listed at >>= λ i. made (items_tree part R listed n i.1) (ItemThen i.0))
+    if has_byte part 69 (Some at) then Some (NoItems, at + 1) else (item_tree part R listed at >>= λ i. made (items_tree part R listed n i.1) (ItemThen i.0))
 
 type_tree : List ℕ → Trees → ℕ → TypeForm → Option (TypeTree × ℕ)
 type_tree part R at NoTypeForm = None
@@ -54,7 +54,7 @@ type_tree part R at (SliceOf q) = made (R.ty q) Slice
 type_tree part R at (ArrayOf q) = R.ty q >>= λ t. made (R.constant t.1) (Array t.0)
 type_tree part R at (TupleOf q) = made (items_tree part R Types (suc (length part)) q) Tuple
 type_tree part R at (FunctionOf signature q) =
-    items_tree part R Types (suc (length part)) q >>= λ i. (if stands part 117 (Some i.1) then Some (Function signature i.0, i.1 + 1) else made (R.ty i.1) (FunctionTo signature i.0))
+    items_tree part R Types (suc (length part)) q >>= λ i. (if has_byte part 117 (Some i.1) then Some (Function signature i.0, i.1 + 1) else made (R.ty i.1) (FunctionTo signature i.0))
 type_tree part R at (InvalidAbi binder) = None
 type_tree part R at (DynOf binder q) =
     items_tree part R Traits (suc (length part)) q >>= λ i. placed (Dyn binder i.0 (lifetime part (Some i.1)).0) (lifetime part (Some i.1)).1

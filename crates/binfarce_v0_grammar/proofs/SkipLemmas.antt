@@ -46,11 +46,11 @@ ten_digits s few =
     let top : 62 ^ run s ≤ 62 ^ 10 = pow-le-pow_right {n = 62} (omega arith) {i = run s} {j = 10} few in
     omega (arith, run_below s 0, top)
 
--- the same of what stands from a position on
+-- the same from a position on
 pub few_digits : (part : List ℕ) (start : ℕ) → run (drop start part) ≤ 10 → value_62 (take (run (drop start part)) (drop start part)) < 2 ^ 64 - 2
 few_digits part start few = ten_digits (drop start part) few
 
--- nine digits after two that are worth less than 1362
+-- nine digits after two that write less than 1362
 two_more : (a b : ℕ) (s : List ℕ) → run (a ∷ b ∷ s) ≡ 11 → digit_62 a * 62 + digit_62 b < 1362 → value_62 (take (run (a ∷ b ∷ s)) (a ∷ b ∷ s)) < 2 ^ 64 - 2
 two_more a b s eleven small = elim (cases_Bool (is_ascii_alphanumeric a)) [
   | inr other ↦
@@ -100,13 +100,13 @@ pub skips_nothing : (part : List ℕ) (tag at : ℕ) → (get_or part at 0 ≡ t
 unfolding optional_base_62_number
 skips_nothing part tag at ne = ap place_of (cond-false (eqb (get_or part at 0) tag) _ _ (ne_eqb (get_or part at 0) tag ne))
 
--- the number that n digits from a position on write, where a "_" stands after them
+-- the number that n digits from a position on write, before a "_"
 abbrev number_of : List ℕ → ℕ → ℕ → ℕ → Option (ℕ × ℕ)
 number_of part at n k =
     cond (eqb (get_or part (at + k) 0) 95) (limited (cond (eqb k 0) 0 (value_62 (take n (drop at part)) + 1)) (at + k + 1)) None
 
-worth_below : (n value : ℕ) → value < 2 ^ 64 - 2 → cond (eqb n 0) 0 (value + 1) < 2 ^ 64 - 1
-worth_below n value small = by (eqb n 0)
+digits_below : (n value : ℕ) → value < 2 ^ 64 - 2 → cond (eqb n 0) 0 (value + 1) < 2 ^ 64 - 1
+digits_below n value small = by (eqb n 0)
   where
     by : (b : Bool) → cond b 0 (value + 1) < 2 ^ 64 - 1
     by true = omega arith
@@ -127,7 +127,7 @@ skips_small part tag at here small =
     let counted : base_62_number part (at + 1) ≡ number_of part (at + 1) n n = ap (number_of part (at + 1) n) (run_length is_ascii_alphanumeric (drop (at + 1) part)) in
     ap place_of (cond-true (eqb (get_or part at 0) tag) _ _ (eq-eqb (get_or part at 0) tag here))
     ∙ ap (λ o. place_of (o >>= λ r. limited (r.0 + 1) r.1)) counted
-    ∙ ends_small (eqb (get_or part (at + 1 + n) 0) 95) _ (at + 1 + n + 1) (worth_below n _ small)
+    ∙ ends_small (eqb (get_or part (at + 1 + n) 0) 95) _ (at + 1 + n + 1) (digits_below n _ small)
 
 -- Identifiers
 

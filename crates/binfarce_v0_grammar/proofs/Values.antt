@@ -1,4 +1,4 @@
--- What a table says of each byte: what it is worth as a base-62 digit.
+-- The table of the value of each byte as a base-62 digit.
 use Rattle.std.proofs.Common.{◌≡◌, ℕ, zero, suc, ◌<◌, ◌≤◌, inl, inr, Bool, true, false, ◌&&◌, nat_eq, if◌then◌else◌, List, ◌∷◌, ◌++◌, get_or, refl, ◌∙◌, subst, arith, replicate}
 use Rattle.std.proofs.lemmas.Bool.Decides.{nat_tests}
 use Rattle.std.proofs.lemmas.Bool.{cases_Bool, cases_lt, cond-true, cond-false}
@@ -10,8 +10,8 @@ use Rattle.binfarce_v0_grammar.proofs.NumberLemmas.{digit_below}
 abbrev values : List ℕ
 values = replicate 48 62 ++ (0 ∷ 1 ∷ 2 ∷ 3 ∷ 4 ∷ 5 ∷ 6 ∷ 7 ∷ 8 ∷ 9 ∷ (replicate 7 62 ++ (36 ∷ 37 ∷ 38 ∷ 39 ∷ 40 ∷ 41 ∷ 42 ∷ 43 ∷ 44 ∷ 45 ∷ 46 ∷ 47 ∷ 48 ∷ 49 ∷ 50 ∷ 51 ∷ 52 ∷ 53 ∷ 54 ∷ 55 ∷ 56 ∷ 57 ∷ 58 ∷ 59 ∷ 60 ∷ 61 ∷ (replicate 6 62 ++ (10 ∷ 11 ∷ 12 ∷ 13 ∷ 14 ∷ 15 ∷ 16 ∷ 17 ∷ 18 ∷ 19 ∷ 20 ∷ 21 ∷ 22 ∷ 23 ∷ 24 ∷ 25 ∷ 26 ∷ 27 ∷ 28 ∷ 29 ∷ 30 ∷ 31 ∷ 32 ∷ 33 ∷ 34 ∷ 35 ∷ replicate 133 62)))))
 
-abbrev worth : ℕ → ℕ
-worth byte = if is_ascii_alphanumeric byte then digit_62 byte else 62
+abbrev table_value : ℕ → ℕ
+table_value byte = if is_ascii_alphanumeric byte then digit_62 byte else 62
 
 all_below : ℕ → (ℕ → Bool) → Bool
 all_below zero test = true
@@ -33,12 +33,12 @@ each_below (suc n) test all i lt =
       | inr after ↦ let same : n ≡ i = omega arith in subst P same halves.0
     ]
 
-told : (d byte : ℕ) → byte < 256 → nat_eq (get_or values byte d) (worth byte) ≡ true
+is_in_table : (d byte : ℕ) → byte < 256 → nat_eq (get_or values byte d) (table_value byte) ≡ true
 unfolding all_below digit_62
-told d byte lt = each_below 256 (λ i. nat_eq (get_or values i d) (worth i)) refl byte lt
+is_in_table d byte lt = each_below 256 (λ i. nat_eq (get_or values i d) (table_value i)) refl byte lt
 
-value_is : (d byte : ℕ) → byte < 256 → get_or values byte d ≡ worth byte
-value_is d byte lt = by (get_or values byte d) (worth byte) (told d byte lt)
+value_is : (d byte : ℕ) → byte < 256 → get_or values byte d ≡ table_value byte
+value_is d byte lt = by (get_or values byte d) (table_value byte) (is_in_table d byte lt)
   where
     by : (a b : ℕ) → nat_eq a b ≡ true → a ≡ b
     by a b e = grind (arith, nat_tests)

@@ -11,9 +11,9 @@ use Rattle.binfarce_v0_grammar.specs.Base62.{digit_62, base_62_number, optional_
 use Rattle.binfarce_v0_grammar.specs.Identifiers.{is_empty, UndisambiguatedIdentifier, undisambiguated_identifier, Identifier, identifier, past}
 
 -- a position has this byte
-abbrev pub stands : (part : List ℕ) (byte : ℕ) (at : Option ℕ) → Bool
-stands part byte None = false
-stands part byte (Some at) = slice_index part at == byte
+abbrev pub has_byte : (part : List ℕ) (byte : ℕ) (at : Option ℕ) → Bool
+has_byte part byte None = false
+has_byte part byte (Some at) = slice_index part at == byte
 
 -- the position after a byte
 abbrev pub after_byte : (at : Option ℕ) → Option ℕ

@@ -8,7 +8,7 @@ use Rattle.std.proofs.Common.{refl}
 use Rattle.binfarce_text.specs.Letters.{'E', 'K', 'L', 'p', 'u'}
 use Rattle.binfarce_v0_grammar.specs.Base62.{digit_62, base_62_number, optional_base_62_number, back_reference}
 use Rattle.binfarce_v0_grammar.specs.Identifiers.{length_at, identifier_of, identifier_bytes, identifier, undisambiguated_identifier}
-use Rattle.binfarce_v0_grammar.specs.Forms.{NoLifetime, stands, lifetime, basic_type, path_form, type_form_by, type_form, const_form, CrateRoot, NestedIn, InherentImpl, TraitImpl, TraitDefinition, WithArguments, BackToPath, BasicType, ReferenceTo, PointerTo, SliceOf, ArrayOf, TupleOf, FunctionOf, DynOf, BackToType, PathType, UntypedPlaceholderConst, PlaceholderConst, ValueConst, BackToConst}
+use Rattle.binfarce_v0_grammar.specs.Forms.{NoLifetime, has_byte, lifetime, basic_type, path_form, type_form_by, type_form, const_form, CrateRoot, NestedIn, InherentImpl, TraitImpl, TraitDefinition, WithArguments, BackToPath, BasicType, ReferenceTo, PointerTo, SliceOf, ArrayOf, TupleOf, FunctionOf, DynOf, BackToType, PathType, UntypedPlaceholderConst, PlaceholderConst, ValueConst, BackToConst}
 use Rattle.binfarce_v0_grammar.specs.Tree.{PathTree, TypeTree, ConstTree, Item, Items, Bindings, UntypedPlaceholder, Placeholder, Value, ConstTarget, Crate, Nested, OfType, OfImpl, OfTrait, Generic, PathTarget, Basic, Reference, Pointer, Slice, Array, Tuple, Function, FunctionTo, Dyn, Named, TypeTarget, LifetimeItem, TypeItem, ConstItem, TraitItem, NoItems, ItemThen, NoBindings, Binding, InvalidBinding, Listed, Arguments, Types, Traits}
 
 unfoldable pub ReadsConst : (part : List ℕ) (tree : ConstTree) (at after : ℕ) → Type 0
@@ -49,11 +49,11 @@ unfoldable mutual
   ReadsType part (Tuple items) at after =
       (front : ℕ) × (type_form part (Some at) ≡ TupleOf front) × ReadsItems part Types items front after
   ReadsType part (Function signature items) at after =
-      (front : ℕ) × (end : ℕ) × (type_form part (Some at) ≡ FunctionOf signature front) × ReadsItems part Types items front end × (stands part 'u' (Some end) ≡ true) × (after ≡ end + 1)
+      (front : ℕ) × (end : ℕ) × (type_form part (Some at) ≡ FunctionOf signature front) × ReadsItems part Types items front end × (has_byte part 'u' (Some end) ≡ true) × (after ≡ end + 1)
   ReadsType part (FunctionTo signature items t) at after =
-      (front : ℕ) × (end : ℕ) × (type_form part (Some at) ≡ FunctionOf signature front) × ReadsItems part Types items front end × (stands part 'u' (Some end) ≡ false) × ReadsType part t end after
+      (front : ℕ) × (end : ℕ) × (type_form part (Some at) ≡ FunctionOf signature front) × ReadsItems part Types items front end × (has_byte part 'u' (Some end) ≡ false) × ReadsType part t end after
   ReadsType part (Dyn binder items life) at after =
-      (front : ℕ) × (end : ℕ) × (type_form part (Some at) ≡ DynOf binder front) × ReadsItems part Traits items front end × (stands part 'L' (Some end) ≡ true) × (lifetime part (Some end) ≡ (life, Some after))
+      (front : ℕ) × (end : ℕ) × (type_form part (Some at) ≡ DynOf binder front) × ReadsItems part Traits items front end × (has_byte part 'L' (Some end) ≡ true) × (lifetime part (Some end) ≡ (life, Some after))
   ReadsType part (Named p) at after = (type_form part (Some at) ≡ PathType) × ReadsPath part p at after
   ReadsType part (TypeTarget target) at after = type_form part (Some at) ≡ BackToType target after
   -- invalid syntax doesn't read
@@ -61,11 +61,11 @@ unfoldable mutual
 
   pub ReadsItem : (part : List ℕ) (listed : Listed) (i : Item) (at after : ℕ) → Type 0
   ReadsItem part Arguments (LifetimeItem life) at after =
-      (stands part 'L' (Some at) ≡ true) × (lifetime part (Some at) ≡ (life, Some after))
+      (has_byte part 'L' (Some at) ≡ true) × (lifetime part (Some at) ≡ (life, Some after))
   ReadsItem part Arguments (ConstItem c) at after =
-      (stands part 'L' (Some at) ≡ false) × (stands part 'K' (Some at) ≡ true) × ReadsConst part c (at + 1) after
+      (has_byte part 'L' (Some at) ≡ false) × (has_byte part 'K' (Some at) ≡ true) × ReadsConst part c (at + 1) after
   ReadsItem part Arguments (TypeItem t) at after =
-      (stands part 'L' (Some at) ≡ false) × (stands part 'K' (Some at) ≡ false) × ReadsType part t at after
+      (has_byte part 'L' (Some at) ≡ false) × (has_byte part 'K' (Some at) ≡ false) × ReadsType part t at after
   ReadsItem part Types (TypeItem t) at after = ReadsType part t at after
   ReadsItem part Traits (TraitItem p bindings) at after =
       (mid : ℕ) × ReadsPath part p at mid × ReadsBindings part bindings mid after
@@ -73,14 +73,14 @@ unfoldable mutual
   ReadsItem part _ _ at after = ⊥
 
   pub ReadsItems : (part : List ℕ) (listed : Listed) (items : Items) (at after : ℕ) → Type 0
-  ReadsItems part listed NoItems at after = (stands part 'E' (Some at) ≡ true) × (after ≡ at + 1)
+  ReadsItems part listed NoItems at after = (has_byte part 'E' (Some at) ≡ true) × (after ≡ at + 1)
   ReadsItems part listed (ItemThen i items) at after =
-      (mid : ℕ) × (stands part 'E' (Some at) ≡ false) × ReadsItem part listed i at mid × ReadsItems part listed items mid after
+      (mid : ℕ) × (has_byte part 'E' (Some at) ≡ false) × ReadsItem part listed i at mid × ReadsItems part listed items mid after
 
   pub ReadsBindings : (part : List ℕ) (bindings : Bindings) (at after : ℕ) → Type 0
-  ReadsBindings part NoBindings at after = (stands part 'p' (Some at) ≡ false) × (after ≡ at)
+  ReadsBindings part NoBindings at after = (has_byte part 'p' (Some at) ≡ false) × (after ≡ at)
   ReadsBindings part (Binding i t bindings) at after =
-      (front : ℕ) × (mid : ℕ) × (stands part 'p' (Some at) ≡ true) × (undisambiguated_identifier part (at + 1) ≡ Some (i, front)) × ReadsType part t front mid × ReadsBindings part bindings mid after
+      (front : ℕ) × (mid : ℕ) × (has_byte part 'p' (Some at) ≡ true) × (undisambiguated_identifier part (at + 1) ≡ Some (i, front)) × ReadsType part t front mid × ReadsBindings part bindings mid after
   ReadsBindings part InvalidBinding at after = ⊥
 
 -- `a::<&u8, &u8>`, of which the second type is a back reference to position 4

@@ -7,7 +7,7 @@ use Rattle.std.proofs.Common.{refl, arith}
 use Rattle.binfarce_text.specs.Letters.{'E', 'K', 'L', 'p', 'u'}
 use Rattle.binfarce_v0_grammar.specs.Base62.{digit_62, base_62_number, optional_base_62_number, back_reference}
 use Rattle.binfarce_v0_grammar.specs.Identifiers.{length_at, identifier_of, identifier_bytes, undisambiguated_identifier, identifier}
-use Rattle.binfarce_v0_grammar.specs.Forms.{basic_type, type_form_by, Lifetime, NoLifetime, InvalidLifetime, IndexedLifetime, stands, after_byte, identifier_at, undisambiguated_at, lifetime, path_form, type_form, const_form, NoPathForm, CrateRoot, NestedIn, InherentImpl, TraitImpl, TraitDefinition, WithArguments, BackToPath, NoTypeForm, BasicType, ReferenceTo, InvalidReference, PointerTo, SliceOf, ArrayOf, TupleOf, FunctionOf, InvalidAbi, DynOf, InvalidDyn, BackToType, PathType, NoConstForm, UntypedPlaceholderConst, PlaceholderConst, ValueConst, InvalidConst, BackToConst}
+use Rattle.binfarce_v0_grammar.specs.Forms.{basic_type, type_form_by, Lifetime, NoLifetime, InvalidLifetime, IndexedLifetime, has_byte, after_byte, identifier_at, undisambiguated_at, lifetime, path_form, type_form, const_form, NoPathForm, CrateRoot, NestedIn, InherentImpl, TraitImpl, TraitDefinition, WithArguments, BackToPath, NoTypeForm, BasicType, ReferenceTo, InvalidReference, PointerTo, SliceOf, ArrayOf, TupleOf, FunctionOf, InvalidAbi, DynOf, InvalidDyn, BackToType, PathType, NoConstForm, UntypedPlaceholderConst, PlaceholderConst, ValueConst, InvalidConst, BackToConst}
 use Rattle.binfarce_v0_grammar.specs.Tree.{PathTree, TypeTree, ConstTree, Item, Items, Bindings, NoConst, UntypedPlaceholder, Placeholder, Value, InvalidValue, BackConst, ConstTarget, NoPath, Crate, Nested, InvalidNested, OfType, OfImpl, OfTrait, Generic, BackPath, PathTarget, NoType, Basic, Reference, InvalidReferenceType, Pointer, Slice, Array, Tuple, Function, FunctionTo, InvalidFunction, Dyn, InvalidDynType, Named, BackType, TypeTarget, LifetimeItem, TypeItem, ConstItem, TraitItem, NoItems, ItemThen, Listed, Arguments, Types, Traits, NoBindings, Binding, InvalidBinding, path_height, path_steps, is_announced, worked_tree}
 use Rattle.binfarce_v0_grammar.specs.declared.limits.TheConstants.{MAX_LEVELS, MAX_STEPS}
 
@@ -25,7 +25,7 @@ required_end binder_depth _ after = None
 -- a list ends at an "E", and after invalid syntax
 abbrev pub list_goes_on : (part : List ℕ) (at : Option ℕ) → Bool
 list_goes_on part None = false
-list_goes_on part (Some at) = not (stands part 'E' (Some at))
+list_goes_on part (Some at) = not (has_byte part 'E' (Some at))
 
 unfoldable pub IsConst : (part : List ℕ) (tree : ConstTree) (at after : Option ℕ) → Type 0
 IsConst part NoConst at after = (const_form part at ≡ NoConstForm) × (after ≡ None)
@@ -80,9 +80,9 @@ unfoldable mutual
   IsType part (Tuple items) at binder_depth after =
       (front : ℕ) × (type_form part at ≡ TupleOf front) × AreItems part Types items (Some front) binder_depth after
   IsType part (Function signature items) at binder_depth after =
-      (front : ℕ) × (end : Option ℕ) × (type_form part at ≡ FunctionOf signature front) × AreItems part Types items (Some front) (binder_depth + signature.binder) end × (stands part 'u' end ≡ true) × (after ≡ after_byte end)
+      (front : ℕ) × (end : Option ℕ) × (type_form part at ≡ FunctionOf signature front) × AreItems part Types items (Some front) (binder_depth + signature.binder) end × (has_byte part 'u' end ≡ true) × (after ≡ after_byte end)
   IsType part (FunctionTo signature items t) at binder_depth after =
-      (front : ℕ) × (end : Option ℕ) × (type_form part at ≡ FunctionOf signature front) × AreItems part Types items (Some front) (binder_depth + signature.binder) end × (stands part 'u' end ≡ false) × IsType part t end (binder_depth + signature.binder) after
+      (front : ℕ) × (end : Option ℕ) × (type_form part at ≡ FunctionOf signature front) × AreItems part Types items (Some front) (binder_depth + signature.binder) end × (has_byte part 'u' end ≡ false) × IsType part t end (binder_depth + signature.binder) after
   IsType part (InvalidFunction binder) at binder_depth after = (type_form part at ≡ InvalidAbi binder) × (after ≡ None)
   IsType part (Dyn binder items life) at binder_depth after =
       (front : ℕ) × (end : Option ℕ) × (last : Option ℕ) × (type_form part at ≡ DynOf binder front) × AreItems part Traits items (Some front) (binder_depth + binder) end × (lifetime part end ≡ (life, last)) × (after ≡ required_end binder_depth life last)
@@ -96,11 +96,11 @@ unfoldable mutual
   -- an item of a list, where the list goes on
   pub IsItem : (part : List ℕ) (listed : Listed) (i : Item) (at : Option ℕ) (binder_depth : ℕ) (after : Option ℕ) → Type 0
   IsItem part Arguments (LifetimeItem life) at binder_depth after =
-      (last : Option ℕ) × (stands part 'L' at ≡ true) × (lifetime part at ≡ (life, last)) × (after ≡ required_end binder_depth life last)
+      (last : Option ℕ) × (has_byte part 'L' at ≡ true) × (lifetime part at ≡ (life, last)) × (after ≡ required_end binder_depth life last)
   IsItem part Arguments (ConstItem c) at binder_depth after =
-      (stands part 'L' at ≡ false) × (stands part 'K' at ≡ true) × IsConst part c (after_byte at) after
+      (has_byte part 'L' at ≡ false) × (has_byte part 'K' at ≡ true) × IsConst part c (after_byte at) after
   IsItem part Arguments (TypeItem t) at binder_depth after =
-      (stands part 'L' at ≡ false) × (stands part 'K' at ≡ false) × IsType part t at binder_depth after
+      (has_byte part 'L' at ≡ false) × (has_byte part 'K' at ≡ false) × IsType part t at binder_depth after
   IsItem part Types (TypeItem t) at binder_depth after = IsType part t at binder_depth after
   IsItem part Traits (TraitItem p bindings) at binder_depth after =
       (mid : Option ℕ) × IsPath part p at binder_depth mid × AreBindings part bindings mid binder_depth after
@@ -114,11 +114,11 @@ unfoldable mutual
       (mid : Option ℕ) × (list_goes_on part at ≡ true) × IsItem part listed i at binder_depth mid × AreItems part listed items mid binder_depth after
 
   pub AreBindings : (part : List ℕ) (bindings : Bindings) (at : Option ℕ) (binder_depth : ℕ) (after : Option ℕ) → Type 0
-  AreBindings part NoBindings at binder_depth after = (stands part 'p' at ≡ false) × (after ≡ at)
+  AreBindings part NoBindings at binder_depth after = (has_byte part 'p' at ≡ false) × (after ≡ at)
   AreBindings part (Binding i t bindings) at binder_depth after =
-      (front : ℕ) × (mid : Option ℕ) × (stands part 'p' at ≡ true) × (undisambiguated_at part (after_byte at) ≡ Some (i, front)) × IsType part t (Some front) binder_depth mid × AreBindings part bindings mid binder_depth after
+      (front : ℕ) × (mid : Option ℕ) × (has_byte part 'p' at ≡ true) × (undisambiguated_at part (after_byte at) ≡ Some (i, front)) × IsType part t (Some front) binder_depth mid × AreBindings part bindings mid binder_depth after
   AreBindings part InvalidBinding at binder_depth after =
-      (stands part 'p' at ≡ true) × (undisambiguated_at part (after_byte at) ≡ None) × (after ≡ None)
+      (has_byte part 'p' at ≡ true) × (undisambiguated_at part (after_byte at) ≡ None) × (after ≡ None)
 
 -- the first path of a mangling unfolds to a tree within some limits. `part` is all that follows the prefix, with the rest after the paths, since a
 -- back reference may lead there. `after` may be anything, even None: `Reading` decides where the paths end

@@ -99,7 +99,7 @@ fn digits_62(part: &[u8], start: usize) -> Option<(u64, usize)>
     more_digits_62(part, value, end)
 }
 
-// The same after digits of the value `worth`.
+// The same after digits of the value `before`.
 #[inline(always)]
 #[tactic(auto, using(crate::proofs::NumberLemmas::number_from_step, crate::proofs::NumberLemmas::number_from_large, crate::proofs::NumberLemmas::number_from_over))]
 fn more_digits_62(part: &[u8], before: u64, start: usize) -> Option<(u64, usize)>

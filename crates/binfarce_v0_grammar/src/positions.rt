@@ -1,7 +1,7 @@
 //! Positions of a v0 name after a byte, a list and a lifetime.
 
 ghost use Rattle.std.specs.Prelude.{◌≡◌, ◌<◌, Some, true, false, MatchOption};
-ghost use Rattle.binfarce_v0_grammar.specs.Forms.{stands, after_byte};
+ghost use Rattle.binfarce_v0_grammar.specs.Forms.{has_byte, after_byte};
 ghost use Rattle.binfarce_v0_grammar.specs.Tree.{lifetime_steps};
 ghost use Rattle.binfarce_v0_grammar.specs.Unfolding.{list_goes_on, bound_end, required_end};
 ghost use Rattle.binfarce_v0_grammar.specs.machine.View.{lifetime_view};
@@ -13,8 +13,8 @@ use crate::numbers::byte_at;
 #[inline(always)]
 pub fn eat(part: &[u8], byte: u8, at: Option<usize>) -> Option<usize>
     requires { 0 < byte }
-    ensures { MatchOption result (stands part.now byte at ≡ false)
-        (λ after. (stands part.now byte at ≡ true) × (after_byte at ≡ Some after)) }
+    ensures { MatchOption result (has_byte part.now byte at ≡ false)
+        (λ after. (has_byte part.now byte at ≡ true) × (after_byte at ≡ Some after)) }
 {
     let at = at?;
     if byte_at(part, at) == byte {

@@ -3,7 +3,7 @@ use Rattle.std.proofs.Common.{◌≡◌, ℕ, zero, suc, ◌+◌, ◌-◌, ◌�
 use Rattle.std.proofs.lemmas.Bool.Decides.{nat_tests}
 use Rattle.std.specs.Prelude.{codes}
 use Rattle.binfarce_v0_state.specs.LeafTexts.{identifier_text}
-use Rattle.binfarce_v0_grammar.specs.Forms.{Lifetime, NoLifetime, stands, after_byte, lifetime, path_form, type_form, const_form, PathForm, NoPathForm, CrateRoot, NestedIn, InherentImpl, TraitImpl, TraitDefinition, WithArguments, BackToPath, TypeForm, NoTypeForm, BasicType, ReferenceTo, InvalidReference, PointerTo, SliceOf, ArrayOf, TupleOf, FunctionOf, InvalidAbi, DynOf, InvalidDyn, BackToType, PathType, ConstForm, NoConstForm, UntypedPlaceholderConst, PlaceholderConst, ValueConst, InvalidConst, BackToConst}
+use Rattle.binfarce_v0_grammar.specs.Forms.{Lifetime, NoLifetime, has_byte, after_byte, lifetime, path_form, type_form, const_form, PathForm, NoPathForm, CrateRoot, NestedIn, InherentImpl, TraitImpl, TraitDefinition, WithArguments, BackToPath, TypeForm, NoTypeForm, BasicType, ReferenceTo, InvalidReference, PointerTo, SliceOf, ArrayOf, TupleOf, FunctionOf, InvalidAbi, DynOf, InvalidDyn, BackToType, PathType, ConstForm, NoConstForm, UntypedPlaceholderConst, PlaceholderConst, ValueConst, InvalidConst, BackToConst}
 use Rattle.binfarce_v0_grammar.specs.Tree.{PathTree, TypeTree, ConstTree, Item, Items, Bindings, NoConst, UntypedPlaceholder, Placeholder, Value, InvalidValue, BackConst, ConstTarget, NoPath, Crate, Nested, InvalidNested, OfType, OfImpl, OfTrait, Generic, BackPath, PathTarget, NoType, Basic, Reference, InvalidReferenceType, Pointer, Slice, Array, Tuple, Function, FunctionTo, InvalidFunction, Dyn, InvalidDynType, Named, BackType, TypeTarget, LifetimeItem, TypeItem, ConstItem, TraitItem, NoItems, ItemThen, NoBindings, Binding, InvalidBinding, lifetime_steps, path_height, type_height, const_height, item_height, items_height, bindings_height, path_steps, type_steps, const_steps, item_steps, items_steps, bindings_steps, path_root, type_root, item_root, items_root, bindings_root, Listed, Arguments, Types, Traits}
 use Rattle.binfarce_v0_state.specs.TreeTexts.{path_text, type_text, const_text, item_text, items_text, bindings_text, Position, InType, OpenTrait, parent_position, value_mark, closing, is_left_open, separator, single_mark, open_mark, close_mark}
 use Rattle.binfarce_v0_state.specs.LeafTexts.{binder_text, signature_text, nested_text, sign_text, value_text, reference_lifetime, argument_lifetime, dyn_lifetime, mutable_text}
@@ -63,7 +63,7 @@ const_complete (ConstTarget target) part l s after o is h n = absurd is
 
 -- Steps are taken
 
-lifetime_there : (part : List ℕ) (at last : Option ℕ) (life : Lifetime) → stands part 76 at ≡ true → lifetime part at ≡ (life, last) → lifetime_steps life ≡ 1
+lifetime_there : (part : List ℕ) (at last : Option ℕ) (life : Lifetime) → has_byte part 76 at ≡ true → lifetime part at ≡ (life, last) → lifetime_steps life ≡ 1
 lifetime_there part at last life e is = ap (λ l. lifetime_steps l.0) (sym is) ∙ lifetime_step part at e
 
 type_steps_some : (t : TypeTree) → 1 ≤ type_steps t
@@ -232,16 +232,16 @@ mutual
   pub item_complete : (i : Item) (part : List ℕ) (l binder_depth : ℕ) (listed : Listed) (s : State) (after : Option ℕ) → s.limit_exceeded ≡ false → IsItem part listed i s.at binder_depth after → item_height i ≤ l → item_steps i ≤ s.steps_left → s.least_levels_left ≤ l → item_rule part (readers part l) binder_depth listed s ≡ (i, shown (λ full. item_text full i binder_depth) (item_root i) (item_height i) (item_steps i) after l s)
   item_complete (LifetimeItem life) part l binder_depth Arguments s after o is h n b =
       let one = lifetime_there part s.at is.0 life is.1 is.2 in
-      ap (λ x. argument_rule part (readers part l) binder_depth s x (stands part 75 s.at)) is.1 ∙ took 1 (LifetimeItem NoLifetime) s (lifetime_item binder_depth (lifetime part s.at)) (omega arith) ∙ rw (is.2, is.3) (at_tree _ _ _ (shown_lifetime s l (lifetime_steps life) (required_end binder_depth life is.0) (argument_lifetime binder_depth life) b one))
+      ap (λ x. argument_rule part (readers part l) binder_depth s x (has_byte part 75 s.at)) is.1 ∙ took 1 (LifetimeItem NoLifetime) s (lifetime_item binder_depth (lifetime part s.at)) (omega arith) ∙ rw (is.2, is.3) (at_tree _ _ _ (shown_lifetime s l (lifetime_steps life) (required_end binder_depth life is.0) (argument_lifetime binder_depth life) b one))
   item_complete (LifetimeItem life) part l binder_depth Types s after o is h n b = absurd is
   item_complete (LifetimeItem life) part l binder_depth Traits s after o is h n b = absurd is
   item_complete (TypeItem t) part l binder_depth Arguments s after o is h n b =
-      ap (λ x. argument_rule part (readers part l) binder_depth s x (stands part 75 s.at)) is.0 ∙ ap (argument_rule part (readers part l) binder_depth s false) is.1 ∙ ap type_item (type_complete t part l binder_depth s after o is.2 h n)
+      ap (λ x. argument_rule part (readers part l) binder_depth s x (has_byte part 75 s.at)) is.0 ∙ ap (argument_rule part (readers part l) binder_depth s false) is.1 ∙ ap type_item (type_complete t part l binder_depth s after o is.2 h n)
   item_complete (TypeItem t) part l binder_depth Types s after o is h n b =
       ap type_item (type_complete t part l binder_depth s after o is h n)
   item_complete (TypeItem t) part l binder_depth Traits s after o is h n b = absurd is
   item_complete (ConstItem c) part l binder_depth Arguments s after o is h n b =
-      ap (λ x. argument_rule part (readers part l) binder_depth s x (stands part 75 s.at)) is.0 ∙ ap (argument_rule part (readers part l) binder_depth s false) is.1 ∙ ap const_item (const_complete c part l (seek (after_byte s.at) s) after o is.2 h n)
+      ap (λ x. argument_rule part (readers part l) binder_depth s x (has_byte part 75 s.at)) is.0 ∙ ap (argument_rule part (readers part l) binder_depth s false) is.1 ∙ ap const_item (const_complete c part l (seek (after_byte s.at) s) after o is.2 h n)
   item_complete (ConstItem c) part l binder_depth Types s after o is h n b = absurd is
   item_complete (ConstItem c) part l binder_depth Traits s after o is h n b = absurd is
   item_complete (TraitItem p bindings) part l binder_depth Arguments s after o is h n b = absurd is

@@ -38,9 +38,9 @@ pub grown : (part : List ℕ) (full : Bool) (old new more trimmed new_trimmed mo
 grown part full old new more trimmed new_trimmed more_trimmed fs e t h =
     rw (e, t) (λ k d l. let f = h k d l in record { tree = f.tree; after = f.after; is = f.is; within = omega (arith, f.within, length-append old more); text_is = λ hears. slice_grown old more _ _ f.within ∙ f.text_is hears; trimmed_within = omega (arith, f.trimmed_within, length-append trimmed more_trimmed); trimmed_is = λ hears. slice_grown trimmed more_trimmed _ _ f.trimmed_within ∙ f.trimmed_is hears; steps_is = f.steps_is; height_is = f.height_is; open_is = f.open_is })
 
--- where both texts end alike, and more is written there
-pub grown_alike : (part : List ℕ) (full : Bool) (complete trimmed old new more : List ℕ) (fs : List fragment.Fragment) → new ≡ old ++ more → All (IsKept part full (complete ++ old) (trimmed ++ old)) fs → All (IsKept part full (complete ++ new) (trimmed ++ new)) fs
-grown_alike part full complete trimmed old new more fs e h =
+-- where both texts have the same end, and more is written there
+pub grown_both : (part : List ℕ) (full : Bool) (complete trimmed old new more : List ℕ) (fs : List fragment.Fragment) → new ≡ old ++ more → All (IsKept part full (complete ++ old) (trimmed ++ old)) fs → All (IsKept part full (complete ++ new) (trimmed ++ new)) fs
+grown_both part full complete trimmed old new more fs e h =
     grown part full (complete ++ old) (complete ++ new) more (trimmed ++ old) (trimmed ++ new) more fs (ap (λ x. complete ++ x) e ∙ sym (append_assoc complete old more)) (ap (λ x. trimmed ++ x) e ∙ sym (append_assoc trimmed old more)) h
 
 -- where each text has what they ended with, and more

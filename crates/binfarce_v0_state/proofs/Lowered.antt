@@ -3,7 +3,7 @@ use Rattle.std.proofs.Common.{◌≡◌, ℕ, zero, suc, ◌-◌, Bool, true, fa
 use Rattle.std.specs.Prelude.{codes}
 use Rattle.binfarce_v0_grammar.specs.Identifiers.{UndisambiguatedIdentifier, Identifier}
 use Rattle.binfarce_v0_state.specs.LeafTexts.{identifier_text}
-use Rattle.binfarce_v0_grammar.specs.Forms.{NoLifetime, Signature, stands, after_byte, identifier_at, undisambiguated_at, lifetime, path_form, type_form, const_form, PathForm, NoPathForm, CrateRoot, NestedIn, InherentImpl, TraitImpl, TraitDefinition, WithArguments, BackToPath, TypeForm, NoTypeForm, BasicType, ReferenceTo, InvalidReference, PointerTo, SliceOf, ArrayOf, TupleOf, FunctionOf, InvalidAbi, DynOf, InvalidDyn, BackToType, PathType, ConstForm, NoConstForm, UntypedPlaceholderConst, PlaceholderConst, ValueConst, InvalidConst, BackToConst}
+use Rattle.binfarce_v0_grammar.specs.Forms.{NoLifetime, Signature, has_byte, after_byte, identifier_at, undisambiguated_at, lifetime, path_form, type_form, const_form, PathForm, NoPathForm, CrateRoot, NestedIn, InherentImpl, TraitImpl, TraitDefinition, WithArguments, BackToPath, TypeForm, NoTypeForm, BasicType, ReferenceTo, InvalidReference, PointerTo, SliceOf, ArrayOf, TupleOf, FunctionOf, InvalidAbi, DynOf, InvalidDyn, BackToType, PathType, ConstForm, NoConstForm, UntypedPlaceholderConst, PlaceholderConst, ValueConst, InvalidConst, BackToConst}
 use Rattle.binfarce_v0_grammar.specs.Tree.{Listed, Arguments, Types, Traits, PathTree, TypeTree, Items, Bindings, NoPath, NoType, NoConst, LifetimeItem, Slice, Pointer, Reference, OfTrait, OfImpl, FunctionTo, lifetime_steps}
 use Rattle.binfarce_v0_state.specs.TreeTexts.{Position, InType, OpenTrait, parent_position, separator, open_mark, value_mark, is_left_open}
 use Rattle.binfarce_v0_state.specs.LeafTexts.{binder_text, signature_text, mutable_text, reference_lifetime}
@@ -51,7 +51,7 @@ bindings_low : (x : ℕ) (part : List ℕ) (R : Readers) → Lowers x R → (bin
 unfolding bindings_rule
 bindings_low x part R H binder_depth zero is_open s = refl
 bindings_low x part R H binder_depth (suc n) is_open s =
-    by (bindings_low x part R H binder_depth n) (stands part 112 s.at)
+    by (bindings_low x part R H binder_depth n) (has_byte part 112 s.at)
   where
     by : ((is_open : Bool) (s : State) → bindings_rule part R binder_depth n is_open (lowered x s) ≡ low x (bindings_rule part R binder_depth n is_open s)) → (b : Bool) → binding_rule part R binder_depth (bindings_rule part R binder_depth n) is_open (lowered x s) b ≡ low x (binding_rule part R binder_depth (bindings_rule part R binder_depth n) is_open s b)
     by M true =
@@ -60,7 +60,7 @@ bindings_low x part R H binder_depth (suc n) is_open s =
 
 item_low : (x : ℕ) (part : List ℕ) (R : Readers) → Lowers x R → (binder_depth : ℕ) (listed : Listed) (s : State) → item_rule part R binder_depth listed (lowered x s) ≡ low x (item_rule part R binder_depth listed s)
 unfolding item_rule
-item_low x part R H binder_depth Arguments s = argument_low x part R H binder_depth s (stands part 76 s.at) (stands part 75 s.at)
+item_low x part R H binder_depth Arguments s = argument_low x part R H binder_depth s (has_byte part 76 s.at) (has_byte part 75 s.at)
 item_low x part R H binder_depth Types s = ap type_item (H.ty binder_depth s)
 item_low x part R H binder_depth Traits s =
     let r = R.path OpenTrait binder_depth s in
@@ -107,7 +107,7 @@ type_low x part R H binder_depth s (FunctionOf signature q) =
     let inner = binder_depth + signature.binder in
     let start = write (signature_text signature) (write (binder_text binder_depth signature.binder) (seek (Some q) (take signature.binder s))) in
     let r = items_from part R inner Types (codes ", ") start in
-    taking_low x signature.binder NoType s (function_rule part R binder_depth signature q) (ap (function_end part R inner signature) (items_low x part R H inner Types (codes ", ") (suc start.steps_left) true start) ∙ returned_low x part R H inner signature r.0 (write (codes ")") r.1) (stands part 117 r.1.at))
+    taking_low x signature.binder NoType s (function_rule part R binder_depth signature q) (ap (function_end part R inner signature) (items_low x part R H inner Types (codes ", ") (suc start.steps_left) true start) ∙ returned_low x part R H inner signature r.0 (write (codes ")") r.1) (has_byte part 117 r.1.at))
 type_low x part R H binder_depth s (InvalidAbi binder) = taking_low x binder NoType s (invalid_function binder_depth binder) refl
 type_low x part R H binder_depth s (DynOf binder q) =
     let inner = binder_depth + binder in

@@ -2,7 +2,7 @@
 use Rattle.std.proofs.Common.{◌≡◌, ℕ, zero, suc, ◌+◌, ◌≤◌, Bool, true, false, List, Option, Some, None, cond, nat_le, if◌then◌else◌, refl, arith}
 use Rattle.std.proofs.lemmas.Bool.Decides.{nat_tests}
 use Rattle.binfarce_v0_grammar.specs.Identifiers.{UndisambiguatedIdentifier}
-use Rattle.binfarce_v0_grammar.specs.Forms.{NoLifetime, stands, after_byte, undisambiguated_at, lifetime, const_form, ConstForm, NoConstForm, UntypedPlaceholderConst, PlaceholderConst, ValueConst, InvalidConst, BackToConst}
+use Rattle.binfarce_v0_grammar.specs.Forms.{NoLifetime, has_byte, after_byte, undisambiguated_at, lifetime, const_form, ConstForm, NoConstForm, UntypedPlaceholderConst, PlaceholderConst, ValueConst, InvalidConst, BackToConst}
 use Rattle.binfarce_v0_grammar.specs.Base62.{base_62_number}
 use Rattle.binfarce_v0_grammar.proofs.ReadingForward.{indexed_lifetime}
 use Rattle.binfarce_v0_grammar.specs.Tree.{PathTree, TypeTree, ConstTree, Item, Items, Bindings, LifetimeItem, lifetime_steps, path_height, type_height, const_height, item_height, items_height, bindings_height, path_steps, type_steps, const_steps, item_steps, items_steps, bindings_steps, Listed, Arguments, Types, Traits}
@@ -90,8 +90,8 @@ const_sound part levels_left R H s (BackToConst target q) e o =
 
 -- Lists
 
--- an "L" that stands there is a step
-pub lifetime_step : (part : List ℕ) (at : Option ℕ) → stands part 76 at ≡ true → lifetime_steps (lifetime part at).0 ≡ 1
+-- an "L" is a step
+pub lifetime_step : (part : List ℕ) (at : Option ℕ) → has_byte part 76 at ≡ true → lifetime_steps (lifetime part at).0 ≡ 1
 unfolding lifetime
 lifetime_step part None e = cc
 lifetime_step part (Some at) e = rw e (read (base_62_number part (at + 1)))
@@ -100,7 +100,7 @@ lifetime_step part (Some at) e = rw e (read (base_62_number part (at + 1)))
     read None = refl
     read (Some n) = refl
 
-lifetime_sound : (part : List ℕ) (levels_left : ℕ) (binder_depth : ℕ) (s : State) → stands part 76 s.at ≡ true → 1 ≤ s.steps_left → s.limit_exceeded ≡ false → ItemFound part Arguments binder_depth levels_left s.steps_left s.at s.limit_exceeded (lifetime_item binder_depth (lifetime part s.at) (take 1 s))
+lifetime_sound : (part : List ℕ) (levels_left : ℕ) (binder_depth : ℕ) (s : State) → has_byte part 76 s.at ≡ true → 1 ≤ s.steps_left → s.limit_exceeded ≡ false → ItemFound part Arguments binder_depth levels_left s.steps_left s.at s.limit_exceeded (lifetime_item binder_depth (lifetime part s.at) (take 1 s))
 unfolding IsItem item_height item_steps
 lifetime_sound part levels_left binder_depth s e n o =
     record {
@@ -110,7 +110,7 @@ lifetime_sound part levels_left binder_depth s e n o =
       before = o;
     }
 
-argument_sound : (part : List ℕ) (levels_left : ℕ) (R : Readers) → Sound part levels_left R → (binder_depth : ℕ) (s : State) (a b : Bool) → stands part 76 s.at ≡ a → stands part 75 s.at ≡ b → (argument_rule part R binder_depth s a b).1.limit_exceeded ≡ false → ItemFound part Arguments binder_depth levels_left s.steps_left s.at s.limit_exceeded (argument_rule part R binder_depth s a b)
+argument_sound : (part : List ℕ) (levels_left : ℕ) (R : Readers) → Sound part levels_left R → (binder_depth : ℕ) (s : State) (a b : Bool) → has_byte part 76 s.at ≡ a → has_byte part 75 s.at ≡ b → (argument_rule part R binder_depth s a b).1.limit_exceeded ≡ false → ItemFound part Arguments binder_depth levels_left s.steps_left s.at s.limit_exceeded (argument_rule part R binder_depth s a b)
 unfolding IsItem item_height item_steps
 argument_sound part levels_left R H binder_depth s true b ea eb o =
     taken (λ r. ItemFound part Arguments binder_depth levels_left s.steps_left s.at s.limit_exceeded r) 1 (LifetimeItem NoLifetime) s (lifetime_item binder_depth (lifetime part s.at)) (λ n p. lifetime_sound part levels_left binder_depth s ea n p) o
@@ -121,7 +121,7 @@ argument_sound part levels_left R H binder_depth s false false ea eb o =
     let f = H.ty binder_depth s o in
     record { is = (ea, eb, f.is); height = f.height; steps = f.steps; before = f.before }
 
-named_binding_sound : (part : List ℕ) (levels_left : ℕ) (R : Readers) → Sound part levels_left R → (binder_depth : ℕ) (more : Bool → State → Bindings × State) → ((is_open : Bool) (s : State) → (more is_open s).1.limit_exceeded ≡ false → BindingsFound part binder_depth levels_left s.steps_left s.at s.limit_exceeded (more is_open s)) → (is_open : Bool) (s : State) (i : Option (UndisambiguatedIdentifier × ℕ)) → stands part 112 s.at ≡ true → undisambiguated_at part (after_byte s.at) ≡ i → (named_binding R binder_depth more is_open s i).1.limit_exceeded ≡ false → BindingsFound part binder_depth levels_left s.steps_left s.at s.limit_exceeded (named_binding R binder_depth more is_open s i)
+named_binding_sound : (part : List ℕ) (levels_left : ℕ) (R : Readers) → Sound part levels_left R → (binder_depth : ℕ) (more : Bool → State → Bindings × State) → ((is_open : Bool) (s : State) → (more is_open s).1.limit_exceeded ≡ false → BindingsFound part binder_depth levels_left s.steps_left s.at s.limit_exceeded (more is_open s)) → (is_open : Bool) (s : State) (i : Option (UndisambiguatedIdentifier × ℕ)) → has_byte part 112 s.at ≡ true → undisambiguated_at part (after_byte s.at) ≡ i → (named_binding R binder_depth more is_open s i).1.limit_exceeded ≡ false → BindingsFound part binder_depth levels_left s.steps_left s.at s.limit_exceeded (named_binding R binder_depth more is_open s i)
 unfolding AreBindings bindings_height bindings_steps
 named_binding_sound part levels_left R H binder_depth more M is_open s None e ei o =
     record { is = (e, ei, refl); height = omega arith; steps = omega arith; before = o }
@@ -134,9 +134,9 @@ bindings_sound : (part : List ℕ) (levels_left : ℕ) (R : Readers) → Sound p
 unfolding bindings_rule AreBindings bindings_height bindings_steps
 bindings_sound part levels_left R H binder_depth zero is_open s o = true_not_false o
 bindings_sound part levels_left R H binder_depth (suc n) is_open s o =
-    by (bindings_sound part levels_left R H binder_depth n) (stands part 112 s.at) refl o
+    by (bindings_sound part levels_left R H binder_depth n) (has_byte part 112 s.at) refl o
   where
-    by : ((is_open : Bool) (s : State) → (bindings_rule part R binder_depth n is_open s).1.limit_exceeded ≡ false → BindingsFound part binder_depth levels_left s.steps_left s.at s.limit_exceeded (bindings_rule part R binder_depth n is_open s)) → (b : Bool) → stands part 112 s.at ≡ b → (binding_rule part R binder_depth (bindings_rule part R binder_depth n) is_open s b).1.limit_exceeded ≡ false → BindingsFound part binder_depth levels_left s.steps_left s.at s.limit_exceeded (binding_rule part R binder_depth (bindings_rule part R binder_depth n) is_open s b)
+    by : ((is_open : Bool) (s : State) → (bindings_rule part R binder_depth n is_open s).1.limit_exceeded ≡ false → BindingsFound part binder_depth levels_left s.steps_left s.at s.limit_exceeded (bindings_rule part R binder_depth n is_open s)) → (b : Bool) → has_byte part 112 s.at ≡ b → (binding_rule part R binder_depth (bindings_rule part R binder_depth n) is_open s b).1.limit_exceeded ≡ false → BindingsFound part binder_depth levels_left s.steps_left s.at s.limit_exceeded (binding_rule part R binder_depth (bindings_rule part R binder_depth n) is_open s b)
     by M true e o =
         named_binding_sound part levels_left R H binder_depth (bindings_rule part R binder_depth n) M is_open s (undisambiguated_at part (after_byte s.at)) e refl o
     by M false e o = record { is = (e, refl); height = omega arith; steps = omega arith; before = o }
@@ -144,7 +144,7 @@ bindings_sound part levels_left R H binder_depth (suc n) is_open s o =
 item_sound : (part : List ℕ) (levels_left : ℕ) (R : Readers) → Sound part levels_left R → (binder_depth : ℕ) (listed : Listed) (s : State) → (item_rule part R binder_depth listed s).1.limit_exceeded ≡ false → ItemFound part listed binder_depth levels_left s.steps_left s.at s.limit_exceeded (item_rule part R binder_depth listed s)
 unfolding item_rule IsItem item_height item_steps
 item_sound part levels_left R H binder_depth Arguments s o =
-    argument_sound part levels_left R H binder_depth s (stands part 76 s.at) (stands part 75 s.at) refl refl o
+    argument_sound part levels_left R H binder_depth s (has_byte part 76 s.at) (has_byte part 75 s.at) refl refl o
 item_sound part levels_left R H binder_depth Types s o =
     let f = H.ty binder_depth s o in record { is = f.is; height = f.height; steps = f.steps; before = f.before }
 item_sound part levels_left R H binder_depth Traits s o =

@@ -3,14 +3,14 @@ use Rattle.std.proofs.Common.{◌≡◌, ℕ, zero, suc, ◌+◌, ◌-◌, ◌�
 use Rattle.std.proofs.lemmas.Bool.Decides.{nat_tests}
 use Rattle.std.specs.Prelude.{codes}
 use Rattle.binfarce_v0_grammar.specs.Identifiers.{Identifier}
-use Rattle.binfarce_v0_grammar.specs.Forms.{Lifetime, Signature, stands, identifier_at, lifetime, path_form, type_form, const_form, PathForm, NoPathForm, CrateRoot, NestedIn, InherentImpl, TraitImpl, TraitDefinition, WithArguments, BackToPath, TypeForm, NoTypeForm, BasicType, ReferenceTo, InvalidReference, PointerTo, SliceOf, ArrayOf, TupleOf, FunctionOf, InvalidAbi, DynOf, InvalidDyn, BackToType, PathType}
+use Rattle.binfarce_v0_grammar.specs.Forms.{Lifetime, Signature, has_byte, identifier_at, lifetime, path_form, type_form, const_form, PathForm, NoPathForm, CrateRoot, NestedIn, InherentImpl, TraitImpl, TraitDefinition, WithArguments, BackToPath, TypeForm, NoTypeForm, BasicType, ReferenceTo, InvalidReference, PointerTo, SliceOf, ArrayOf, TupleOf, FunctionOf, InvalidAbi, DynOf, InvalidDyn, BackToType, PathType}
 use Rattle.binfarce_v0_grammar.specs.Tree.{PathTree, Items, NoPath, NoType, NoConst, lifetime_steps, path_height, type_height, path_steps, type_steps, Arguments, Types, Traits}
 use Rattle.binfarce_v0_state.specs.TreeTexts.{Position, InType, parent_position}
 use Rattle.binfarce_v0_grammar.specs.Unfolding.{IsPath, IsType}
 use Rattle.binfarce_v0_state.specs.machine.Printing.{State, Readers, write, seek, stopped, take, entered, into, set_muted, entering, named_tree, named_state, returned, function_rule, dyn_lifetime_rule, dyn_end, dyn_rule, reference_rule, invalid_reference, invalid_function, type_rule, path_rule, const_rule, readers}
 use Rattle.binfarce_v0_state.proofs.Sound.{Sound, PathFound, TypeFound, ConstFound, ItemsFound, taken, true_not_false, back_target, const_sound, items_sound}
 
-returned_sound : (part : List ℕ) (levels_left : ℕ) (R : Readers) → Sound part levels_left R → (binder_depth steps_left : ℕ) (at : Option ℕ) (signature : Signature) (q : ℕ) (r : Items × State) (limit_exceeded : Bool) (b : Bool) → type_form part at ≡ FunctionOf signature q → stands part 117 r.1.at ≡ b → (r.1.limit_exceeded ≡ false → ItemsFound part Types (binder_depth + signature.binder) levels_left (steps_left - signature.binder) (Some q) limit_exceeded r) → signature.binder ≤ steps_left → (returned part R (binder_depth + signature.binder) signature r.0 (write (codes ")") r.1) b).1.limit_exceeded ≡ false → TypeFound part binder_depth (suc levels_left) (suc steps_left) at limit_exceeded (returned part R (binder_depth + signature.binder) signature r.0 (write (codes ")") r.1) b)
+returned_sound : (part : List ℕ) (levels_left : ℕ) (R : Readers) → Sound part levels_left R → (binder_depth steps_left : ℕ) (at : Option ℕ) (signature : Signature) (q : ℕ) (r : Items × State) (limit_exceeded : Bool) (b : Bool) → type_form part at ≡ FunctionOf signature q → has_byte part 117 r.1.at ≡ b → (r.1.limit_exceeded ≡ false → ItemsFound part Types (binder_depth + signature.binder) levels_left (steps_left - signature.binder) (Some q) limit_exceeded r) → signature.binder ≤ steps_left → (returned part R (binder_depth + signature.binder) signature r.0 (write (codes ")") r.1) b).1.limit_exceeded ≡ false → TypeFound part binder_depth (suc levels_left) (suc steps_left) at limit_exceeded (returned part R (binder_depth + signature.binder) signature r.0 (write (codes ")") r.1) b)
 unfolding IsType type_height type_steps
 returned_sound part levels_left R H binder_depth steps_left at signature q r limit_exceeded true e eb I n o =
     let f = I o in
@@ -65,7 +65,7 @@ type_sound part levels_left R H binder_depth s (TupleOf q) e o =
     let f = items_sound part levels_left R H binder_depth Types _ _ _ _ o in
     record { is = (q, e, f.is); height = omega arith; steps = omega arith; before = f.before }
 type_sound part levels_left R H binder_depth s (FunctionOf signature q) e o =
-    taken (λ x. TypeFound part binder_depth (suc levels_left) (suc s.steps_left) s.at s.limit_exceeded x) signature.binder NoType s (function_rule part R binder_depth signature q) (λ n p. returned_sound part levels_left R H binder_depth s.steps_left s.at signature q _ s.limit_exceeded (stands part 117 _) e refl (items_sound part levels_left R H (binder_depth + signature.binder) Types _ _ _ _) n p) o
+    taken (λ x. TypeFound part binder_depth (suc levels_left) (suc s.steps_left) s.at s.limit_exceeded x) signature.binder NoType s (function_rule part R binder_depth signature q) (λ n p. returned_sound part levels_left R H binder_depth s.steps_left s.at signature q _ s.limit_exceeded (has_byte part 117 _) e refl (items_sound part levels_left R H (binder_depth + signature.binder) Types _ _ _ _) n p) o
 type_sound part levels_left R H binder_depth s (InvalidAbi binder) e o =
     taken (λ x. TypeFound part binder_depth (suc levels_left) (suc s.steps_left) s.at s.limit_exceeded x) binder NoType s (invalid_function binder_depth binder) (λ n p. record { is = (e, refl); height = omega arith; steps = omega arith; before = p }) o
 type_sound part levels_left R H binder_depth s (DynOf binder q) e o =

@@ -121,12 +121,12 @@ abbrev pub backslash : ℕ
 backslash = 0x5C
 
 -- printable ASCII is shown unescaped between quotes, except a quote and a backslash
-abbrev pub stands_for_itself : (c : ℕ) → Bool
-stands_for_itself c = is_in_range 0x20 0x7E c && not (c == quote || c == backslash)
+abbrev pub is_unescaped : (c : ℕ) → Bool
+is_unescaped c = is_in_range 0x20 0x7E c && not (c == quote || c == backslash)
 
 -- any other character is shown by its number in lower-case hexadecimal
 unfoldable pub character_text : (c : ℕ) → List ℕ
-character_text c = if stands_for_itself c then c ∷ [] else codes "\\u{" ++ (digits 16 false c ++ codes "}")
+character_text c = if is_unescaped c then c ∷ [] else codes "\\u{" ++ (digits 16 false c ++ codes "}")
 
 unfoldable pub value_text : (value : ConstValue) → List ℕ
 value_text (Integer negative digits) = sign_text negative ++ number_text digits

@@ -315,7 +315,7 @@ impl<'a> Printer<'a> {
     }
 
     // Writes a fragment's ranges of both texts again, where they begin and end at character boundaries.
-    #[tactic(auto, using(crate::proofs::KeptLemmas::grown_alike))]
+    #[tactic(auto, using(crate::proofs::KeptLemmas::grown_both))]
     fn write_again(&mut self, fragment: Fragment) -> Result<bool, AllocError>
         ensures { IfOk result
             (λ written. self.new

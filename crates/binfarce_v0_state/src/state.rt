@@ -307,7 +307,7 @@ impl<'a> Printer<'a> {
     }
 
     /// Writes a text.
-    #[tactic(auto, using(crate::proofs::KeptLemmas::grown_alike))]
+    #[tactic(auto, using(crate::proofs::KeptLemmas::grown_both))]
     #[inline(always)]
     pub fn write(&mut self, text: &str) -> Result<(), AllocError>
         ensures { OnOk result (self.new ≡ with_state (write text.now self.old.state) self.old) }
@@ -381,7 +381,7 @@ impl<'a> Printer<'a> {
     }
 
     /// Writes the text of a leaf.
-    #[tactic(auto, using(crate::proofs::KeptLemmas::grown_alike))]
+    #[tactic(auto, using(crate::proofs::KeptLemmas::grown_both))]
     #[inline(always)]
     pub fn put<L: Leaf + Drop>(&mut self, leaf: L) -> Result<(), AllocError>
         ensures { OnOk result (self.new ≡ with_state (write (L.text leaf) self.old.state) self.old) }

@@ -4,7 +4,7 @@ ghost use Rattle.std.specs.Prelude.{◌≡◌, ◌+◌, ◌^◌, ◌<◌, ◌++�
 ghost use Rattle.std.specs.String.{string_bytes};
 ghost use Rattle.std.specs.Fmt.{decimal};
 ghost use Rattle.std.specs.Str.{IsAscii};
-ghost use Rattle.binfarce_v0_state.specs.LeafTexts.{identifier_text, undecoded, lifetime_text, argument_lifetime, reference_lifetime, dyn_lifetime, binder_text, abi_text, signature_text, number_text, stands_for_itself, character_text, value_text, disambiguator_text, namespace_text, after_mark, nested_text};
+ghost use Rattle.binfarce_v0_state.specs.LeafTexts.{identifier_text, undecoded, lifetime_text, argument_lifetime, reference_lifetime, dyn_lifetime, binder_text, abi_text, signature_text, number_text, is_unescaped, character_text, value_text, disambiguator_text, namespace_text, after_mark, nested_text};
 ghost use Rattle.binfarce_v0_grammar.specs.machine.View.{undisambiguated_view, identifier_view, lifetime_view, signature_view, value_view};
 
 use crate::disambiguators::put_disambiguator;
@@ -255,8 +255,8 @@ fn push_number(text: &mut String, hex: &str) -> Result<(), AllocError>
 }
 
 // Whether a character is shown unescaped between quotes.
-fn stands_for_itself(c: char) -> bool
-    ensures { result ≡ stands_for_itself c }
+fn is_unescaped(c: char) -> bool
+    ensures { result ≡ is_unescaped c }
 {
     matches!(c, ' '..='~') && c != '\'' && c != '\\'
 }
@@ -266,7 +266,7 @@ fn stands_for_itself(c: char) -> bool
 fn push_character(text: &mut String, c: char) -> Result<(), AllocError>
     ensures { OnOk result (string_bytes text.new ≡ string_bytes text.old ++ character_text c) }
 {
-    if stands_for_itself(c) {
+    if is_unescaped(c) {
         return text.push(c);
     }
     let code = c as u32;

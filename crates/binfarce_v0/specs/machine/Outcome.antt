@@ -6,14 +6,14 @@ use Rattle.binfarce_v0_grammar.specs.Tree.{PathTree, path_height, path_steps, pa
 use Rattle.binfarce_v0_state.specs.LeafTexts.{identifier_text}
 use Rattle.binfarce_v0_state.specs.TreeTexts.{name_text}
 use Rattle.binfarce_v0_grammar.specs.Unfolding.{UnfoldsTo}
-use Rattle.binfarce_v0.specs.Mangling.{PathStands, IsV0, HasNoTree, part_after_prefix, is_upper_at}
+use Rattle.binfarce_v0.specs.Mangling.{HasPathAt, IsV0, HasNoTree, part_after_prefix, is_upper_at}
 use Rattle.binfarce_v0_state.specs.machine.Outcome.{Outcome, outcome_of}
 use Rattle.binfarce_v0_state.specs.machine.Printing.{Printing, first_printing, heard}
 
 -- where a position is known, the first path of a name reads up to it
 abbrev pub ReadsUpTo : List ℕ → Option ℕ → Type 0
 ReadsUpTo part None = ⊤
-ReadsUpTo part (Some after) = PathStands part 0 after
+ReadsUpTo part (Some after) = HasPathAt part 0 after
 
 -- text may be a v0 mangling, and part follows its prefix
 abbrev pub IsCandidate : (text part : List ℕ) → Type 0

@@ -3,7 +3,7 @@ use Rattle.std.specs.Prelude.{ℕ, zero, suc, ◌+◌, List, Option, Some, None,
 use Rattle.binfarce_text.specs.Letters.{'E', 'K', 'L', 'p', 'u'}
 use Rattle.binfarce_text.specs.Steps.{◌>>=◌}
 use Rattle.binfarce_v0_grammar.specs.Identifiers.{UndisambiguatedIdentifier, Identifier, identifier, undisambiguated_identifier}
-use Rattle.binfarce_v0_grammar.specs.Forms.{stands, lifetime, path_form, type_form, const_form, PathForm, NoPathForm, CrateRoot, NestedIn, InherentImpl, TraitImpl, TraitDefinition, WithArguments, BackToPath, TypeForm, NoTypeForm, BasicType, ReferenceTo, InvalidReference, PointerTo, SliceOf, ArrayOf, TupleOf, FunctionOf, InvalidAbi, DynOf, InvalidDyn, BackToType, PathType, ConstForm, NoConstForm, UntypedPlaceholderConst, PlaceholderConst, ValueConst, InvalidConst, BackToConst}
+use Rattle.binfarce_v0_grammar.specs.Forms.{has_byte, lifetime, path_form, type_form, const_form, PathForm, NoPathForm, CrateRoot, NestedIn, InherentImpl, TraitImpl, TraitDefinition, WithArguments, BackToPath, TypeForm, NoTypeForm, BasicType, ReferenceTo, InvalidReference, PointerTo, SliceOf, ArrayOf, TupleOf, FunctionOf, InvalidAbi, DynOf, InvalidDyn, BackToType, PathType, ConstForm, NoConstForm, UntypedPlaceholderConst, PlaceholderConst, ValueConst, InvalidConst, BackToConst}
 use Rattle.binfarce_v0_grammar.specs.Tree.{Listed, Arguments, Types, Traits}
 
 -- the readers of one level less
@@ -25,7 +25,7 @@ identifier_end None = None
 identifier_end (Some l) = Some l.1
 
 abbrev pub lifetime_end : List ℕ → ℕ → Option ℕ
-lifetime_end part at = if stands part 'L' (Some at) then (lifetime part (Some at)).1 else None
+lifetime_end part at = if has_byte part 'L' (Some at) then (lifetime part (Some at)).1 else None
 
 abbrev pub bound_from : Ends → (ℕ → Option ℕ) → Option (UndisambiguatedIdentifier × ℕ) → Option ℕ
 bound_from R more None = None
@@ -34,11 +34,11 @@ bound_from R more (Some i) = R.ty i.1 >>= more
 unfoldable pub bindings_end : List ℕ → Ends → ℕ → ℕ → Option ℕ
 bindings_end part R zero at = None
 bindings_end part R (suc n) at =
-    if stands part 'p' (Some at) then bound_from R (bindings_end part R n) (undisambiguated_identifier part (at + 1)) else Some at
+    if has_byte part 'p' (Some at) then bound_from R (bindings_end part R n) (undisambiguated_identifier part (at + 1)) else Some at
 
 abbrev pub argument_end : List ℕ → Ends → ℕ → Option ℕ
 argument_end part R at =
-    if stands part 'L' (Some at) then (lifetime part (Some at)).1 else (if stands part 'K' (Some at) then R.constant (at + 1) else R.ty at)
+    if has_byte part 'L' (Some at) then (lifetime part (Some at)).1 else (if has_byte part 'K' (Some at) then R.constant (at + 1) else R.ty at)
 
 unfoldable pub item_end : List ℕ → Ends → Listed → ℕ → Option ℕ
 item_end part R Arguments at = argument_end part R at
@@ -48,13 +48,13 @@ item_end part R Traits at = R.path at >>= bindings_end part R (suc (length part)
 unfoldable pub items_end : List ℕ → Ends → Listed → ℕ → ℕ → Option ℕ
 items_end part R listed zero at = None
 items_end part R listed (suc n) at =
-    if stands part 'E' (Some at) then Some (at + 1) else (item_end part R listed at >>= items_end part R listed n)
+    if has_byte part 'E' (Some at) then Some (at + 1) else (item_end part R listed at >>= items_end part R listed n)
 
 abbrev pub list_end : List ℕ → Ends → Listed → ℕ → Option ℕ
 list_end part R listed at = items_end part R listed (suc (length part)) at
 
 abbrev pub return_end : List ℕ → Ends → ℕ → Option ℕ
-return_end part R at = if stands part 'u' (Some at) then Some (at + 1) else R.ty at
+return_end part R at = if has_byte part 'u' (Some at) then Some (at + 1) else R.ty at
 
 unfoldable pub type_end : List ℕ → Ends → ℕ → TypeForm → Option ℕ
 type_end part R at NoTypeForm = None

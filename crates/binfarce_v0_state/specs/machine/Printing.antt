@@ -4,7 +4,7 @@ use Rattle.std.specs.Option.{option_or}
 use Rattle.binfarce_text.specs.Letters.{'K', 'L', 'p', 'u'}
 use Rattle.binfarce_v0_grammar.specs.Identifiers.{UndisambiguatedIdentifier, Identifier}
 use Rattle.binfarce_v0_state.specs.LeafTexts.{identifier_text}
-use Rattle.binfarce_v0_grammar.specs.Forms.{Lifetime, NoLifetime, Signature, stands, after_byte, identifier_at, undisambiguated_at, lifetime, path_form, type_form, const_form, PathForm, NoPathForm, CrateRoot, NestedIn, InherentImpl, TraitImpl, TraitDefinition, WithArguments, BackToPath, TypeForm, NoTypeForm, BasicType, ReferenceTo, InvalidReference, PointerTo, SliceOf, ArrayOf, TupleOf, FunctionOf, InvalidAbi, DynOf, InvalidDyn, BackToType, PathType, ConstForm, NoConstForm, UntypedPlaceholderConst, PlaceholderConst, ValueConst, InvalidConst, BackToConst}
+use Rattle.binfarce_v0_grammar.specs.Forms.{Lifetime, NoLifetime, Signature, has_byte, after_byte, identifier_at, undisambiguated_at, lifetime, path_form, type_form, const_form, PathForm, NoPathForm, CrateRoot, NestedIn, InherentImpl, TraitImpl, TraitDefinition, WithArguments, BackToPath, TypeForm, NoTypeForm, BasicType, ReferenceTo, InvalidReference, PointerTo, SliceOf, ArrayOf, TupleOf, FunctionOf, InvalidAbi, DynOf, InvalidDyn, BackToType, PathType, ConstForm, NoConstForm, UntypedPlaceholderConst, PlaceholderConst, ValueConst, InvalidConst, BackToConst}
 use Rattle.binfarce_v0_grammar.specs.Tree.{PathTree, TypeTree, ConstTree, Item, Items, Bindings, NoConst, UntypedPlaceholder, Placeholder, Value, InvalidValue, BackConst, NoPath, Crate, Nested, InvalidNested, OfType, OfImpl, OfTrait, Generic, BackPath, NoType, Basic, Reference, InvalidReferenceType, Pointer, Slice, Array, Tuple, Function, FunctionTo, InvalidFunction, Dyn, InvalidDynType, Named, BackType, LifetimeItem, TypeItem, ConstItem, TraitItem, NoItems, ItemThen, NoBindings, Binding, InvalidBinding, lifetime_steps, Listed, Arguments, Types, Traits}
 use Rattle.binfarce_v0_state.specs.TreeTexts.{Position, InType, OpenTrait, parent_position, value_mark, closing, is_left_open, separator, single_mark, open_mark, close_mark}
 use Rattle.binfarce_v0_state.specs.LeafTexts.{binder_text, reference_lifetime, argument_lifetime, dyn_lifetime, disambiguator_text, nested_text, mutable_text, signature_text, sign_text, value_text}
@@ -152,7 +152,7 @@ binding_rule part R binder_depth more is_open s false = (NoBindings, write (clos
 unfoldable pub bindings_rule : List ℕ → Readers → ℕ → ℕ → Bool → State → Bindings × State
 bindings_rule part R binder_depth zero is_open s = (NoBindings, stopped s)
 bindings_rule part R binder_depth (suc n) is_open s =
-    binding_rule part R binder_depth (bindings_rule part R binder_depth n) is_open s (stands part 'p' s.at)
+    binding_rule part R binder_depth (bindings_rule part R binder_depth n) is_open s (has_byte part 'p' s.at)
 
 abbrev pub trait_item : PathTree → Bindings × State → Item × State
 trait_item p r = (TraitItem p r.0, r.1)
@@ -162,7 +162,7 @@ trait_rule part R binder_depth r =
     trait_item r.0 (bindings_rule part R binder_depth (suc r.1.steps_left) (is_left_open r.0 OpenTrait) r.1)
 
 unfoldable pub item_rule : List ℕ → Readers → ℕ → Listed → State → Item × State
-item_rule part R binder_depth Arguments s = argument_rule part R binder_depth s (stands part 'L' s.at) (stands part 'K' s.at)
+item_rule part R binder_depth Arguments s = argument_rule part R binder_depth s (has_byte part 'L' s.at) (has_byte part 'K' s.at)
 item_rule part R binder_depth Types s = type_item (R.ty binder_depth s)
 item_rule part R binder_depth Traits s = trait_rule part R binder_depth (R.path OpenTrait binder_depth s)
 
@@ -214,7 +214,7 @@ returned part R binder_depth signature items s false =
 
 abbrev pub function_end : List ℕ → Readers → ℕ → Signature → Items × State → TypeTree × State
 function_end part R binder_depth signature r =
-    returned part R binder_depth signature r.0 (write (codes ")") r.1) (stands part 'u' r.1.at)
+    returned part R binder_depth signature r.0 (write (codes ")") r.1) (has_byte part 'u' r.1.at)
 
 abbrev pub function_rule : List ℕ → Readers → ℕ → Signature → ℕ → State → TypeTree × State
 function_rule part R binder_depth signature q s =

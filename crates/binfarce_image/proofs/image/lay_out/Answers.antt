@@ -60,15 +60,15 @@ returns-then-length-ge-TOO_LARGE-clause-refused c =
     let layout = c.args.layout in
     let few = subst (λ (parts : List Part). length parts ≤ 65535) c.as_slice-parts.ensures.value c.if-parts-gt-MAX_SECTIONS.false in
     let table = sym (ap has_one_table c.as_slice-parts.ensures.value) ∙ sym c.has_one_table.ensures ∙ c.if-not-has_one_table.false in
-    let told = computes image layout (class_view c.class-class.result) c.as_slice-parts.result.now c.bodies_end-shoff.result c.saturating_add-length.result c.class-class.ensures c.as_slice-parts.ensures.value c.bodies_end-shoff.ensures c.saturating_add-length.ensures in
-    large_due image layout few table (sym c.has_names.ensures ∙ c.if-not-has_names.false) (long image layout c.bodies_end-shoff.result c.saturating_add-length.result told c.if-length-ge-TOO_LARGE.true)
+    let written_is = computes image layout (class_view c.class-class.result) c.as_slice-parts.result.now c.bodies_end-shoff.result c.saturating_add-length.result c.class-class.ensures c.as_slice-parts.ensures.value c.bodies_end-shoff.ensures c.saturating_add-length.ensures in
+    large_due image layout few table (sym c.has_names.ensures ∙ c.if-not-has_names.false) (long image layout c.bodies_end-shoff.result c.saturating_add-length.result written_is c.if-length-ge-TOO_LARGE.true)
 
 pub file-requires : goal.file-requires
 file-requires c =
     let image = c.args.image.now in
     let layout = c.args.layout in
-    let told = computes image layout (class_view c.class-class.result) c.as_slice-parts.result.now c.bodies_end-shoff.result c.saturating_add-length.result c.class-class.ensures c.as_slice-parts.ensures.value c.bodies_end-shoff.ensures c.saturating_add-length.ensures in
-    let end = ends image layout c.bodies_end-shoff.result c.saturating_add-length.result told c.if-length-ge-TOO_LARGE.false in
+    let written_is = computes image layout (class_view c.class-class.result) c.as_slice-parts.result.now c.bodies_end-shoff.result c.saturating_add-length.result c.class-class.ensures c.as_slice-parts.ensures.value c.bodies_end-shoff.ensures c.saturating_add-length.ensures in
+    let end = ends image layout c.bodies_end-shoff.result c.saturating_add-length.result written_is c.if-length-ge-TOO_LARGE.false in
     record { end = end.0; small = end.1 }
 
 pub returns-in_err-file-clause-refused : goal.returns-in_err-file-clause-refused

@@ -23,7 +23,7 @@ loop-item-init g c =
 left_is : (g : _) (c : In_ok-command g) → commands_left c.loop-item.item-iterator ≡ ahead_of (command_view c.in_ok-command.command) (commands_left c.next.new.self)
 left_is g c = takes_ok (commands_left c.loop-item.item-iterator) (commands_left c.next.new.self) c.in-Some.item c.in_ok-command.command c.in_ok-command.was c.in-Some.ensures.steps.1
 
--- its head stands in the file
+-- its head lies in the file
 head_inside : (g : _) (c : In_ok-command g) → c.in_ok-command.command.offset + 8 ≤ length c.args.file.now
 head_inside g c =
     let it = c.loop-item.item-iterator in
@@ -48,7 +48,7 @@ overflow_add-command g c =
 pub first_in_segment-requires-clause-inside : goal.first_in_segment-requires-clause-inside
 first_in_segment-requires-clause-inside g c = head_inside g (goal.at.first_in_segment-requires-clause-inside g c).In_ok-command
 
--- the segment's sections stand first in what is left
+-- the segment's sections are the first of the rest
 segment_first : (g : _) (c : Then-command-eq-LC_SEGMENT_64 g)
     → Reaches section_view (goal.F-post g c.args.callback) (walk c.args.file.now)
     (and_then (segment c.args.file.now (c.in_ok-command.command.offset + 8)).items (segment c.args.file.now (c.in_ok-command.command.offset + 8)).refusal (sections_left c.args.file.now (commands_left c.next.new.self)))

@@ -13,10 +13,10 @@ pub returns-in_err-first_section : goal.returns-in_err-first_section
 returns-in_err-first_section c =
     let damage = c.in_err-first_section.field-0.0 in
     gives_refusal refusal_of (option_map section_view) (first (λ s. is_named c.args.segment_name.now c.args.section_name.now s) (walk c.args.file.now)) (damage_refusal damage) c.from_residual.result
-    (first_is damage_refusal section_view _ (λ s. is_named c.args.segment_name.now c.args.section_name.now s) (walk c.args.file.now) (Err damage) (λ value answer told. search rules) c.in_err-first_section.ensures)
+    (first_is damage_refusal section_view _ (λ s. is_named c.args.segment_name.now c.args.section_name.now s) (walk c.args.file.now) (Err damage) (λ value answer unused. search rules) c.in_err-first_section.ensures)
     c.from_residual.ensures.1
 
 pub returns : goal.returns
 returns c =
     first_is refusal_of section_view _ (λ s. is_named c.args.segment_name.now c.args.section_name.now s) (walk c.args.file.now) (Ok c.in_ok-first_section.field-0)
-    (λ value answer told. search rules) c.in_ok-first_section.ensures
+    (λ value answer unused. search rules) c.in_ok-first_section.ensures

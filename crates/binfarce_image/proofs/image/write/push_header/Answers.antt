@@ -23,8 +23,8 @@ returns c =
     let written : ByteOrder → ElfClass → List ℕ → ℕ → ℕ → ℕ → List ℕ = λ order class blank shoff shnum shstrndx.
     filled order (take class.header_length blank) ((class.header.elf_type, 1) ∷ (class.header.version, 1) ∷ (class.header.shoff, shoff) ∷ (class.header.ehsize, class.header_length) ∷ (class.header.shentsize, class.section_length) ∷ (class.header.shnum, shnum) ∷ (class.header.shstrndx, shstrndx) ∷ []) in
     let count : c.len.result ≡ length image.parts.items = c.len.ensures ∙ image.parts.ok.0 in
-    let told : written c.order.result (class_view c.class-class.result) c.identified.result c.args.shoff c.len.result c.from.result
+    let written_is : written c.order.result (class_view c.class-class.result) c.identified.result c.args.shoff c.len.result c.from.result
     ≡ written (order_of layout) (class_of layout) (identification layout ++ replicate 48 0) (bodies_end (class_of layout) (class_of layout).header_length image.parts.items) (length image.parts.items) image.names_at =
     λ i. written (c.order.ensures i) (c.class-class.ensures i) (c.identified.ensures i) (c.requires i) (count i) (c.from.ensures i) in
     let blank = ap (λ bytes. filled (order_of layout) bytes (header_numbers (class_of layout) image)) (take_blank layout) in
-    subst (λ (bytes : List ℕ). OnOk c.push_structure.result (c.push_structure.new.file.items ≡ c.args.file.now.items ++ bytes)) (told ∙ blank) c.push_structure.ensures
+    subst (λ (bytes : List ℕ). OnOk c.push_structure.result (c.push_structure.new.file.items ≡ c.args.file.now.items ++ bytes)) (written_is ∙ blank) c.push_structure.ensures

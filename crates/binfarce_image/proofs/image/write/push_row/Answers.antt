@@ -23,6 +23,6 @@ returns-clause-row c =
     let row : Row = record { name = c.from.result; address = c.from-2.result; size = c.from-3.result; info = c.from-4.result; other = c.from-5.result; section = c.from-6.result } in
     let same : row ≡ c.args.row = λ i. record { name = c.from.ensures i; address = c.from-2.ensures i; size = c.from-3.ensures i; info = c.from-4.ensures i; other = c.from-5.ensures i; section = c.from-6.ensures i } in
     let written : ByteOrder → ElfClass → Row → List ℕ = λ order class r. filled order (take class.symbol_length (replicate 64 0)) (symbol_numbers class r) in
-    let told : written c.order.result (class_view c.class-class.result) row ≡ written (order_of layout) (class_of layout) c.args.row = λ i. written (c.order.ensures i) (c.class-class.ensures i) (same i) in
+    let written_is : written c.order.result (class_view c.class-class.result) row ≡ written (order_of layout) (class_of layout) c.args.row = λ i. written (c.order.ensures i) (c.class-class.ensures i) (same i) in
     let zeros = ap (λ blank. filled (order_of layout) blank (symbol_numbers (class_of layout) c.args.row)) (take_zeros (class_of layout).symbol_length 64 (lengths layout).symbol) in
-    subst (λ (bytes : List ℕ). OnOk c.push_structure.result (c.push_structure.new.file.items ≡ c.args.file.now.items ++ bytes)) (told ∙ zeros) c.push_structure.ensures
+    subst (λ (bytes : List ℕ). OnOk c.push_structure.result (c.push_structure.new.file.items ≡ c.args.file.now.items ++ bytes)) (written_is ∙ zeros) c.push_structure.ensures

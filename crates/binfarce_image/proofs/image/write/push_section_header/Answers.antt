@@ -29,8 +29,8 @@ returns-clause-header c =
     let fits : min (body_length (class_of layout) part) (2 ^ 64 - 1) ≡ body_length (class_of layout) part = omega (arith, c.requires) in
     let size : c.body_length.result ≡ body_length (class_of layout) part = c.body_length.ensures ∙ ap (λ class. min (body_length class part) (2 ^ 64 - 1)) c.class-class.ensures ∙ fits in
     let entry : c.entry_length.result ≡ entry_length (class_of layout) part = c.entry_length.ensures ∙ ap (λ class. entry_length class part) c.class-class.ensures in
-    let told : written c.order.result (class_view c.class-class.result) c.from.result c.from-2.result c.body_length.result c.from-3.result c.entry_length.result
+    let written_is : written c.order.result (class_view c.class-class.result) c.from.result c.from-2.result c.body_length.result c.from-3.result c.entry_length.result
     ≡ written (order_of layout) (class_of layout) (name_offset part) (part_kind part) (body_length (class_of layout) part) (part_link part) (entry_length (class_of layout) part) =
     λ i. written (c.order.ensures i) (c.class-class.ensures i) (name i) (kind i) (size i) (link i) (entry i) in
     let zeros = ap (λ blank. filled (order_of layout) blank (section_numbers (class_of layout) place part)) (take_zeros (class_of layout).section_length 64 (lengths layout).section) in
-    subst (λ (bytes : List ℕ). OnOk c.push_structure.result (c.push_structure.new.file.items ≡ c.args.file.now.items ++ bytes)) (told ∙ zeros) c.push_structure.ensures
+    subst (λ (bytes : List ℕ). OnOk c.push_structure.result (c.push_structure.new.file.items ≡ c.args.file.now.items ++ bytes)) (written_is ∙ zeros) c.push_structure.ensures

@@ -73,7 +73,7 @@ path_read_at part at after p = path_ends p.tree part MAX_LEVELS at after p.reads
 -- a first path that is known to be read need not be read again
 pub first_path_known : (part : List ℕ) (first : Option ℕ) (mid : ℕ) → ReadsUpTo part first → first ≡ Some mid → (ends part MAX_LEVELS).path 0 ≡ Some mid
 first_path_known part first mid reads e =
-    let has_byte : HasPathAt part 0 mid = subst (ReadsUpTo part) e reads in path_read_at part 0 mid has_byte
+    let path_there : HasPathAt part 0 mid = subst (ReadsUpTo part) e reads in path_read_at part 0 mid path_there
 
 second_path : (part : List ℕ) (at after : ℕ) (b : Bool) → (cond b ((ends part MAX_LEVELS).path at) (Some at)) ≡ Some after → SecondPath b part at after
 second_path part at after true e = path_is_at part at after e

@@ -1,6 +1,6 @@
 // From crates/binfarce_bytes/src/lib.rt, by tools/erase.
 
-//! Numbers and texts in a file's bytes, and why a file can't be read: what the readers of all formats stand on.
+//! Numbers and texts in a file's bytes, and parse errors: the basis of the readers of all formats.
 
 pub mod error;
 pub mod format;
@@ -16,8 +16,8 @@ pub use crate::erased::binfarce_bytes::parser::UnexpectedEof;
 /// The order of a number's bytes in a file.
 #[derive(Clone, Copy, PartialEq, Eq, Hash, Debug)]
 pub enum ByteOrder {
-    /// The first byte has the least weight.
+    /// Little endian: the least significant byte first.
     LittleEndian,
-    /// The first byte has the greatest weight.
+    /// Big endian: the most significant byte first.
     BigEndian,
 }

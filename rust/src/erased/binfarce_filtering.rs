@@ -1,6 +1,6 @@
 // From crates/binfarce_filtering/src/lib.rt, by tools/erase.
 
-//! Text in which mangled names are made readable: whole, in parts, and as it comes.
+//! Demangles the names in a text: whole, in parts, or as a stream.
 
 pub mod filter;
 pub mod stream;

@@ -1,5 +1,5 @@
 // From crates/binfarce_names/src/lib.rt, by tools/erase.
 
-//! Readable names of Rust symbols: which mangling a name is, and what it means.
+//! Readable names of Rust symbols: the kind of a name, its readable form, and its crate.
 
 pub mod demangle;

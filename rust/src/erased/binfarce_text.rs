@@ -1,6 +1,6 @@
 // From crates/binfarce_text/src/lib.rt, by tools/erase.
 
-//! Texts of Rust symbols that both manglings share: the digits of their numbers, and what LLVM adds to a mangled name.
+//! What both manglings of Rust symbols share: prefixes, hexadecimal digits, and the suffixes that LLVM adds.
 
 pub mod digits;
 pub mod prefixes;

@@ -1,6 +1,6 @@
 // From crates/binfarce_v0/src/lib.rt, by tools/erase.
 
-//! Rust's v0 manglings (RFC 2603): a name is read by the grammar, and what it means is printed.
+//! Rust's v0 manglings (RFC 2603): a name is read by the grammar, and printed in readable form.
 
 pub mod consts;
 mod identifiers;

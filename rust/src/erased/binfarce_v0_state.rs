@@ -1,7 +1,7 @@
 // From crates/binfarce_v0_state/src/lib.rt, by tools/erase.
 
-//! The state of the printing of a v0 name of a Rust symbol (RFC 2603): where it reads, what it has counted and written, and
-//! what it may write again.
+//! The state of the printing of a v0 name of a Rust symbol (RFC 2603): its position, its counts, its texts, and the
+//! fragments that it may write again.
 
 mod disambiguators;
 pub mod fragments;

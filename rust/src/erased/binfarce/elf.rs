@@ -21,7 +21,7 @@ pub struct Elf<'a, C: Class> {
     header: Header<C>,
 }
 
-/// Reads the file header in the given order, without a look at the magic number.
+/// Reads the file header in the given order. The magic number isn't checked.
 pub fn parse<C: Class>(data: &[u8], byte_order: ByteOrder) -> Result<Elf<'_, C>, ParseError> {
     let header = parse_header(data, byte_order)?;
     Ok(Elf {
@@ -37,29 +37,29 @@ impl<'a, C: Class> Elf<'a, C> {
         self.header
     }
 
-    /// The sections in file order, which `find_section` searches. Each is read when it is asked for.
+    /// The sections in file order, as `find_section` searches them. Each is read on demand.
     ///
-    /// `UnexpectedEof` comes, and after it nothing, where `find_section` with a callback that always answers false
-    /// has it: where the section header table doesn't begin in the file, or a header is truncated.
+    /// `UnexpectedEof` is the last item where the section header table doesn't begin in the file, or a header is
+    /// truncated: as for `find_section` with a callback that always answers false.
     pub fn sections(&self) -> Sections<'a, C> {
         sections::sections_of::<C>(self.section_table())
     }
 
-    /// The bytes that the section has in the file, a part of it.
+    /// The section's bytes, a slice of the file.
     ///
-    /// The range is the one that the header states (`sh_offset`, `sh_size`). A section of type `SHT_NOBITS` has no bytes
-    /// in the file (gABI, "Sections"): for it these are whatever stands there.
+    /// The range is the one that the header states (`sh_offset`, `sh_size`). A section of type `SHT_NOBITS` has no
+    /// bytes in the file (gABI, "Sections"): the bytes at its range have no meaning.
     ///
     /// # Errors
     ///
-    /// `MalformedInput` where their end passes `usize`, `UnexpectedEof` where it passes the file's.
+    /// `MalformedInput` where their end exceeds `usize`, `UnexpectedEof` where it lies past the file.
     pub fn section_bytes(&self, section: &Section<C>) -> Result<&'a [u8], ParseError> {
         sections::section_data::<C>(self.data, *section)
     }
 
     /// The first section that the callback accepts, in file order; `None` where it accepts none.
     ///
-    /// A section header is read only when the callback has refused the sections before it.
+    /// A section header is read only if the callback has refused the sections before it.
     ///
     /// # Errors
     ///
@@ -80,7 +80,7 @@ impl<'a, C: Class> Elf<'a, C> {
         Ok(sections::section_with_name::<C>(self.section_table(), name)?)
     }
 
-    /// The section of this index in the section header table, which counts from 0; `None` where there are fewer.
+    /// The section of this index in the section header table, counted from 0; `None` where there are fewer.
     ///
     /// # Errors
     ///
@@ -92,23 +92,23 @@ impl<'a, C: Class> Elf<'a, C> {
     /// The function symbols of the section with this name as the file stores them, in the order of the symbol table,
     /// and the section's size in bytes. Nothing is allocated, and names stay mangled.
     ///
-    /// Kept are rows of type function (`STT_FUNC`) that name the section by its index, and have a size and a name.
+    /// It keeps rows of type function (`STT_FUNC`) that name the section by its index, and have a size and a name.
     ///
     /// # Errors
     ///
-    /// In this order: as `find_section`; `SymbolsSectionIsMissing`; `SectionIsMissing` of `.symtab` (the
-    /// first section of kind 2, `SHT_SYMTAB`) and of `.strtab` (the section that it links to); `UnexpectedSectionType`
-    /// where that isn't of kind 3 (`SHT_STRTAB`); `MalformedInput` and `UnexpectedEof` where the string table's and
-    /// then the symbol table's bytes end past `usize` and past the file; `UnexpectedEof` for a truncated last row.
+    /// In this order: those of `find_section`; `SymbolsSectionIsMissing`; `SectionIsMissing` of `.symtab` (the first
+    /// section of type 2, `SHT_SYMTAB`) and of `.strtab` (the section that it links to); `UnexpectedSectionType` where
+    /// that isn't of type 3 (`SHT_STRTAB`); `MalformedInput` where the string table's bytes end past `usize`, and
+    /// `UnexpectedEof` past the file; the same for the symbol table's bytes; `UnexpectedEof` for a truncated last row.
     pub fn functions(&self, section_name: &str) -> Result<(Functions<'a, C>, u64), ParseError> {
         symbols::section_functions::<C>(self.section_table(), section_name)
     }
 
-    /// The same functions of the dynamic symbol table, which a stripped file still has.
+    /// The same functions from the dynamic symbol table, which a stripped file still has.
     ///
     /// # Errors
     ///
-    /// Those of `functions`, where `SectionIsMissing` is of `.dynsym` (the first section of kind 11, `SHT_DYNSYM`) and of
+    /// Those of `functions`, but `SectionIsMissing` is of `.dynsym` (the first section of type 11, `SHT_DYNSYM`) and of
     /// `.dynstr` (the section that it links to).
     pub fn dynamic_functions(
         &self,
@@ -120,8 +120,8 @@ impl<'a, C: Class> Elf<'a, C> {
     /// The function symbols of all sections as the file stores them, each with the index of its section, in the order of
     /// this symbol table. Nothing is allocated, and names stay mangled.
     ///
-    /// Kept are the rows that `functions`, or for the dynamic symbol table `dynamic_functions`, keeps for some section of
-    /// the file: none without a section (`SHN_UNDEF`), and none with a reserved index, as that of `SHN_ABS`.
+    /// It keeps the rows that `functions`, or for the dynamic symbol table `dynamic_functions`, keeps for some section
+    /// of the file: none without a section (`SHN_UNDEF`), and none with a reserved index such as `SHN_ABS`.
     ///
     /// # Errors
     ///
@@ -131,11 +131,11 @@ impl<'a, C: Class> Elf<'a, C> {
         all::all_functions::<C>(self.section_table(), which)
     }
 
-    /// The functions of the symbol table as symbols, whose names are in readable form, and the section's size in bytes.
+    /// The functions of the symbol table as symbols with readable names, and the section's size in bytes.
     ///
     /// # Errors
     ///
-    /// Those of `functions`, and `OutOfMemory` where an allocation failed, which an empty list never needs.
+    /// Those of `functions`, and `OutOfMemory` where an allocation failed; an empty list allocates nothing.
     pub fn symbols(
         &self,
         alloc: Global,
@@ -145,11 +145,11 @@ impl<'a, C: Class> Elf<'a, C> {
         Ok((symbols_of(alloc, functions)?, size))
     }
 
-    /// The functions of the dynamic symbol table as symbols, and the section's size in bytes.
+    /// The functions of the dynamic symbol table as symbols with readable names, and the section's size in bytes.
     ///
     /// # Errors
     ///
-    /// Those of `dynamic_functions`, and `OutOfMemory` where an allocation failed, which an empty list never needs.
+    /// Those of `dynamic_functions`, and `OutOfMemory` where an allocation failed; an empty list allocates nothing.
     pub fn dynamic_symbols(
         &self,
         alloc: Global,
@@ -160,7 +160,7 @@ impl<'a, C: Class> Elf<'a, C> {
         Ok((symbols, size))
     }
 
-    /// The file's bytes, as they were given to `parse`.
+    /// The file's bytes, as given to `parse`.
     pub fn data(&self) -> &'a [u8] {
         self.data
     }

@@ -6,7 +6,7 @@ use crate::erased::binfarce::elf;
 use crate::erased::binfarce_bytes::{ByteOrder, ParseError};
 use crate::erased::binfarce_elf::{all, header, sections, symbols};
 
-// The standard's data types of this class (gABI, "Data Representation"): the word by which it is known.
+// The word of this class (gABI, "Data Representation"), which names the class.
 type Address = u32;
 
 type Offset = u32;
@@ -20,16 +20,17 @@ pub type Elf32Header = header::Header<Address>;
 /// A section header's values in a 32-bit file, and the section's index.
 pub type Section = sections::Section<Offset>;
 
-/// The sections of a 32-bit file that are left: what [`Elf32::sections`](elf::Elf::sections) gives.
+/// An iterator over the sections of a 32-bit file: the result of [`Elf32::sections`](elf::Elf::sections).
 pub type Sections<'a> = sections::Sections<'a, Offset>;
 
-/// The function symbols of a section that are left: what [`Elf32::functions`](elf::Elf::functions) gives.
+/// An iterator over the function symbols of a section: the result of [`Elf32::functions`](elf::Elf::functions).
 pub type Functions<'a> = symbols::Functions<'a, Address>;
 
-/// The function symbols of all sections that are left: what [`Elf32::all_functions`](elf::Elf::all_functions) gives.
+/// An iterator over the function symbols of all sections: the result of
+/// [`Elf32::all_functions`](elf::Elf::all_functions).
 pub type AllFunctions<'a> = all::AllFunctions<'a, Address>;
 
-/// Reads the file header in the given order, without a look at the magic number. Nothing is copied.
+/// Reads the file header in the given order. The magic number isn't checked. Nothing is copied.
 ///
 /// # Errors
 ///

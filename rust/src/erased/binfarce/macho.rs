@@ -22,7 +22,7 @@ pub struct Macho<'a> {
     header: MachoHeader,
 }
 
-/// Reads the header of a Mach-O file, without a look at the magic number.
+/// Reads the header of a Mach-O file. The magic number isn't checked. Nothing is copied.
 ///
 /// # Errors
 ///
@@ -33,7 +33,7 @@ pub fn parse(data: &[u8]) -> Result<Macho<'_>, ParseError> {
 }
 
 impl<'a> Macho<'a> {
-    /// The file's bytes, as they were given to `parse`.
+    /// The file's bytes, as given to `parse`.
     pub fn data(&self) -> &'a [u8] {
         self.data
     }
@@ -43,18 +43,18 @@ impl<'a> Macho<'a> {
         self.header
     }
 
-    /// The sections in file order, segment by segment, which `find_section` searches. Each is read when it is asked for.
+    /// The sections in file order, segment by segment, as `find_section` searches them. Each is read on demand.
     ///
-    /// A refusal comes, and after it nothing, where `find_section` with a callback that always answers false has it.
+    /// An error is the last item where `find_section` with a callback that always answers false returns that error.
     pub fn sections(&self) -> Sections<'a> {
         sections::sections_of(self.data, self.header)
     }
 
-    /// The bytes that the section has in the file, a part of it.
+    /// The section's bytes, a slice of the file.
     ///
     /// # Errors
     ///
-    /// `MalformedInput` where their end passes `usize`, `UnexpectedEof` where it passes the file's.
+    /// `MalformedInput` where their end exceeds `usize`, `UnexpectedEof` where it lies past the file.
     pub fn section_bytes(&self, section: &Section<'_>) -> Result<&'a [u8], ParseError> {
         sections::section_data(self.data, section)
     }
@@ -62,13 +62,13 @@ impl<'a> Macho<'a> {
     /// The first section that the callback accepts, in file order; `None` where it accepts none.
     ///
     /// The sections are those of the segment commands (`LC_SEGMENT_64`) whose segment and section name are both valid.
-    /// A name is the bytes of its own 16 up to the first NUL, or all 16 where there is none; it is valid where it isn't
-    /// empty and is UTF-8. The section borrows from the file and may outlive the reader.
+    /// A name is stored in 16 bytes: it is those up to the first NUL, or all 16 without a NUL. It is valid if it is
+    /// UTF-8 and not empty. The section borrows from the file and may outlive the reader.
     ///
     /// # Errors
     ///
-    /// `UnexpectedEof` where a segment command or a section is truncated, `MalformedInput` where a load command's size is
-    /// below 8; the sections before it are asked first.
+    /// `UnexpectedEof` where a segment command or a section is truncated, `MalformedInput` where a load command's size
+    /// is below 8. The callback gets the sections before it first.
     pub fn find_section<F: Fn(Section<'_>) -> bool>(
         &self,
         callback: F,
@@ -92,26 +92,26 @@ impl<'a> Macho<'a> {
     /// The function symbols of the first section, in the order of their addresses, and the text's size in bytes.
     ///
     /// A symbol's size is the distance to the least greater address in the whole table, or to the text's end where
-    /// there is none. Kept are rows with a value, a name offset, one of the type bits 0x0A and section 1, that have
-    /// a size and a valid name; rows of one address stand in table order. Without a symbol table the answer is
-    /// an empty list and 0.
+    /// there is none. It keeps rows with a value, a name offset, one of the type bits 0x0A and section 1, if they have
+    /// a size and a valid name. Rows of one address keep their table order. Without a symbol table the answer is an
+    /// empty list and 0.
     ///
     /// # Errors
     ///
-    /// In this order: as `find_section`; `SymbolsSectionIsMissing` without a section
-    /// `__text` of `__TEXT`; `MalformedInput` where that is empty, or for a bad load command before the symbol
-    /// table's; `UnexpectedEof` where that command, the string table or the rows are truncated; `MalformedInput` where
-    /// the text's end passes an address, or a row that would be kept lies past that end with no address above it.
-    /// `OutOfMemory` comes only where the table has a value that isn't 0, and may stand in place of the last refusal.
+    /// In this order: those of `find_section`; `SymbolsSectionIsMissing` without a section `__text` of `__TEXT`;
+    /// `MalformedInput` where that is empty, or for a bad load command before the symbol table's; `UnexpectedEof` where
+    /// that command, the string table or the rows are truncated; `MalformedInput` where the text's end exceeds 64 bits,
+    /// or a row that would be kept lies past that end with no address above it. `OutOfMemory` only where the table has
+    /// a value that isn't 0; it may replace the last error.
     pub fn symbols(&self, alloc: Global) -> Result<(Vec<SymbolData>, u64), ParseError> {
         let (functions, text_size) = self.functions(alloc)?;
         let symbols = symbols_of(alloc, functions.iter().copied())?;
         Ok((symbols, text_size))
     }
 
-    /// The function symbols that `symbols` carries, in its order, with their names as the file stores them.
+    /// The function symbols of `symbols`, in its order, with their names as the file stores them.
     ///
-    /// The names are parts of the file and may outlive the reader.
+    /// The names are slices of the file and may outlive the reader.
     ///
     /// # Errors
     ///
@@ -123,17 +123,17 @@ impl<'a> Macho<'a> {
     /// The function symbols of all sections, each with its section's number: by section, and in each by address and at equal
     /// addresses in table order. Without a symbol table the list is empty.
     ///
-    /// Kept are the rows that `functions` keeps of section 1, of each section of the file, by the same rule: a symbol's size is
-    /// the distance to the least greater address in the whole table, or to the end of its own section where there is none.
-    /// Sections are numbered from 1 on, segment by segment, also those whose names aren't valid; a row can state no number
-    /// above 255, and one with the number of no section isn't kept.
+    /// `functions` keeps rows of section 1; this keeps rows of each section, by the same rule. A symbol's size is the
+    /// distance to the least greater address in the whole table, or to the end of its own section where there is none.
+    /// Sections are numbered from 1 on, segment by segment, also those whose names aren't valid. A row's section number
+    /// is at most 255; a row whose section doesn't exist isn't kept.
     ///
     /// # Errors
     ///
-    /// In this order: as `find_section` with a callback that accepts no section; `UnexpectedEof` where the symbol table's command,
-    /// the string table or the rows are truncated; `MalformedInput` where a section's end passes an address and a row of it
-    /// would be kept, or where a row that would be kept lies past its section's end with no address above it. `OutOfMemory`
-    /// comes only where the file has a section, and may stand in place of a refusal.
+    /// In this order: those of `find_section` with a callback that accepts no section; `UnexpectedEof` where the symbol
+    /// table's command, the string table or the rows are truncated; `MalformedInput` where the end of a section with a
+    /// row to keep exceeds 64 bits, or where such a row lies past its section's end with no address above it.
+    /// `OutOfMemory` only where the file has a section; it may replace another error.
     pub fn all_functions(&self, alloc: Global) -> Result<Vec<SectionFunction<'a>>, ParseError> {
         functions_of_sections(alloc, self.data, self.header)
     }

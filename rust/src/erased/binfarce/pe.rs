@@ -24,7 +24,7 @@ pub struct Pe<'a> {
     header: PeHeader,
 }
 
-/// Reads the file header, without a look at the signature.
+/// Reads the file header. The signature isn't checked. Nothing is copied.
 ///
 /// # Errors
 ///
@@ -39,7 +39,7 @@ pub fn parse(data: &[u8]) -> Result<Pe<'_>, ParseError> {
 }
 
 impl<'a> Pe<'a> {
-    /// The file's bytes, as they were given to `parse`.
+    /// The file's bytes, as given to `parse`.
     pub fn data(&self) -> &'a [u8] {
         self.data
     }
@@ -49,15 +49,15 @@ impl<'a> Pe<'a> {
         self.header
     }
 
-    /// The sections in file order, which `find_section` searches. Each is read when it is asked for.
+    /// The sections in file order, as `find_section` searches them. Each is read on demand.
     ///
-    /// `UnexpectedEof` comes, and after it nothing, where `find_section` with a callback that always answers false
-    /// has it: where the section table doesn't begin in the file, or a header is truncated.
+    /// `UnexpectedEof` is the last item where the section table doesn't begin in the file, or a header is truncated: as
+    /// for `find_section` with a callback that always answers false.
     pub fn sections(&self) -> Sections<'a> {
         sections::sections_of(self.data, self.places())
     }
 
-    /// The bytes that the section has in the file, a part of it.
+    /// The section's bytes, a slice of the file.
     ///
     /// # Errors
     ///
@@ -68,7 +68,7 @@ impl<'a> Pe<'a> {
 
     /// The first section that the callback accepts, in file order; `None` where it accepts none.
     ///
-    /// A section header is read only when the callback has refused the sections before it. A section whose name isn't
+    /// A section header is read only if the callback has refused the sections before it. A section whose name isn't
     /// UTF-8 is skipped.
     ///
     /// # Errors
@@ -91,25 +91,24 @@ impl<'a> Pe<'a> {
         Ok(sections::section_with_name(self.data, self.places(), name)?)
     }
 
-    /// The function symbols of the section `.text`, by address and at equal addresses in table order, and the size in
-    /// bytes that the section has in the file.
+    /// The function symbols of the section `.text`, by address and at equal addresses in table order, and the section's
+    /// size in bytes in the file.
     ///
-    /// Their names, which are still mangled, are parts of the file. An address is what the row holds: the offset in the
-    /// section, in bytes. Kept are rows of external functions that name the section by its number and have a name: the
-    /// row's own 8 bytes up to the first NUL, which may be empty but have to be UTF-8, or the text at an offset in the
-    /// string table ("COFF Symbol Table"). A symbol's size is the distance to the least greater one among the addresses
-    /// of the kept rows and the section's size, and 0 where none is greater.
+    /// Their names are slices of the file, and still mangled. An address is the row's value: the offset in the section,
+    /// in bytes. It keeps rows of external functions that name the section by its number and have a name. The name is
+    /// the row's own 8 bytes up to the first NUL, which may be empty but have to be UTF-8, or the text at an offset in
+    /// the string table ("COFF Symbol Table"). A symbol's size is the distance to the next greater of the addresses of
+    /// the kept rows and the section's size, or 0 where none is greater.
     ///
     /// # Errors
     ///
-    /// In this order: as `find_section`;
-    /// `SymbolsSectionIsMissing`; `UnexpectedEof` where the symbol table doesn't begin in the file, even an empty one,
-    /// or passes its end. `OutOfMemory` comes only in place of a list that isn't empty.
+    /// In this order: those of `find_section`; `SymbolsSectionIsMissing`; `UnexpectedEof` where the symbol table, even
+    /// an empty one, doesn't begin in the file, or ends past it. `OutOfMemory` only instead of a list that isn't empty.
     pub fn functions(&self, alloc: Global) -> Result<(Vec<FunctionSymbol<'a>>, u64), ParseError> {
         functions_of_file(alloc, self.data, self.places())
     }
 
-    /// The function symbols of `functions` with readable names, and the size in bytes that `.text` has in the file.
+    /// The function symbols of `functions` with readable names, and the size of `.text` in bytes in the file.
     ///
     /// # Errors
     ///
@@ -123,21 +122,21 @@ impl<'a> Pe<'a> {
     /// The function symbols of all sections, each with its section's number: by section, and in each by address and at equal
     /// addresses in table order.
     ///
-    /// The function symbols of a section are those that `functions` would give if it were the section `.text`: addresses are
-    /// offsets in the section, and a size ends at the least greater address in the same section, or with the section's bytes
-    /// in the file. Sections are numbered from 1 on, also those whose name isn't UTF-8. A row without a section, or with the
-    /// number of none, isn't kept.
+    /// The function symbols of a section are those that `functions` would give if it were the section `.text`:
+    /// addresses are offsets in the section, and a size ends at the least greater address in the same section, or with
+    /// the section's bytes in the file. Sections are numbered from 1 on, also those whose name isn't UTF-8. A row
+    /// without a section, or whose section doesn't exist, isn't kept.
     ///
     /// # Errors
     ///
-    /// In this order: `UnexpectedEof` as `find_section` has it with a callback that accepts no section, where the section table
-    /// doesn't begin in the file or a header is truncated; `UnexpectedEof` where the symbol table doesn't begin in the file,
-    /// even an empty one, or passes its end. `OutOfMemory` comes only where the file has a section.
+    /// In this order: `UnexpectedEof` where the section table doesn't begin in the file, or a header is truncated, as
+    /// for `find_section` with a callback that accepts no section; `UnexpectedEof` where the symbol table, even an
+    /// empty one, doesn't begin in the file, or ends past it. `OutOfMemory` only where the file has a section.
     pub fn all_functions(&self, alloc: Global) -> Result<Vec<SectionFunction<'a>>, ParseError> {
         functions_of_sections(alloc, self.data, self.places())
     }
 
-    // Where the tables are.
+    // The places of the tables.
     fn places(&self) -> Places {
         places_after(self.pe_pointer, self.header)
     }

@@ -1,15 +1,15 @@
 // From crates/binfarce/src/symbols.rt, by tools/erase.
 
-//! The symbols that function symbols become.
+//! Function symbols as symbols with readable names.
 
 use crate::shim::Vec;
 use crate::erased::binfarce_bytes::functions::FunctionSymbol;
 use crate::erased::binfarce_names::demangle::{Demangler, SymbolData};
 use crate::shim::alloc::{AllocError, Global};
 
-/// One symbol for each function symbol that comes, in order, with its name in readable form.
+/// One symbol for each function symbol, in order, with its name in readable form.
 ///
-/// The only error is that an allocation failed. An iterator that gives nothing makes none.
+/// The only error is a failed allocation. An empty iterator needs none.
 pub fn symbols_of<'a, I: Iterator<Item = FunctionSymbol<'a>>>(
     alloc: Global,
     functions: I,

@@ -11,20 +11,20 @@ use std::num::TryFromIntError;
 /// Why a file could not be read.
 #[derive(Debug, Clone, Copy, PartialEq, Eq, Hash)]
 pub enum ParseError {
-    /// No section has the name that was asked for.
+    /// No section has the requested name.
     SymbolsSectionIsMissing,
-    /// A section that the symbols need is missing: the one named.
+    /// The named section, which the symbols need, is missing.
     SectionIsMissing(&'static str),
-    /// A section isn't of the type that its use needs.
+    /// A section has the wrong type.
     UnexpectedSectionType {
-        /// The type that it has to have (`sh_type`).
+        /// The required type (`sh_type`).
         expected: u32,
-        /// The type that it has.
+        /// Its type.
         actual: u32,
     },
-    /// A number in the file fits nothing that the file could mean.
+    /// A number in the file is invalid.
     MalformedInput,
-    /// The file ends before what it should hold.
+    /// The file is truncated.
     UnexpectedEof,
     /// An allocation failed.
     OutOfMemory,

@@ -1,6 +1,6 @@
 // From crates/binfarce_bytes/src/format.rt, by tools/erase.
 
-//! Which format a file's first bytes name.
+//! The format of a file, by its first bytes.
 
 use crate::erased::binfarce_bytes::ByteOrder;
 
@@ -17,7 +17,7 @@ pub enum Format {
         /// The order of the numbers' bytes.
         byte_order: ByteOrder,
     },
-    /// Mach-O of any kind. `macho::parse` reads each as one of 64 bits in little-endian order.
+    /// Mach-O of any kind. `macho::parse` reads each as a 64-bit little-endian file.
     Macho,
     /// A file that begins with the MS-DOS stub of a PE file: for `pe::parse`.
     PE,
@@ -29,7 +29,7 @@ pub enum Format {
 /// Identification"), PE's `4D 5A`, the five magic numbers of Mach-O. A file of fewer than 8 bytes is `Unknown`, and so
 /// is an ELF file of another class or order. Nothing is allocated.
 ///
-/// The readers themselves never look at a magic number.
+/// The readers themselves don't check magic numbers.
 pub fn detect_format(data: &[u8]) -> Format {
     if data.len() < 8 {
         return Format::Unknown;

@@ -1,8 +1,8 @@
 // From crates/binfarce_bytes/src/functions.rt, by tools/erase.
 
-//! The function symbols that a file stores, and which of them an address is shown by.
+//! The function symbols that a file stores, and the one that an address symbolizes to.
 
-/// A function symbol as a file stores it. Its name, which is still mangled, is a part of the file's bytes.
+/// A function symbol as a file stores it. Its name is a slice of the file's bytes, and still mangled.
 #[derive(Debug, Clone, Copy)]
 pub struct FunctionSymbol<'a> {
     /// The name as it is stored.
@@ -13,21 +13,20 @@ pub struct FunctionSymbol<'a> {
     pub size: u64,
 }
 
-/// A function symbol, and the section that it is in.
+/// A function symbol, and its section.
 #[derive(Debug, Clone, Copy)]
 pub struct SectionFunction<'a> {
-    /// The section's number, as the symbol states it: in an ELF file the index of its section header, in Mach-O and PE files
-    /// counted from 1.
+    /// The section's number: in an ELF file the index of its section header, in Mach-O and PE files counted from 1.
     pub section: u32,
     /// The function symbol.
     pub function: FunctionSymbol<'a>,
 }
 
-/// The function symbol of a list that an address is shown by: of those whose range holds it the one of greatest address, and
-/// of these the first. `None` where none holds it.
+/// The function symbol that an address symbolizes to: of those in the list whose range holds it the one of greatest
+/// address, and of several the first. `None` where no range holds it.
 ///
-/// A range begins at the symbol's address and has its size in bytes; a symbol of size 0 holds its own address alone. The
-/// address is one as the file stores it, in a PE file the offset in the section. The whole list is looked at, and nothing is
+/// A range begins at the symbol's address and has its size in bytes; a symbol of size 0 holds its own address alone.
+/// The address is as in the file: in a PE file, the offset in the section. The whole list is searched; nothing is
 /// allocated.
 pub fn symbol_at<'a>(functions: &[FunctionSymbol<'a>], address: u64) -> Option<FunctionSymbol<'a>> {
     let mut found = None;
@@ -37,7 +36,7 @@ pub fn symbol_at<'a>(functions: &[FunctionSymbol<'a>], address: u64) -> Option<F
     found
 }
 
-/// The function symbol that an address is shown by, where one was found among those before and now another one comes.
+/// The better of the symbol found so far and the next one, for an address.
 #[cfg_attr(not(debug_assertions), inline(always))]
 pub fn found_with<'a>(
     found: Option<FunctionSymbol<'a>>,

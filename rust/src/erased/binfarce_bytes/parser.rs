@@ -1,6 +1,6 @@
 // From crates/binfarce_bytes/src/parser.rt, by tools/erase.
 
-//! Numbers and bytes at an offset; and the texts of `text`.
+//! Numbers and bytes at an offset, and the texts of `text`.
 
 pub use crate::erased::binfarce_bytes::text::{parse_null_string, up_to_nul, utf8_text};
 use crate::shim::ToSigned;
@@ -9,7 +9,7 @@ use std::error::Error;
 use std::fmt;
 use std::ops::Range;
 
-/// The bytes end before what was asked for.
+/// The bytes end too soon.
 #[derive(Debug, Clone, Copy)]
 pub struct UnexpectedEof {}
 
@@ -26,7 +26,7 @@ pub trait RawNumber: Sized {
     /// How many bytes the number has.
     const SIZE: usize;
 
-    /// The number at the stream's offset, which stays; `None` where a byte is missing.
+    /// The number at the stream's offset, which doesn't move; `None` where a byte is missing.
     fn parse(s: &mut Stream) -> Option<Self>;
 }
 
@@ -110,7 +110,7 @@ impl RawNumber for u64 {
     }
 }
 
-/// Bytes, an offset and a byte order. A refused call leaves it as it was.
+/// Bytes, an offset and a byte order. A call that fails leaves it unchanged.
 #[derive(Clone, Copy)]
 pub struct Stream<'a> {
     bytes: &'a [u8],
@@ -129,7 +129,7 @@ impl<'a> Stream<'a> {
         }
     }
 
-    /// A stream at `offset`, which has to be below the length.
+    /// A stream at `offset`; fails unless that is below the length.
     #[inline]
     pub fn new_at(
         bytes: &'a [u8],
@@ -164,7 +164,7 @@ impl<'a> Stream<'a> {
         self.bytes.len().saturating_sub(self.offset)
     }
 
-    /// Moves the offset by `len` without a look at the bytes; refused only where it would pass `usize`.
+    /// Moves the offset by `len` without reading bytes; fails only where it would exceed `usize`.
     #[inline]
     pub fn skip_len(&mut self, len: usize) -> Result<(), UnexpectedEof> {
         match self.offset.checked_add(len) {
@@ -176,13 +176,13 @@ impl<'a> Stream<'a> {
         }
     }
 
-    /// Moves the offset past a `T` without a look at the bytes.
+    /// Moves the offset past a `T` without reading bytes.
     #[inline]
     pub fn skip<T: RawNumber>(&mut self) -> Result<(), UnexpectedEof> {
         self.skip_len(T::SIZE)
     }
 
-    /// The number at the offset, which moves past it; refused where a byte is missing.
+    /// The number at the offset, which moves past it; fails where a byte is missing.
     #[inline]
     pub fn read<T: RawNumber>(&mut self) -> Result<T, UnexpectedEof> {
         let offset = self.offset.checked_add(T::SIZE).ok_or(UnexpectedEof {})?;
@@ -191,9 +191,9 @@ impl<'a> Stream<'a> {
         Ok(number)
     }
 
-    /// The `len` bytes at the offset, a part of the bytes; the offset moves past them.
+    /// The `len` bytes at the offset, as a slice; the offset moves past them.
     ///
-    /// Refused where the offset plus `len` passes `usize` or the length.
+    /// Fails where the offset plus `len` exceeds `usize` or the length.
     #[inline]
     pub fn read_bytes(&mut self, len: usize) -> Result<&'a [u8], UnexpectedEof> {
         let offset = self.offset.checked_add(len).ok_or(UnexpectedEof {})?;
@@ -203,7 +203,7 @@ impl<'a> Stream<'a> {
     }
 }
 
-/// The number at `place`; refused where a byte is missing.
+/// The number at `place`; fails where a byte is missing.
 #[inline]
 pub fn number_at<T: RawNumber>(
     bytes: &[u8],
@@ -213,7 +213,7 @@ pub fn number_at<T: RawNumber>(
     Stream::new_at(bytes, place, byte_order)?.read()
 }
 
-/// The range of the `size` bytes from `offset` on; `MalformedInput` where its end passes `usize`.
+/// The range of the `size` bytes from `offset` on; `MalformedInput` where its end exceeds `usize`.
 #[inline]
 pub fn range(offset: usize, size: usize) -> Result<Range<usize>, ParseError> {
     match offset.checked_add(size) {
@@ -222,7 +222,7 @@ pub fn range(offset: usize, size: usize) -> Result<Range<usize>, ParseError> {
     }
 }
 
-/// The `size` bytes from `offset` on, a part of `bytes`; refused where their end passes `usize` or the length.
+/// The `size` bytes from `offset` on, a slice of `bytes`; fails where their end exceeds `usize` or the length.
 #[inline]
 pub fn slice_at(bytes: &[u8], offset: usize, size: usize) -> Result<&[u8], UnexpectedEof> {
     let end = offset.checked_add(size).ok_or(UnexpectedEof {})?;

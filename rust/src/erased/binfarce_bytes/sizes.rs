@@ -1,16 +1,16 @@
 // From crates/binfarce_bytes/src/sizes.rt, by tools/erase.
 
-//! Sizes where a format stores none: rows arranged by address, and the least greater address of each.
+//! Sizes where a format stores none: rows arranged by address, and the least address above each.
 
 use crate::shim::Vec;
 use crate::shim::alloc::{AllocError, Global};
 
-/// The address that a row of a symbol table holds, and which row that is.
+/// The address of a row of a symbol table, and the row's index.
 #[derive(Clone, Copy, PartialEq, Eq, PartialOrd, Ord)]
 pub struct RowAddress {
     pub address: u64,
-    /// The index of the row in a list of the format's own: in Mach-O the symbol table, in PE the rows that are kept.
-    /// Rows later in the table have greater ones.
+    /// The row's index: in Mach-O in the symbol table, in PE among the rows that are kept. Rows later in the table have
+    /// greater ones.
     pub index: usize,
 }
 
@@ -18,13 +18,14 @@ pub struct RowAddress {
 pub struct Arranged {
     /// The rows, in the order of (address, index).
     pub rows: Vec<RowAddress>,
-    /// For each of these the least greater address among all, where there is one.
+    /// For each row, the least address above its own, if any.
     pub above: Vec<Option<u64>>,
-    /// How many rows the search for these visited.
+    /// How many rows the search for these addresses visited.
     pub visited: usize,
 }
 
-/// Puts the rows in the order of their addresses, and finds what is above each.
+/// Puts the rows in the order of their addresses, and finds the least address above each. The only error is a failed
+/// allocation.
 pub fn arrange(alloc: Global, rows: Vec<RowAddress>) -> Result<Arranged, AllocError> {
     let mut rows = rows;
     put_in_order(&mut rows);
@@ -41,15 +42,15 @@ fn put_in_order(rows: &mut Vec<RowAddress>) {
     rows.sort_unstable();
 }
 
-// What one walk over arranged rows finds.
+// The result of one walk over arranged rows.
 struct Swept {
     above: Vec<Option<u64>>,
     visited: usize,
 }
 
-// The least greater address at each place of rising addresses, in one walk from the back.
+// The least address above each of the rising addresses, in one walk from the back.
 //
-// The walk remembers the least address that is greater than the one that it stands at.
+// The walk keeps the least address above the current one.
 fn sweep(alloc: Global, rows: &[RowAddress]) -> Result<Swept, AllocError> {
     let mut above = Vec::filled(alloc, None, rows.len())?;
     let mut visited = 0;

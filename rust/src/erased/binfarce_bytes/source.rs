@@ -1,15 +1,15 @@
 // From crates/binfarce_bytes/src/source.rt, by tools/erase.
 
-//! What is read at offsets: a file, or bytes in memory.
+//! Sources that are read at offsets: a file, or bytes in memory.
 
 use crate::shim::Vec;
 use crate::shim::alloc::Global;
 use crate::shim::fs::File;
 use crate::shim::io::{self, Error, ErrorKind};
 
-/// What is read at offsets.
+/// A source that is read at offsets.
 pub trait Source {
-    /// How many bytes it has. An error where it can't be read at offsets.
+    /// Its length in bytes. An error where it can't be read at offsets.
     fn length(&self) -> io::Result<u64>;
 
     /// Fills the buffer with the bytes from the offset on. An error where they end before the buffer is full.
@@ -50,7 +50,7 @@ impl Source for &[u8] {
 
 /// The `size` bytes from the offset on, in memory of that size.
 ///
-/// Refused with the source's error, and as `OutOfMemory` where the allocation fails.
+/// Fails with the source's error, and with `OutOfMemory` where the allocation fails.
 pub fn read_part<S: Source>(
     alloc: Global,
     source: &S,

@@ -1,8 +1,8 @@
 // From crates/binfarce_bytes/src/text.rt, by tools/erase.
 
-//! Texts at an offset, and in a field of their own.
+//! Texts at an offset, and texts in fixed-size fields.
 
-/// The bytes up to the first NUL, or all where there is none; a part of `bytes`.
+/// The bytes up to the first NUL, or all where there is none; a slice of `bytes`.
 pub fn up_to_nul(bytes: &[u8]) -> &[u8] {
     match first_nul(bytes) {
         None => bytes,
@@ -10,7 +10,7 @@ pub fn up_to_nul(bytes: &[u8]) -> &[u8] {
     }
 }
 
-/// The text from `start` to the first NUL, which is a part of `bytes`.
+/// The text from `start` to the first NUL, as a slice of `bytes`.
 ///
 /// `None` where `start` is past the end, there is no NUL, the text is empty, or it isn't UTF-8.
 pub fn parse_null_string(bytes: &[u8], start: usize) -> Option<&str> {
@@ -27,7 +27,7 @@ fn text_from(bytes: &[u8], start: usize) -> Option<&str> {
     }
 }
 
-// How many bytes are looked at together: first so many, and then fewer.
+// How many bytes are compared at a time: first so many, and then fewer.
 const STRIDE: usize = 32;
 
 const LAST_STRIDE: usize = 8;
@@ -41,7 +41,7 @@ fn find_nul(bytes: &[u8]) -> Option<usize> {
     }
 }
 
-// The offset after the strides from `start` on that have no NUL, where none stands before `start`.
+// The offset after the strides from `start` on that have no NUL, where there is none before `start`.
 #[cfg_attr(not(debug_assertions), inline(always))]
 fn past_strides(bytes: &[u8], start: usize, stride: usize) -> usize {
     let mut at = start;
@@ -58,7 +58,7 @@ fn first_nul(bytes: &[u8]) -> Option<usize> {
     bytes.iter().position(|b| *b == 0)
 }
 
-// Without an early end, so that the bytes are compared side by side.
+// Without an early exit, so that the comparisons are vectorized.
 #[cfg_attr(not(debug_assertions), inline(always))]
 fn has_nul(bytes: &[u8]) -> bool {
     let mut found = false;
@@ -76,7 +76,7 @@ fn first_text(bytes: &[u8], len: usize) -> Option<&str> {
     utf8_text(&bytes[..len])
 }
 
-/// The bytes as a text, which is a part of them; `None` where they aren't UTF-8.
+/// The bytes as a text, without a copy; `None` where they aren't UTF-8.
 pub fn utf8_text(bytes: &[u8]) -> Option<&str> {
     match std::str::from_utf8(bytes) {
         Ok(text) => Some(text),

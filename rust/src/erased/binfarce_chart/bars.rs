@@ -1,17 +1,17 @@
 // From crates/binfarce_chart/src/bars.rt, by tools/erase.
 
-//! Which bars a picture shows, in which order, and how long they are.
+//! The bars that a picture shows, their order, and their lengths.
 
 use crate::shim::{String, Vec};
 use crate::shim::alloc::{AllocError, Global};
 
-// How many bars a picture shows at most.
+// The most bars that a picture shows.
 pub(crate) const MOST_BARS: usize = 40;
 
 // The length of all bars together, in hundredths of a per cent.
 const WHOLE: u128 = 10_000;
 
-/// A size, and what it is the size of.
+/// A size with a name.
 #[derive(Debug, Clone, Copy)]
 pub struct Bar<'a> {
     /// The name that the bar is labelled with: any text.
@@ -20,17 +20,17 @@ pub struct Bar<'a> {
     pub size: u64,
 }
 
-// The bars in falling order, those of one size in the order in which they were given.
+// The bars by falling size; bars of one size keep their given order.
 pub(crate) fn falling<'a>(alloc: Global, bars: &[Bar<'a>]) -> Result<Vec<Bar<'a>>, AllocError> {
     let mut sorted = Vec::from_slice(alloc, bars)?;
-    // Equal sizes keep their order, and so they do where both sides of the sort are turned round.
+    // The sort is stable, also in this falling order: equal sizes keep their order.
     sorted.reverse();
     sorted.sort_by_key(|bar| bar.size)?;
     sorted.reverse();
     Ok(sorted)
 }
 
-// The label of the bar that stands for so many others.
+// The label of the bar that sums up so many others.
 pub(crate) fn others(alloc: Global, count: usize) -> Result<String, AllocError> {
     let mut label = String::new(alloc);
     write!(label, "[{count} others]")?;
@@ -51,7 +51,7 @@ pub(crate) fn length_of(total: u64, before: u64, size: u64) -> u64 {
     edge(total, before + size) - edge(total, before)
 }
 
-// How much of the whole is before this point.
+// The share of the whole before this point.
 fn edge(total: u64, before: u64) -> u64 {
     if total == 0 {
         return 0;

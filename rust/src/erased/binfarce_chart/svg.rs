@@ -6,11 +6,11 @@ use crate::shim::String;
 use crate::erased::binfarce_chart::bars::{Bar, MOST_BARS, falling, length_of, others, size_of_all};
 use crate::shim::alloc::{AllocError, Global};
 
-/// The picture of these sizes, as an SVG document of its own: a bar for each, the greatest first.
+/// The picture of these sizes, as a whole SVG document: a bar for each, the greatest first.
 ///
-/// The sum of the sizes has to be below 2^64. Of more than 40 bars the last one stands for all from the 40th on. The
+/// The sum of the sizes has to be below 2^64. Of more than 40 bars, the last one sums up all from the 40th on. The
 /// lengths are shares of the sum in hundredths of a per cent, and are written beside the bars; they add up to 100.00.
-/// Names are escaped. Refused: an allocation that fails.
+/// Names are escaped. The only error is a failed allocation.
 pub fn chart(alloc: Global, bars: &[Bar<'_>], section_size: u64) -> Result<String, AllocError> {
     let sorted = falling(alloc, bars)?;
     picture_of(alloc, sorted.as_slice(), section_size)
@@ -26,7 +26,7 @@ fn picture_of(alloc: Global, bars: &[Bar<'_>], section_size: u64) -> Result<Stri
     Ok(text)
 }
 
-// What stands before so many rows.
+// The text before so many rows.
 fn push_head(text: &mut String, count: usize, sum: u64, section_size: u64) -> Result<(), AllocError> {
     push_opening(text, 24 * count as u128 + 48)?;
     push_caption(text, sum, section_size)
@@ -61,7 +61,7 @@ fn push_shown(
     push_others(alloc, text, rest, sum)
 }
 
-// The row that stands for these bars, below 39 others.
+// The row that sums up these bars, below 39 others.
 fn push_others(
     alloc: Global,
     text: &mut String,
@@ -126,7 +126,7 @@ fn push_percents(text: &mut String, length: u64) -> Result<(), AllocError> {
     write!(text, "{}.{}{}", length / 100, length / 10 % 10, length % 10)
 }
 
-// A name in which every character stands for itself.
+// A name, escaped so that XML takes every character literally.
 fn push_escaped(text: &mut String, name: &str) -> Result<(), AllocError> {
     for byte in name.as_bytes() {
         push_escaped_byte(text, *byte)?;

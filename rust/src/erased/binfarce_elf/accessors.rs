@@ -6,8 +6,8 @@ use crate::erased::binfarce_elf::class::{Class, Word};
 use crate::erased::binfarce_elf::sections::Section;
 
 impl<C: Class> Section<C> {
-    /// What the section holds (`sh_type`): 1 for code and data (`SHT_PROGBITS`), 2 for the symbol table (`SHT_SYMTAB`),
-    /// 3 for a string table (`SHT_STRTAB`), 8 where it has no bytes in the file (`SHT_NOBITS`).
+    /// The section's type (`sh_type`): 1 for code and data (`SHT_PROGBITS`), 2 for the symbol table (`SHT_SYMTAB`), 3
+    /// for a string table (`SHT_STRTAB`), 8 where it has no bytes in the file (`SHT_NOBITS`).
     pub fn section_type(&self) -> Word {
         self.kind
     }

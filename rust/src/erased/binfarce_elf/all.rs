@@ -11,7 +11,7 @@ use crate::erased::binfarce_bytes::parser::UnexpectedEof;
 use crate::erased::binfarce_bytes::{ByteOrder, ParseError};
 use std::marker::PhantomData;
 
-/// The function symbols of all sections, by this symbol table.
+/// The function symbols of all sections, from this symbol table.
 pub fn all_functions<'a, C: Class>(
     table: Table<'a>,
     which: SymbolTable,
@@ -33,7 +33,7 @@ fn whole_sections<C: Class>(table: Table<'_>) -> Result<Half, UnexpectedEof> {
 
 /// The function symbols of all sections that are left, each with the index of its section, in the order of the symbol table.
 ///
-/// Rows are read as they are asked for, and names stay in the file: nothing is allocated or copied.
+/// Rows are read on demand, and names stay in the file: nothing is allocated or copied.
 #[must_use = "iterators are lazy and do nothing unless consumed"]
 pub struct AllFunctions<'a, C> {
     rows: &'a [u8],
@@ -98,7 +98,7 @@ fn section_function(strings: &[u8], count: Half, row: SymbolRow) -> Option<Secti
     })
 }
 
-// Whether a section index is that of one of so many sections.
+// Whether this is the index of one of so many sections.
 fn is_of_section(count: Half, index: Half) -> bool {
     const SHN_LORESERVE: Half = 0xff00;
     index > 0 && index < SHN_LORESERVE && index < count

@@ -1,18 +1,18 @@
 // From crates/binfarce_elf/src/class.rt, by tools/erase.
 
-//! The two classes of ELF files: their words, and what they lay out differently.
+//! The two classes of ELF files: their words, and their different layouts.
 
 use crate::erased::binfarce_bytes::ByteOrder;
 use crate::erased::binfarce_bytes::parser::{RawNumber, Stream, UnexpectedEof, slice_at};
 
-// The standard's data types (gABI, "Data Representation"); a word of the class stands for its addresses and offsets.
+// The standard's data types (gABI, "Data Representation"); addresses and offsets are words of the class.
 pub type Half = u16;
 
 pub type Word = u32;
 
 pub type XWord = u64;
 
-/// A row of a symbol table, with values as wide as the wider class has them.
+/// A row of a symbol table, with values of the wider class's widths.
 #[derive(Clone, Copy)]
 pub struct SymbolRow {
     pub name: Word,
@@ -23,7 +23,7 @@ pub struct SymbolRow {
     pub section: Half,
 }
 
-/// A class of ELF files, known by its word: `u32` for ELFCLASS32, `u64` for ELFCLASS64.
+/// A class of ELF files, named by its word: `u32` for ELFCLASS32, `u64` for ELFCLASS64.
 ///
 /// Addresses, offsets in the file, and the sizes of sections have a word's width.
 pub trait Class: RawNumber + Copy {
@@ -36,10 +36,10 @@ pub trait Class: RawNumber + Copy {
     /// The length of a symbol table entry in bytes.
     const SYMBOL_LENGTH: usize;
 
-    /// The word as the wider class has it.
+    /// The word in the wider class's type.
     fn widened(self) -> u64;
 
-    /// How many entries of a size there are in this size; 0 where that size is 0.
+    /// How many entries of a size there are in this size; 0 where the entry size is 0.
     fn entries_of(self, entry_size: Self) -> Self;
 
     /// The row at `start`; refused where it is truncated.
@@ -98,8 +98,8 @@ impl Class for u64 {
     }
 }
 
-// The row of the class of 32 bits that these bytes begin with; refused where it is truncated. Where they are those of one
-// row, whose number is known when this is compiled, no field's reading tests the length.
+// The row of a 32-bit file at the front of these bytes; refused where it is truncated. For a slice of one row, whose
+// length the compiler knows, no read of a field checks bounds.
 #[cfg_attr(not(debug_assertions), inline(always))]
 fn row_of_32(bytes: &[u8], byte_order: ByteOrder) -> Result<SymbolRow, UnexpectedEof> {
     let mut s = Stream::new(bytes, byte_order);
@@ -119,7 +119,7 @@ fn row_of_32(bytes: &[u8], byte_order: ByteOrder) -> Result<SymbolRow, Unexpecte
     })
 }
 
-// The same of the class of 64 bits.
+// The same for a 64-bit file.
 #[cfg_attr(not(debug_assertions), inline(always))]
 fn row_of_64(bytes: &[u8], byte_order: ByteOrder) -> Result<SymbolRow, UnexpectedEof> {
     let mut s = Stream::new(bytes, byte_order);

@@ -1,6 +1,6 @@
 // From crates/binfarce_elf/src/parts.rt, by tools/erase.
 
-//! What the symbols of a section need, found in the section headers alone.
+//! The sections that the symbols of a section need, found in the section headers alone.
 
 use crate::erased::binfarce_elf::class::{Class, Half};
 use crate::erased::binfarce_elf::sections::{
@@ -19,8 +19,8 @@ pub struct Needed<C> {
     pub strings: Section<C>,
 }
 
-/// These sections, found in `count` section headers, whose names are among `names`. Refused as `functions` and
-/// `dynamic_functions` of a reader are, up to the string table's kind.
+/// These sections, found in `count` section headers, whose names are in `names`. Refused as `functions` and
+/// `dynamic_functions` of a reader are, up to the string table's type.
 pub fn needed_sections<C: Class>(
     headers: &[u8],
     byte_order: ByteOrder,
@@ -37,12 +37,13 @@ pub fn needed_sections<C: Class>(
     )
 }
 
-/// The sections of `count` section headers, in order; `UnexpectedEof` where the headers end before, or there are no bytes.
+/// The sections of `count` section headers, in order; `UnexpectedEof` where a header is truncated, or there are no
+/// bytes.
 pub fn sections_in<C: Class>(headers: &[u8], byte_order: ByteOrder, count: Half) -> Sections<'_, C> {
     sections_of::<C>(headers_alone(headers, byte_order, count))
 }
 
-/// The section's name among these section names.
+/// The section's name in these section names.
 pub fn name_in<'a, C: Class>(names: Option<&'a [u8]>, section: &Section<C>) -> Option<&'a str> {
     name_at(names, section.name_offset)
 }

@@ -23,11 +23,11 @@ pub struct Section<C> {
 }
 
 impl<C: Class> Section<C> {
-    /// The section's bytes as a range of the file (`sh_offset`, `sh_size`), which isn't checked against the file's length.
+    /// The section's bytes as a range of the file (`sh_offset`, `sh_size`). It isn't checked against the file's length.
     ///
     /// # Errors
     ///
-    /// `MalformedInput` where the range's end passes `usize`.
+    /// `MalformedInput` where the range's end exceeds `usize`.
     pub fn range(&self) -> Result<Range<usize>, ParseError> {
         range(self.offset.widened() as usize, self.size.widened() as usize)
     }
@@ -37,17 +37,17 @@ impl<C: Class> Section<C> {
         self.size.entries_of(self.entry_size)
     }
 
-    /// The section's name, a part of the file that `parent` reads; nothing is copied.
+    /// The section's name, a slice of the file of `parent`; nothing is copied.
     ///
-    /// `None` where the section of the section names, which the file header names by `shstrndx`, is truncated or
-    /// lies outside the file, or where no text begins at the name's offset: one that isn't empty, is UTF-8, and
-    /// ends with a NUL (gABI, "String Table").
+    /// `None` where the section of the section names, at index `shstrndx`, is truncated or lies outside the file.
+    /// `None` also where there is no text at the name's offset: it has to be UTF-8, not empty, and end with a NUL
+    /// (gABI, "String Table").
     pub fn name<'a, P: HasSections<'a, C>>(&self, parent: &P) -> Option<&'a str> {
         section_name::<C>(parent.section_table(), *self)
     }
 }
 
-/// Where a file's section headers begin, as its header says.
+/// Where a file's section headers begin, as its header states.
 #[derive(Clone, Copy)]
 pub struct Table<'a> {
     pub(crate) data: &'a [u8],
@@ -57,7 +57,7 @@ pub struct Table<'a> {
     pub(crate) shstrndx: Half,
 }
 
-/// A file of this class whose section header table is known: what a section asks for its name.
+/// A file of this class with a section header table, in which a section looks up its name.
 pub trait HasSections<'a, C: Class> {
     /// Where the file's section headers begin.
     fn section_table(&self) -> Table<'a>;
@@ -107,10 +107,11 @@ pub fn section_at<C: Class>(
     })
 }
 
-/// The sections of a file that are left, in file order: what `sections` of a reader gives. It borrows the file's bytes.
+/// An iterator over the sections of a file, in file order: the result of `sections` of a reader. It borrows the file's
+/// bytes.
 ///
-/// A section header is read when it is asked for. `UnexpectedEof` comes in place of a header that is truncated, and
-/// where the section header table doesn't begin in the file; after it nothing comes.
+/// A section header is read on demand. `UnexpectedEof` is given for a header that is truncated, and where the section
+/// header table doesn't begin in the file; nothing follows it.
 #[must_use = "iterators are lazy and do nothing unless consumed"]
 pub struct Sections<'a, C: Class> {
     table: Table<'a>,
@@ -167,7 +168,7 @@ fn section_left<C: Class>(
 
 /// The first section that the callback accepts.
 ///
-/// A header is read only when the callback has refused the sections before it.
+/// A header is read only if the callback has refused the sections before it.
 pub fn first_section<C: Class, F: Fn(Section<C>) -> bool>(
     table: Table<'_>,
     callback: F,
@@ -204,7 +205,7 @@ pub(crate) fn is_named(found: Option<&str>, name: &str) -> bool {
     }
 }
 
-/// A section's name, a part of the file.
+/// A section's name, a slice of the file.
 pub(crate) fn section_name<'a, C: Class>(table: Table<'a>, section: Section<C>) -> Option<&'a str> {
     name_at(names_bytes::<C>(table), section.name_offset)
 }
@@ -225,7 +226,8 @@ fn names_section<C: Class>(table: Table<'_>) -> Option<Section<C>> {
     section_at(table.data, start, table.byte_order, table.shstrndx).ok()
 }
 
-/// The section's bytes, a part of the file; `MalformedInput` and `UnexpectedEof` where they end past `usize` and past the file.
+/// The section's bytes, a slice of the file. `MalformedInput` where their end exceeds `usize`, `UnexpectedEof` where it
+/// lies past the file.
 pub fn section_data<C: Class>(data: &[u8], section: Section<C>) -> Result<&[u8], ParseError> {
     data.get(section.range()?).ok_or(ParseError::UnexpectedEof)
 }

@@ -9,7 +9,7 @@ use crate::erased::binfarce_elf::class::Word;
 pub enum SymbolTable {
     /// The symbol table (`SHT_SYMTAB`), which a stripped file lacks.
     Symtab,
-    /// The dynamic symbol table (`SHT_DYNSYM`), which a dynamic linker reads.
+    /// The dynamic symbol table (`SHT_DYNSYM`), for the dynamic linker. A stripped file keeps it.
     Dynsym,
 }
 

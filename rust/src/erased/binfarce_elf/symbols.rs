@@ -38,7 +38,7 @@ pub fn section_functions<'a, C: Class>(
     functions_of(table, SymbolTable::Symtab, section_name)
 }
 
-/// The same of the dynamic symbol table.
+/// The same for the dynamic symbol table.
 pub fn dynamic_functions<'a, C: Class>(
     table: Table<'a>,
     section_name: &str,
@@ -46,7 +46,7 @@ pub fn dynamic_functions<'a, C: Class>(
     functions_of(table, SymbolTable::Dynsym, section_name)
 }
 
-// The same of this symbol table.
+// The same for this symbol table.
 fn functions_of<'a, C: Class>(
     table: Table<'a>,
     which: SymbolTable,
@@ -146,9 +146,9 @@ pub fn whole_rows<C: Class>(rows: &[u8]) -> Result<&[u8], ParseError> {
     }
 }
 
-/// The function symbols of a section that are left, in the order of the symbol table.
+/// An iterator over the function symbols of a section, in the order of the symbol table.
 ///
-/// Rows are read as they are asked for, and names stay in the file: nothing is allocated or copied.
+/// Rows are read on demand, and names stay in the file: nothing is allocated or copied.
 #[must_use = "iterators are lazy and do nothing unless consumed"]
 pub struct Functions<'a, C> {
     rows: &'a [u8],
@@ -160,8 +160,8 @@ pub struct Functions<'a, C> {
 }
 
 impl<'a, C: Class> Functions<'a, C> {
-    /// Of the function symbols that are left the one that an address is shown by: of those whose range holds it the one of
-    /// greatest address, and of these the first. `None` where none holds it.
+    /// The function symbol that an address symbolizes to, among those that are left: of those whose range holds it the
+    /// one of greatest address, and of several the first. `None` where no range holds it.
     ///
     /// A range begins at the symbol's address (`st_value`) and has its size in bytes. Each row that is left is read once;
     /// nothing is allocated or copied.

@@ -1,6 +1,6 @@
 // From crates/binfarce_filtering/src/filter.rt, by tools/erase.
 
-//! Makes the mangled names within a text readable.
+//! Demangles the names within a text.
 
 use crate::shim::{String, Vec};
 use crate::erased::binfarce_legacy::elements::elements_end;
@@ -11,17 +11,17 @@ use crate::shim::simd::prelude::*;
 /// The length in bytes of the longest run that may hold names. A longer one stays unchanged.
 pub const MAX_RUN: usize = 1 << 20;
 
-// How many bytes are looked at together.
+// How many bytes are compared at a time.
 const STRIDE: usize = 16;
 
-/// The text with each mangled name in it made readable: by its trimmed text, or `full` by its complete one.
+/// The text with each mangled name replaced by its trimmed text, or if `full` by its complete text.
 ///
-/// A run begins with the first `_` among ASCII letters, digits, `_`, `$` and `.`, and ends before the next other byte. In a
-/// run that is no longer than `MAX_RUN`, names are looked for from left to right. A name begins with `_ZN` and a digit, or
-/// with `_R` and one of `N`, `I`, `M`, `X` and `Y`; at the run's first byte another `_` may come before. It ends where its
-/// mangling does, before a `.` or the run's end. `.llvm.` and a number behind a name are left out. A name whose readable
-/// text has a control character stays unchanged, as all other bytes do; they need not be UTF-8. Behind `_ZN` and a digit that
-/// begin no such name nothing of the run is replaced.
+/// A run begins with the first `_` among ASCII letters, digits, `_`, `$` and `.`, and ends before the next other byte.
+/// In a run that is no longer than `MAX_RUN`, names are looked for from left to right. A name begins with `_ZN` and a
+/// digit, or with `_R` and one of `N`, `I`, `M`, `X` and `Y`; at the run's first byte another `_` may come before. It
+/// ends where its mangling does, before a `.` or the run's end. `.llvm.` and a number after a name are left out. A name
+/// whose readable text has a control character stays unchanged. So do all other bytes, which need not be UTF-8. After a
+/// `_ZN` and a digit that begin no such name, the rest of the run stays unchanged.
 ///
 /// # Errors
 ///
@@ -41,7 +41,8 @@ pub struct TextFilter {
 }
 
 impl TextFilter {
-    /// A filter of a text of which nothing came yet. A name is shown by its trimmed text, or `full` by its complete one.
+    /// A filter at the beginning of a text. It replaces a name by its trimmed text, or if `full` by its complete text.
+    /// Nothing is allocated.
     pub fn new(alloc: Global, full: bool) -> TextFilter {
         TextFilter {
             full,
@@ -49,12 +50,12 @@ impl TextFilter {
         }
     }
 
-    /// Takes the next part of the text, and writes after `out` what is shown of the text so far. What is held back is
-    /// the run that it ends in, from its first `_`, unless that is too long.
+    /// Takes the next part of the text, and appends the output so far to `out`. The run at the end of the text is held
+    /// back from its first `_` on, unless it is longer than `MAX_RUN`.
     ///
     /// # Errors
     ///
-    /// `AllocError` where an allocation failed. The filter must not be used any more then.
+    /// `AllocError` where an allocation failed. Don't use the filter after that.
     pub fn push(&mut self, alloc: Global, part: &[u8], out: &mut Vec<u8>) -> Result<(), AllocError> {
         if self.run.is_empty() {
             return self.push_text(alloc, part, out);
@@ -67,7 +68,8 @@ impl TextFilter {
         self.push_text(alloc, &part[len + 1..], out)
     }
 
-    /// Ends the text, and writes what is left to be shown after `out`. The filter must not be used any more, however that ends.
+    /// Ends the text, and appends the rest of the output to `out`. Don't use the filter after that, whatever the
+    /// result.
     ///
     /// # Errors
     ///
@@ -108,7 +110,7 @@ impl TextFilter {
         Ok(())
     }
 
-    // Writes what is left to be shown of the run, which ends with these bytes.
+    // Writes the rest of the output for the run, which ends with these bytes.
     fn show_run(&mut self, alloc: Global, bytes: &[u8], out: &mut Vec<u8>) -> Result<(), AllocError> {
         if is_too_long(self.run.as_slice()) {
             return out.extend_from_slice(bytes);
@@ -118,7 +120,7 @@ impl TextFilter {
     }
 }
 
-// Writes what is shown of the text before the run that it ends in, and gives where that run begins.
+// Writes the output for the text before the run at its end, and returns where that run begins.
 fn push_ended(
     alloc: Global,
     full: bool,
@@ -147,7 +149,7 @@ fn plain_len(text: &[u8]) -> usize {
     run_start(text, mark_at(text))
 }
 
-// Where the first `Z` or `R` is that follows a `_`, or the text's length.
+// The position of the first `Z` or `R` that follows a `_`, or the text's length.
 fn mark_at(text: &[u8]) -> usize {
     let mut at = 0;
     while at < text.len() && !is_mark_at(text, at) {
@@ -188,7 +190,7 @@ fn others_among(bytes: &[u8]) -> usize {
     }
 }
 
-// Where the run begins that the text ends in before a position, or the position.
+// Where the run begins that ends at a position of the text; that position where none does.
 fn run_start(text: &[u8], end: usize) -> usize {
     let mut start = end;
     let mut at = end;
@@ -220,7 +222,7 @@ fn is_too_long(run: &[u8]) -> bool {
     run.len() > MAX_RUN
 }
 
-// Writes what is shown of a run.
+// Writes the output for a run.
 fn push_run(alloc: Global, full: bool, run: &[u8], out: &mut Vec<u8>) -> Result<(), AllocError> {
     if is_too_long(run) {
         return out.extend_from_slice(run);
@@ -228,7 +230,7 @@ fn push_run(alloc: Global, full: bool, run: &[u8], out: &mut Vec<u8>) -> Result<
     push_names(alloc, full, run, out)
 }
 
-// Writes what is shown of a run that isn't too long.
+// Writes the output for a run that isn't too long.
 fn push_names(alloc: Global, full: bool, run: &[u8], out: &mut Vec<u8>) -> Result<(), AllocError> {
     let mut at = 0;
     while at < run.len() {
@@ -238,7 +240,7 @@ fn push_names(alloc: Global, full: bool, run: &[u8], out: &mut Vec<u8>) -> Resul
     Ok(())
 }
 
-// Writes what is shown of the name, or else the byte, with which a run or its rest begins. Returns how many bytes that
+// Writes the output for the name, or else the byte, at the front of a run or its rest. Returns how many bytes that
 // replaces.
 fn push_next(
     alloc: Global,
@@ -276,7 +278,7 @@ fn begins_v0(run: &[u8]) -> bool {
     run.starts_with(b"_R") && run.len() > 2 && matches!(run[2], b'N' | b'I' | b'M' | b'X' | b'Y')
 }
 
-// The length of the name with which a run begins.
+// The length of the name at the front of a run.
 fn name_len(run: &[u8]) -> usize {
     if begins_symbol(run) {
         symbol_len(run)
@@ -285,7 +287,7 @@ fn name_len(run: &[u8]) -> usize {
     }
 }
 
-// The same without a `_` that a platform has added before it.
+// The same for a run without a `_` that a platform has added.
 fn symbol_len(run: &[u8]) -> usize {
     if begins_v0(run) {
         return dot_at(run);
@@ -301,7 +303,7 @@ fn symbol_len(run: &[u8]) -> usize {
     }
 }
 
-// Where the first `.` is, or the length.
+// The position of the first `.`, or the length.
 fn dot_at(run: &[u8]) -> usize {
     let mut at = 0;
     while at < run.len() && run[at] != b'.' {
@@ -315,7 +317,7 @@ fn ends_name(rest: &[u8]) -> bool {
     rest.is_empty() || rest[0] == b'.'
 }
 
-// The length of the `.llvm.` and the number with which the rest behind a name begins, or 0.
+// The length of the `.llvm.` and the number at the front of the rest after a name, or 0.
 fn llvm_len(rest: &[u8]) -> usize {
     if !rest.starts_with(b".llvm.") {
         return 0;
@@ -324,7 +326,7 @@ fn llvm_len(rest: &[u8]) -> usize {
     if ends_name(&rest[end..]) { end } else { 0 }
 }
 
-// The length of the digits of LLVM with which a text begins.
+// The length of the run of LLVM's digits at the front of a text.
 fn digits_len(text: &[u8]) -> usize {
     let mut len = 0;
     while len < text.len() && matches!(text[len], b'0'..=b'9' | b'A'..=b'F' | b'@') {
@@ -333,7 +335,7 @@ fn digits_len(text: &[u8]) -> usize {
     len
 }
 
-// Writes what is shown of a name.
+// Writes the output for a name.
 fn push_name(alloc: Global, full: bool, name: &[u8], out: &mut Vec<u8>) -> Result<(), AllocError> {
     let text = text_of(alloc, full, std::str::from_utf8(name).unwrap())?;
     if has_control(text.as_str()) {

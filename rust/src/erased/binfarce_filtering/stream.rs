@@ -1,6 +1,6 @@
 // From crates/binfarce_filtering/src/stream.rt, by tools/erase.
 
-//! Filters a text as it comes.
+//! Filters a stream.
 
 use crate::shim::Vec;
 use crate::erased::binfarce_filtering::filter::TextFilter;
@@ -9,10 +9,10 @@ use std::error::Error;
 use std::fmt;
 use crate::shim::io::{ErrorKind, Read, Write};
 
-// How many bytes are asked for at once.
+// How many bytes are read at a time.
 const CHUNK: usize = 1 << 16;
 
-/// Why a text was not filtered to its end.
+/// Why a stream was not filtered to its end.
 #[derive(Debug, Clone, Copy, PartialEq)]
 pub enum StreamError {
     /// The reader failed.
@@ -41,16 +41,16 @@ impl From<AllocError> for StreamError {
     }
 }
 
-/// Filters what the reader gives: `filter` of all of it is written, and what is shown of each part before the next is
-/// read. `full` as in `filter`.
+/// Filters a stream: writes what `filter` gives for all that the reader gives. The output for each part is written
+/// before the next is read. `full` is as in `filter`.
 ///
-/// Memory goes by the longest run that may be a name, and by the longest text of a name. A read that was interrupted is
-/// tried again.
+/// Memory depends on the longest run that may be a name, and on the longest text of a name. A read that was interrupted
+/// is tried again.
 ///
 /// # Errors
 ///
-/// `Read` where the reader failed: what came before is filtered, as if it ended there. `Write` where the writer failed, and
-/// `OutOfMemory` where an allocation did: a beginning was written.
+/// `Read` where the reader failed: what came before is filtered, as if the stream ended there. `Write` where the writer
+/// failed, and `OutOfMemory` where an allocation did: a beginning of the output was written.
 pub fn filter_stream<R: Read, W: Write>(
     alloc: Global,
     full: bool,
@@ -68,7 +68,7 @@ pub fn filter_stream<R: Read, W: Write>(
     }
 }
 
-// Passes what the reader gives. `false` where the reader failed.
+// Filters all that the reader gives. Returns `false` where the reader failed.
 fn pass_all<R: Read, W: Write>(
     alloc: Global,
     filter: &mut TextFilter,
@@ -108,7 +108,7 @@ fn pass_chunks<R: Read, W: Write>(
     Ok(false)
 }
 
-// Passes the next part of the text.
+// Filters the next part of the text.
 fn pass<W: Write>(
     alloc: Global,
     filter: &mut TextFilter,
@@ -121,7 +121,7 @@ fn pass<W: Write>(
     write_whole(output, out.as_slice())
 }
 
-// Passes what is left at the text's end.
+// Writes the rest of the output at the text's end.
 fn pass_rest<W: Write>(
     alloc: Global,
     filter: &mut TextFilter,

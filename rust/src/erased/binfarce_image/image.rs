@@ -2,8 +2,8 @@
 
 //! Images of small ELF files: sections as data, and the file that they are laid out in (System V gABI, chapter 4).
 //!
-//! An image knows no layout. [`lay_out`] writes it in one of four, and what the readers find in the file is what the
-//! image holds, whichever it is.
+//! An image is independent of any layout. [`lay_out`] writes it in one of four, and the readers find the same content
+//! in each.
 
 mod parts;
 mod tables;
@@ -28,7 +28,7 @@ pub enum ElfLayout {
     Elf64Big,
 }
 
-/// What a file is to hold: its sections in order, of which exactly one is the symbol table.
+/// The content of a file: its sections in order, of which exactly one is the symbol table.
 pub struct Image {
     /// The sections, at most 65,535. The index of a part is that of its section.
     pub parts: Vec<Part>,
@@ -42,7 +42,7 @@ pub enum Part {
     Bytes {
         /// The offset of the section's name in the part of the section names, in bytes (`sh_name`).
         name: u32,
-        /// What the section is (`sh_type`): 3 for a string table; not 2, which is the symbol table's.
+        /// The section's type (`sh_type`): 3 for a string table; not 2, which is the symbol table's.
         kind: u32,
         /// The index of a section that this one refers to (`sh_link`).
         link: u32,
@@ -86,7 +86,7 @@ pub enum ImageError {
     TableCount,
     /// `names_at` isn't the index of a `Bytes` part.
     NamesPlace,
-    /// The file would have 2^32 bytes or more in the layout that was asked for.
+    /// The file would have 2^32 bytes or more in the requested layout.
     TooLarge,
     /// An allocation failed.
     OutOfMemory,
@@ -115,16 +115,16 @@ impl From<AllocError> for ImageError {
 /// The ELF file of an image in a layout: the header, the bodies of the parts in order without padding, and the section
 /// headers in order.
 ///
-/// Of the header, `e_type` and `e_version` are 1, and `e_shoff` is where the bodies end. Of a section header, name and
+/// In the header, `e_type` and `e_version` are 1, and `e_shoff` is where the bodies end. In a section header, name and
 /// link are the part's, the type is its kind, `sh_addralign` is 1, and `sh_entsize` is the length of a row for the
-/// table. What isn't named is 0.
+/// table. All other fields are 0.
 ///
 /// # Errors
 ///
-/// In this order: `TooManySections` for more than 65,535 parts; `TableCount` where there isn't exactly one
-/// `Table`, or a `Bytes` part has kind 2; `NamesPlace` where `names_at` isn't the index of a `Bytes` part; `TooLarge`
-/// where the file would have 2^32 bytes or more; `OutOfMemory` where an allocation failed, of which the first comes
-/// after the other refusals.
+/// In this order: `TooManySections` for more than 65,535 parts; `TableCount` where there isn't exactly one `Table`, or
+/// a `Bytes` part has kind 2; `NamesPlace` where `names_at` isn't the index of a `Bytes` part; `TooLarge` where the
+/// file would have 2^32 bytes or more. `OutOfMemory` where an allocation failed; nothing is allocated before the other
+/// checks.
 pub fn lay_out(alloc: Global, image: &Image, layout: ElfLayout) -> Result<Vec<u8>, ImageError> {
     const MAX_SECTIONS: usize = 65_535;
     const TOO_LARGE: usize = 1 << 32;

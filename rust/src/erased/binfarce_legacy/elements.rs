@@ -1,9 +1,8 @@
 // From crates/binfarce_legacy/src/elements.rt, by tools/erase.
 
-//! The elements of a legacy mangling: how long each says that it is, and where all of them end.
+//! The elements of a legacy mangling: the length of each, and where all of them end.
 
-// How long the run of digits is that `text` begins with, and the number that they write, where it
-// is below `usize::MAX`.
+// The length of the run of digits that `text` begins with, and the number that they write, if it is below `usize::MAX`.
 fn count(text: &[u8]) -> (usize, usize) {
     if let Some(few) = few_digits(text) {
         return few;
@@ -18,8 +17,8 @@ fn count(text: &[u8]) -> (usize, usize) {
     (digits, number)
 }
 
-// The same where `text` begins with one digit or two and has more than two bytes, as nearly every
-// length does. None doesn't say that there is no digit.
+// The same where `text` begins with one or two digits and has more than two bytes: nearly every length is so short.
+// `None` doesn't mean that there is no digit.
 #[cfg_attr(not(debug_assertions), inline(always))]
 fn few_digits(text: &[u8]) -> Option<(usize, usize)> {
     if text.len() < 3 || !text[0].is_ascii_digit() {
@@ -35,7 +34,7 @@ fn few_digits(text: &[u8]) -> Option<(usize, usize)> {
     Some((2, first * 10 + usize::from(text[1] - b'0')))
 }
 
-// A number with one more digit after it, where it is below `usize::MAX`.
+// A number with one more digit after it, if that is below `usize::MAX`.
 #[cfg_attr(not(debug_assertions), inline(always))]
 fn with_digit(number: usize, digit: u8) -> usize {
     if number < 0x1000_0000_0000_0000 {
@@ -45,7 +44,7 @@ fn with_digit(number: usize, digit: u8) -> usize {
     }
 }
 
-// Where the name of the element that stands at `at` begins and ends.
+// Where the name of the element at `at` begins and ends.
 pub(crate) fn element(text: &[u8], at: usize) -> Option<(usize, usize)> {
     let rest = &text[at..];
     let (digits, number) = count(rest);
@@ -59,8 +58,9 @@ pub(crate) fn element(text: &[u8], at: usize) -> Option<(usize, usize)> {
     Some((start, start + number))
 }
 
-/// Where the elements that `text` begins with end, after their `E`. None where it begins with no elements and `E`. `text` is
-/// what follows the prefix of a legacy mangling; what follows the `E` isn't looked at. Nothing is allocated.
+/// The position after the `E` that ends the elements at the front of `text`. `None` where `text` doesn't begin with
+/// elements and an `E`. `text` is what follows the prefix of a legacy mangling; bytes after the `E` aren't checked.
+/// Nothing is allocated.
 pub fn elements_end(text: &[u8]) -> Option<usize> {
     let mut at = 0;
     while at < text.len() && text[at] != b'E' {

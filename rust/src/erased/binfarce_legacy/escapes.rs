@@ -27,8 +27,8 @@ fn named_escape(name: &[u8]) -> Option<(char, usize)> {
     }
 }
 
-// How long the run of hexadecimal digits is that `text` begins with, and the number that they
-// write, where it is below 0x110000.
+// The length of the run of hexadecimal digits that `text` begins with, and the number that they write, if it is below
+// 0x110000.
 fn hex_count(text: &[u8]) -> (usize, u32) {
     if let Some(number) = two_hex_digits(text) {
         return (2, number);
@@ -45,7 +45,7 @@ fn hex_count(text: &[u8]) -> (usize, u32) {
     (digits, number)
 }
 
-// The number that two hexadecimal digits before a `$` write, as those of nearly every escape do.
+// The number that two hexadecimal digits before a `$` write: nearly every escape has two.
 #[cfg_attr(not(debug_assertions), inline(always))]
 fn two_hex_digits(text: &[u8]) -> Option<u32> {
     if text.len() < 3 || text[2] != b'$' {
@@ -56,7 +56,7 @@ fn two_hex_digits(text: &[u8]) -> Option<u32> {
     Some(u32::from(first) * 16 + u32::from(second))
 }
 
-// A character that is printed: a scalar value that is no control character.
+// A character that is printed: a scalar value that isn't a control character.
 fn is_printed(code: u32) -> bool {
     matches!(code, 0x20..=0x7E | 0xA0..=0xD7FF | 0xE000..=0x10_FFFF)
 }

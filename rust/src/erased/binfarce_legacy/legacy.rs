@@ -1,6 +1,6 @@
 // From crates/binfarce_legacy/src/legacy.rt, by tools/erase.
 
-//! The legacy mangling: `_ZN`, elements that are each counted, and `E`.
+//! The legacy mangling: `_ZN`, elements that each follow their length, and `E`.
 
 use crate::shim::String;
 use crate::erased::binfarce_legacy::elements::{element, elements_end};
@@ -10,13 +10,13 @@ use crate::erased::binfarce_text::prefixes::after_prefix;
 use crate::erased::binfarce_text::suffixes::is_allowed_rest;
 use crate::shim::alloc::{AllocError, Global};
 
-// What stands after the prefix of a legacy mangling.
+// The part of a text after the prefix of a legacy mangling.
 fn part_after_prefix(text: &str) -> Option<&str> {
     after_prefix(text, "_ZN", "ZN", "__ZN")
 }
 
-/// The mangling that `text` is, without its prefix and with what may follow its `E`. None where `text` is no legacy
-/// mangling. Nothing is copied.
+/// The part of `text` after the prefix of a legacy mangling, with any suffix after its `E`. `None` where `text` isn't a
+/// legacy mangling. Nothing is copied.
 pub fn mangling(text: &str) -> Option<&str> {
     let part = part_after_prefix(text)?;
     let bytes = part.as_bytes();
@@ -30,7 +30,7 @@ pub fn mangling(text: &str) -> Option<&str> {
     Some(part)
 }
 
-// How long the mark is that is dropped at the front of `name`: `_` before a `$`.
+// The length of the mark that is dropped from the front of `name`: a `_` before a `$`.
 fn mark_len(name: &[u8]) -> usize {
     if name.starts_with(b"_$") { 1 } else { 0 }
 }
@@ -58,7 +58,7 @@ fn push_piece(text: &mut String, name: &str) -> Result<usize, AllocError> {
     }
 }
 
-// Writes bytes that stand for themselves. Where there are none, as between two escapes, nothing is called.
+// Writes bytes that denote themselves. Where there are none, as between two escapes, it calls nothing.
 #[cfg_attr(not(debug_assertions), inline(always))]
 fn push_run(text: &mut String, run: &str) -> Result<(), AllocError> {
     if run.is_empty() {
@@ -82,15 +82,15 @@ fn push_name(text: &mut String, name: &str, wide: &[u8]) -> Result<(), AllocErro
     Ok(())
 }
 
-// Whether an element's name is the last part of a path, as it stands: where the name ends at `end`, the elements end, and it
-// has no mark.
+// Whether an element's name is, byte for byte, the last part of a path: the elements end where the name ends, at `end`,
+// and it has no mark.
 #[cfg_attr(not(debug_assertions), inline(always))]
 fn is_last_part(part: &[u8], name: &[u8], end: usize) -> bool {
     end < part.len() && part[end] == b'E' && !has_mark(name)
 }
 
-// Writes the path of a mangling, of which `part` stands after the prefix, after the text. Where it is to be `trimmed`, its
-// last part is left out if that is the last element's name as it stands, and not the first: whether it was left out.
+// Appends the path of a mangling to the text; `part` is what follows its prefix. If `trimmed`, the last part is left
+// out where it is, byte for byte, the name of the last element, and not the first. Returns whether it was left out.
 fn push_path(text: &mut String, part: &str, trimmed: bool) -> Result<bool, AllocError> {
     let bytes = part.as_bytes();
     let mut at = 0;
@@ -108,17 +108,16 @@ fn push_path(text: &mut String, part: &str, trimmed: bool) -> Result<bool, Alloc
     Ok(false)
 }
 
-/// The readable text of a mangling, of which `part` stands after the prefix. The only refusal is that an allocation was
-/// refused.
+/// The readable text of a mangling; `part` is what follows its prefix. The only error is a failed allocation.
 pub fn complete(alloc: Global, part: &str) -> Result<String, AllocError> {
     let mut text = String::with_capacity(alloc, part.len())?;
     let _ = push_path(&mut text, part, false)?;
     Ok(text)
 }
 
-/// Writes what the readable text of a mangling begins with after the text: its first element's name in readable form, and
-/// where another element follows, `::`; of a name that begins with an escaped `<` no more than that `<`. `part` is what
-/// stands after the prefix. The only refusal is that an allocation was refused.
+/// Appends the beginning of a mangling's readable text to `text`: the first element's name in readable form, and `::`
+/// if another element follows. Of a name that begins with an escaped `<`, only that `<` is written. `part` is what
+/// follows the prefix. The only error is a failed allocation.
 pub fn push_front(text: &mut String, part: &str) -> Result<(), AllocError> {
     let bytes = part.as_bytes();
     let Some((start, end)) = element(bytes, 0) else {
@@ -135,8 +134,8 @@ pub fn push_front(text: &mut String, part: &str) -> Result<(), AllocError> {
     text.push_str("::")
 }
 
-/// Writes the readable text of a mangling without its last part after the text. The only refusal is that an allocation
-/// was refused; the text is then as it was.
+/// Appends the readable text of a mangling, without its last part, to `text`. The only error is a failed allocation;
+/// `text` is then unchanged.
 pub fn push_trimmed(text: &mut String, part: &str) -> Result<(), AllocError> {
     let start = text.as_str().len();
     match push_path(text, part, true) {
@@ -153,8 +152,8 @@ pub fn push_trimmed(text: &mut String, part: &str) -> Result<(), AllocError> {
     }
 }
 
-// `complete` without its last part, whether that is a hash or not: up to the character before its last `:`, and all of it
-// where it has no `:`. Nothing is copied.
+// `complete` without its last part, whether or not that is a hash: up to the character before its last `:`, or all of
+// it if there is no `:`. Nothing is copied.
 fn without_last_part(complete: &str) -> &str {
     match complete.rfind(':') {
         None => complete,
@@ -166,7 +165,7 @@ fn without_last_part(complete: &str) -> &str {
     }
 }
 
-/// A copy of `complete` without its last part. The only refusal is that an allocation failed.
+/// A copy of `complete` without its last part. The only error is a failed allocation.
 pub fn trimmed(alloc: Global, complete: &str) -> Result<String, AllocError> {
     String::from_str(alloc, without_last_part(complete))
 }

@@ -1,19 +1,19 @@
 // From crates/binfarce_legacy/src/runs.rt, by tools/erase.
 
-//! Runs of a name's bytes that stand for themselves: bytes that are compared side by side, 16 together.
+//! Runs of a name's bytes that denote themselves, compared 16 at a time.
 
 use crate::shim::simd::prelude::*;
 
-// How many bytes of a name are looked at together.
+// How many bytes of a name are compared at a time.
 const STRIDE: usize = 16;
 
-// Whether a byte stands for itself.
+// Whether a byte denotes itself.
 #[cfg_attr(not(debug_assertions), inline(always))]
 fn is_plain(b: u8) -> bool {
     b != b'.' && b != b'$'
 }
 
-// How many of 16 bytes stand for themselves before one that doesn't.
+// How many of 16 bytes denote themselves before the first that doesn't.
 #[cfg_attr(not(debug_assertions), inline(always))]
 fn plain_run(bytes: &[u8]) -> usize {
     let v = u8x16::from_slice(bytes);
@@ -25,8 +25,8 @@ fn plain_run(bytes: &[u8]) -> usize {
     }
 }
 
-// Where the bytes from `at` on end that stand for themselves. `wide` begins with the name: what it has after the name is
-// looked at too, so that the last bytes of a name needn't be taken one by one, and is no part of the answer.
+// The end of the run of bytes from `at` on that denote themselves. `wide` begins with the name, and has bytes after it.
+// These are compared too, so that a name's last bytes needn't be taken one by one; they don't change the result.
 #[cfg_attr(not(debug_assertions), inline(always))]
 pub(crate) fn plain_end(name: &[u8], wide: &[u8], at: usize) -> usize {
     let mut end = at;
@@ -40,7 +40,7 @@ pub(crate) fn plain_end(name: &[u8], wide: &[u8], at: usize) -> usize {
     plain_end_slowly(name, end.min(name.len()))
 }
 
-// The same, a byte at a time.
+// The same, one byte at a time.
 fn plain_end_slowly(name: &[u8], at: usize) -> usize {
     let mut end = at;
     while end < name.len() && is_plain(name[end]) {
@@ -78,7 +78,7 @@ pub(crate) fn has_mark(name: &[u8]) -> bool {
     has_mark_slowly(&name[at..])
 }
 
-// The same of fewer bytes.
+// The same for fewer bytes.
 #[cfg_attr(not(debug_assertions), inline(always))]
 fn has_mark_slowly(bytes: &[u8]) -> bool {
     let mut found = false;

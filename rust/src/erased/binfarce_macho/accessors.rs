@@ -1,16 +1,16 @@
 // From crates/binfarce_macho/src/accessors.rt, by tools/erase.
 
-//! What a section holds: the values of its structure.
+//! The values of a section's structure.
 
 use crate::erased::binfarce_macho::sections::Section;
 
 impl<'a> Section<'a> {
-    /// The section's name (`sectname`), a part of the file, as `__text`.
+    /// The section's name (`sectname`), as `__text`; a slice of the file.
     pub fn name(&self) -> &'a str {
         self.section_name
     }
 
-    /// The name of the segment that the section belongs to (`segname`), a part of the file, as `__TEXT`.
+    /// The name of the section's segment (`segname`), as `__TEXT`; a slice of the file.
     pub fn segment_name(&self) -> &'a str {
         self.segment_name
     }

@@ -17,7 +17,7 @@ use crate::erased::binfarce_bytes::sizes::{RowAddress, arrange};
 use crate::erased::binfarce_bytes::{ByteOrder, ParseError};
 use crate::shim::alloc::{AllocError, Global};
 
-// The greatest number of a section that a row can state (`MAX_SECT`).
+// The greatest section number that a row can have (`MAX_SECT`).
 const MAX_SECT: usize = 255;
 
 /// Where a section is in memory: the address of its first byte, and its size in bytes.
@@ -34,8 +34,8 @@ pub struct SymbolBytes<'a> {
     pub rows: &'a [u8],
 }
 
-/// The function symbols of all sections of a file, which has this header: the answer of `all_functions` of a reader, with its
-/// refusals. `OutOfMemory` comes only where the file has a section.
+/// The function symbols of all sections of a file with this header: the answer of `all_functions` of a reader, with its
+/// refusals. `OutOfMemory` only where the file has a section.
 pub fn functions_of_sections<'a>(
     alloc: Global,
     data: &'a [u8],
@@ -48,8 +48,8 @@ pub fn functions_of_sections<'a>(
     }
 }
 
-/// Where the sections of a file are in memory, in the order of their numbers, up to number 255. Refused as `find_section` of
-/// a reader is with a callback that accepts none; `OutOfMemory` comes only where the file has a section.
+/// Where the sections of a file are in memory, in the order of their numbers, up to number 255. Refused as
+/// `find_section` of a reader is with a callback that accepts none; `OutOfMemory` only where the file has a section.
 pub fn extents(alloc: Global, file: &[u8], header: MachoHeader) -> Result<Vec<Extent>, ParseError> {
     let mut sections = Vec::new(alloc);
     for item in commands(file, header) {
@@ -93,7 +93,7 @@ fn extent_at(file: &[u8], start: usize) -> Extent {
     }
 }
 
-/// The string table and the symbol table of a file, which has this header; `None` without a symbol table. Refused as
+/// The string table and the symbol table of a file with this header; `None` without a symbol table. Refused as
 /// `functions` of a reader is, from the symbol table's command on and up to the rows.
 pub fn symbol_bytes(file: &[u8], header: MachoHeader) -> Result<Option<SymbolBytes<'_>>, ParseError> {
     let command = symbol_command(file, header)?;
@@ -117,9 +117,10 @@ fn symbols_by(
     }
 }
 
-/// The function symbols of all these sections, of which the first is number 1: by section, and in each by address and at
-/// equal addresses in table order. `MalformedInput` where the end of a section passes an address that a row of it would be
-/// kept with, or such a row lies past that end with no address above it. `OutOfMemory` comes only where there is a section.
+/// The function symbols of all these sections, of which the first is number 1: by section, and in each by address and
+/// at equal addresses in table order. `MalformedInput` where the end of a section with a row to keep exceeds 64 bits,
+/// or where such a row lies past its section's end with no address above it. `OutOfMemory` only where there is a
+/// section.
 pub fn functions_of_extents<'a>(
     alloc: Global,
     sections: &[Extent],
@@ -135,7 +136,7 @@ pub fn functions_of_extents<'a>(
     Ok(functions)
 }
 
-// The function symbols of the rows in the order that they stand in, given what is above each.
+// The function symbols of the rows in their order, given the least address above each.
 fn list_all<'a>(
     alloc: Global,
     sections: &[Extent],
@@ -153,7 +154,7 @@ fn list_all<'a>(
     Ok(functions)
 }
 
-// The entry of a row, given what is above its address.
+// The entry of a row, given the least address above its own.
 fn section_entry<'a>(
     sections: &[Extent],
     symbols: SymbolBytes<'a>,
@@ -173,7 +174,7 @@ fn section_entry<'a>(
     Ok(numbered(row.section, sized_entry(at.address, size, name)))
 }
 
-// Where the section of this number is, where there is one.
+// The extent of the section of this number, if any.
 fn extent_of(sections: &[Extent], number: u8) -> Option<Extent> {
     let index = usize::from(number).checked_sub(1)?;
     sections.get(index).copied()

@@ -13,7 +13,7 @@ pub(crate) const LC_SEGMENT_64: u32 = 0x19;
 // How many bytes a load command has before its body.
 pub(crate) const COMMAND_HEAD: u32 = 8;
 
-/// Why a walk ends before its end. A public refusal holds a `'static` text, and so a callback's borrow can't meet it.
+/// Why a walk ends early. `ParseError` holds a `'static` text, and with it a callback couldn't borrow.
 #[derive(Clone, Copy)]
 pub(crate) enum Damage {
     Malformed,
@@ -43,7 +43,7 @@ pub(crate) struct Command {
     pub(crate) size: u32,
 }
 
-/// The load commands, at most as many as are left. A command whose size is below 8 ends them with an error.
+/// An iterator over load commands, at most as many as are left. A command whose size is below 8 ends it with an error.
 pub(crate) struct MachoCommandsIterator<'a> {
     pub(crate) bytes: &'a [u8],
     offset: usize,
@@ -72,7 +72,7 @@ impl Iterator for MachoCommandsIterator<'_> {
     }
 }
 
-// The load commands of a file, which has this header.
+// The load commands of a file with this header.
 pub(crate) fn commands(file: &[u8], header: MachoHeader) -> MachoCommandsIterator<'_> {
     MachoCommandsIterator {
         bytes: file,

@@ -5,7 +5,7 @@
 use crate::erased::binfarce_bytes::ByteOrder;
 use crate::erased::binfarce_bytes::parser::{UnexpectedEof, number_at};
 
-// How many bytes the header has, after which the load commands stand.
+// The length of the header in bytes; the load commands follow it.
 pub(crate) const HEADER_LENGTH: usize = 32;
 
 /// The file header (`mach_header_64`), without its magic number.
@@ -22,7 +22,7 @@ pub struct MachoHeader {
     flags: u32,
 }
 
-/// The header of a file, without a look at the magic number; refused for fewer than 28 bytes.
+/// The header of a file; refused for fewer than 28 bytes. Its magic number isn't checked.
 pub fn parse_header(data: &[u8]) -> Result<MachoHeader, UnexpectedEof> {
     let order = ByteOrder::LittleEndian;
     Ok(MachoHeader {

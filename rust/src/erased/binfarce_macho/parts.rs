@@ -1,6 +1,6 @@
 // From crates/binfarce_macho/src/parts.rt, by tools/erase.
 
-//! What the function symbols of a file need, found in its header and its load commands alone.
+//! The tables that the function symbols of a file need, found in its header and its load commands alone.
 
 use crate::erased::binfarce_macho::commands::{
     COMMAND_HEAD, Command, LC_SEGMENT_64, LC_SYMTAB, command_at,
@@ -16,15 +16,15 @@ use crate::erased::binfarce_macho::symbols::{
 use crate::erased::binfarce_bytes::parser::number_at;
 use crate::erased::binfarce_bytes::{ByteOrder, ParseError};
 
-/// The text, and what the command of the symbol table names, where there is one. The text's names are parts of the file.
+/// The text section, and the symbol table's command, if any. The section's names are slices of the file.
 #[derive(Clone, Copy)]
 pub struct Needed<'a> {
     pub text: Section<'a>,
     pub table: Option<SymbolTable>,
 }
 
-/// What the function symbols of a file need, which has this header. Refused as `functions` of a reader is, up to the symbol
-/// table's command.
+/// The tables that the function symbols of a file with this header need. Refused as `functions` of a reader is, up to
+/// the symbol table's command.
 pub fn needed_tables(file: &[u8], header: MachoHeader) -> Result<Needed<'_>, ParseError> {
     let found = text_section(file, header)?;
     let text = some_size(found)?;
@@ -43,13 +43,13 @@ pub(crate) fn named_table(
     }
 }
 
-/// Where the load commands end, as the header says (`sizeofcmds`).
+/// Where the load commands end, as the header states (`sizeofcmds`).
 pub fn commands_end(header: MachoHeader) -> usize {
     HEADER_LENGTH + header.sizeofcmds as usize
 }
 
-/// Whether the load commands that this header states, and what is read of them, lie in these bytes: then a file that begins with them has the
-/// same sections and the same symbol table, whatever follows.
+/// Whether the load commands that this header states, with the fields that are read, lie in these bytes. A file that
+/// begins with these bytes then has the same sections and the same symbol table, whatever follows.
 pub fn holds_commands(file: &[u8], header: MachoHeader) -> bool {
     let mut offset = HEADER_LENGTH;
     for _k in 0..header.ncmds {

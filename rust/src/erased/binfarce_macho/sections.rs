@@ -14,7 +14,8 @@ use std::ops::Range;
 
 pub(crate) const SECTION_LENGTH: usize = 80;
 
-/// A section (`section_64`): its names, its address, and the offset and size of its bytes. The names are parts of the file.
+/// A section (`section_64`): its names, its address, and the offset and size of its bytes. The names are slices of the
+/// file.
 #[derive(Debug, Clone, Copy)]
 pub struct Section<'a> {
     pub(crate) segment_name: &'a str,
@@ -25,32 +26,33 @@ pub struct Section<'a> {
 }
 
 impl Section<'_> {
-    /// The section's bytes as a range of the file (`offset`, `size`), which isn't checked against the file's length.
+    /// The section's bytes as a range of the file (`offset`, `size`). It isn't checked against the file's length.
     ///
     /// # Errors
     ///
-    /// `MalformedInput` where the range's end passes `usize`.
+    /// `MalformedInput` where the range's end exceeds `usize`.
     pub fn range(&self) -> Result<Range<usize>, ParseError> {
         range(self.offset as usize, self.size as usize)
     }
 }
 
-/// The bytes that the section's header states, a part of the file; `MalformedInput` where they end past `usize`,
-/// `UnexpectedEof` where past the file.
+/// The section's bytes, a slice of the file. `MalformedInput` where their end exceeds `usize`, `UnexpectedEof` where it
+/// lies past the file.
 pub fn section_data<'a>(file: &'a [u8], section: &Section<'_>) -> Result<&'a [u8], ParseError> {
     file.get(section.range()?).ok_or(ParseError::UnexpectedEof)
 }
 
-/// The sections of a file that are left, in file order: what `sections` of a reader gives. It borrows the file's bytes.
+/// An iterator over the sections of a file, in file order: the result of `sections` of a reader. It borrows the file's
+/// bytes.
 ///
-/// A section is read when it is asked for. A refusal comes in place of a segment command or a section that is truncated
-/// (`UnexpectedEof`), and of a load command whose size is below 8 (`MalformedInput`); after it nothing comes.
+/// A section is read on demand. An error is given for a segment command or a section that is truncated
+/// (`UnexpectedEof`), and for a load command whose size is below 8 (`MalformedInput`); nothing follows it.
 #[must_use = "iterators are lazy and do nothing unless consumed"]
 pub struct Sections<'a> {
     left: Left<'a>,
 }
 
-// The load commands after a segment command, and what is left of that segment.
+// The load commands after a segment command, and the rest of that segment.
 struct Left<'a> {
     commands: MachoCommandsIterator<'a>,
     segment: Segment,
@@ -70,7 +72,7 @@ const NO_SEGMENT: Segment = Segment {
     next: 0,
 };
 
-/// All sections of a file, which has this header.
+/// All sections of a file with this header.
 pub fn sections_of(file: &[u8], header: MachoHeader) -> Sections<'_> {
     Sections {
         left: Left {
@@ -147,7 +149,7 @@ fn next_segment(commands: &mut MachoCommandsIterator<'_>) -> Option<Result<Segme
     None
 }
 
-// The segment of a command whose head stands in the file, before its first section; refused where its count is truncated.
+// The segment of a command whose head lies in the file, before its first section; refused where its count is truncated.
 fn first_of_segment(bytes: &[u8], command: Command) -> Result<Segment, Damage> {
     let body = command.offset + 8;
     match number_at(bytes, body + 56, ByteOrder::LittleEndian) {
@@ -160,7 +162,7 @@ fn first_of_segment(bytes: &[u8], command: Command) -> Result<Segment, Damage> {
     }
 }
 
-/// The first section that the callback accepts, of a file that has this header: what `find_section` of a reader gives.
+/// The first section that the callback accepts, in a file with this header: the answer of `find_section` of a reader.
 pub fn find_section<'a, F: Fn(Section<'_>) -> bool>(
     file: &'a [u8],
     header: MachoHeader,
@@ -187,7 +189,7 @@ fn first_section<'a, F: Fn(Section<'_>) -> bool>(
     Ok(None)
 }
 
-/// The first section with these two names, of a file that has this header.
+/// The first section with these two names, in a file with this header.
 pub fn section_with_name<'a>(
     file: &'a [u8],
     header: MachoHeader,

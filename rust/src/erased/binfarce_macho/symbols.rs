@@ -1,6 +1,6 @@
 // From crates/binfarce_macho/src/symbols.rt, by tools/erase.
 
-//! The symbol table (Apple's `<mach-o/nlist.h>`) and the functions of the first section in it.
+//! The symbol table (Apple's `<mach-o/nlist.h>`) and its functions of the first section.
 
 use crate::shim::Vec;
 use crate::erased::binfarce_macho::commands::{Command, LC_SYMTAB, commands};
@@ -25,8 +25,8 @@ pub struct Located<'a> {
     pub rows: &'a [u8],
 }
 
-/// The function symbols of the first section of a file, which has this header, in the order of their addresses, and the
-/// text's size in bytes: what `functions` of a reader gives.
+/// The function symbols of the first section of a file with this header, in the order of their addresses, and the
+/// text's size in bytes: the answer of `functions` of a reader.
 pub fn functions_of_file<'a>(
     alloc: Global,
     data: &'a [u8],
@@ -97,8 +97,8 @@ fn located_in<'a>(
     })
 }
 
-/// What the body of a symbol table's command names (`symtab_command`): where the symbol table is in the file and how many
-/// rows it has, and where the string table is and how many bytes it has.
+/// The body of a symbol table's command (`symtab_command`): the offset and the number of rows of the symbol table, and
+/// the offset and the size in bytes of the string table.
 #[derive(Clone, Copy)]
 pub struct SymbolTable {
     pub symbol_offset: u32,
@@ -122,7 +122,7 @@ pub(crate) fn symbol_table_at(bytes: &[u8], command: Command) -> Result<SymbolTa
     })
 }
 
-/// Where the text ends; `MalformedInput` where that passes an address.
+/// The address where the text ends; `MalformedInput` where that exceeds 64 bits.
 pub fn text_end(text: Section<'_>) -> Result<u64, ParseError> {
     text.address
         .checked_add(text.size)
@@ -154,8 +154,8 @@ pub(crate) fn symbol_at(rows: &[u8], start: usize) -> Result<SymbolRow, Unexpect
     })
 }
 
-/// The function symbols of a table, in the order of their addresses, and the text's size in bytes. Refused where a row that
-/// would be kept lies past the text's end with no address above it; `OutOfMemory` comes only where a row has an address.
+/// The function symbols of a table, in the order of their addresses, and the text's size in bytes. Refused where a row
+/// that would be kept lies past the text's end with no address above it; `OutOfMemory` only where a row has an address.
 pub fn functions_of<'a>(
     alloc: Global,
     found: Located<'a>,
@@ -183,7 +183,7 @@ pub(crate) fn row_addresses(alloc: Global, rows: &[u8]) -> Result<Vec<RowAddress
     Ok(addresses)
 }
 
-// The function symbols of the rows in the order that they stand in, given what is above each.
+// The function symbols of the rows in their order, given the least address above each.
 fn list_functions<'a>(
     alloc: Global,
     found: Located<'a>,
@@ -200,7 +200,7 @@ fn list_functions<'a>(
     Ok((functions, found.text_size))
 }
 
-// The entry of a row, given what is above its address.
+// The entry of a row, given the least address above its own.
 fn entry_of<'a>(
     found: Located<'a>,
     at: RowAddress,
@@ -223,7 +223,7 @@ fn is_candidate(row: SymbolRow) -> bool {
     is_defined(row) && row.section == 1
 }
 
-// Whether a row may be a function symbol of its section, whichever that is.
+// Whether a row may be a function symbol of its section, whatever section that is.
 pub(crate) fn is_defined(row: SymbolRow) -> bool {
     row.name != 0 && row.kind & 0x0A != 0
 }

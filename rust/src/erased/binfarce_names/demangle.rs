@@ -1,6 +1,6 @@
 // From crates/binfarce_names/src/demangle.rt, by tools/erase.
 
-//! What a symbol's name means.
+//! The readable form, the kind and the crate of a symbol's name.
 
 use crate::shim::String;
 use crate::erased::binfarce_legacy::legacy;
@@ -15,20 +15,19 @@ use crate::shim::alloc::{AllocError, Global};
 /// How a name is mangled.
 #[derive(Clone, Copy, PartialEq, Eq, Hash, Debug)]
 pub enum Kind {
-    /// Not at all, in a form that isn't read, or beyond the limits: the name stands unchanged.
+    /// Not mangled, in a form that isn't read, or beyond the limits: the name is unchanged.
     Unknown,
-    /// As `rustc` did at first: `_ZN`, the elements of a path, each after its length, and `E`.
+    /// The legacy mangling of `rustc`: `_ZN`, the elements of a path, each after its length, and `E`.
     Legacy,
-    /// As RFC 2603 says: `_R` and a path.
+    /// The v0 mangling (RFC 2603): `_R` and a path.
     V0,
 }
 
 /// A function symbol of a file.
 pub struct SymbolData {
-    /// The symbol's name: readable where it is mangled, and else as the file stores it.
+    /// The symbol's name: in readable form if it is mangled, and otherwise as the file stores it.
     pub name: SymbolName,
-    /// The symbol's address as the file stores it. In PE it is no address: it is an offset in bytes within the symbol's
-    /// section.
+    /// The symbol's address as the file stores it. In PE it is an offset in bytes within the symbol's section.
     pub address: u64,
     /// The symbol's size in bytes.
     pub size: u64,
@@ -36,20 +35,20 @@ pub struct SymbolData {
 
 /// A symbol's name in readable form.
 pub struct SymbolName {
-    /// Of a legacy name its whole path, and of a v0 name its path with the disambiguators of crates. An Unknown name as
-    /// it was given.
+    /// Of a legacy name its whole path, and of a v0 name its path with the disambiguators of crates. An `Unknown` name
+    /// is unchanged.
     pub complete: String,
-    /// Of a legacy name its path without the last part, whether that is a hash or not, and of a v0 name its path without
-    /// the disambiguators of crates. An Unknown name as it was given.
+    /// Of a legacy name its path without the last part, whether or not that is a hash, and of a v0 name its path
+    /// without the disambiguators of crates. An `Unknown` name is unchanged.
     pub trimmed: String,
-    /// Of a v0 name the name of the first crate root in reading order that stands in no back reference: it may stand in
-    /// the path of an impl, which isn't shown, and may be empty. None where there is no such root, and of other names.
+    /// Of a v0 name, the name of the first crate root in reading order outside back references. It may be in the path
+    /// of an impl, which isn't shown, and may be empty. `None` where there is no such root, and for other names.
     pub crate_name: Option<String>,
     /// How the name is mangled.
     pub kind: Kind,
 }
 
-/// A mangled name, of which a part of the text that was given is kept: nothing is copied.
+/// A mangled name. It borrows a part of the given text: nothing is copied.
 #[must_use]
 pub struct Demangled<'a> {
     kind: Kind,
@@ -57,24 +56,24 @@ pub struct Demangled<'a> {
 }
 
 impl<'a> Demangled<'a> {
-    /// How the name is mangled. It was decided by `demangle`, so nothing is read here.
+    /// How the name is mangled. `demangle` has decided it, so nothing is read here.
     ///
-    /// `V0` says that the name is a v0 mangling. One whose text would pass the limits is `V0` here, and `Unknown` for
-    /// `SymbolName::demangle`, which has to print it to know that.
+    /// `V0` means that the name is a v0 mangling. A name whose text would exceed the limits is `V0` here, and `Unknown`
+    /// for `SymbolName::demangle`, which has to print it to know that.
     pub fn kind(&self) -> Kind {
         self.kind
     }
 
-    /// The part of the name that was kept: what stands after the mangling's prefix, without the `.llvm.` suffix; all of a
-    /// name that isn't mangled. It borrows the text that was given to `demangle`, and is still mangled.
+    /// The part of the name that is kept: what follows the mangling's prefix, without the `.llvm.` suffix; all of a
+    /// name that isn't mangled. It is a slice of the text given to `demangle`, and is still mangled.
     pub fn part(&self) -> &'a str {
         self.part
     }
 }
 
 impl SymbolName {
-    /// The readable form of `name`. A name that isn't mangled stands unchanged in both texts, with kind `Unknown`; so
-    /// does a v0 name that nests deeper than `MAX_LEVELS` levels or takes more than `MAX_STEPS` steps.
+    /// The readable form of `name`. A name that isn't mangled is unchanged in both texts, with kind `Unknown`. So is a
+    /// v0 name that nests deeper than `MAX_LEVELS` levels or takes more than `MAX_STEPS` steps.
     ///
     /// The texts are copies in memory of `alloc`.
     ///
@@ -88,21 +87,21 @@ impl SymbolName {
 
 /// Makes names readable, one after the other, in memory that it keeps for the next one.
 ///
-/// What it gives of a name depends on that name alone, whatever came before: it is what `SymbolName::demangle`,
-/// `push_trimmed` and `crate_of` give. What is kept is at most 1 MiB, and less than a name took that was demangled.
+/// Its results depend on the name alone, whatever came before: they are those of `SymbolName::demangle`, `push_trimmed`
+/// and `crate_of`. It keeps at most 1 MiB, and less memory than one of the names took.
 pub struct Demangler {
     memory: Memory,
 }
 
 impl Demangler {
-    /// A demangler, which keeps no memory yet. Nothing is allocated.
+    /// A demangler that keeps no memory yet. Nothing is allocated.
     pub fn new(alloc: Global) -> Demangler {
         Demangler {
             memory: Memory::new(alloc),
         }
     }
 
-    /// What `SymbolName::demangle` gives.
+    /// The readable form of `name`, as `SymbolName::demangle` gives it.
     ///
     /// # Errors
     ///
@@ -130,11 +129,11 @@ impl Demangler {
         }
     }
 
-    /// Writes the trimmed text of `name` after `text`, as `push_trimmed` does.
+    /// Appends the trimmed text of `name` to `text`, as the function `push_trimmed` does.
     ///
     /// # Errors
     ///
-    /// `AllocError` where an allocation failed. `text` is then as it was.
+    /// `AllocError` where an allocation failed. `text` is then unchanged.
     pub fn push_trimmed(&mut self, text: &mut String, name: &str) -> Result<(), AllocError> {
         let stripped = without_llvm(name);
         if let Some(part) = legacy::mangling(stripped) {
@@ -146,8 +145,8 @@ impl Demangler {
         self.push_candidate(text, name, part)
     }
 
-    // The same of a name that is no legacy mangling and may be a v0 one. A printing is a large value, to which zeros are
-    // written where a function begins: other names don't come here.
+    // The same for a name that isn't a legacy mangling and may be a v0 one. A printing is a large value, which is
+    // zeroed at the beginning of a function: so other names don't get here.
     #[inline(never)]
     fn push_candidate(
         &mut self,
@@ -165,7 +164,7 @@ impl Demangler {
         pushed
     }
 
-    /// The crate that `name` tells, as `crate_of` gives it.
+    /// The crate of `name`, as the function `crate_of` gives it.
     ///
     /// # Errors
     ///
@@ -175,17 +174,17 @@ impl Demangler {
     }
 }
 
-/// Writes the trimmed text of `name`, the one that `SymbolName::demangle` gives, after `text`.
+/// Appends the trimmed text of `name`, as `SymbolName::demangle` gives it, to `text`.
 ///
 /// # Errors
 ///
-/// `AllocError` where an allocation failed. `text` is then as it was.
+/// `AllocError` where an allocation failed. `text` is then unchanged.
 pub fn push_trimmed(alloc: Global, text: &mut String, name: &str) -> Result<(), AllocError> {
     Demangler::new(alloc).push_trimmed(text, name)
 }
 
-/// The crate that `name` tells: of a v0 name its `crate_name`, and of a legacy name the first part of its path, unless
-/// that begins with `<`. None where no crate is told, and of other names.
+/// The crate of `name`: of a v0 name its `crate_name`, and of a legacy name the first part of its path, unless that
+/// begins with `<`. `None` where there is no crate, and for other names.
 ///
 /// # Errors
 ///
@@ -199,12 +198,12 @@ pub fn crate_of(alloc: Global, name: &str) -> Result<Option<String>, AllocError>
     }
 }
 
-/// Writes the crate that `crate_of` gives after `text`: true where `name` tells one, and else false, and nothing is written.
-/// Where many names tell few crates, one text that is cleared before each name takes the memory of the longest alone.
+/// Appends the crate that `crate_of` gives to `text`. Returns true if `name` has a crate; otherwise false, and nothing
+/// is written. For many names, clear one text before each: it takes the memory of the longest crate alone.
 ///
 /// # Errors
 ///
-/// `AllocError` where an allocation failed. `text` is then as it was.
+/// `AllocError` where an allocation failed. `text` is then unchanged.
 pub fn push_crate(alloc: Global, text: &mut String, name: &str) -> Result<bool, AllocError> {
     let stripped = without_llvm(name);
     match legacy::mangling(stripped) {
@@ -213,9 +212,9 @@ pub fn push_crate(alloc: Global, text: &mut String, name: &str) -> Result<bool, 
     }
 }
 
-// Writes the crate that the path of a legacy mangling begins with after the text: whether there is one. What stands behind
-// the path's first element, or the `::` after it, isn't looked at: the crate is told before it. An allocation that was
-// refused leaves the text as it was.
+// Appends the crate that the path of a legacy mangling begins with to the text. Returns whether there is one. The path
+// isn't read beyond its first element and the `::` after it: the crate ends before. A failed allocation leaves the text
+// unchanged.
 fn push_path_crate(text: &mut String, part: &str) -> Result<bool, AllocError> {
     let start = text.as_str().len();
     match legacy::push_front(text, part) {
@@ -244,7 +243,7 @@ fn first_part(path: &str) -> &str {
     }
 }
 
-// The name of a legacy mangling, of which `part` stands after the prefix.
+// The name of a legacy mangling; `part` is what follows its prefix.
 fn legacy_name(alloc: Global, part: &str) -> Result<SymbolName, AllocError> {
     let complete = legacy::complete(alloc, part)?;
     let trimmed = legacy::trimmed(alloc, complete.as_str())?;
@@ -256,7 +255,7 @@ fn legacy_name(alloc: Global, part: &str) -> Result<SymbolName, AllocError> {
     })
 }
 
-// A name that stands unchanged.
+// A name that is unchanged.
 fn unknown(alloc: Global, name: &str) -> Result<SymbolName, AllocError> {
     Ok(SymbolName {
         complete: String::from_str(alloc, name)?,
@@ -266,8 +265,8 @@ fn unknown(alloc: Global, name: &str) -> Result<SymbolName, AllocError> {
     })
 }
 
-/// How `name` is mangled, decided without memory. What is kept of `name` is the part after the mangling's prefix, without
-/// the `.llvm.` suffix that LLVM may have added; of a name that isn't mangled, all of it.
+/// How `name` is mangled. Nothing is allocated or copied. The part that is kept follows the mangling's prefix, without
+/// the `.llvm.` suffix that LLVM may have added. Of a name that isn't mangled, all is kept.
 pub fn demangle(name: &str) -> Demangled<'_> {
     let text = without_llvm(name);
     if let Some(part) = legacy::mangling(text) {

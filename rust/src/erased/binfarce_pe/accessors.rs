@@ -5,9 +5,9 @@
 use crate::erased::binfarce_pe::sections::Section;
 
 impl<'a> Section<'a> {
-    /// The name (`Name`), a part of the file: the 8 bytes up to the first NUL, or all. It may be empty.
+    /// The name (`Name`), a slice of the file: the 8 bytes up to the first NUL, or all. It may be empty.
     ///
-    /// A name of the form `/4` stands for an offset in the string table, where the whole name is; it is given as it stands.
+    /// A name of the form `/4` is an offset in the string table, which has the whole name; it is returned unresolved.
     pub fn name(&self) -> &'a str {
         self.name
     }

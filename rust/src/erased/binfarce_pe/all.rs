@@ -16,8 +16,8 @@ use crate::erased::binfarce_bytes::{ByteOrder, ParseError};
 use crate::shim::alloc::{AllocError, Global};
 use std::mem;
 
-/// The function symbols of all sections of a file, whose places these are: the answer of `all_functions` of a reader, with its
-/// refusals. `OutOfMemory` comes only where the file has a section.
+/// The function symbols of all sections of a file whose tables are at these places: the answer of `all_functions` of a
+/// reader, with its refusals. `OutOfMemory` only where the file has a section.
 pub fn functions_of_sections<'a>(
     alloc: Global,
     file: &'a [u8],

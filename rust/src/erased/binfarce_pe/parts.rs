@@ -1,6 +1,6 @@
 // From crates/binfarce_pe/src/parts.rt, by tools/erase.
 
-//! What the symbols of a file need, found in the file header and in the section headers alone.
+//! The tables that the symbols of a file need, found in the file header and the section headers alone.
 
 use crate::shim::Vec;
 use crate::erased::binfarce_pe::header::{PeHeader, header_after};
@@ -11,13 +11,13 @@ use crate::erased::binfarce_bytes::parser::number_at;
 use crate::erased::binfarce_bytes::{ByteOrder, ParseError};
 use crate::shim::alloc::{AllocError, Global};
 
-/// Where the offset of the signature stands in the MS-DOS stub.
+/// The position in the MS-DOS stub of the signature's offset.
 pub const SIGNATURE_POINTER: usize = 0x3c;
 
-/// How many bytes the signature and the file header have.
+/// The length in bytes of the signature and the file header.
 pub const HEADERS_LENGTH: usize = 24;
 
-/// How many bytes a section header has.
+/// The length in bytes of a section header.
 pub const SECTION_LENGTH: usize = 40;
 
 /// Where the tables of a file are, in bytes from its beginning.
@@ -40,19 +40,19 @@ pub struct Text {
     pub size: u32,
 }
 
-/// The offset of the signature, which the first 4 bytes are. Refused where there are fewer.
+/// The offset of the signature, from the first 4 bytes. Refused where there are fewer.
 pub fn signature_in(pointer: &[u8]) -> Result<u32, ParseError> {
     Ok(number_at(pointer, 0, ByteOrder::LittleEndian)?)
 }
 
-/// The places that a file header states: `headers` begins with the signature, which stands at this offset of the file.
+/// The places that a file header states: `headers` begins with the signature, which is at this offset of the file.
 /// Refused where the file header is truncated.
 pub fn places_in(headers: &[u8], signature: u32) -> Result<Places, ParseError> {
     let header = header_after(headers, 0)?;
     Ok(places_after(signature, header))
 }
 
-/// The places that this file header states, where the signature stands at this offset of the file.
+/// The places that this file header states, where the signature is at this offset of the file.
 pub fn places_after(signature: u32, header: PeHeader) -> Places {
     let optional_header = signature as usize + HEADERS_LENGTH;
     Places {
@@ -63,7 +63,8 @@ pub fn places_after(signature: u32, header: PeHeader) -> Places {
     }
 }
 
-/// The first section `.text`, found in `count` section headers. Refused as `functions` of a reader is, up to there.
+/// The first section `.text`, found in `count` section headers. Refused as `functions` of a reader is, up to
+/// `SymbolsSectionIsMissing`.
 pub fn text_in(headers: &[u8], count: u16) -> Result<Text, ParseError> {
     let table = Table {
         bytes: headers,
@@ -77,8 +78,8 @@ pub fn text_in(headers: &[u8], count: u16) -> Result<Text, ParseError> {
     })
 }
 
-/// The function symbols of this section in these records, whose long names are in these strings. `OutOfMemory` comes only
-/// in place of a list that isn't empty.
+/// The function symbols of this section in these records, whose long names are in these strings. `OutOfMemory` only
+/// instead of a list that isn't empty.
 pub fn functions_in<'a>(
     alloc: Global,
     rows: &'a [u8],

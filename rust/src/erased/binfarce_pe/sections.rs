@@ -9,7 +9,7 @@ use std::ops::Range;
 
 /// A section header's values ("Section Table"), and the section's index, counted from 0.
 ///
-/// The name is a part of the file, which the section borrows and not its reader.
+/// The name is a slice of the file; the section borrows the file, and not its reader.
 #[derive(Debug, Clone, Copy)]
 pub struct Section<'a> {
     pub(crate) name: &'a str,
@@ -21,7 +21,7 @@ pub struct Section<'a> {
 }
 
 impl Section<'_> {
-    /// The bytes of the file that the section has, from its raw pointer on and as many as its raw size.
+    /// The section's bytes as a range of the file: from its raw pointer on, as many as its raw size.
     ///
     /// The range isn't checked against the file's length.
     ///
@@ -36,15 +36,15 @@ impl Section<'_> {
     }
 }
 
-/// The bytes that the section has in the file, a part of them; `UnexpectedEof` where they end past the file.
+/// The section's bytes, a slice of the file; `UnexpectedEof` where they end past the file.
 pub fn section_data<'a>(file: &'a [u8], section: &Section<'_>) -> Result<&'a [u8], ParseError> {
     file.get(section.range()?).ok_or(ParseError::UnexpectedEof)
 }
 
-/// The sections of a file that are left, in file order: what `Pe::sections` gives. It borrows the file's bytes.
+/// An iterator over the sections of a file, in file order: the result of `Pe::sections`. It borrows the file's bytes.
 ///
-/// A section header is read when it is asked for. `UnexpectedEof` comes in place of a header that is truncated, and
-/// where the section table doesn't begin in the file; after it nothing comes.
+/// A section header is read on demand. `UnexpectedEof` is given for a header that is truncated, and where the section
+/// table doesn't begin in the file; nothing follows it.
 #[must_use = "iterators are lazy and do nothing unless consumed"]
 pub struct Sections<'a> {
     table: Table<'a>,
@@ -52,7 +52,7 @@ pub struct Sections<'a> {
     next: Option<u16>,
 }
 
-// Section headers: the bytes that they lie in, where they begin there, and how many there are.
+// Section headers: the bytes that hold them, their offset in these bytes, and their number.
 #[derive(Clone, Copy)]
 pub(crate) struct Table<'a> {
     pub(crate) bytes: &'a [u8],
@@ -60,7 +60,7 @@ pub(crate) struct Table<'a> {
     pub(crate) count: u16,
 }
 
-/// All sections of the file, whose places these are.
+/// All sections of a file whose tables are at these places.
 pub fn sections_of<'a>(file: &'a [u8], places: Places) -> Sections<'a> {
     Sections {
         table: section_table(file, places),

@@ -1,6 +1,6 @@
 // From crates/binfarce_pe/src/symbols.rt, by tools/erase.
 
-//! The symbol table ("COFF Symbol Table") and the functions of one section in it.
+//! The symbol table ("COFF Symbol Table") and its functions of one section.
 
 use crate::shim::Vec;
 use crate::erased::binfarce_pe::parts::Places;
@@ -28,14 +28,14 @@ struct Located<'a> {
     table: SymbolTable<'a>,
 }
 
-/// The records of a symbol table, and the file from the string table on, which follows them.
+/// The records of a symbol table, and the file from the string table on, which comes after them.
 #[derive(Clone, Copy)]
 pub(crate) struct SymbolTable<'a> {
     pub(crate) rows: &'a [u8],
     pub(crate) strings: &'a [u8],
 }
 
-/// The numbers of a symbol record. A short name has its bytes where the first two are.
+/// The numbers of a symbol record. A short name is stored in place of the first two.
 #[derive(Clone, Copy)]
 pub(crate) struct SymbolRow {
     zeroes: u32,
@@ -53,8 +53,8 @@ pub(crate) struct Kept<'a> {
     pub(crate) names: Vec<&'a str>,
 }
 
-/// The function symbols of the file, whose places these are, and the size of its section `.text`: the answer of `functions`
-/// of a reader, with its refusals. `OutOfMemory` comes only in place of a list that isn't empty.
+/// The function symbols of a file whose tables are at these places, and the size of its section `.text`: the answer of
+/// `functions` of a reader, with its refusals. `OutOfMemory` only instead of a list that isn't empty.
 pub fn functions_of_file<'a>(
     alloc: Global,
     file: &'a [u8],
@@ -148,7 +148,7 @@ fn kept_rows<'a>(alloc: Global, table: SymbolTable<'a>, index: u16) -> Result<Ke
     Ok(Kept { rows, names })
 }
 
-// The function symbols of arranged rows, where `above` has the least greater address of each.
+// The function symbols of arranged rows; `above` has the least address above each.
 fn list_functions<'a>(
     alloc: Global,
     rows: &[RowAddress],
@@ -168,7 +168,7 @@ fn list_functions<'a>(
     Ok(functions)
 }
 
-// The distance to the least greater one among the text's size and `above`; 0 where none is greater.
+// The distance from the address to the least of the text's size and `above` that is greater; 0 where neither is.
 fn size_up_to(address: u64, above: Option<u64>, text_size: u64) -> u64 {
     let end = match above {
         None => text_size,

@@ -1,13 +1,14 @@
 // From crates/binfarce_text/src/prefixes.rt, by tools/erase.
 
-//! What stands before a mangled name.
+//! The prefixes of mangled names.
 
-// What stands after a prefix.
+// The rest of a text after a prefix.
 fn after<'a>(text: &'a str, prefix: &str) -> Option<&'a str> {
     text.strip_prefix(prefix)
 }
 
-/// What stands after the first of three prefixes that `text` begins with. Nothing is copied.
+/// The rest of `text` after the first of three prefixes that it begins with. `None` where it begins with none of them.
+/// Nothing is copied.
 pub fn after_prefix<'a>(text: &'a str, first: &str, second: &str, third: &str) -> Option<&'a str> {
     if let Some(part) = after(text, first) {
         return Some(part);

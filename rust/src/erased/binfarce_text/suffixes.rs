@@ -1,18 +1,18 @@
 // From crates/binfarce_text/src/suffixes.rt, by tools/erase.
 
-//! What LLVM adds to a mangled name: the `.llvm.` suffix, and other words that begin with `.`.
+//! The suffixes that LLVM adds to a mangled name: `.llvm.` with a number, and other words that begin with `.`.
 
 // A byte of the number after `.llvm.`.
 fn is_llvm_digit(byte: u8) -> bool {
     matches!(byte, b'0'..=b'9' | b'A'..=b'F' | b'@')
 }
 
-// Whether `.llvm.` stands at `at`.
+// Whether `.llvm.` is at `at`.
 fn has_llvm_at(text: &[u8], at: usize) -> bool {
     text[at..].starts_with(b".llvm.")
 }
 
-// Whether a `.llvm.` begins below `end`.
+// Whether a `.llvm.` begins before `end`.
 fn has_llvm_below(text: &[u8], end: usize) -> bool {
     for at in 0..end {
         if has_llvm_at(text, at) {
@@ -22,7 +22,7 @@ fn has_llvm_below(text: &[u8], end: usize) -> bool {
     false
 }
 
-// Where the digits of a number after `.llvm.` begin that `text` ends in.
+// Where the trailing digits of `text` begin, of the kind that follows `.llvm.`.
 fn digits_start(text: &[u8]) -> usize {
     let mut end = text.len();
     while end > 0 && is_llvm_digit(text[end - 1]) {
@@ -31,8 +31,7 @@ fn digits_start(text: &[u8]) -> usize {
     end
 }
 
-// The length of `text` without its `.llvm.` suffix. Only the bytes from the end back are looked
-// at, unless they are such a suffix.
+// The length of `text` without its `.llvm.` suffix. Only the end of `text` is read, unless it is such a suffix.
 fn len_without_llvm(text: &[u8]) -> usize {
     let end = digits_start(text);
     if end < 6 {
@@ -46,19 +45,19 @@ fn len_without_llvm(text: &[u8]) -> usize {
     }
 }
 
-/// The text without its `.llvm.` suffix: all before the first `.llvm.`, where every byte after it is a digit, `A` to `F`
-/// or `@`, and else the whole text. Nothing is copied.
+/// The text without its `.llvm.` suffix: all before the first `.llvm.`, if every byte after it is a digit, `A` to `F`
+/// or `@`; otherwise the whole text. Nothing is copied.
 pub fn without_llvm(text: &str) -> &str {
     let len = len_without_llvm(text.as_bytes());
     &text[..len]
 }
 
-// Whether each byte is printable ASCII and no space.
+// Whether each byte is printable ASCII and not a space.
 fn are_rest_bytes(bytes: &[u8]) -> bool {
     bytes.iter().all(|byte| matches!(*byte, b'!'..=b'~'))
 }
 
-/// Whether `rest` may stand after a mangling: it is empty, or printable ASCII without spaces that begins with `.`.
+/// Whether `rest` may follow a mangling: it is empty, or printable ASCII without spaces that begins with `.`.
 pub fn is_allowed_rest(rest: &[u8]) -> bool {
     if rest.is_empty() {
         return true;

@@ -8,7 +8,7 @@ use crate::erased::binfarce_v0_state::fragments::Production;
 use crate::erased::binfarce_v0_state::state::Printer;
 use crate::shim::alloc::AllocError;
 
-/// `<const>`: it is kept where a back reference may mean it.
+/// `<const>`. It is kept where a back reference may name it.
 pub fn print_const(printer: &mut Printer<'_>, levels_left: usize) -> Result<(), AllocError> {
     print(printer, levels_left, 0, Production::Const)?;
     Ok(())

@@ -19,7 +19,7 @@ pub fn print_nested_name(printer: &mut Printer<'_>, namespace: u8) -> Result<(),
     }
 }
 
-// The name of a closure or of what has another special namespace, with its disambiguator.
+// The name of a closure, or of an item in another special namespace, with its disambiguator.
 fn print_special_name(printer: &mut Printer<'_>, namespace: u8, at: usize) -> Result<(), AllocError> {
     match identifier_at(printer.part, at) {
         Some((identifier, after)) => {

@@ -16,7 +16,7 @@ use crate::erased::binfarce_v0_state::state::{Buffers, Printer};
 use crate::erased::binfarce_v0_state::text::Leaf;
 use crate::shim::alloc::{AllocError, Global};
 
-// What stands after the prefix of a v0 mangling.
+// The part of a text after the prefix of a v0 mangling.
 fn part_after_prefix(text: &str) -> Option<&str> {
     after_prefix(text, "_R", "R", "__R")
 }
@@ -26,7 +26,7 @@ fn is_upper_at(part: &[u8], at: usize) -> bool {
     byte_at(part, at).is_ascii_uppercase()
 }
 
-// The position after the paths of a name, where the one after the first path may be known.
+// The position after the paths of a name. The position after the first path may be known.
 fn paths_end(part: &str, first: Option<usize>) -> Option<usize> {
     let mid = match first {
         Some(mid) => mid,
@@ -39,8 +39,8 @@ fn paths_end(part: &str, first: Option<usize>) -> Option<usize> {
     }
 }
 
-/// What stands after the prefix of a text that may begin with a v0 mangling. None where `text` begins with none: of most
-/// names that aren't mangled no more than the first bytes are looked at. No memory is taken.
+/// The part after the prefix of a text that may begin with a v0 mangling. `None` where `text` begins with none: most
+/// names that aren't mangled are ruled out by their first bytes. Nothing is allocated.
 #[cfg_attr(not(debug_assertions), inline(always))]
 pub fn candidate(text: &str) -> Option<&str> {
     let part = part_after_prefix(text)?;
@@ -51,17 +51,17 @@ pub fn candidate(text: &str) -> Option<&str> {
     }
 }
 
-/// The v0 mangling that `text` begins with: what stands after its prefix, and the position there after its paths.
-/// None where `text` begins with no v0 mangling whose reading has at most `MAX_LEVELS` levels. No memory is taken.
+/// The v0 mangling that `text` begins with: the part after its prefix, and the position in that part after its paths.
+/// `None` where `text` begins with no v0 mangling whose reading has at most `MAX_LEVELS` levels. Nothing is allocated.
 pub fn read(text: &str) -> Option<(&str, usize)> {
     let part = candidate(text)?;
     let after = paths_end(part, None)?;
     Some((part, after))
 }
 
-/// Prints what the part of a printing that is at its beginning unfolds to: whether that is a tree of at most `MAX_LEVELS`
-/// levels and `MAX_STEPS` steps. The printing then has the text of the tree, without the disambiguators of crates, or where
-/// it is full both texts, with and without them; muted it reads alike, and its texts are empty.
+/// Prints what the part of a new printing unfolds to. Returns whether that is a tree of at most `MAX_LEVELS` levels and
+/// `MAX_STEPS` steps. The printing then has the text of the tree without the disambiguators of crates; a full printing
+/// has both texts, with and without them. A muted printing reads the same, and its texts are empty.
 #[cfg_attr(not(debug_assertions), inline(always))]
 pub fn print(printer: &mut Printer<'_>) -> Result<bool, AllocError> {
     printer.prepare()?;
@@ -69,8 +69,8 @@ pub fn print(printer: &mut Printer<'_>) -> Result<bool, AllocError> {
     Ok(!printer.limit_exceeded)
 }
 
-/// What stands after the prefix of a v0 mangling, up to the end of `text`: positions may lie in all of it.
-/// None where `text` is no v0 mangling whose reading has at most `MAX_LEVELS` levels. No memory is taken.
+/// The part of `text` after the prefix of a v0 mangling, up to its end: back references may name positions in all of
+/// it. `None` where `text` isn't a v0 mangling whose reading has at most `MAX_LEVELS` levels. Nothing is allocated.
 pub fn mangled_part(text: &str) -> Option<&str> {
     let (part, after) = read(text)?;
     if is_allowed_rest(rest_from(part.as_bytes(), after)) {
@@ -80,16 +80,17 @@ pub fn mangled_part(text: &str) -> Option<&str> {
     }
 }
 
-// What stands from a position on.
+// The part from a position on.
 fn rest_from(part: &[u8], at: usize) -> &[u8] {
     if at <= part.len() { &part[at..] } else { &[] }
 }
 
-/// Prints what the part of a printing that is at its beginning unfolds to, as `print` does: whether a text of which
-/// `candidate` gives this part is a v0 mangling, whose reading has at most `MAX_LEVELS` levels, and it unfolds to a tree of
-/// at most `MAX_LEVELS` levels and `MAX_STEPS` steps.
+/// Prints what the part of a new printing unfolds to, as `print` does. `candidate` gave this part of a text. Returns
+/// whether that text is a v0 mangling whose reading has at most `MAX_LEVELS` levels, and which unfolds to a tree of at
+/// most `MAX_LEVELS` levels and `MAX_STEPS` steps.
 ///
-/// What was printed without invalid syntax outside back references was read: only a second path is then still to be read.
+/// Printing without invalid syntax outside back references also reads the first path: then only a second path is left
+/// to read.
 #[cfg_attr(not(debug_assertions), inline(always))]
 pub fn print_mangling(printer: &mut Printer<'_>) -> Result<bool, AllocError> {
     if !print(printer)? {
@@ -121,7 +122,7 @@ fn root_text(
     Ok(Some(text))
 }
 
-// Writes a crate's name after the text: whether there is one. An allocation that was refused leaves the text as it was.
+// Appends a crate's name to the text. Returns whether there is one. A failed allocation leaves the text unchanged.
 fn push_root(
     alloc: Global,
     text: &mut String,
@@ -140,9 +141,10 @@ fn push_root(
     Ok(true)
 }
 
-/// Writes the name of the first crate root of what the v0 mangling `name` unfolds to after `text`: whether there is one. There
-/// is none where the tree has no crate root, and where `name` is no v0 mangling that unfolds to a tree within the limits.
-/// Nothing but that name is written. An allocation that was refused leaves `text` as it was.
+/// Appends to `text` the name of the first crate root in the tree that the v0 mangling `name` unfolds to. Returns
+/// whether there is one: there is none where the tree has no crate root, and where `name` isn't a v0 mangling that
+/// unfolds to a tree within the limits. Nothing else is written. The only error is a failed allocation; `text` is then
+/// unchanged.
 pub fn push_crate_name(alloc: Global, text: &mut String, name: &str) -> Result<bool, AllocError> {
     let Some(part) = candidate(name) else {
         return Ok(false);
@@ -155,10 +157,10 @@ pub fn push_crate_name(alloc: Global, text: &mut String, name: &str) -> Result<b
     }
 }
 
-/// Both texts of what the v0 mangling `text` unfolds to, and its crate. None where `text` is no v0 mangling that unfolds
-/// to a tree within the limits.
+/// Both texts of the tree that the v0 mangling `text` unfolds to, and its crate. `None` where `text` isn't a v0
+/// mangling that unfolds to a tree within the limits.
 ///
-/// The name is printed once. The texts are copies of what was printed, whose memory fits them.
+/// The name is printed once. The texts are copies in memory of their lengths. The only error is a failed allocation.
 pub fn both_texts(memory: &mut Memory, text: &str) -> Result<Option<Texts>, AllocError> {
     let Some(part) = candidate(text) else {
         return Ok(None);

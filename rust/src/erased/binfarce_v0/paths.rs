@@ -23,7 +23,7 @@ fn is_namespace(letter: u8) -> bool {
     letter.is_ascii_alphabetic()
 }
 
-/// `<path>`: whether it was left open. It is kept where a back reference may mean it.
+/// `<path>`. Returns whether it was left open. It is kept where a back reference may name it.
 pub fn print_path(
     printer: &mut Printer<'_>,
     levels_left: usize,
@@ -81,7 +81,7 @@ pub(crate) fn print_path_by_letter(
     }
 }
 
-// A path that is never left open: it has no arguments and is no back reference.
+// A path that is never left open: it has no arguments and isn't a back reference.
 #[cfg_attr(not(debug_assertions), inline(always))]
 fn print_closed_path(
     printer: &mut Printer<'_>,

@@ -1,6 +1,6 @@
 // From crates/binfarce_v0/src/productions.rt, by tools/erase.
 
-//! Printing a path, a type or a const, once for every production: it is kept where a back reference may mean it.
+//! Printing a path, a type or a const, once for every production: it is kept where a back reference may name it.
 
 use crate::erased::binfarce_v0::consts::print_const_by_letter;
 use crate::erased::binfarce_v0::paths::print_path_by_letter;
@@ -9,7 +9,7 @@ use crate::erased::binfarce_v0_state::fragments::{FragmentKey, Production};
 use crate::erased::binfarce_v0_state::state::Printer;
 use crate::shim::alloc::AllocError;
 
-// A production: whether it was left open.
+// A production. Returns whether it was left open.
 #[cfg_attr(not(debug_assertions), inline(always))]
 pub fn print(
     printer: &mut Printer<'_>,
@@ -72,7 +72,7 @@ fn print_by_letter(
     Ok(false)
 }
 
-// What a back reference stands for: a production like any other, printed from its target.
+// The target of a back reference: a production, printed from the position that it names.
 pub fn print_target(
     printer: &mut Printer<'_>,
     levels_left: usize,

@@ -17,13 +17,13 @@ use crate::erased::binfarce_v0_state::state::Printer;
 use crate::erased::binfarce_v0_state::text::{Binder, DynLifetime, ReferenceLifetime};
 use crate::shim::alloc::AllocError;
 
-// What stands after the items of a tuple of so many.
+// The text after the items of a tuple, by their number.
 #[cfg_attr(not(debug_assertions), inline(always))]
 fn single_mark(count: usize) -> &'static str {
     if count == 1 { "," } else { "" }
 }
 
-/// `<type>`: it is kept where a back reference may mean it.
+/// `<type>`. It is kept where a back reference may name it.
 pub fn print_type(
     printer: &mut Printer<'_>,
     levels_left: usize,
@@ -57,7 +57,7 @@ pub(crate) fn print_type_by_letter(
     }
 }
 
-// A type that is no basic type.
+// A type that isn't a basic type.
 fn print_other_type(
     printer: &mut Printer<'_>,
     levels_left: usize,
@@ -260,7 +260,7 @@ fn print_dyn(
     print_dyn_lifetime(printer, binder_depth)
 }
 
-// The lifetime of a dyn type, which stands after its binder.
+// The lifetime of a dyn type, which is outside its binder.
 fn print_dyn_lifetime(printer: &mut Printer<'_>, binder_depth: usize) -> Result<(), AllocError> {
     let (life, end) = lifetime_form(printer.part.as_bytes(), printer.at);
     if printer.take_lifetime(life) {

@@ -1,7 +1,7 @@
 // From crates/binfarce_v0_grammar/src/forms.rt, by tools/erase.
 
-//! The form of the grammar that stands at a position of a v0 name: the front of a row, up to where it asks for a path, a
-//! type or a const (RFC 2603, "Syntax of mangled names").
+//! The form of the grammar at a position of a v0 name: the front of a production, up to its first path, type or const
+//! (RFC 2603, "Syntax of mangled names").
 
 mod consts;
 mod signature;
@@ -15,7 +15,7 @@ use crate::erased::binfarce_v0_grammar::numbers::{
 pub use consts::{ConstForm, ConstValue, const_form};
 pub use signature::Signature;
 
-/// `<path>`, up to where it asks for a path or a type. The last number of a form is the position after it.
+/// `<path>`, up to its first path or type. The last number of a form is the position after it.
 #[derive(Clone, Copy)]
 pub enum PathForm<'a> {
     /// No form, or one whose number, name or namespace is invalid.
@@ -47,7 +47,7 @@ pub enum Lifetime {
     Indexed(u64),
 }
 
-/// `<type>`, up to where it asks for a path, a type or a list. The last number of a form is the position after it.
+/// `<type>`, up to its first path, type or list. The last number of a form is the position after it.
 #[derive(Clone, Copy)]
 pub enum TypeForm<'a> {
     /// No byte, or a form whose binder or back reference is invalid.
@@ -70,7 +70,7 @@ pub enum TypeForm<'a> {
     FunctionOf(Signature<'a>, usize),
     /// The same with an invalid ABI, by its binder.
     InvalidAbi(u64),
-    /// `"D" [<binder>] ..`, with how many lifetimes the binder announces.
+    /// `"D" [<binder>] ..`, with the number of lifetimes that the binder announces.
     DynOf(u64, usize),
     /// The same with an invalid binder.
     InvalidDyn,
@@ -80,7 +80,7 @@ pub enum TypeForm<'a> {
     Path,
 }
 
-/// What the items of a list are.
+/// The kind of a list's items.
 #[derive(Clone, Copy)]
 pub enum Listed {
     /// `<generic-arg>`
@@ -99,7 +99,7 @@ fn nested_form<'a>(namespace: u8, after: usize) -> PathForm<'a> {
     }
 }
 
-/// The form of a path that stands at a position, where there is one.
+/// The form of the path at a position, where there is a position.
 pub fn path_form<'a>(part: &'a str, at: Option<usize>) -> PathForm<'a> {
     let Some(at) = at else {
         return PathForm::Nothing;
@@ -136,7 +136,7 @@ pub fn path_form<'a>(part: &'a str, at: Option<usize>) -> PathForm<'a> {
     }
 }
 
-/// The lifetime that stands at a position, and the position after it: None for an invalid one.
+/// The optional lifetime at a position, and the position after it: `None` after an invalid lifetime.
 #[cfg_attr(not(debug_assertions), inline(always))]
 pub fn lifetime_form(part: &[u8], at: Option<usize>) -> (Lifetime, Option<usize>) {
     let Some(at) = at else {
@@ -225,7 +225,7 @@ fn reference_form<'a>(mutable: bool, life: (Lifetime, Option<usize>)) -> TypeFor
     }
 }
 
-// A type that is no basic type.
+// A type that isn't a basic type.
 fn type_form_by<'a>(part: &'a str, at: usize, tag: u8) -> TypeForm<'a> {
     let bytes = part.as_bytes();
     match tag {
@@ -249,7 +249,7 @@ fn type_form_by<'a>(part: &'a str, at: usize, tag: u8) -> TypeForm<'a> {
     }
 }
 
-/// The form of a type that stands at a position, where there is one.
+/// The form of the type at a position, where there is a position.
 pub fn type_form<'a>(part: &'a str, at: Option<usize>) -> TypeForm<'a> {
     let Some(at) = at else {
         return TypeForm::Nothing;

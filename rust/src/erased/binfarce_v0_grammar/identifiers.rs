@@ -11,7 +11,7 @@ use crate::erased::binfarce_v0_grammar::numbers::{
 pub struct UndisambiguatedIdentifier<'a> {
     /// The characters before the last `_` of a Punycode identifier, and all of any other.
     pub ascii: &'a str,
-    /// What stands after that `_`, empty where the identifier isn't Punycode.
+    /// The characters after that `_`; empty where the identifier isn't Punycode.
     pub punycode: &'a str,
 }
 
@@ -74,8 +74,8 @@ fn identifier_bytes<'a>(
 
 /// `<undisambiguated-identifier> = ["u"] <decimal-number> ["_"] <bytes>` at a position, and the position after it.
 ///
-/// None where no number stands there, where the part ends before as many bytes as it says, and where a Punycode identifier
-/// has no Punycode.
+/// `None` where there is no number, where the part ends before as many bytes, and where a Punycode identifier has no
+/// Punycode.
 #[cfg_attr(not(debug_assertions), inline(always))]
 pub fn undisambiguated_at<'a>(
     part: &'a str,

@@ -1,7 +1,7 @@
 // From crates/binfarce_v0_grammar/src/numbers.rt, by tools/erase.
 
-//! Numbers of a v0 name (RFC 2603, "Base-62-Numbers"): from a position to the value and the position after it. A number is
-//! below 2^64, and one that isn't is invalid.
+//! Numbers of a v0 name (RFC 2603, "Base-62-Numbers"): from a position to the value and the position after it. A number
+//! of 2^64 or more is invalid.
 
 use crate::erased::binfarce_text::digits::hex_value;
 use crate::shim::simd::prelude::*;
@@ -12,7 +12,7 @@ pub fn byte_at(part: &[u8], at: usize) -> u8 {
     if at < part.len() { part[at] } else { 0 }
 }
 
-/// The position after a byte that may stand at a position, and else that position.
+/// The position after an optional byte; the same position where that byte isn't there.
 #[cfg_attr(not(debug_assertions), inline(always))]
 pub fn past(part: &[u8], byte: u8, at: usize) -> usize {
     if byte_at(part, at) == byte {
@@ -22,7 +22,7 @@ pub fn past(part: &[u8], byte: u8, at: usize) -> usize {
     }
 }
 
-// What each byte is worth as a base-62 digit; 62 where it is none.
+// The value of each byte as a base-62 digit; 62 for any other byte.
 const VALUES: [u8; 256] = [
     62, 62, 62, 62, 62, 62, 62, 62, 62, 62, 62, 62, 62, 62, 62, 62, 62, 62, 62, 62, 62, 62, 62, 62,
     62, 62, 62, 62, 62, 62, 62, 62, 62, 62, 62, 62, 62, 62, 62, 62, 62, 62, 62, 62, 62, 62, 62, 62,
@@ -37,7 +37,7 @@ const VALUES: [u8; 256] = [
     62, 62, 62, 62, 62, 62, 62, 62, 62, 62, 62, 62, 62, 62,
 ];
 
-// The value of a base-62 digit: one look, where a disambiguator has eleven.
+// The value of a base-62 digit, by one table lookup: a disambiguator has up to eleven digits.
 #[cfg_attr(not(debug_assertions), inline(always))]
 fn digit_62(c: u8) -> Option<u8> {
     let value = VALUES[c as usize];
@@ -62,7 +62,7 @@ fn with_digit(value: u64, base: u64, digit: u8) -> Option<u64> {
 // How many base-62 digits always write a number below 2^64.
 const FEW_DIGITS: usize = 10;
 
-// Base-62 digits up to a `_`: one more than what they write.
+// Base-62 digits up to a `_`: one more than the number that they write.
 #[cfg_attr(not(debug_assertions), inline(always))]
 fn digits_62(part: &[u8], start: usize) -> Option<(u64, usize)> {
     let end = part.len().min(start.saturating_add(FEW_DIGITS));
@@ -78,7 +78,7 @@ fn digits_62(part: &[u8], start: usize) -> Option<(u64, usize)> {
     more_digits_62(part, value, end)
 }
 
-// The same after digits that are worth `worth`.
+// The same after digits of the value `before`.
 #[cfg_attr(not(debug_assertions), inline(always))]
 fn more_digits_62(part: &[u8], before: u64, start: usize) -> Option<(u64, usize)> {
     let mut value = before;
@@ -103,8 +103,8 @@ pub fn base_62_number(part: &[u8], at: usize) -> Option<(u64, usize)> {
     }
 }
 
-/// A number after a tag, as a disambiguator after `s` or a binder after `G`: 0 where the tag doesn't stand there, and else
-/// one more than the number. None where the number is invalid.
+/// A number after a tag, as a disambiguator after `s` or a binder after `G`: 0 without the tag, and one more than the
+/// number with it. `None` where the number is invalid.
 #[cfg_attr(not(debug_assertions), inline(always))]
 pub fn optional_base_62_number(part: &[u8], tag: u8, at: usize) -> Option<(u64, usize)> {
     if byte_at(part, at) == tag {
@@ -115,10 +115,10 @@ pub fn optional_base_62_number(part: &[u8], tag: u8, at: usize) -> Option<(u64, 
     }
 }
 
-// How many bytes are looked at together.
+// How many bytes are compared at a time.
 const STRIDE: usize = 16;
 
-// How many of 16 bytes are base-62 digits before one that isn't.
+// How many of 16 bytes are base-62 digits before the first that isn't.
 #[cfg_attr(not(debug_assertions), inline(always))]
 fn digit_run(bytes: &[u8]) -> usize {
     let v = u8x16::from_slice(bytes);
@@ -145,7 +145,7 @@ fn digits_end(part: &[u8], start: usize) -> usize {
     digits_end_slowly(part, start)
 }
 
-// The same, a byte at a time.
+// The same, one byte at a time.
 #[inline(never)]
 fn digits_end_slowly(part: &[u8], start: usize) -> usize {
     let mut end = start;
@@ -155,7 +155,7 @@ fn digits_end_slowly(part: &[u8], start: usize) -> usize {
     end
 }
 
-// Whether two digits are worth less than 1362. Below 2^64 - 2 is then what they write with nine more after them.
+// Whether two digits write less than 1362. With nine more digits they then write less than 2^64 - 2.
 #[cfg_attr(not(debug_assertions), inline(always))]
 fn are_small(first: u8, second: u8) -> bool {
     match (digit_62(first), digit_62(second)) {
@@ -164,14 +164,14 @@ fn are_small(first: u8, second: u8) -> bool {
     }
 }
 
-// Whether the digits from `start` to `end` write a number below 2^64 - 2, as far as their count and the first two tell.
+// Whether the digits from `start` to `end` surely write a number below 2^64 - 2, by their count and the first two.
 #[cfg_attr(not(debug_assertions), inline(always))]
 fn write_small(part: &[u8], start: usize, end: usize) -> bool {
     let count = end - start;
     count <= 10 || (count == 11 && are_small(part[start], part[start + 1]))
 }
 
-/// The position after what `tagged` reads, whose digits are checked and decoded only where they may write too much.
+/// The position after the number after a tag. Its digits are decoded only where the number may be too large.
 #[cfg_attr(not(debug_assertions), inline(always))]
 pub fn skip_optional_base_62_number(part: &[u8], tag: u8, at: usize) -> Option<usize> {
     if byte_at(part, at) != tag {
@@ -189,8 +189,8 @@ pub fn skip_optional_base_62_number(part: &[u8], tag: u8, at: usize) -> Option<u
     }
 }
 
-/// `<backref>`, with its `B` at `at`: the position that it names, and the position after it. None where its number is
-/// invalid or names no position before the `B`.
+/// `<backref>`, with its `B` at `at`: its target, and the position after it. `None` where its number is invalid or
+/// names no position before the `B`.
 #[cfg_attr(not(debug_assertions), inline(always))]
 pub fn back_reference(part: &[u8], at: usize) -> Option<(usize, usize)> {
     let (target, after) = base_62_number(part, at + 1)?;
@@ -226,7 +226,7 @@ fn digits_10(part: &[u8], start: usize) -> Option<(u64, usize)> {
     Some((value, after))
 }
 
-// The longest run of decimal digits, of which one stands there. Most runs have one digit or two, which need no loop.
+// The longest run of decimal digits at a position with one. Most runs have one or two digits, which need no loop.
 #[cfg_attr(not(debug_assertions), inline(always))]
 fn few_digits_10(part: &[u8], start: usize, first: u8) -> Option<(u64, usize)> {
     let second = byte_at(part, start + 1);

@@ -5,7 +5,7 @@
 use crate::erased::binfarce_v0_grammar::forms::Lifetime;
 use crate::erased::binfarce_v0_grammar::numbers::byte_at;
 
-/// The position after a byte. None where the byte doesn't stand there.
+/// The position after a byte. `None` where that byte isn't there.
 #[cfg_attr(not(debug_assertions), inline(always))]
 pub fn eat(part: &[u8], byte: u8, at: Option<usize>) -> Option<usize> {
     let at = at?;
@@ -29,7 +29,7 @@ pub fn list_end(part: &[u8], at: Option<usize>) -> Option<Option<usize>> {
     }
 }
 
-/// How many steps a lifetime is: 1 for an `L` that stands there.
+/// The steps of an optional lifetime: 1 if there is an `L`.
 #[cfg_attr(not(debug_assertions), inline(always))]
 pub fn lifetime_steps(life: Lifetime) -> u64 {
     match life {
@@ -38,7 +38,7 @@ pub fn lifetime_steps(life: Lifetime) -> u64 {
     }
 }
 
-/// The position after a lifetime that may stand there: None for one that is invalid, or that the binders around it don't
+/// The position after an optional lifetime: `None` for one that is invalid, or that the binders around it don't
 /// announce.
 #[cfg_attr(not(debug_assertions), inline(always))]
 pub fn bound_end(binder_depth: usize, life: Lifetime, after: Option<usize>) -> Option<usize> {
@@ -55,7 +55,7 @@ pub fn bound_end(binder_depth: usize, life: Lifetime, after: Option<usize>) -> O
     }
 }
 
-/// The position after a lifetime that has to stand there: None for one that isn't there either.
+/// The position after a required lifetime: `None` also where there is no lifetime.
 #[cfg_attr(not(debug_assertions), inline(always))]
 pub fn required_end(binder_depth: usize, life: Lifetime, after: Option<usize>) -> Option<usize> {
     match life {

@@ -21,15 +21,15 @@ const INITIAL_BIAS: usize = 72;
 
 const INITIAL_N: usize = 128;
 
-// The largest delta that is read. A larger one leads past the last Unicode scalar value in any text, so that nothing
-// is refused for it.
+// The largest delta that is read. A larger one leads past the last Unicode scalar value in any text, so this limit
+// refuses no valid code.
 const MAX_DELTA: usize = 0xFFFF_FFFF;
 
-/// The text of an ASCII part and a code, which are what an identifier of a v0 name has before and after its last `_`. Each
-/// byte of the ASCII part is a character, and an empty code inserts none. No memory is taken.
+/// The text of an ASCII part and a code: the parts of a v0 identifier before and after its last `_`. Each byte of the
+/// ASCII part is a character, and an empty code inserts none. Nothing is allocated.
 ///
-/// None where the code isn't all read as deltas of the digits `a` to `z` and `0` to `9`, where it asks for what is no
-/// Unicode scalar value, and where the text would have more than 128 characters.
+/// `None` where the code isn't a sequence of deltas in the digits `a` to `z` and `0` to `9`, where it inserts a code
+/// point that isn't a Unicode scalar value, and where the text would have more than 128 characters.
 pub fn decode(ascii: &[u8], code: &[u8]) -> Option<Decoded> {
     if ascii.len() > MOST_CHARACTERS {
         return None;

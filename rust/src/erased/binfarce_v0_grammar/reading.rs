@@ -1,6 +1,6 @@
 // From crates/binfarce_v0_grammar/src/reading.rt, by tools/erase.
 
-//! Reading a v0 name by the grammar alone: it is validated in one pass, without memory.
+//! Reading a v0 name by the grammar alone: it is validated in one pass, without allocation.
 
 use crate::erased::binfarce_v0_grammar::forms::{
     ConstForm, Listed, PathForm, TypeForm, const_form, lifetime_form, path_form, type_form,
@@ -29,8 +29,8 @@ fn read_lifetime(part: &str, at: usize) -> Option<usize> {
     after
 }
 
-/// The position after the `<path>` that stands at a position. None where no path stands there, and where it has more than
-/// `levels_left` levels. What a back reference names isn't looked at, nor what a lifetime's index means.
+/// The position after the `<path>` at a position. `None` where there is no path, and where it has more than
+/// `levels_left` levels. The target of a back reference and the meaning of a lifetime's index aren't checked.
 pub fn read_path(part: &str, levels_left: usize, at: usize) -> Option<usize> {
     if levels_left == 0 {
         return None;

@@ -1,6 +1,6 @@
 // From crates/binfarce_v0_state/src/fragments.rt, by tools/erase.
 
-//! What a printing keeps of its own text: a back reference's target that was printed whole isn't read again.
+//! Fragments that a printing keeps of its own text: a back reference's target that was printed whole isn't read again.
 
 use crate::shim::{String, Vec};
 use crate::erased::binfarce_v0_state::position::Position;
@@ -17,8 +17,8 @@ pub enum Production {
     Const,
 }
 
-/// What a back reference asks for: what a position of the name unfolds to under a depth of binders. A const has no depth:
-/// its depth is 0.
+/// The key of a fragment, by which a back reference looks it up: a kind of production, its position, and the depth of
+/// binders, which is 0 for a const.
 #[derive(Clone, Copy, PartialEq, Eq, PartialOrd, Ord)]
 pub struct FragmentKey {
     pub production: Production,
@@ -41,7 +41,7 @@ pub struct Fragment {
     pub muted: bool,
 }
 
-/// Where a printing stands before what it will keep.
+/// The state of a printing before a path, type or const that it may keep.
 #[derive(Clone, Copy)]
 pub struct Mark {
     pub at: usize,
@@ -53,17 +53,17 @@ pub struct Mark {
 
 /// The fragments of a printing.
 pub struct Fragments {
-    /// What the name's back references may mean: nothing else is kept.
+    /// The possible targets of the name's back references: nothing else is kept.
     pub targets: Targets,
     /// The targets were looked for.
     looked_for: bool,
-    /// What is muted is kept too, and the targets are looked for only in a name that takes `MANY_VISITS`.
+    /// Muted parts are kept too, and the targets are looked for only in a name that takes `MANY_VISITS`.
     silent: bool,
     /// In the order in which they were printed.
     pub fragments: Vec<Fragment>,
-    /// Where each stands in `fragments`, but for the first `LINEAR_SEARCH`, which are looked through.
+    /// The index of each in `fragments`, except the first `LINEAR_SEARCH`, which are searched one by one.
     index: BTreeMap<FragmentKey, usize>,
-    /// What is written again, for a moment.
+    /// A buffer for the text that is written again.
     copy: String,
     /// The same without the disambiguators of crates.
     trimmed_copy: String,
@@ -74,11 +74,11 @@ const LINEAR_SEARCH: usize = 16;
 // The bytes of a fragment, 80, and at most 96 of its entry in the index.
 const FRAGMENT_BYTES: usize = 176;
 
-// How much of a name is read silently before its back references' targets are looked for: most names that programs hold
+// How much of a name a silent printing reads before it looks for the targets of back references: most names in programs
 // end before.
 const MANY_VISITS: usize = 256;
 
-/// Nothing is kept of a text that an allocation was refused for.
+/// Forgets all fragments where an allocation failed: their ranges may no longer fit the text.
 #[cfg_attr(not(debug_assertions), inline(always))]
 pub fn or_forget(
     kept: &mut Vec<Fragment>,
@@ -90,7 +90,7 @@ pub fn or_forget(
     written
 }
 
-/// What was written to `text` goes to two others, and `text` is empty.
+/// Appends `text` to two other texts, and empties it. The only error is a failed allocation.
 pub fn share(
     complete: &mut String,
     trimmed: &mut String,
@@ -131,7 +131,7 @@ impl Fragments {
         self.targets.look_for(part)
     }
 
-    // How many bytes they have room for.
+    // How many bytes their memory has.
     pub(crate) fn bytes(&self) -> usize {
         self.fragments
             .capacity()
@@ -236,7 +236,7 @@ impl<'a> Printer<'a> {
         self.kept.keep(fragment)
     }
 
-    // The fragment of a number, where it is the one that is asked for.
+    // The fragment of this index, where it has this key.
     #[cfg_attr(not(debug_assertions), inline(always))]
     fn fragment_at(&self, number: usize, key: FragmentKey) -> Option<&Fragment> {
         let fragment = self.kept.fragments.get(number)?;
@@ -251,7 +251,7 @@ impl<'a> Printer<'a> {
         }
     }
 
-    // The fragment that a back reference asks for, among the first.
+    // The fragment with this key, among the first.
     fn first_fragments(&self, key: FragmentKey) -> Option<&Fragment> {
         for number in 0..self.kept.fragments.len().min(LINEAR_SEARCH) {
             let found = self.fragment_at(number, key);
@@ -262,7 +262,7 @@ impl<'a> Printer<'a> {
         None
     }
 
-    // The fragment that a back reference asks for.
+    // The fragment with this key.
     fn fragment(&self, key: FragmentKey) -> Option<&Fragment> {
         let found = self.first_fragments(key);
         if found.is_some() || self.kept.fragments.len() <= LINEAR_SEARCH {
@@ -271,7 +271,7 @@ impl<'a> Printer<'a> {
         self.fragment_at(*self.kept.index.get(&key)?, key)
     }
 
-    // Writes what a fragment holds of both texts again, where that begins and ends with characters.
+    // Writes a fragment's ranges of both texts again, where they begin and end at character boundaries.
     fn write_again(&mut self, fragment: Fragment) -> Result<bool, AllocError> {
         if self.muted {
             return Ok(true);
@@ -291,7 +291,7 @@ impl<'a> Printer<'a> {
         Ok(true)
     }
 
-    // Writes what a fragment holds of both texts again, each after its own.
+    // Writes a fragment's ranges of both texts again, each after its own text.
     fn write_both_again(&mut self, fragment: Fragment) -> Result<bool, AllocError> {
         let shared = share(&mut self.complete, &mut self.trimmed, &mut self.text);
         or_forget(&mut self.kept.fragments, shared)?;
@@ -316,8 +316,8 @@ impl<'a> Printer<'a> {
         Ok(true)
     }
 
-    /// Writes what is kept of a back reference's target, and reads on after the reference: whether it was left open.
-    /// None, and nothing is done, where nothing is kept or a limit would be passed.
+    /// Writes the fragment of a back reference's target, and continues after the reference. Returns whether it was left
+    /// open. `None`, and nothing is done, where no fragment is kept or a limit would be passed.
     pub fn print_kept(
         &mut self,
         levels_left: usize,

@@ -5,8 +5,8 @@
 use crate::erased::binfarce_v0_state::state::Buffers;
 use crate::shim::alloc::Global;
 
-/// The memory that names are printed in, one after the other: at most `MOST_BYTES`. A printing sees nothing of what its
-/// buffers held.
+/// The memory that names are printed in, one after the other: at most `MOST_BYTES`. A printing doesn't see earlier
+/// contents of its buffers.
 pub struct Memory {
     pub alloc: Global,
     buffers: Option<Buffers>,

@@ -19,7 +19,7 @@ pub fn parent(position: Position) -> Position {
     }
 }
 
-/// What stands before the arguments of a path.
+/// The text before the arguments of a path.
 #[cfg_attr(not(debug_assertions), inline(always))]
 pub fn value_mark(position: Position) -> &'static str {
     match position {
@@ -28,7 +28,7 @@ pub fn value_mark(position: Position) -> &'static str {
     }
 }
 
-/// What stands after the arguments of a path.
+/// The text after the arguments of a path.
 #[cfg_attr(not(debug_assertions), inline(always))]
 pub fn closing(position: Position) -> &'static str {
     match position {

@@ -1,6 +1,6 @@
 // From crates/binfarce_v0_state/src/state.rt, by tools/erase.
 
-//! The state of a printing: where it reads, what it has counted, and what it has written.
+//! The state of a printing: its position, its counts and its texts.
 
 use crate::shim::String;
 use crate::erased::binfarce_v0_state::fragments::{Fragments, or_forget, share};
@@ -11,7 +11,7 @@ use crate::erased::binfarce_v0_grammar::limits::{MAX_LEVELS, MAX_STEPS};
 use crate::erased::binfarce_v0_grammar::positions::lifetime_steps;
 use crate::shim::alloc::{AllocError, Global};
 
-/// The memory of a printing, which the next one takes: what was written to it isn't seen there.
+/// The memory of a printing, which the next one reuses without seeing its contents.
 pub struct Buffers {
     complete: String,
     trimmed: String,
@@ -30,7 +30,7 @@ impl Buffers {
         }
     }
 
-    // How many bytes they have room for.
+    // How many bytes their memory has.
     pub(crate) fn bytes(&self) -> usize {
         self.kept
             .bytes()
@@ -50,7 +50,7 @@ fn joined(alloc: Global, front: &str, back: &str) -> Result<String, AllocError> 
 
 /// A printing of a name: it is read and written in one pass.
 pub struct Printer<'a> {
-    /// What stands after the prefix of a mangling. It is ASCII, and stays.
+    /// The part of a mangling after its prefix. It is ASCII, and doesn't change.
     pub part: &'a str,
     /// The position in the part, None after invalid syntax.
     pub at: Option<usize>,
@@ -60,29 +60,30 @@ pub struct Printer<'a> {
     pub least_levels_left: usize,
     /// A limit is exceeded.
     pub limit_exceeded: bool,
-    /// What was written up to where its two texts parted, unless it is muted: nothing where disambiguators aren't written.
+    /// The complete text up to the last difference between the two texts. Empty in a muted printing, and where
+    /// disambiguators aren't written.
     pub complete: String,
     /// The same without the disambiguators of crates.
     pub trimmed: String,
-    /// What was written to both since then.
+    /// The end that both texts share.
     pub text: String,
     /// Nothing is written: the path of an impl is read and not shown.
     pub muted: bool,
     /// Disambiguators of crates are written.
     pub full: bool,
-    /// Within what a back reference stands for.
+    /// Within the target of a back reference.
     pub in_back_reference: bool,
     /// The first crate root.
     pub root: Option<UndisambiguatedIdentifier<'a>>,
-    /// What may be written again.
+    /// The fragments, which may be written again.
     pub kept: Fragments,
-    /// How many paths, types, consts and lifetimes were really read.
+    /// How many paths, types, consts and lifetimes were read, without those of fragments.
     pub visits: usize,
 }
 
 impl<'a> Printer<'a> {
-    /// A printing of `part` that begins at its first position; of a muted one nothing is written. Nothing that the buffers
-    /// held is seen, and no memory is taken.
+    /// A printing of `part` that begins at its first position; a muted one writes nothing. The buffers' earlier
+    /// contents are dropped. Nothing is allocated.
     #[cfg_attr(not(debug_assertions), inline(always))]
     pub fn new(buffers: Buffers, part: &'a str, full: bool, muted: bool) -> Printer<'a> {
         let Buffers {
@@ -113,8 +114,8 @@ impl<'a> Printer<'a> {
         }
     }
 
-    /// Takes memory for texts of as many bytes as the part has, and looks for what its back references may mean. Muted,
-    /// nothing is done.
+    /// Reserves memory for texts of as many bytes as the part has, and looks for the targets of its back references. A
+    /// muted printing does nothing.
     pub fn prepare(&mut self) -> Result<(), AllocError> {
         if self.muted {
             return Ok(());
@@ -133,7 +134,7 @@ impl<'a> Printer<'a> {
         self.text.as_str()
     }
 
-    /// Copies of the text that was written, and of the same without the disambiguators of crates, in memory that fits them.
+    /// Copies of the complete text and of the text without the disambiguators of crates, in memory of their lengths.
     pub fn texts(&self, alloc: Global) -> Result<(String, String), AllocError> {
         let complete = joined(alloc, self.complete.as_str(), self.text.as_str())?;
         let trimmed = joined(alloc, self.trimmed.as_str(), self.text.as_str())?;
@@ -167,13 +168,13 @@ impl<'a> Printer<'a> {
         }
     }
 
-    /// Reads on at a position, or nowhere after invalid syntax.
+    /// Continues at a position, or nowhere after invalid syntax.
     #[cfg_attr(not(debug_assertions), inline(always))]
     pub fn seek(&mut self, at: Option<usize>) {
         self.at = at;
     }
 
-    /// Passes a limit.
+    /// Notes that a limit is exceeded, and stops reading.
     pub fn stop(&mut self) {
         self.at = None;
         self.limit_exceeded = true;
@@ -206,7 +207,7 @@ impl<'a> Printer<'a> {
         self.take(lifetime_steps(life))
     }
 
-    /// Takes a level and a step, where there is one of each: how many levels are left below, one less.
+    /// Takes a level and a step, where one of each is left. Returns the levels left below.
     #[cfg_attr(not(debug_assertions), inline(always))]
     pub fn enter(&mut self, levels_left: usize) -> Option<usize> {
         if levels_left == 0 || self.steps_left == 0 {
@@ -229,7 +230,7 @@ impl<'a> Printer<'a> {
         Ok(())
     }
 
-    /// Writes a crate's disambiguator, which stands in the complete text alone.
+    /// Writes a crate's disambiguator, to the complete text alone.
     pub fn disambiguate(&mut self, disambiguator: u64) -> Result<(), AllocError> {
         if !self.muted {
             let shared = share(&mut self.complete, &mut self.trimmed, &mut self.text);
@@ -240,14 +241,14 @@ impl<'a> Printer<'a> {
         Ok(())
     }
 
-    /// Reads on at a back reference's target.
+    /// Continues at a back reference's target.
     #[cfg_attr(not(debug_assertions), inline(always))]
     pub fn enter_target(&mut self, target: usize) {
         self.at = Some(target);
         self.in_back_reference = true;
     }
 
-    /// Reads on after a back reference.
+    /// Continues after a back reference.
     #[cfg_attr(not(debug_assertions), inline(always))]
     pub fn leave_target(&mut self, after: usize, in_back_reference: bool) {
         self.at = if self.limit_exceeded {

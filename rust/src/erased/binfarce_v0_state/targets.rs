@@ -1,20 +1,20 @@
 // From crates/binfarce_v0_state/src/targets.rt, by tools/erase.
 
-//! Which positions of a name its back references may mean.
+//! The possible targets of a name's back references.
 
 use crate::shim::Vec;
 use crate::erased::binfarce_v0_grammar::numbers::{back_reference, byte_at};
 use crate::shim::alloc::{AllocError, Global};
 use crate::shim::simd::prelude::*;
 
-// How many bytes of a name are looked at together.
+// How many bytes of a name are compared at a time.
 const STRIDE: usize = 16;
 
-/// The positions that the back references of a name may mean, where a `B` and a number stand, whether or not a back
-/// reference is read there. A printing keeps what it prints there and nothing else. That changes no text, so that nothing
-/// here says which they are: what isn't kept is printed anew.
+/// The possible targets of a name's back references: that of each `B` with a number after it, whether or not a back
+/// reference is read there. A printing keeps fragments at these positions alone. This changes no text, since what isn't
+/// kept is printed again; so no clause says which positions they are.
 pub struct Targets {
-    // A bit for the positions of each remainder by 64: most positions that are no target are told apart by these.
+    // A bit for the positions of each remainder modulo 64: they rule out most positions that aren't targets.
     any: u64,
     // A bit for each of the first 256 positions.
     near: [u64; 4],
@@ -40,7 +40,7 @@ impl Targets {
         self.far.clear();
     }
 
-    // How many bytes they have room for beside a name's first 256 positions.
+    // How many bytes their memory has for positions from 256 on.
     pub(crate) fn bytes(&self) -> usize {
         self.far.capacity().saturating_mul(8)
     }
@@ -56,7 +56,7 @@ impl Targets {
         self.look_at_the_last(part)
     }
 
-    // Adds the targets of what stands behind the last whole stride.
+    // Adds the targets in the bytes after the last whole stride.
     #[cfg_attr(not(debug_assertions), inline(always))]
     fn look_at_the_last(&mut self, part: &[u8]) -> Result<(), AllocError> {
         let last = part.len() % STRIDE;
@@ -91,7 +91,7 @@ impl Targets {
         Ok(())
     }
 
-    // Adds the target of a back reference, where one may stand.
+    // Adds the target of a back reference, where there may be one.
     #[inline(never)]
     fn add_target(&mut self, part: &[u8], at: usize) -> Result<(), AllocError> {
         if at >= part.len() || part[at] != b'B' {
@@ -139,11 +139,11 @@ impl Targets {
     }
 }
 
-// The length of a name up to which what is short is read again. A longer one may have a long name in Punycode there, which
-// takes longer to decode than to copy.
+// The longest name whose short targets are read again. A longer name may have long Punycode there, which takes longer
+// to decode than to copy.
 const SHORT_NAME: usize = 512;
 
-// Whether what begins at a position is read again: a crate's name, alone or before one or two names, costs no more to read
+// Whether the path at a position is read again: a crate's name, alone or before one or two names, costs no more to read
 // than to keep and to copy.
 #[cfg_attr(not(debug_assertions), inline(always))]
 fn is_read_again(part: &[u8], at: usize) -> bool {
@@ -159,7 +159,8 @@ fn is_read_again(part: &[u8], at: usize) -> bool {
     )
 }
 
-// Whether a back reference of one digit leads to a crate root, which is read again: that is told without reading the number.
+// Whether a back reference of one digit leads to a crate root, which is read again: this needs no parsing of the
+// number.
 #[cfg_attr(not(debug_assertions), inline(always))]
 fn leads_to_a_root(part: &[u8], at: usize) -> bool {
     if part.len() > SHORT_NAME || byte_at(part, at + 1) == 0 || byte_at(part, at + 2) != b'_' {
@@ -175,7 +176,7 @@ fn leads_to_a_root(part: &[u8], at: usize) -> bool {
     byte_at(part, target as usize) == b'C'
 }
 
-// Of 16 bytes, a bit for each that is `B`.
+// A bit for each of 16 bytes: whether it is `B`.
 #[cfg_attr(not(debug_assertions), inline(always))]
 fn b_flags(bytes: &[u8]) -> u64 {
     u8x16::from_slice(bytes)

@@ -1,6 +1,6 @@
 // From crates/binfarce_v0_state/src/text.rt, by tools/erase.
 
-//! The texts of the leaves of a v0 name: what a printing writes whole.
+//! The texts of the leaves of a v0 name, which a printing writes whole.
 
 use crate::shim::String;
 use crate::erased::binfarce_v0_state::disambiguators::put_disambiguator;
@@ -10,9 +10,9 @@ use crate::erased::binfarce_v0_grammar::numbers::hex_number;
 use crate::erased::binfarce_v0_grammar::punycode::decode;
 use crate::shim::alloc::AllocError;
 
-/// What a printing writes whole, without reading on.
+/// A leaf, whose text a printing writes whole, without reading on.
 pub trait Leaf {
-    /// Writes its text at the end of another.
+    /// Appends its text to another.
     fn push(self, out: &mut String) -> Result<(), AllocError>;
 }
 
@@ -151,7 +151,7 @@ impl<'a> Leaf for AfterMark<'a> {
     }
 }
 
-// The word of a special namespace.
+// The name of a special namespace.
 fn push_namespace(text: &mut String, namespace: u8) -> Result<(), AllocError> {
     match namespace {
         b'C' => text.push_str("closure"),
@@ -213,14 +213,14 @@ fn push_number(text: &mut String, hex: &str) -> Result<(), AllocError> {
     }
 }
 
-// Whether a character stands for itself between quotes.
-fn stands_for_itself(c: char) -> bool {
+// Whether a character is shown unescaped between quotes.
+fn is_unescaped(c: char) -> bool {
     matches!(c, ' '..='~') && c != '\'' && c != '\\'
 }
 
 // A character between quotes: printable ASCII as it is, any other by its number in lower-case hexadecimal.
 fn push_character(text: &mut String, c: char) -> Result<(), AllocError> {
-    if stands_for_itself(c) {
+    if is_unescaped(c) {
         return text.push(c);
     }
     let code = c as u32;
@@ -251,7 +251,7 @@ impl<'a> Leaf for Signature<'a> {
     }
 }
 
-// Punycode that can't be decoded, as it stands.
+// The text of Punycode that can't be decoded.
 fn push_undecoded(text: &mut String, name: UndisambiguatedIdentifier<'_>) -> Result<(), AllocError> {
     text.push_str("punycode{")?;
     if !name.ascii.is_empty() {

@@ -1,6 +1,6 @@
 // From crates/binfarce_image/src/image/parts.rt, by tools/erase.
 
-//! What is asked of an image's parts.
+//! Checks and lengths of an image's parts.
 
 use super::tables::Class;
 use super::{Image, Part};
@@ -42,7 +42,7 @@ pub(super) fn has_names(image: &Image) -> bool {
     }
 }
 
-/// Where the bodies end, or `usize::MAX` where that is no number.
+/// Where the bodies end, or `usize::MAX` on overflow.
 pub(super) fn bodies_end(parts: &[Part], class: Class) -> usize {
     let mut end = class.header_length;
     for part in parts {
@@ -51,7 +51,7 @@ pub(super) fn bodies_end(parts: &[Part], class: Class) -> usize {
     end
 }
 
-/// How many bytes a part has in a file, or `usize::MAX` where that is no number.
+/// How many bytes a part has in a file, or `usize::MAX` on overflow.
 pub(super) fn body_length(part: &Part, class: Class) -> usize {
     match part {
         Part::Bytes { body, .. } => body.len(),

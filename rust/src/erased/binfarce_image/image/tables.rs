@@ -1,9 +1,9 @@
 // From crates/binfarce_image/src/image/tables.rt, by tools/erase.
 
-//! The tables of both classes: the lengths of structures, and the places and widths of their fields (System V gABI,
+//! The tables of both classes: the lengths of structures, and the offsets and widths of their fields (System V gABI,
 //! chapter 4).
 
-/// Where a field stands in its structure, and how many bytes it has.
+/// The offset of a field in its structure, and its width in bytes.
 #[derive(Clone, Copy)]
 pub(super) struct Field(pub(super) usize, pub(super) usize);
 

@@ -1,6 +1,6 @@
 // From crates/binfarce_v0_grammar/src/forms/consts.rt, by tools/erase.
 
-//! The form of a const that stands at a position of a v0 name, and its value.
+//! The form of the const at a position of a v0 name, and its value.
 
 use super::basic_type;
 use crate::erased::binfarce_v0_grammar::identifiers::ascii_slice;
@@ -9,7 +9,7 @@ use crate::erased::binfarce_v0_grammar::numbers::{back_reference, byte_at, hex_e
 /// The value of a const.
 #[derive(Clone, Copy)]
 pub enum ConstValue<'a> {
-    /// An integer: whether a sign stands before its digits, and its hexadecimal digits.
+    /// An integer: whether it has a sign, and its hexadecimal digits.
     Integer(bool, &'a str),
     Boolean(bool),
     Character(char),
@@ -26,13 +26,13 @@ pub enum ConstForm<'a> {
     Placeholder(&'static str, usize),
     /// `<type> <const-data>`, with the name of the type.
     Value(&'static str, ConstValue<'a>, usize),
-    /// The same with an invalid value: whether a sign stands before it.
+    /// The same with an invalid value: whether it has a sign.
     Invalid(bool, &'static str),
     /// `<backref>`, with the position that it names.
     Back(usize, usize),
 }
 
-/// The form of a const that stands at a position, where there is one.
+/// The form of the const at a position, where there is a position.
 pub fn const_form<'a>(part: &'a str, at: Option<usize>) -> ConstForm<'a> {
     let Some(at) = at else {
         return ConstForm::Nothing;
@@ -104,7 +104,7 @@ fn hex_digits<'a>(part: &'a str, at: usize) -> Option<(&'a str, usize)> {
     Some((ascii_slice(part, at, end), end + 1))
 }
 
-// What digits write as a value of a type.
+// Hexadecimal digits as a value of a type.
 fn value_of<'a>(letter: u8, negative: bool, digits: &'a str) -> Option<ConstValue<'a>> {
     match letter {
         b'b' => boolean_of(hex_number(digits.as_bytes())?),

@@ -2,7 +2,7 @@
 
 //! A text of a bounded number of characters.
 
-/// The most characters of a decoded text, so that it needs no memory.
+/// The most characters of a decoded text, so that it needs no allocation.
 pub const MOST_CHARACTERS: usize = 128;
 
 /// A decoded text.

@@ -1,18 +1,18 @@
 -- The symbols of a file of any format.
 use Rattle.std.specs.Prelude.{ℕ, List, length, codes, nat_lt, Option, Some, None, Result, Err, if◌then◌else◌}
-use Rattle.binfarce_bytes.specs.declared.ByteOrder.{ByteOrder}
-use Rattle.binfarce_bytes.specs.declared.format.Format.{Format}
-use Rattle.binfarce_bytes.specs.declared.format.Format.TheVariants.{Elf32, Elf64, Macho, PE, Unknown}
-use Rattle.binfarce_bytes.specs.Format.{format_of}
-use Rattle.binfarce_bytes.specs.Refusal.{Refusal, unexpected_eof, section_is_missing}
-use Rattle.binfarce_elf.specs.Elf.{ElfClass, elf32, elf64, section_table}
-use Rattle.binfarce_elf.specs.ElfSymbols.{elf_answer, dynamic_answer}
-use Rattle.binfarce_elf.specs.declared.symbol_table.SymbolTable.{SymbolTable}
-use Rattle.binfarce_elf.specs.declared.symbol_table.SymbolTable.TheVariants.{Symtab, Dynsym}
-use Rattle.binfarce_macho.specs.MachoSymbols.{macho_answer, HasAddress}
-use Rattle.binfarce_pe.specs.Pe.{least_length}
-use Rattle.binfarce_pe.specs.PeSymbols.{pe_answer}
-use Rattle.binfarce_bytes.specs.Entries.{Listed, ListsSome}
+use Rattle.binfarce.specs.declared.ByteOrder.{ByteOrder}
+use Rattle.binfarce.specs.declared.Format.{Format}
+use Rattle.binfarce.specs.declared.Format.TheVariants.{Elf32, Elf64, Macho, PE, Unknown}
+use Rattle.binfarce.specs.Format.{format_of}
+use Rattle.binfarce.specs.Refusal.{Refusal, unexpected_eof, section_is_missing}
+use Rattle.binfarce.specs.Elf.{ElfClass, elf32, elf64, section_table}
+use Rattle.binfarce.specs.ElfSymbols.{elf_answer, dynamic_answer}
+use Rattle.binfarce.specs.declared.SymbolTable.{SymbolTable}
+use Rattle.binfarce.specs.declared.SymbolTable.TheVariants.{Symtab, Dynsym}
+use Rattle.binfarce.specs.MachoSymbols.{macho_answer, HasAddress}
+use Rattle.binfarce.specs.Pe.{least_length}
+use Rattle.binfarce.specs.PeSymbols.{pe_answer}
+use Rattle.binfarce.specs.Symbol.{Listed, ListsSome}
 
 -- what the reader of a class answers for a section: a file too short for its header ends before what it should hold
 abbrev pub elf_file_answer : ElfClass → ByteOrder → List ℕ → List ℕ → Result Listed Refusal

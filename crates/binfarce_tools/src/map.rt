@@ -9,7 +9,7 @@ ghost use Rattle.binfarce_tools.specs.Report.{Share, AreCratesOf, ReportFits};
 ghost use Rattle.binfarce_tools.specs.ReportWords.{outcome_of};
 ghost use Rattle.binfarce_tools.specs.Sums.{AreSumsOf};
 ghost use Rattle.binfarce_tools.specs.Tables.{AreTablesOf};
-ghost use Rattle.binfarce_elf.specs.declared.symbol_table.SymbolTable.{SymbolTable};
+ghost use Rattle.binfarce.specs.declared.SymbolTable.{SymbolTable};
 ghost use Rattle.binfarce_tools.specs.Writing.{Tells, Takes, Fails, Leaves};
 ghost use Rattle.binfarce_tools.specs.Map.{IsMapOf, IsMapOfShares, crate_rows};
 

@@ -60,3 +60,11 @@ NeedsMemory (Elf64 order) file answer = ListsSome answer
 NeedsMemory Macho file answer = HasAddress file
 NeedsMemory PE file answer = ListsSome answer
 NeedsMemory Unknown file answer = ⊥
+
+-- the answer of a file for a section, by the format that its first bytes name
+abbrev pub file_answer : List ℕ → List ℕ → Option (Result Listed Refusal)
+file_answer file section = symbols_answer (format_of file) file section
+
+-- the answers of a file that need memory
+abbrev pub FileNeedsMemory : List ℕ → Result Listed Refusal → Type 0
+FileNeedsMemory file = NeedsMemory (format_of file) file

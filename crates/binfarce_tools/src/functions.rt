@@ -1,16 +1,17 @@
 //! The function symbols of a file of any format.
 
 ghost use Rattle.std.specs.Iterator.{YieldsFirstBy};
-ghost use Rattle.binfarce.specs.Format.{format_of};
 ghost use Rattle.binfarce.specs.Elf.{elf32, elf64};
 ghost use Rattle.binfarce.specs.MachoSymbols.{HasAddress};
 ghost use Rattle.binfarce.specs.Symbol.{ListsSome, Answers};
 ghost use Rattle.binfarce.specs.SymbolViews.{function_view};
-ghost use Rattle.binfarce_tools.specs.Answer.{elf_file_answer, macho_file_answer, pe_file_answer, symbols_answer, NeedsMemory};
+ghost use Rattle.binfarce_tools.specs.Answer.{elf_file_answer, macho_file_answer, pe_file_answer, symbols_answer, NeedsMemory, file_answer, FileNeedsMemory};
 ghost use Rattle.binfarce_tools.specs.Entries.{arranged_left, HoldsLeft, IsArranged, Gets};
 
 use crate::list::ListError;
-use binfarce::{ByteOrder, Format, FunctionSymbol, ParseError, detect_format, elf32, elf64, macho, pe};
+use binfarce::{
+    ByteOrder, Format, FunctionSymbol, ParseError, detect_format, elf32, elf64, macho, pe,
+};
 use std::alloc::Global;
 
 /// The function symbols of a file that are left, in the order of its listing.
@@ -71,8 +72,7 @@ pub fn functions_of_file<'a>(
     data: &'a [u8],
     section: &str,
 ) -> Result<(Functions<'a>, u64), ListError>
-    ensures { Gets (NeedsMemory (format_of data.entry.now) data.entry.now)
-        (symbols_answer (format_of data.entry.now) data.entry.now section.now) result }
+    ensures { Gets (FileNeedsMemory data.entry.now) (file_answer data.entry.now section.now) result }
 {
     match detect_format(data) {
         Format::Elf32 { byte_order } => Ok(read_elf32(data, byte_order, section)?),

@@ -2,10 +2,9 @@
 
 ghost use Rattle.std.specs.Prelude.{◌≡◌, ◌≢◌, ◌++◌, ◌-◌, ◌<◌, ℕ, List, length, Some, None, true, map, IfErr, IfOk, IfSome, MatchOption, OnOk};
 ghost use Rattle.std.specs.String.{string_bytes};
-ghost use Rattle.binfarce.specs.Format.{format_of};
 ghost use Rattle.binfarce.specs.Symbol.{Entry};
 ghost use Rattle.binfarce.specs.SymbolViews.{function_view};
-ghost use Rattle.binfarce_tools.specs.Answer.{symbols_answer, answer_of, NeedsMemory};
+ghost use Rattle.binfarce_tools.specs.Answer.{answer_of, file_answer, FileNeedsMemory};
 ghost use Rattle.binfarce_tools.specs.Entries.{functions_left};
 ghost use Rattle.binfarce_tools.specs.Listing.{ListingFits};
 ghost use Rattle.binfarce_tools.specs.ListWords.{outcome_of};
@@ -58,8 +57,7 @@ impl<'a> Places<'a> {
     ///
     /// As `list`, but for `Write`.
     pub fn of_file(alloc: Global, data: &'a [u8], section: &str) -> Result<Places<'a>, ListError>
-        ensures { IsMadeOf (NeedsMemory (format_of data.entry.now) data.entry.now)
-            (symbols_answer (format_of data.entry.now) data.entry.now section.now) result }
+        ensures { IsMadeOf (FileNeedsMemory data.entry.now) (file_answer data.entry.now section.now) result }
     {
         let (functions, _) = functions_of_file(alloc, data, section)?;
         let places = places_of(alloc, functions)?;
@@ -73,7 +71,7 @@ impl<'a> Places<'a> {
     /// As `of_file`.
     pub fn of_tables(alloc: Global, tables: &'a Tables) -> Result<Places<'a>, ListError>
         ensures made { (which : SymbolTable) (file section : List ℕ) → AreTablesOf which file section tables.entry.now
-            → IsMadeOf (NeedsMemory (format_of file) file) (answer_of which file section) result }
+            → IsMadeOf (FileNeedsMemory file) (answer_of which file section) result }
         ensures unwritten { IfErr result (λ e. e ≢ Write) }
     {
         let (functions, _) = tables.functions(alloc)?;
@@ -354,9 +352,9 @@ pub fn at<S: Sink>(
     addresses: &[u64],
     out: &mut S,
 ) -> Result<(), ListError>
-    ensures tells { Tells ListingFits (NeedsMemory (format_of data.now) data.now)
-        (symbols_answer (format_of data.now) data.now section.now) (outcome_of result) }
-    ensures takes { Takes (AreLinesAt base addresses.now) (symbols_answer (format_of data.now) data.now section.now)
+    ensures tells { Tells ListingFits (FileNeedsMemory data.now)
+        (file_answer data.now section.now) (outcome_of result) }
+    ensures takes { Takes (AreLinesAt base addresses.now) (file_answer data.now section.now)
         (S.taken out.old) (S.taken out.new) (outcome_of result) }
     ensures fails { Fails (S.has_failed out.old) (S.has_failed out.new) (outcome_of result) }
     ensures leaves { Leaves out.old out.new (outcome_of result) }
@@ -379,7 +377,7 @@ pub fn at_tables<S: Sink>(
     out: &mut S,
 ) -> Result<(), ListError>
     ensures tells { (which : SymbolTable) (file section : List ℕ) → AreTablesOf which file section tables.now
-        → Tells ListingFits (NeedsMemory (format_of file) file) (answer_of which file section) (outcome_of result) }
+        → Tells ListingFits (FileNeedsMemory file) (answer_of which file section) (outcome_of result) }
     ensures takes { (which : SymbolTable) (file section : List ℕ) → AreTablesOf which file section tables.now
         → Takes (AreLinesAt base addresses.now) (answer_of which file section) (S.taken out.old) (S.taken out.new)
         (outcome_of result) }

@@ -1,8 +1,7 @@
 //! Listings and reports of files.
 
 ghost use Rattle.std.specs.Prelude.{◌≡◌, Err};
-ghost use Rattle.binfarce.specs.Format.{format_of};
-ghost use Rattle.binfarce_tools.specs.Answer.{symbols_answer, NeedsMemory};
+ghost use Rattle.binfarce_tools.specs.Answer.{file_answer, FileNeedsMemory};
 ghost use Rattle.binfarce_tools.specs.Listing.{IsListingOf, ListingFits};
 ghost use Rattle.binfarce_tools.specs.ListWords as listing;
 ghost use Rattle.binfarce_tools.specs.Report.{IsReportOf, ReportFits};
@@ -21,8 +20,8 @@ use std::str;
 #[unsafe(no_mangle)]
 #[tactic(auto, unfolding(crate::specs::Texts::GivesText))]
 pub extern "C" fn binfarce_list(alloc: Global, file: &[u8], section: &[u8], out: &mut [u8]) -> Text
-    ensures { GivesText ListingFits (NeedsMemory (format_of file.now) file.now) IsListingOf section.now
-        (symbols_answer (format_of file.now) file.now section.now) out.old out.new result }
+    ensures { GivesText ListingFits (FileNeedsMemory file.now) IsListingOf section.now
+        (file_answer file.now section.now) out.old out.new result }
 {
     let section = match str::from_utf8(section) {
         Ok(section) => section,
@@ -44,8 +43,8 @@ pub extern "C" fn binfarce_report(
     section: &[u8],
     out: &mut [u8],
 ) -> Text
-    ensures { GivesText ReportFits (NeedsMemory (format_of file.now) file.now) IsReportOf section.now
-        (symbols_answer (format_of file.now) file.now section.now) out.old out.new result }
+    ensures { GivesText ReportFits (FileNeedsMemory file.now) IsReportOf section.now
+        (file_answer file.now section.now) out.old out.new result }
 {
     let section = match str::from_utf8(section) {
         Ok(section) => section,

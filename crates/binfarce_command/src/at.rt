@@ -1,10 +1,9 @@
 //! `binfarce at [--base=ADDRESS] FILE [ADDRESS..]`: the function symbol at each address.
 
 ghost use Rattle.std.specs.Prelude.{◌≡◌, ℕ, List, true, codes, map, Some};
-ghost use Rattle.binfarce.specs.Format.{format_of};
 ghost use Rattle.binfarce_addresses.specs.Lines.{AreLinesAt};
 ghost use Rattle.binfarce_addresses.specs.PlacesViews.{IsMadeOf};
-ghost use Rattle.binfarce_tools.specs.Answer.{answer_of, NeedsMemory};
+ghost use Rattle.binfarce_tools.specs.Answer.{answer_of, FileNeedsMemory};
 ghost use Rattle.binfarce_tools.specs.Listing.{ListingFits};
 ghost use Rattle.binfarce_tools.specs.Tables.{AreTablesOf};
 ghost use Rattle.binfarce_tools.specs.declared.SymbolTable.{SymbolTable};
@@ -65,7 +64,7 @@ pub fn answer_all<S: Source, K: Sink>(
 ) -> Result<(), Fault>
     ensures tells { (file : List ℕ) → S.bytes source.now ≡ Some file
         → ProgramTells (S.may_fail source.now ≡ true) ListingFits
-        (NeedsMemory (format_of file) file) (answer_of which file (codes ".text")) (outcome_of result) }
+        (FileNeedsMemory file) (answer_of which file (codes ".text")) (outcome_of result) }
     ensures takes { (file : List ℕ) → S.bytes source.now ≡ Some file → Takes (AreLinesAt base addresses.now)
         (answer_of which file (codes ".text")) (K.taken out.old) (K.taken out.new) (outcome_of result) }
     ensures fails { Fails (K.has_failed out.old) (K.has_failed out.new) (outcome_of result) }
@@ -85,7 +84,7 @@ fn answer_tables<K: Sink>(
 ) -> Result<(), Fault>
     ensures tells { (which : SymbolTable) (file section : List ℕ) → AreTablesOf which file section tables.now
         → Tells ListingFits
-        (NeedsMemory (format_of file) file) (answer_of which file section) (outcome_of result) }
+        (FileNeedsMemory file) (answer_of which file section) (outcome_of result) }
     ensures takes { (which : SymbolTable) (file section : List ℕ) → AreTablesOf which file section tables.now
         → Takes (AreLinesAt base addresses.now)
         (answer_of which file section) (K.taken out.old) (K.taken out.new) (outcome_of result) }
@@ -110,7 +109,7 @@ pub fn answer_input<S: Source, I: Read, K: Sink>(
     out: &mut K,
 ) -> Result<u64, Fault>
     ensures { (file : List ℕ) → S.bytes source.now ≡ Some file → AnswersLines (S.may_fail source.now ≡ true)
-        (NeedsMemory (format_of file) file) (answer_of which file (codes ".text")) base
+        (FileNeedsMemory file) (answer_of which file (codes ".text")) base
         (I.remaining input.old) (I.remaining input.new) (K.taken out.old) (K.taken out.new) result }
 {
     let tables = read_by(alloc, source, which, SECTION)?;
@@ -126,7 +125,7 @@ fn answer_in_tables<I: Read, K: Sink>(
     out: &mut K,
 ) -> Result<u64, Fault>
     ensures { (which : SymbolTable) (file : List ℕ) → AreTablesOf which file (codes ".text") tables.now → AnswersLines ⊥
-        (NeedsMemory (format_of file) file) (answer_of which file (codes ".text")) base
+        (FileNeedsMemory file) (answer_of which file (codes ".text")) base
         (I.remaining input.old) (I.remaining input.new) (K.taken out.old) (K.taken out.new) result }
 {
     let places = named_places(alloc, tables)?;
@@ -137,8 +136,7 @@ fn answer_in_tables<I: Read, K: Sink>(
 // The places of the function symbols, with their names.
 fn named_places(alloc: Global, tables: &Tables) -> Result<Places<'_>, ListError>
     ensures { (which : SymbolTable) (file : List ℕ) → AreTablesOf which file (codes ".text") tables.entry.now
-        → IsMadeOf (NeedsMemory (format_of file) file)
-        (answer_of which file (codes ".text")) result }
+        → IsMadeOf (FileNeedsMemory file) (answer_of which file (codes ".text")) result }
 {
     let mut places = Places::of_tables(alloc, tables)?;
     places.keep_names(alloc)?;

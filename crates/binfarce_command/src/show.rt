@@ -1,8 +1,7 @@
 //! Shows the function symbols of a file: as a listing, as sums by crate, or as a picture.
 
 ghost use Rattle.std.specs.Prelude.{◌≡◌, ℕ, List, true, Some};
-ghost use Rattle.binfarce_bytes.specs.Format.{format_of};
-ghost use Rattle.binfarce_tools.specs.Answer.{answer_of, NeedsMemory};
+ghost use Rattle.binfarce_tools.specs.Answer.{answer_of, FileNeedsMemory};
 ghost use Rattle.binfarce_tools.specs.Tables.{AreTablesOf};
 ghost use Rattle.binfarce_tools.specs.declared.SymbolTable.{SymbolTable};
 ghost use Rattle.binfarce_tools.specs.Writing.{Tells, ProgramTells, Takes, Fails, Leaves};
@@ -47,7 +46,7 @@ pub fn show<S: Source, K: Sink>(
 ) -> Result<(), Fault>
     ensures tells { (file : List ℕ) → S.bytes source.now ≡ Some file
         → ProgramTells (S.may_fail source.now ≡ true) (Fits kind)
-        (NeedsMemory (format_of file) file) (answer_of which file section.now) (outcome_of result) }
+        (FileNeedsMemory file) (answer_of which file section.now) (outcome_of result) }
     ensures takes { (file : List ℕ) → S.bytes source.now ≡ Some file → Takes (IsTextOf kind)
         (answer_of which file section.now) (K.taken out.old) (K.taken out.new) (outcome_of result) }
     ensures fails { Fails (K.has_failed out.old) (K.has_failed out.new) (outcome_of result) }
@@ -66,7 +65,7 @@ fn show_tables<K: Sink>(
 ) -> Result<(), Fault>
     ensures tells { (which : SymbolTable) (file section : List ℕ) → AreTablesOf which file section tables.now
         → Tells (Fits kind)
-        (NeedsMemory (format_of file) file) (answer_of which file section) (outcome_of result) }
+        (FileNeedsMemory file) (answer_of which file section) (outcome_of result) }
     ensures takes { (which : SymbolTable) (file section : List ℕ) → AreTablesOf which file section tables.now
         → Takes (IsTextOf kind)
         (answer_of which file section) (K.taken out.old) (K.taken out.new) (outcome_of result) }

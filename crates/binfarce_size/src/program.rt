@@ -2,8 +2,7 @@
 
 ghost use Rattle.std.specs.Prelude.{◌≡◌, ◌⊎◌, ℕ, List, [], true, map, Some, None, MatchResult, IfSome};
 ghost use Rattle.std.specs.String.{string_bytes};
-ghost use Rattle.binfarce_bytes.specs.Format.{format_of};
-ghost use Rattle.binfarce_tools.specs.Answer.{symbols_answer, NeedsMemory};
+ghost use Rattle.binfarce_tools.specs.Answer.{file_answer, FileNeedsMemory};
 ghost use Rattle.binfarce_tools.specs.Report.{IsReportOf, ReportFits};
 ghost use Rattle.binfarce_tools.specs.Sink.{writer_of, has_failed};
 ghost use Rattle.binfarce_tools.specs.Writing.{ProgramTells, Takes, Fails, Leaves};
@@ -97,10 +96,10 @@ pub fn run<R: Read, W: Write>(
 ) -> Result<(), Fault>
     ensures tells { IfSome
         (R.remaining file.old)
-        (λ bytes. ProgramTells (Unit {0}) ReportFits (NeedsMemory (format_of bytes) bytes)
-        (symbols_answer (format_of bytes) bytes section.now) (outcome_of result)) }
+        (λ bytes. ProgramTells (Unit {0}) ReportFits (FileNeedsMemory bytes)
+        (file_answer bytes section.now) (outcome_of result)) }
     ensures takes { IfSome
-        (R.remaining file.old) (λ bytes. Takes IsReportOf (symbols_answer (format_of bytes) bytes section.now)
+        (R.remaining file.old) (λ bytes. Takes IsReportOf (file_answer bytes section.now)
         (W.contents (writer_of out.old)) (W.contents (writer_of out.new)) (outcome_of result)) }
     ensures fails { Fails (has_failed out.old) (has_failed out.new) (outcome_of result) }
     ensures leaves { Leaves out.old out.new (outcome_of result) }
@@ -119,10 +118,10 @@ pub fn run_at<S: Source, W: Write>(
     out: &mut Out<W>,
 ) -> Result<(), Fault>
     ensures tells { (bytes : List ℕ) → S.bytes source.now ≡ Some bytes
-        → ProgramTells (S.may_fail source.now ≡ true) ReportFits (NeedsMemory (format_of bytes) bytes)
-        (symbols_answer (format_of bytes) bytes section.now) (outcome_of result) }
+        → ProgramTells (S.may_fail source.now ≡ true) ReportFits (FileNeedsMemory bytes)
+        (file_answer bytes section.now) (outcome_of result) }
     ensures takes { (bytes : List ℕ) → S.bytes source.now ≡ Some bytes
-        → Takes IsReportOf (symbols_answer (format_of bytes) bytes section.now)
+        → Takes IsReportOf (file_answer bytes section.now)
         (W.contents (writer_of out.old)) (W.contents (writer_of out.new)) (outcome_of result) }
     ensures fails { Fails (has_failed out.old) (has_failed out.new) (outcome_of result) }
     ensures leaves { Leaves out.old out.new (outcome_of result) }
@@ -142,10 +141,10 @@ pub fn run_file<F: Read + Source, W: Write>(
     out: &mut Out<W>,
 ) -> Result<(), Fault>
     ensures tells { (bytes : List ℕ) → F.bytes file.old ≡ Some bytes → F.remaining file.old ≡ Some bytes
-        → ProgramTells ((F.may_fail file.old ≡ true) ⊎ (bytes ≡ [])) ReportFits (NeedsMemory (format_of bytes) bytes)
-        (symbols_answer (format_of bytes) bytes section.now) (outcome_of result) }
+        → ProgramTells ((F.may_fail file.old ≡ true) ⊎ (bytes ≡ [])) ReportFits (FileNeedsMemory bytes)
+        (file_answer bytes section.now) (outcome_of result) }
     ensures takes { (bytes : List ℕ) → F.bytes file.old ≡ Some bytes → F.remaining file.old ≡ Some bytes
-        → Takes IsReportOf (symbols_answer (format_of bytes) bytes section.now)
+        → Takes IsReportOf (file_answer bytes section.now)
         (W.contents (writer_of out.old)) (W.contents (writer_of out.new)) (outcome_of result) }
     ensures fails { Fails (has_failed out.old) (has_failed out.new) (outcome_of result) }
     ensures leaves { Leaves out.old out.new (outcome_of result) }

@@ -7,7 +7,7 @@ use Rattle.std.specs.Option.{is_some, SomeIff}
 use Rattle.std.specs.Prelude.{OnOk, if◌then◌else◌}
 use Rattle.std.specs.Str.{bytes_eq}
 use Rattle.std.proofs.lemmas.List.Sums.{sum_by-cons}
-use Rattle.binfarce_bytes.specs.Entries.{Entry}
+use Rattle.binfarce.specs.Symbol.{Entry}
 use Rattle.binfarce_tools.specs.Report.{Share, IsShareOf, total, sum_of}
 use Rattle.binfarce_tools.specs.Sums.{sum_at, occurs}
 use Rattle.binfarce_tools.specs.machine.Shares.{Adds}

@@ -1,6 +1,6 @@
 -- How long the file headers of both classes are.
 use Rattle.std.proofs.Common.{◌≡◌, refl}
-use Rattle.binfarce_elf.specs.Elf.{elf32, elf64}
+use Rattle.binfarce.specs.Elf.{elf32, elf64}
 
 pub of_32_bits : elf32.header_length ≡ 52
 unfolding elf32

@@ -4,15 +4,15 @@ use Rattle.std.specs.Result.{IsErrAnd}
 use Rattle.std.specs.Io.KnownBytes.{Appends, Keeps}
 use Rattle.std.proofs.lemmas.List.{take-append-drop, take_all, length-drop}
 use Rattle.std.proofs.Math.Seq.{take-add}
-use Rattle.binfarce_bytes.specs.declared.error.ParseError.{ParseError}
-use Rattle.binfarce_bytes.specs.declared.error.ParseError.TheVariants as errors
-use Rattle.binfarce_bytes.specs.Refusal.{Refusal, refusal_of, out_of_memory}
-use Rattle.binfarce_bytes.specs.Entries.{Listed, Answers}
+use Rattle.binfarce.specs.declared.ParseError.{ParseError}
+use Rattle.binfarce.specs.declared.ParseError.TheVariants as errors
+use Rattle.binfarce.specs.Refusal.{Refusal, refusal_of, out_of_memory}
+use Rattle.binfarce.specs.Symbol.{Listed, Answers}
 use Rattle.binfarce_tools.specs.declared.functions.Functions.{Functions}
 use Rattle.binfarce_tools.specs.declared.list.ListError.{ListError}
 use Rattle.binfarce_tools.specs.declared.list.ListError.TheVariants.{Parse, OutOfMemory}
 use Rattle.binfarce_tools.specs.Writing.{AppendsBeginning}
-use Rattle.binfarce_bytes.specs.declared.format.Format.{Format}
+use Rattle.binfarce.specs.declared.Format.{Format}
 use Rattle.binfarce_tools.specs.Answer.{symbols_answer, NeedsMemory}
 use Rattle.binfarce_tools.specs.ListWords.{list_error_of}
 use Rattle.binfarce_tools.specs.Entries.{HoldsLeft, Gets}

@@ -3,8 +3,8 @@ use Rattle.std.proofs.Common.{◌≡◌, ℕ, ◌<◌, ◌≤◌, ◌^◌, List,
 use Rattle.std.specs.Prelude.{MatchResult}
 use Rattle.std.specs.Result.{IsErrAnd}
 use Rattle.std.specs.List.{AllZip, sum_by}
-use Rattle.binfarce_bytes.specs.Refusal.{Refusal}
-use Rattle.binfarce_bytes.specs.Entries.{Entry, Listed}
+use Rattle.binfarce.specs.Refusal.{Refusal}
+use Rattle.binfarce.specs.Symbol.{Entry, Listed}
 use Rattle.binfarce_tools.specs.declared.functions.Functions.{Functions}
 use Rattle.binfarce_tools.specs.declared.list.ListError.{ListError}
 use Rattle.binfarce_tools.specs.declared.list.ListError.TheVariants as errors

@@ -2,19 +2,19 @@
 use Rattle.std.proofs.Common.{◌≡◌, ℕ, Bool, true, false, ltb, List, [], length, Vec, Global, Option, Some, None, Result, Ok, Err, refl, sym, ap, subst, ◌∙◌, inl, inr}
 use Rattle.std.specs.Prelude.{◌≢◌, if◌then◌else◌}
 use Rattle.std.specs.Result.{IsErrAnd}
-use Rattle.binfarce_bytes.specs.declared.format.Format.{Format}
-use Rattle.binfarce_bytes.specs.declared.format.Format.TheVariants as formats
-use Rattle.binfarce_bytes.specs.declared.functions.FunctionSymbol.{FunctionSymbol}
-use Rattle.binfarce_bytes.specs.declared.error.ParseError.{ParseError}
-use Rattle.binfarce_bytes.specs.Format.{format_of}
-use Rattle.binfarce_elf.specs.declared.symbol_table.SymbolTable.{SymbolTable}
-use Rattle.binfarce_elf.specs.declared.symbol_table.SymbolTable.TheVariants.{Symtab, Dynsym}
-use Rattle.binfarce_macho.specs.MachoParts.{SomeAddress}
-use Rattle.binfarce_macho.specs.MachoSymbols.{Located, HasAddress, located, kept, listed_of, answer_of}
-use Rattle.binfarce_bytes.specs.Refusal.{◌>>=◌, Refusal, unexpected_eof}
-use Rattle.binfarce_bytes.specs.Sizes.{RowAddress, arranged}
-use Rattle.binfarce_bytes.specs.Entries.{Entry, Listed, ListsSome, Answers}
-use Rattle.binfarce_bytes.specs.SymbolViews.{HoldsFunctions}
+use Rattle.binfarce.specs.declared.Format.{Format}
+use Rattle.binfarce.specs.declared.Format.TheVariants as formats
+use Rattle.binfarce.specs.declared.FunctionSymbol.{FunctionSymbol}
+use Rattle.binfarce.specs.declared.ParseError.{ParseError}
+use Rattle.binfarce.specs.Format.{format_of}
+use Rattle.binfarce.specs.declared.SymbolTable.{SymbolTable}
+use Rattle.binfarce.specs.declared.SymbolTable.TheVariants.{Symtab, Dynsym}
+use Rattle.binfarce.specs.MachoParts.{SomeAddress}
+use Rattle.binfarce.specs.MachoSymbols.{Located, HasAddress, located, kept, listed_of, answer_of}
+use Rattle.binfarce.specs.Refusal.{◌>>=◌, Refusal, unexpected_eof}
+use Rattle.binfarce.specs.Sizes.{RowAddress, arranged}
+use Rattle.binfarce.specs.Symbol.{Entry, Listed, ListsSome, Answers}
+use Rattle.binfarce.specs.SymbolViews.{HoldsFunctions}
 use Rattle.binfarce_tables.specs.MachoReading.{located_answer}
 use Rattle.binfarce_tools.specs.declared.functions.Functions.{Functions}
 use Rattle.binfarce_tools.specs.declared.list.ListError.{ListError}

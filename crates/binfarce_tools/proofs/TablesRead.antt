@@ -3,18 +3,18 @@ use Rattle.std.proofs.Common.{◌≡◌, ℕ, Bool, true, false, ltb, List, [], 
 use Rattle.std.specs.Prelude.{IfSome, codes, if◌then◌else◌}
 use Rattle.std.specs.Result.{IsErr, IsErrAnd}
 use Rattle.std.proofs.lemmas.Bool.{le-ltb}
-use Rattle.binfarce_bytes.specs.declared.ByteOrder.{ByteOrder}
-use Rattle.binfarce_bytes.specs.declared.format.Format.{Format}
-use Rattle.binfarce_bytes.specs.declared.format.Format.TheVariants as formats
-use Rattle.binfarce_elf.specs.Elf.{ElfClass, elf32, elf64}
-use Rattle.binfarce_elf.specs.ElfSymbols as elf
-use Rattle.binfarce_elf.specs.declared.symbol_table.SymbolTable.{SymbolTable}
-use Rattle.binfarce_elf.specs.declared.symbol_table.SymbolTable.TheVariants.{Symtab, Dynsym}
-use Rattle.binfarce_bytes.specs.Format.{format_of}
-use Rattle.binfarce_macho.specs.MachoSymbols.{Located, located, answer_of, macho_answer}
-use Rattle.binfarce_bytes.specs.declared.error.ParseError.{ParseError}
-use Rattle.binfarce_bytes.specs.Refusal.{◌>>=◌, Refusal, refusal_of, unexpected_eof, section_is_missing}
-use Rattle.binfarce_bytes.specs.Entries.{Listed}
+use Rattle.binfarce.specs.declared.ByteOrder.{ByteOrder}
+use Rattle.binfarce.specs.declared.Format.{Format}
+use Rattle.binfarce.specs.declared.Format.TheVariants as formats
+use Rattle.binfarce.specs.Elf.{ElfClass, elf32, elf64}
+use Rattle.binfarce.specs.ElfSymbols as elf
+use Rattle.binfarce.specs.declared.SymbolTable.{SymbolTable}
+use Rattle.binfarce.specs.declared.SymbolTable.TheVariants.{Symtab, Dynsym}
+use Rattle.binfarce.specs.Format.{format_of}
+use Rattle.binfarce.specs.MachoSymbols.{Located, located, answer_of, macho_answer}
+use Rattle.binfarce.specs.declared.ParseError.{ParseError}
+use Rattle.binfarce.specs.Refusal.{◌>>=◌, Refusal, refusal_of, unexpected_eof, section_is_missing}
+use Rattle.binfarce.specs.Symbol.{Listed}
 use Rattle.binfarce_tables.specs.MachoReading as macho
 use Rattle.binfarce_tables.specs.MachoReading.{located_answer}
 use Rattle.binfarce_tables.specs.Reading.{Reads, file_answer_in}

@@ -1,18 +1,18 @@
 -- The symbols of a file of any format.
 use Rattle.std.specs.Prelude.{ℕ, List, length, codes, nat_lt, Option, Some, None, Result, Err, if◌then◌else◌}
-use Rattle.binfarce_bytes.specs.declared.ByteOrder.{ByteOrder}
-use Rattle.binfarce_bytes.specs.declared.format.Format.{Format}
-use Rattle.binfarce_bytes.specs.declared.format.Format.TheVariants.{Elf32, Elf64, Macho, PE, Unknown}
-use Rattle.binfarce_bytes.specs.Format.{format_of}
-use Rattle.binfarce_bytes.specs.Refusal.{Refusal, unexpected_eof, section_is_missing}
-use Rattle.binfarce_elf.specs.Elf.{ElfClass, elf32, elf64, section_table}
-use Rattle.binfarce_elf.specs.ElfSymbols.{elf_answer, dynamic_answer}
-use Rattle.binfarce_elf.specs.declared.symbol_table.SymbolTable.{SymbolTable}
-use Rattle.binfarce_elf.specs.declared.symbol_table.SymbolTable.TheVariants.{Symtab, Dynsym}
-use Rattle.binfarce_macho.specs.MachoSymbols.{macho_answer, HasAddress}
-use Rattle.binfarce_pe.specs.Pe.{least_length}
-use Rattle.binfarce_pe.specs.PeSymbols.{pe_answer}
-use Rattle.binfarce_bytes.specs.Entries.{Listed, ListsSome}
+use Rattle.binfarce.specs.declared.ByteOrder.{ByteOrder}
+use Rattle.binfarce.specs.declared.Format.{Format}
+use Rattle.binfarce.specs.declared.Format.TheVariants.{Elf32, Elf64, Macho, PE, Unknown}
+use Rattle.binfarce.specs.Format.{format_of}
+use Rattle.binfarce.specs.Refusal.{Refusal, unexpected_eof, section_is_missing}
+use Rattle.binfarce.specs.Elf.{ElfClass, elf32, elf64, section_table}
+use Rattle.binfarce.specs.ElfSymbols.{elf_answer, dynamic_answer}
+use Rattle.binfarce.specs.declared.SymbolTable.{SymbolTable}
+use Rattle.binfarce.specs.declared.SymbolTable.TheVariants.{Symtab, Dynsym}
+use Rattle.binfarce.specs.MachoSymbols.{macho_answer, HasAddress}
+use Rattle.binfarce.specs.Pe.{least_length}
+use Rattle.binfarce.specs.PeSymbols.{pe_answer}
+use Rattle.binfarce.specs.Symbol.{Listed, ListsSome}
 
 -- what the reader of a class answers for a section: a file too short for its header ends before what it should hold
 abbrev pub elf_file_answer : ElfClass → ByteOrder → List ℕ → List ℕ → Result Listed Refusal
@@ -60,3 +60,11 @@ NeedsMemory (Elf64 order) file answer = ListsSome answer
 NeedsMemory Macho file answer = HasAddress file
 NeedsMemory PE file answer = ListsSome answer
 NeedsMemory Unknown file answer = ⊥
+
+-- the answer of a file for a section, by the format that its first bytes name
+abbrev pub file_answer : List ℕ → List ℕ → Option (Result Listed Refusal)
+file_answer file section = symbols_answer (format_of file) file section
+
+-- the answers of a file that need memory
+abbrev pub FileNeedsMemory : List ℕ → Result Listed Refusal → Type 0
+FileNeedsMemory file = NeedsMemory (format_of file) file

@@ -1,9 +1,9 @@
 -- Which `ListError` a reader's error becomes, its printed words, how a listing ended, and what is taken of a whole text.
 use Rattle.std.specs.Prelude.{◌≡◌, ℕ, List, codes, Option, Result, Ok, Err}
 use Rattle.std.specs.Io.KnownBytes.{Appends}
-use Rattle.binfarce_bytes.specs.Refusal.{refusal_of, words}
-use Rattle.binfarce_bytes.specs.declared.error.ParseError.{ParseError}
-use Rattle.binfarce_bytes.specs.declared.error.ParseError.TheVariants as errors
+use Rattle.binfarce.specs.Refusal.{refusal_of, words}
+use Rattle.binfarce.specs.declared.ParseError.{ParseError}
+use Rattle.binfarce.specs.declared.ParseError.TheVariants as errors
 use Rattle.binfarce_tools.specs.declared.list.ListError.{ListError}
 use Rattle.binfarce_tools.specs.declared.list.ListError.TheVariants.{Unknown, Parse, OutOfMemory, Write}
 use Rattle.binfarce_tools.specs.Writing.{Outcome, AppendsBeginning, written, write_failed, unknown_format, refused, no_memory}

@@ -4,7 +4,7 @@ use Rattle.std.specs.Fmt.{decimal, digits}
 use Rattle.std.specs.List.{AllZip, concat}
 use Rattle.binfarce_names.specs.Name.{Name}
 use Rattle.binfarce_names.specs.Named.{IsNamed}
-use Rattle.binfarce_bytes.specs.Entries.{Entry, Listed}
+use Rattle.binfarce.specs.Symbol.{Entry, Listed}
 
 -- a text, with as many of a character before it as it is short of the width
 abbrev pub pad_left : ℕ → ℕ → List ℕ → List ℕ

@@ -9,7 +9,7 @@ use Rattle.std.specs.Str.{bytes_eq}
 use Rattle.binfarce_names.specs.Crates.{crate_of}
 use Rattle.binfarce_names.specs.Name.{Name}
 use Rattle.binfarce_names.specs.Named.{IsNamed}
-use Rattle.binfarce_bytes.specs.Entries.{Entry, Listed}
+use Rattle.binfarce.specs.Symbol.{Entry, Listed}
 use Rattle.binfarce_tools.specs.Listing.{size_text, size_line}
 
 -- what stands in place of a crate that no name tells

@@ -1,6 +1,6 @@
 -- Which `ReportError` an error of `list` becomes, the printed words, and how a report ended.
 use Rattle.std.specs.Prelude.{ℕ, List, codes, Result, Ok, Err}
-use Rattle.binfarce_bytes.specs.Refusal.{refusal_of}
+use Rattle.binfarce.specs.Refusal.{refusal_of}
 use Rattle.binfarce_tools.specs.declared.list.ListError.{ListError}
 use Rattle.binfarce_tools.specs.declared.list.ListError.TheVariants as listing
 use Rattle.binfarce_tools.specs.declared.report.ReportError.{ReportError}

@@ -1,30 +1,24 @@
 //! The function symbols of a file of any format.
 
 ghost use Rattle.std.specs.Iterator.{YieldsFirstBy};
-ghost use Rattle.binfarce_bytes.specs.Format.{format_of};
-ghost use Rattle.binfarce_elf.specs.Elf.{elf32, elf64};
-ghost use Rattle.binfarce_macho.specs.MachoSymbols.{HasAddress};
-ghost use Rattle.binfarce_bytes.specs.Entries.{ListsSome, Answers};
-ghost use Rattle.binfarce_bytes.specs.SymbolViews.{function_view};
-ghost use Rattle.binfarce_tools.specs.Answer.{elf_file_answer, macho_file_answer, pe_file_answer, symbols_answer, NeedsMemory};
+ghost use Rattle.binfarce.specs.Elf.{elf32, elf64};
+ghost use Rattle.binfarce.specs.MachoSymbols.{HasAddress};
+ghost use Rattle.binfarce.specs.Symbol.{ListsSome, Answers};
+ghost use Rattle.binfarce.specs.SymbolViews.{function_view};
+ghost use Rattle.binfarce_tools.specs.Answer.{elf_file_answer, macho_file_answer, pe_file_answer, symbols_answer, NeedsMemory, file_answer, FileNeedsMemory};
 ghost use Rattle.binfarce_tools.specs.Entries.{arranged_left, HoldsLeft, IsArranged, Gets};
 
 use crate::list::ListError;
-use binfarce_bytes::format::{Format, detect_format};
-use binfarce_bytes::functions::FunctionSymbol;
-use binfarce_bytes::{ByteOrder, ParseError};
-use binfarce_elf::header::parse_header;
-use binfarce_elf::sections::section_table;
-use binfarce_elf::symbols::{self, section_functions};
-use binfarce_macho as macho;
-use binfarce_pe as pe;
+use binfarce::{
+    ByteOrder, Format, FunctionSymbol, ParseError, detect_format, elf32, elf64, macho, pe,
+};
 use std::alloc::Global;
 
 /// The function symbols of a file that are left, in the order of its listing.
 #[derive(Drop)]
 pub enum Functions<'a> {
-    Elf32(symbols::Functions<'a, u32>),
-    Elf64(symbols::Functions<'a, u64>),
+    Elf32(elf32::Functions<'a>),
+    Elf64(elf64::Functions<'a>),
     Arranged(Arranged<'a>),
 }
 
@@ -37,7 +31,7 @@ pub struct Arranged<'a> {
 
 impl<'a> Iterator for Functions<'a> {
     ghost use Rattle.std.specs.Iterator.{YieldsFirstBy, item_count};
-    ghost use Rattle.binfarce_bytes.specs.SymbolViews.{function_view};
+    ghost use Rattle.binfarce.specs.SymbolViews.{function_view};
     ghost use Rattle.binfarce_tools.specs.Entries.{functions_left};
 
     type Item = FunctionSymbol<'a>;
@@ -78,8 +72,7 @@ pub fn functions_of_file<'a>(
     data: &'a [u8],
     section: &str,
 ) -> Result<(Functions<'a>, u64), ListError>
-    ensures { Gets (NeedsMemory (format_of data.entry.now) data.entry.now)
-        (symbols_answer (format_of data.entry.now) data.entry.now section.now) result }
+    ensures { Gets (FileNeedsMemory data.entry.now) (file_answer data.entry.now section.now) result }
 {
     match detect_format(data) {
         Format::Elf32 { byte_order } => Ok(read_elf32(data, byte_order, section)?),
@@ -98,8 +91,7 @@ fn read_elf32<'a>(
 ) -> Result<(Functions<'a>, u64), ParseError>
     ensures { Answers HoldsLeft ListsSome (elf_file_answer elf32 byte_order data.entry.now section.now) result }
 {
-    let header = parse_header::<u32>(data, byte_order)?;
-    let (functions, size) = section_functions(section_table(data, byte_order, &header), section)?;
+    let (functions, size) = elf32::parse(data, byte_order)?.functions(section)?;
     Ok((Functions::Elf32(functions), size))
 }
 
@@ -111,25 +103,21 @@ fn read_elf64<'a>(
 ) -> Result<(Functions<'a>, u64), ParseError>
     ensures { Answers HoldsLeft ListsSome (elf_file_answer elf64 byte_order data.entry.now section.now) result }
 {
-    let header = parse_header::<u64>(data, byte_order)?;
-    let (functions, size) = section_functions(section_table(data, byte_order, &header), section)?;
+    let (functions, size) = elf64::parse(data, byte_order)?.functions(section)?;
     Ok((Functions::Elf64(functions), size))
 }
 
 fn read_macho(alloc: Global, data: &[u8]) -> Result<(Functions<'_>, u64), ParseError>
     ensures { Answers HoldsLeft (λ _. HasAddress data.now) (macho_file_answer data.now) result }
 {
-    let header = macho::header::parse_header(data)?;
-    let listed = macho::symbols::functions_of_file(alloc, data, header)?;
+    let listed = macho::parse(data)?.functions(alloc)?;
     Ok(all_of(listed))
 }
 
 fn read_pe(alloc: Global, data: &[u8]) -> Result<(Functions<'_>, u64), ParseError>
     ensures { Answers HoldsLeft ListsSome (pe_file_answer data.now) result }
 {
-    let (signature, header) = pe::header::parse_header(data)?;
-    let places = pe::parts::places_after(signature, header);
-    let listed = pe::symbols::functions_of_file(alloc, data, places)?;
+    let listed = pe::parse(data)?.functions(alloc)?;
     Ok(all_of(listed))
 }
 

@@ -9,4 +9,4 @@ pub mod report;
 pub mod tables;
 pub mod writing;
 
-pub use binfarce_elf::symbol_table::SymbolTable;
+pub use binfarce::SymbolTable;

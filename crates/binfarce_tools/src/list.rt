@@ -3,11 +3,10 @@
 ghost use Rattle.std.specs.Prelude.{◌≡◌, ◌++◌, ◌<◌, ◌≤◌, ℕ, List, Bool, true, false, length, take, Option, Some, None, IfSome, IfNone, IfOk, OnOk};
 ghost use Rattle.std.specs.String.{string_bytes};
 ghost use Rattle.std.specs.Io.KnownBytes.{Keeps, Appends};
-ghost use Rattle.binfarce_bytes.specs.Format.{format_of};
-ghost use Rattle.binfarce_bytes.specs.Entries.{Listed};
-ghost use Rattle.binfarce_bytes.specs.SymbolViews.{function_view};
-ghost use Rattle.binfarce_elf.specs.declared.symbol_table.SymbolTable.{SymbolTable};
-ghost use Rattle.binfarce_tools.specs.Answer.{symbols_answer, answer_of, NeedsMemory};
+ghost use Rattle.binfarce.specs.Symbol.{Listed};
+ghost use Rattle.binfarce.specs.SymbolViews.{function_view};
+ghost use Rattle.binfarce.specs.declared.SymbolTable.{SymbolTable};
+ghost use Rattle.binfarce_tools.specs.Answer.{answer_of, file_answer, FileNeedsMemory};
 ghost use Rattle.binfarce_tools.specs.Listing.{IsLineOf, IsListingOf, ListingFits};
 ghost use Rattle.binfarce_tools.specs.ListWords.{outcome_of};
 ghost use Rattle.binfarce_tools.specs.Writing.{Tells, Takes, Fails, Leaves};
@@ -18,8 +17,7 @@ use crate::functions::{Functions, functions_of_file};
 use crate::head::push_head;
 use crate::tables::Tables;
 use crate::writing::write_whole;
-use binfarce_bytes::ParseError;
-use binfarce_bytes::functions::FunctionSymbol;
+use binfarce::{FunctionSymbol, ParseError};
 use binfarce_names::demangle::Demangler;
 use std::alloc::{AllocError, Global};
 use std::error::Error;
@@ -174,9 +172,9 @@ pub fn list<S: Sink>(
     section: &str,
     out: &mut S,
 ) -> Result<(), ListError>
-    ensures tells { Tells ListingFits (NeedsMemory (format_of data.now) data.now)
-        (symbols_answer (format_of data.now) data.now section.now) (outcome_of result) }
-    ensures takes { Takes IsListingOf (symbols_answer (format_of data.now) data.now section.now) (S.taken out.old)
+    ensures tells { Tells ListingFits (FileNeedsMemory data.now)
+        (file_answer data.now section.now) (outcome_of result) }
+    ensures takes { Takes IsListingOf (file_answer data.now section.now) (S.taken out.old)
         (S.taken out.new) (outcome_of result) }
     ensures fails { Fails (S.has_failed out.old) (S.has_failed out.new) (outcome_of result) }
     ensures leaves { Leaves out.old out.new (outcome_of result) }
@@ -193,7 +191,7 @@ pub fn list<S: Sink>(
 /// As `list`.
 pub fn list_tables<S: Sink>(alloc: Global, tables: &Tables, out: &mut S) -> Result<(), ListError>
     ensures tells { (which : SymbolTable) (file section : List ℕ) → AreTablesOf which file section tables.now
-        → Tells ListingFits (NeedsMemory (format_of file) file) (answer_of which file section) (outcome_of result) }
+        → Tells ListingFits (FileNeedsMemory file) (answer_of which file section) (outcome_of result) }
     ensures takes { (which : SymbolTable) (file section : List ℕ) → AreTablesOf which file section tables.now
         → Takes IsListingOf (answer_of which file section) (S.taken out.old) (S.taken out.new) (outcome_of result) }
     ensures fails { Fails (S.has_failed out.old) (S.has_failed out.new) (outcome_of result) }

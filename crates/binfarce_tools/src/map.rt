@@ -2,14 +2,13 @@
 
 ghost use Rattle.std.specs.Prelude.{◌≡◌, ℕ, List, map, IfOk};
 ghost use Rattle.std.specs.String.{string_bytes};
-ghost use Rattle.binfarce.specs.Format.{format_of};
 ghost use Rattle.binfarce_chart.specs.Views.{bar_view};
-ghost use Rattle.binfarce_tools.specs.Answer.{symbols_answer, answer_of, NeedsMemory};
+ghost use Rattle.binfarce_tools.specs.Answer.{answer_of, file_answer, FileNeedsMemory};
 ghost use Rattle.binfarce_tools.specs.Report.{Share, AreCratesOf, ReportFits};
 ghost use Rattle.binfarce_tools.specs.ReportWords.{outcome_of};
 ghost use Rattle.binfarce_tools.specs.Sums.{AreSumsOf};
 ghost use Rattle.binfarce_tools.specs.Tables.{AreTablesOf};
-ghost use Rattle.binfarce_elf.specs.declared.symbol_table.SymbolTable.{SymbolTable};
+ghost use Rattle.binfarce.specs.declared.SymbolTable.{SymbolTable};
 ghost use Rattle.binfarce_tools.specs.Writing.{Tells, Takes, Fails, Leaves};
 ghost use Rattle.binfarce_tools.specs.Map.{IsMapOf, IsMapOfShares, crate_rows};
 
@@ -36,9 +35,8 @@ pub fn map<S: Sink>(
     section: &str,
     out: &mut S,
 ) -> Result<(), ReportError>
-    ensures tells { Tells ReportFits (NeedsMemory (format_of data.now) data.now)
-        (symbols_answer (format_of data.now) data.now section.now) (outcome_of result) }
-    ensures takes { Takes IsMapOf (symbols_answer (format_of data.now) data.now section.now) (S.taken out.old)
+    ensures tells { Tells ReportFits (FileNeedsMemory data.now) (file_answer data.now section.now) (outcome_of result) }
+    ensures takes { Takes IsMapOf (file_answer data.now section.now) (S.taken out.old)
         (S.taken out.new) (outcome_of result) }
     ensures fails { Fails (S.has_failed out.old) (S.has_failed out.new) (outcome_of result) }
     ensures leaves { Leaves out.old out.new (outcome_of result) }
@@ -56,7 +54,7 @@ pub fn map<S: Sink>(
 /// As `map`.
 pub fn map_tables<S: Sink>(alloc: Global, tables: &Tables, out: &mut S) -> Result<(), ReportError>
     ensures tells { (which : SymbolTable) (file section : List ℕ) → AreTablesOf which file section tables.now
-        → Tells ReportFits (NeedsMemory (format_of file) file) (answer_of which file section) (outcome_of result) }
+        → Tells ReportFits (FileNeedsMemory file) (answer_of which file section) (outcome_of result) }
     ensures takes { (which : SymbolTable) (file section : List ℕ) → AreTablesOf which file section tables.now
         → Takes IsMapOf (answer_of which file section) (S.taken out.old) (S.taken out.new) (outcome_of result) }
     ensures fails { Fails (S.has_failed out.old) (S.has_failed out.new) (outcome_of result) }

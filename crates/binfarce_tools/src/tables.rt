@@ -1,22 +1,20 @@
 //! What is read of a file to list its function symbols.
 
 ghost use Rattle.std.specs.Prelude.{◌≡◌, ◌≢◌, ℕ, List, take, true, Ok, Some, IfErr, MatchResult, codes};
-ghost use Rattle.binfarce_bytes.specs.Refusal.{refusal_of, section_is_missing};
-ghost use Rattle.binfarce_elf.specs.declared.symbol_table.SymbolTable.{SymbolTable};
-ghost use Rattle.binfarce_elf.specs.declared.symbol_table.SymbolTable.TheVariants.{Symtab, Dynsym};
-ghost use Rattle.binfarce_bytes.specs.Format.{format_of};
+ghost use Rattle.binfarce.specs.Refusal.{refusal_of, section_is_missing};
+ghost use Rattle.binfarce.specs.declared.SymbolTable.{SymbolTable};
+ghost use Rattle.binfarce.specs.declared.SymbolTable.TheVariants.{Symtab, Dynsym};
+ghost use Rattle.binfarce.specs.Format.{format_of};
 ghost use Rattle.binfarce_tables.specs.Reading.{Reads, Known};
-ghost use Rattle.binfarce_tools.specs.Answer.{answer_of, NeedsMemory};
+ghost use Rattle.binfarce_tools.specs.Answer.{answer_of, FileNeedsMemory};
 ghost use Rattle.binfarce_tools.specs.Entries.{Gets};
 ghost use Rattle.binfarce_tools.specs.declared.list.ListError.TheVariants.{Write};
 ghost use Rattle.binfarce_tools.specs.Tables.{AreTablesOf, ReadsTables};
 
 use crate::functions::{Functions, all_of};
 use crate::list::ListError;
-use binfarce_bytes::ParseError;
-use binfarce_bytes::format::{Format, detect_format};
+use binfarce::{Format, ParseError, SymbolTable, detect_format};
 use binfarce_bytes::source::{Source, read_part};
-use binfarce_elf::symbol_table::SymbolTable;
 use binfarce_tables::{ReadError, elf32, elf64, macho, pe};
 use std::alloc::Global;
 
@@ -48,7 +46,7 @@ impl Tables {
     #[tactic(auto, unfolding(crate::specs::Tables::AreTablesOf))]
     pub fn functions(&self, alloc: Global) -> Result<(Functions<'_>, u64), ListError>
         ensures gets { (which : SymbolTable) (file section : List ℕ) → AreTablesOf which file section self.entry.now
-            → Gets (NeedsMemory (format_of file) file) (answer_of which file section) result }
+            → Gets (FileNeedsMemory file) (answer_of which file section) result }
         ensures unwritten { IfErr result (λ e. e ≢ Write) }
     {
         match self {

@@ -10,4 +10,4 @@ pub mod report;
 pub mod tables;
 pub mod writing;
 
-pub use crate::erased::binfarce_elf::symbol_table::SymbolTable;
+pub use crate::erased::binfarce::SymbolTable;

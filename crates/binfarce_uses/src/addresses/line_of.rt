@@ -1,8 +1,7 @@
 ghost use Rattle.std.specs.Prelude.{◌≡◌, IfOk, Ok, Some, codes};
-ghost use Rattle.binfarce.specs.Format.{format_of};
 ghost use Rattle.binfarce.specs.Symbol.{Listed};
 ghost use Rattle.binfarce_addresses.specs.Lines.{IsLineAt};
-ghost use Rattle.binfarce_tools.specs.Answer.{symbols_answer};
+ghost use Rattle.binfarce_tools.specs.Answer.{file_answer};
 
 use binfarce_addresses::at::Places;
 use binfarce_tools::list::ListError;
@@ -11,7 +10,7 @@ use std::alloc::Global;
 /// The line of an address.
 pub fn line_of(alloc: Global, file: &[u8], address: u64) -> Result<Vec<u8>, ListError>
     ensures { IfOk result
-        (λ line. (listed : Listed) × (symbols_answer (format_of file.now) file.now (codes ".text") ≡ Some (Ok listed))
+        (λ line. (listed : Listed) × (file_answer file.now (codes ".text") ≡ Some (Ok listed))
         × IsLineAt listed.entries 0 address line.items) }
 {
     let mut places = places_of(alloc, file)?;
@@ -25,7 +24,7 @@ pub fn line_of(alloc: Global, file: &[u8], address: u64) -> Result<Vec<u8>, List
 pub fn places_of(alloc: Global, file: &[u8]) -> Result<Places<'_>, ListError>
     ensures { IfOk result
         (λ places. (listed : Listed)
-        × (symbols_answer (format_of file.entry.now) file.entry.now (codes ".text") ≡ Some (Ok listed))
+        × (file_answer file.entry.now (codes ".text") ≡ Some (Ok listed))
         × (places ≡ listed.entries)) }
 {
     Places::of_file(alloc, file, ".text")

@@ -1,7 +1,6 @@
 ghost use Rattle.std.specs.Prelude.{◌≡◌, IfOk, Ok, Some, codes};
-ghost use Rattle.binfarce.specs.Format.{format_of};
 ghost use Rattle.binfarce.specs.Symbol.{Listed};
-ghost use Rattle.binfarce_tools.specs.Answer.{symbols_answer};
+ghost use Rattle.binfarce_tools.specs.Answer.{file_answer};
 ghost use Rattle.binfarce_tools.specs.Map.{IsMapOf};
 
 use binfarce_tools::list::Out;
@@ -12,7 +11,7 @@ use std::alloc::Global;
 /// How much of `.text` each crate takes, as an SVG document.
 pub fn picture(alloc: Global, file: &[u8]) -> Result<Vec<u8>, ReportError>
     ensures { IfOk result
-        (λ text. (listed : Listed) × (symbols_answer (format_of file.now) file.now (codes ".text") ≡ Some (Ok listed))
+        (λ text. (listed : Listed) × (file_answer file.now (codes ".text") ≡ Some (Ok listed))
         × IsMapOf listed text.items) }
 {
     let mut out = Out::new(Vec::new(alloc));

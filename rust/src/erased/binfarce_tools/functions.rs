@@ -4,20 +4,15 @@
 
 use crate::shim::Vec;
 use crate::erased::binfarce_tools::list::ListError;
-use crate::erased::binfarce_bytes::format::{Format, detect_format};
-use crate::erased::binfarce_bytes::functions::FunctionSymbol;
-use crate::erased::binfarce_bytes::{ByteOrder, ParseError};
-use crate::erased::binfarce_elf::header::parse_header;
-use crate::erased::binfarce_elf::sections::section_table;
-use crate::erased::binfarce_elf::symbols::{self, section_functions};
-use crate::erased::binfarce_macho as macho;
-use crate::erased::binfarce_pe as pe;
+use crate::erased::binfarce::{
+    ByteOrder, Format, FunctionSymbol, ParseError, detect_format, elf32, elf64, macho, pe,
+};
 use crate::shim::alloc::Global;
 
 /// The function symbols of a file that are left, in the order of its listing.
 pub enum Functions<'a> {
-    Elf32(symbols::Functions<'a, u32>),
-    Elf64(symbols::Functions<'a, u64>),
+    Elf32(elf32::Functions<'a>),
+    Elf64(elf64::Functions<'a>),
     Arranged(Arranged<'a>),
 }
 
@@ -73,8 +68,7 @@ fn read_elf32<'a>(
     byte_order: ByteOrder,
     section: &str,
 ) -> Result<(Functions<'a>, u64), ParseError> {
-    let header = parse_header::<u32>(data, byte_order)?;
-    let (functions, size) = section_functions(section_table(data, byte_order, &header), section)?;
+    let (functions, size) = elf32::parse(data, byte_order)?.functions(section)?;
     Ok((Functions::Elf32(functions), size))
 }
 
@@ -83,21 +77,17 @@ fn read_elf64<'a>(
     byte_order: ByteOrder,
     section: &str,
 ) -> Result<(Functions<'a>, u64), ParseError> {
-    let header = parse_header::<u64>(data, byte_order)?;
-    let (functions, size) = section_functions(section_table(data, byte_order, &header), section)?;
+    let (functions, size) = elf64::parse(data, byte_order)?.functions(section)?;
     Ok((Functions::Elf64(functions), size))
 }
 
 fn read_macho(alloc: Global, data: &[u8]) -> Result<(Functions<'_>, u64), ParseError> {
-    let header = macho::header::parse_header(data)?;
-    let listed = macho::symbols::functions_of_file(alloc, data, header)?;
+    let listed = macho::parse(data)?.functions(alloc)?;
     Ok(all_of(listed))
 }
 
 fn read_pe(alloc: Global, data: &[u8]) -> Result<(Functions<'_>, u64), ParseError> {
-    let (signature, header) = pe::header::parse_header(data)?;
-    let places = pe::parts::places_after(signature, header);
-    let listed = pe::symbols::functions_of_file(alloc, data, places)?;
+    let listed = pe::parse(data)?.functions(alloc)?;
     Ok(all_of(listed))
 }
 

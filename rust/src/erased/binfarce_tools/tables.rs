@@ -5,10 +5,8 @@
 use crate::shim::Vec;
 use crate::erased::binfarce_tools::functions::{Functions, all_of};
 use crate::erased::binfarce_tools::list::ListError;
-use crate::erased::binfarce_bytes::ParseError;
-use crate::erased::binfarce_bytes::format::{Format, detect_format};
+use crate::erased::binfarce::{Format, ParseError, SymbolTable, detect_format};
 use crate::erased::binfarce_bytes::source::{Source, read_part};
-use crate::erased::binfarce_elf::symbol_table::SymbolTable;
 use crate::erased::binfarce_tables::{ReadError, elf32, elf64, macho, pe};
 use crate::shim::alloc::Global;
 

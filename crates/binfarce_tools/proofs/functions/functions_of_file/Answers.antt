@@ -1,7 +1,7 @@
 use Rattle.std.proofs.Common.{refl}
-use Rattle.binfarce_bytes.specs.declared.format.Format.TheVariants.{Elf32, Elf64, Macho, PE}
-use Rattle.binfarce_bytes.specs.Format.{format_of}
-use Rattle.binfarce_elf.specs.Elf.{elf32, elf64}
+use Rattle.binfarce.specs.declared.Format.TheVariants.{Elf32, Elf64, Macho, PE}
+use Rattle.binfarce.specs.Format.{format_of}
+use Rattle.binfarce.specs.Elf.{elf32, elf64}
 use Rattle.binfarce_tools.specs.Answer.{elf_file_answer, macho_file_answer, pe_file_answer, symbols_answer, NeedsMemory}
 use Rattle.binfarce_tools.proofs.Told.{told_elf, told_macho, told_pe}
 use Rattle.binfarce_tools.proofs.Listings.{refused}

@@ -1,5 +1,5 @@
 use Rattle.std.proofs.Common.{sym, subst}
-use Rattle.binfarce_bytes.specs.Format.{format_of}
+use Rattle.binfarce.specs.Format.{format_of}
 use Rattle.binfarce_tools.specs.Answer.{answer_of, NeedsMemory}
 use Rattle.binfarce_tools.specs.Listing.{IsListingOf}
 use Rattle.binfarce_tools.proofs.Lines.{takes, takes_nothing}

@@ -1,5 +1,5 @@
 use Rattle.std.specs.String.{string_bytes}
-use Rattle.binfarce_bytes.specs.SymbolViews.{function_view}
+use Rattle.binfarce.specs.SymbolViews.{function_view}
 use Rattle.binfarce_tools.specs.Entries.{functions_left}
 use Rattle.binfarce_tools.proofs.Lines.{one_line, whole, is_listing}
 use Rattle.binfarce_tools.proofs.list.listing.Goals as goal

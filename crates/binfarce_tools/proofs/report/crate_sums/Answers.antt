@@ -1,7 +1,7 @@
 use Rattle.std.proofs.Common.{◌≡◌, ℕ, ◌+◌, refl, sym, ap, ◌∙◌}
 use Rattle.std.specs.List.{sum_by}
-use Rattle.binfarce_bytes.specs.Entries.{Entry}
-use Rattle.binfarce_bytes.specs.SymbolViews.{function_view}
+use Rattle.binfarce.specs.Symbol.{Entry}
+use Rattle.binfarce.specs.SymbolViews.{function_view}
 use Rattle.binfarce_tools.specs.Report.{Share}
 use Rattle.binfarce_tools.specs.Entries.{functions_left}
 use Rattle.binfarce_tools.proofs.CrateSums.{all_added, all_sizes, checked, fit_more, one_share, one_size, total_is}

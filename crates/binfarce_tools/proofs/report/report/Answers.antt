@@ -1,5 +1,5 @@
 use Rattle.std.proofs.Common.{sym, subst}
-use Rattle.binfarce_bytes.specs.Format.{format_of}
+use Rattle.binfarce.specs.Format.{format_of}
 use Rattle.binfarce_tools.specs.Answer.{symbols_answer, NeedsMemory}
 use Rattle.binfarce_tools.specs.Report.{IsReportOf}
 use Rattle.binfarce_tools.proofs.Reports.{not_written, of_listed, takes_beginning, was_written}

@@ -1,5 +1,5 @@
 use Rattle.std.proofs.Common.{Ok, sym, subst}
-use Rattle.binfarce_bytes.specs.Format.{format_of}
+use Rattle.binfarce.specs.Format.{format_of}
 use Rattle.binfarce_tools.specs.Answer.{answer_of, NeedsMemory}
 use Rattle.binfarce_tools.specs.Report.{IsReportOf}
 use Rattle.binfarce_tools.proofs.Reports.{no_memory, not_written, of_listed, takes, takes_beginning, was_written}

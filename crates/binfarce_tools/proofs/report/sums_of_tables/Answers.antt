@@ -1,4 +1,4 @@
-use Rattle.binfarce_bytes.specs.Format.{format_of}
+use Rattle.binfarce.specs.Format.{format_of}
 use Rattle.binfarce_tools.specs.Answer.{answer_of, NeedsMemory}
 use Rattle.binfarce_tools.proofs.Reports.{summed_or_not}
 use Rattle.binfarce_tools.proofs.report.sums_of_tables.Goals as goal

@@ -1,7 +1,7 @@
 use Rattle.std.proofs.Common.{◌≡◌, ℕ, true, sym, ◌∙◌, refl}
-use Rattle.binfarce_bytes.specs.declared.format.Format.TheVariants.{Elf32, Elf64, Macho, PE}
-use Rattle.binfarce_bytes.specs.Format.{format_of}
-use Rattle.binfarce_elf.specs.Elf.{elf32, elf64}
+use Rattle.binfarce.specs.declared.Format.TheVariants.{Elf32, Elf64, Macho, PE}
+use Rattle.binfarce.specs.Format.{format_of}
+use Rattle.binfarce.specs.Elf.{elf32, elf64}
 use Rattle.binfarce_tables.specs.PeReading as pe
 use Rattle.binfarce_tables.specs.Reading.{Known, parts_view, file_answer_in}
 use Rattle.binfarce_tools.specs.Answer.{pe_file_answer}

@@ -1,5 +1,5 @@
 use Rattle.std.proofs.Common.{Ok, sym, ap, ◌∙◌}
-use Rattle.binfarce_bytes.specs.Format.{format_of}
+use Rattle.binfarce.specs.Format.{format_of}
 use Rattle.binfarce_tools.proofs.TablesRead.{taken, format_of_first}
 use Rattle.binfarce_tools.proofs.tables.read_format.Goals as goal
 

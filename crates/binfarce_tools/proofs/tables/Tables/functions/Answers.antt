@@ -1,6 +1,6 @@
 use Rattle.std.proofs.Common.{subst}
-use Rattle.binfarce_bytes.specs.Format.{format_of}
-use Rattle.binfarce_bytes.specs.Entries.{ListsSome}
+use Rattle.binfarce.specs.Format.{format_of}
+use Rattle.binfarce.specs.Symbol.{ListsSome}
 use Rattle.binfarce_tables.specs.MachoReading as macho
 use Rattle.binfarce_tables.specs.PeReading as pe
 use Rattle.binfarce_tools.specs.Answer.{answer_of, NeedsMemory}

@@ -55,7 +55,11 @@ pub fn functions_of_headers<'a>(
         (record { rows = rows.entry.now; strings = strings.entry.now })) }
     ensures memory { OnErr result (count ≢ 0) }
 {
-    functions_in(alloc, table_of(headers, count), SymbolTable { rows, strings })
+    functions_in(
+        alloc,
+        table_of(headers, count),
+        SymbolTable { rows, strings },
+    )
 }
 
 fn table_of(headers: &[u8], count: u16) -> Table<'_>

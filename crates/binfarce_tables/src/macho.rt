@@ -121,7 +121,11 @@ pub fn read_sections<S: Source>(alloc: Global, source: &S) -> Result<Beginning, 
 }
 
 // The bytes that the load commands are in, from the file's first on.
-pub(crate) fn read_commands<S: Source>(alloc: Global, source: &S, len: usize) -> Result<Vec<u8>, ReadError>
+pub(crate) fn read_commands<S: Source>(
+    alloc: Global,
+    source: &S,
+    len: usize,
+) -> Result<Vec<u8>, ReadError>
     requires { least_length ≤ len }
     ensures { (file : List ℕ) → Known (S.bytes source.now) len file
         → Reads (S.may_fail source.now) (λ v. v.items) (Ok (command_bytes file)) result }

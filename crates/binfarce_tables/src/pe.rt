@@ -94,7 +94,11 @@ pub fn read_sections<S: Source>(alloc: Global, source: &S) -> Result<Beginning, 
     Ok(Beginning { bytes, file_length })
 }
 
-pub(crate) fn read_places<S: Source>(alloc: Global, source: &S, len: usize) -> Result<Places, ReadError>
+pub(crate) fn read_places<S: Source>(
+    alloc: Global,
+    source: &S,
+    len: usize,
+) -> Result<Places, ReadError>
     ensures { (file : List ℕ) → Known (S.bytes source.now) len file
         → Reads (S.may_fail source.now) places_view (places_step file) result }
 {

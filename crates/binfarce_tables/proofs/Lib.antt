@@ -9,3 +9,5 @@ mod MachoLocated
 pub mod SomeAddress
 mod SectionsRead
 mod PeBeginning
+mod MachoAllLocated
+mod PeAllLocated

@@ -4,4 +4,6 @@ pub mod PeReading
 pub mod Reading
 pub mod SectionReading
 pub mod MachoReading
+pub mod MachoAllReading
+pub mod PeAllReading
 pub mod machine

@@ -7,7 +7,9 @@ pub mod elf32;
 pub mod elf64;
 mod error;
 pub mod macho;
+mod macho_all;
 pub mod pe;
+mod pe_all;
 mod sections;
 
 pub use crate::beginning::Beginning;

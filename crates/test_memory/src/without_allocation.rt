@@ -1,6 +1,7 @@
 //! Calls that don't allocate: these rows make no allocation at all.
 
-use crate::expected::{Expected, is_shown};
+use crate::expected::is_shown;
+use test_samples::expected::Expected;
 use crate::names::NAMES;
 use crate::{streams, words};
 use binfarce::demangle::demangle;
@@ -145,7 +146,7 @@ impl io::Write for Full {
 }
 
 fn is_taken() -> bool {
-    let mut out = Out::new(Expected::new("ab"));
+    let mut out = Out::new(Expected::new(b"ab"));
     let is_taken = !out.failed() && out.write(b"ab") == Some(2) && !out.failed();
     is_taken && out.into_inner().is_whole()
 }

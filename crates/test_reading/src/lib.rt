@@ -1,12 +1,8 @@
-//! Tests of sections and of files read at offsets, and what `test_memory` too asks of them while one allocation fails.
+//! Tests of files read at offsets, and what `test_memory` too asks of them while one allocation fails.
 #![tactic(auto)]
 
-mod expected;
 pub mod fronts;
 pub mod macho;
 pub mod pe;
-pub mod rows;
-#[cfg(test)]
-mod sections;
 #[cfg(test)]
 mod tests;

@@ -3,6 +3,7 @@
 //! Small executables, byte by byte, for tests of what reads them.
 
 pub mod elf;
+pub mod expected;
 pub mod fields;
 pub mod files;
 pub mod interruptions;

@@ -149,15 +149,19 @@ fn answered(rt: HostRuntime) -> Result<(), Fail> {
 
 // The function symbols of `.text` as they are stored, and what an address is shown by among them.
 fn functions_32(layout: Layout, address: u64) -> Result<Functions, ParseError> {
-    let (mut functions, size) = elf32::parse(layout.bytes(), layout.order())?.functions(".text")?;
+    let elf = elf32::parse(layout.bytes(), layout.order())?;
+    let (functions, size) = elf.functions(".text")?;
     let shown = functions.symbol_at(address);
+    let (mut functions, _) = elf.functions(".text")?;
     let first = functions.next();
     Ok((first, functions.next().is_none(), size, shown))
 }
 
 fn functions_64(layout: Layout, address: u64) -> Result<Functions, ParseError> {
-    let (mut functions, size) = elf64::parse(layout.bytes(), layout.order())?.functions(".text")?;
+    let elf = elf64::parse(layout.bytes(), layout.order())?;
+    let (functions, size) = elf.functions(".text")?;
     let shown = functions.symbol_at(address);
+    let (mut functions, _) = elf.functions(".text")?;
     let first = functions.next();
     Ok((first, functions.next().is_none(), size, shown))
 }

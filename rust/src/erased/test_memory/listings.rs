@@ -2,7 +2,7 @@
 
 //! Listings, reports and pictures: the whole text, or `OutOfMemory` and nothing written.
 
-use crate::erased::test_memory::expected::Expected;
+use crate::erased::test_samples::expected::Expected;
 use crate::erased::test_memory::readers::{FILES, File, bytes_of, magic_of};
 use crate::erased::binfarce::ParseError;
 use crate::erased::binfarce_image::image::ImageError;
@@ -17,7 +17,7 @@ use crate::erased::test_samples::{Patch, elf, macho, patched, pe};
 
 fn is_listed(alloc: Global, file: File, text: &str) -> Row {
     let bytes = patched(alloc, bytes_of(file), &[magic_of(file)])?;
-    let mut out = Out::new(Expected::new(text));
+    let mut out = Out::new(Expected::new(text.as_bytes()));
     let result = list(alloc, &bytes, ".text", &mut out);
     let written = out.into_inner();
     match result {
@@ -40,7 +40,7 @@ fn texts_of(file: File) -> (&'static str, &'static str) {
 fn is_past_the_text(alloc: Global) -> Row {
     let past_the_text: Patch<'_> = (264, &[0, 0x12]);
     let file = patched(alloc, &MACHO, &[macho::MAGIC, past_the_text])?;
-    let mut out = Out::new(Expected::new(""));
+    let mut out = Out::new(Expected::new(b""));
     let result = list(alloc, &file, ".text", &mut out);
     let is_empty = out.into_inner().is_empty;
     match result {
@@ -71,7 +71,7 @@ fn is_reported(alloc: Global, file: &[u8], expected: Reported) -> Row {
         Reported::Picture(text) => text,
         Reported::TooLarge => "",
     };
-    let mut out = Out::new(Expected::new(text));
+    let mut out = Out::new(Expected::new(text.as_bytes()));
     let result = match expected {
         Reported::Picture(_) => map(alloc, file, ".text", &mut out),
         _ => report(alloc, file, ".text", &mut out),

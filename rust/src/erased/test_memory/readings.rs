@@ -6,9 +6,9 @@ use crate::shim::HostRuntime;
 use crate::shim::alloc::{AllocError, Global};
 use crate::shim::fs::File;
 use crate::erased::test_image_samples::tally::{Row, Tally};
-use crate::erased::test_reading::fronts::{Given, LAYOUTS, compared};
+use crate::erased::test_reading::fronts::{Given, compared};
 use crate::erased::test_reading::{macho, pe};
-use crate::erased::test_samples::elf::Layout;
+use crate::erased::test_samples::elf::{LAYOUTS, Layout};
 use crate::erased::test_samples::macho::MACHO;
 use crate::erased::test_samples::pe::PE;
 

@@ -2,7 +2,7 @@
 
 //! Refusals and empty lists: they come whichever allocation fails.
 
-use crate::erased::test_memory::expected::Expected;
+use crate::erased::test_samples::expected::Expected;
 use crate::erased::test_memory::readers::{FILES, File, Symbols, bytes_of, magic_of, symbols};
 use crate::erased::binfarce::ParseError;
 use crate::erased::binfarce_tools::list::{ListError, Out, list};
@@ -202,7 +202,7 @@ pub(crate) fn add_refusals(alloc: Global, tally: &mut Tally) {
 }
 
 fn is_refused(alloc: Global, file: &[u8], refusal: ListError) -> bool {
-    let mut out = Out::new(Expected::new(""));
+    let mut out = Out::new(Expected::new(b""));
     let result = list(alloc, file, ".text", &mut out);
     let written = out.into_inner();
     result == Err(refusal) && written.is_empty

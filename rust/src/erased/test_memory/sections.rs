@@ -4,7 +4,7 @@
 
 use crate::shim::alloc::Global;
 use crate::erased::test_image_samples::tally::Tally;
-use crate::erased::test_reading::rows::{ROWS, is_right};
+use crate::erased::test_lookups::rows::{ROWS, is_right};
 
 pub(crate) fn add_sections(alloc: Global, tally: &mut Tally) {
     for row in &ROWS {

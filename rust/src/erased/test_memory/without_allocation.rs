@@ -2,7 +2,8 @@
 
 //! Calls that don't allocate: these rows make no allocation at all.
 
-use crate::erased::test_memory::expected::{Expected, is_shown};
+use crate::erased::test_memory::expected::is_shown;
+use crate::erased::test_samples::expected::Expected;
 use crate::erased::test_memory::names::NAMES;
 use crate::erased::test_memory::{streams, words};
 use crate::erased::binfarce::demangle::demangle;
@@ -148,7 +149,7 @@ impl io::Write for Full {
 }
 
 fn is_taken() -> bool {
-    let mut out = Out::new(Expected::new("ab"));
+    let mut out = Out::new(Expected::new(b"ab"));
     let is_taken = !out.failed() && out.write(b"ab") == Some(2) && !out.failed();
     is_taken && out.into_inner().is_whole()
 }

@@ -1,12 +1,12 @@
 //! What stands at addresses: all lines, or `OutOfMemory` and nothing or a beginning of them written.
 
-use test_samples::expected::Expected;
 use binfarce_addresses::at::{Places, at};
 use binfarce_addresses::stream::{LinesError, answer_lines};
 use binfarce_tools::list::{ListError, Out};
 use std::alloc::{AllocError, Global};
 use test_image_samples::tally::{Row, Tally};
 use test_samples::elf::ELF64_LITTLE;
+use test_samples::expected::Expected;
 use test_samples::streams::Source;
 
 const LINES: &str = "0000000000001000 foo+0x0\n000000000000100f foo+0xf\n0000000000001010 ??\n";

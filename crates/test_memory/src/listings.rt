@@ -1,6 +1,5 @@
 //! Listings, reports and pictures: the whole text, or `OutOfMemory` and nothing written.
 
-use test_samples::expected::Expected;
 use crate::readers::{FILES, File, bytes_of, magic_of};
 use binfarce::ParseError;
 use binfarce_image::image::ImageError;
@@ -10,6 +9,7 @@ use binfarce_tools::report::{ReportError, report};
 use std::alloc::{AllocError, Global};
 use test_image_samples::file_beside;
 use test_image_samples::tally::{Row, Tally};
+use test_samples::expected::Expected;
 use test_samples::macho::MACHO;
 use test_samples::{Patch, elf, macho, patched, pe};
 

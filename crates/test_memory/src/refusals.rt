@@ -1,12 +1,12 @@
 //! Refusals and empty lists: they come whichever allocation fails.
 
-use test_samples::expected::Expected;
 use crate::readers::{FILES, File, Symbols, bytes_of, magic_of, symbols};
 use binfarce::ParseError;
 use binfarce_tools::list::{ListError, Out, list};
 use std::alloc::Global;
 use test_image_samples::tally::{Row, Tally};
 use test_samples::elf::Layout;
+use test_samples::expected::Expected;
 use test_samples::{Patch, patched};
 
 const TRUNCATED: ParseError = ParseError::UnexpectedEof;

@@ -1,7 +1,6 @@
 //! Calls that don't allocate: these rows make no allocation at all.
 
 use crate::expected::is_shown;
-use test_samples::expected::Expected;
 use crate::names::NAMES;
 use crate::{streams, words};
 use binfarce::demangle::demangle;
@@ -10,6 +9,7 @@ use binfarce_tools::list::{Out, Sink};
 use std::io;
 use test_image_samples::tally::Tally;
 use test_samples::elf::Layout;
+use test_samples::expected::Expected;
 use test_samples::macho::MACHO;
 use test_samples::pe::PE;
 

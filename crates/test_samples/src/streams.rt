@@ -145,6 +145,18 @@ pub struct Target {
     pub end: Option<ErrorKind>,
 }
 
+impl Target {
+    /// Takes all bytes, at most `most` in a call.
+    pub fn taking(alloc: Global, most: usize) -> Target {
+        Target {
+            taken: Vec::new(alloc),
+            left: usize::MAX,
+            most,
+            end: None,
+        }
+    }
+}
+
 impl Write for Target {
     fn write(&mut self, bytes: &[u8]) -> io::Result<usize> {
         let n = bytes.len().min(self.left).min(self.most);

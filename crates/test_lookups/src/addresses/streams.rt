@@ -37,15 +37,6 @@ fn answered(
     Ok((ended, out.into_inner().taken))
 }
 
-fn takes(alloc: Global, most: usize) -> Target {
-    Target {
-        taken: Vec::new(alloc),
-        left: usize::MAX,
-        most,
-        end: None,
-    }
-}
-
 // Parts of every length, of which most end within a line.
 #[test]
 fn short_reads_and_writes(rt: HostRuntime) -> Result<(), Fail> {
@@ -54,7 +45,7 @@ fn short_reads_and_writes(rt: HostRuntime) -> Result<(), Fail> {
             most,
             ..Source::of(TEXT)
         };
-        let (ended, taken) = answered(rt.alloc(), source, takes(rt.alloc(), most))?;
+        let (ended, taken) = answered(rt.alloc(), source, Target::taking(rt.alloc(), most))?;
         assert!(rt; ended == Ok(0), "{most}");
         assert!(rt; taken.as_slice() == ANSWERS, "{most}");
     }
@@ -67,7 +58,7 @@ fn interrupted_reads(rt: HostRuntime) -> Result<(), Fail> {
     let places = places(rt.alloc())?;
     let unflushed = Cell::new(0);
     let mut source = InterruptedSource::of(TEXT, &unflushed);
-    let mut out = Out::new(takes(rt.alloc(), usize::MAX));
+    let mut out = Out::new(Target::taking(rt.alloc(), usize::MAX));
     let ended = answer_lines(rt.alloc(), &places, 0x40_0000, &mut source, &mut out);
     assert!(rt; ended == Ok(0));
     assert!(rt; out.into_inner().taken.as_slice() == ANSWERS);
@@ -87,7 +78,7 @@ fn failed_reads(rt: HostRuntime) -> Result<(), Fail> {
             end: Some(ErrorKind::Other),
             ..Source::of(&TEXT[..came])
         };
-        let (ended, taken) = answered(rt.alloc(), source, takes(rt.alloc(), usize::MAX))?;
+        let (ended, taken) = answered(rt.alloc(), source, Target::taking(rt.alloc(), usize::MAX))?;
         assert!(rt; ended == Err(LinesError::Read), "{came}");
         assert!(rt; ANSWERS.starts_with(&taken), "{came}");
         let lines = whole_lines(&TEXT[..came]);
@@ -104,7 +95,7 @@ fn failed_writes(rt: HostRuntime) -> Result<(), Fail> {
             let target = Target {
                 left,
                 end,
-                ..takes(rt.alloc(), usize::MAX)
+                ..Target::taking(rt.alloc(), usize::MAX)
             };
             let (ended, taken) = answered(rt.alloc(), Source::of(TEXT), target)?;
             assert!(rt; ended == Err(LinesError::Write), "{left}");
@@ -168,7 +159,11 @@ fn lines_of_every_kind(rt: HostRuntime) -> Result<(), Fail> {
                 most,
                 ..Source::of(text)
             };
-            let (ended, taken) = answered(rt.alloc(), source, takes(rt.alloc(), usize::MAX))?;
+            let (ended, taken) = answered(
+                rt.alloc(),
+                source,
+                Target::taking(rt.alloc(), usize::MAX),
+            )?;
             assert!(rt; ended == Ok(*missing), "{missing} {most}");
             assert!(rt; taken.as_slice() == answers.as_slice(), "{missing} {most}");
         }
@@ -178,7 +173,7 @@ fn lines_of_every_kind(rt: HostRuntime) -> Result<(), Fail> {
 
 #[test]
 fn empty_text(rt: HostRuntime) -> Result<(), Fail> {
-    let (ended, taken) = answered(rt.alloc(), Source::of(b""), takes(rt.alloc(), 1))?;
+    let (ended, taken) = answered(rt.alloc(), Source::of(b""), Target::taking(rt.alloc(), 1))?;
     assert!(rt; ended == Ok(0));
     assert!(rt; taken.is_empty());
     Ok(())

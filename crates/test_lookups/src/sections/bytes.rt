@@ -107,10 +107,8 @@ fn gives_the_first(rt: HostRuntime) -> Result<(), Fail> {
 fn writes_by_few_bytes(rt: HostRuntime) -> Result<(), Fail> {
     for most in 1..34 {
         let mut out = Out::new(Target {
-            taken: Vec::new(rt.alloc()),
             left: 32,
-            most,
-            end: None,
+            ..Target::taking(rt.alloc(), most)
         });
         write_section(&ELF64_LITTLE, ".text", &mut out)?;
         assert!(rt; !out.failed());
@@ -127,10 +125,8 @@ fn writes_by_few_bytes(rt: HostRuntime) -> Result<(), Fail> {
 fn reports_a_failed_write(rt: HostRuntime) -> Result<(), Fail> {
     for left in 0..18 {
         let mut out = Out::new(Target {
-            taken: Vec::new(rt.alloc()),
             left,
-            most: 5,
-            end: None,
+            ..Target::taking(rt.alloc(), 5)
         });
         let written = write_section(&ELF64_LITTLE, ".strtab", &mut out);
         assert_eq!(rt; written, Err(SectionError::Write), "{left}");

@@ -2,13 +2,13 @@
 
 //! What stands at addresses: all lines, or `OutOfMemory` and nothing or a beginning of them written.
 
-use crate::erased::test_samples::expected::Expected;
 use crate::erased::binfarce_addresses::at::{Places, at};
 use crate::erased::binfarce_addresses::stream::{LinesError, answer_lines};
 use crate::erased::binfarce_tools::list::{ListError, Out};
 use crate::shim::alloc::{AllocError, Global};
 use crate::erased::test_image_samples::tally::{Row, Tally};
 use crate::erased::test_samples::elf::ELF64_LITTLE;
+use crate::erased::test_samples::expected::Expected;
 use crate::erased::test_samples::streams::Source;
 
 const LINES: &str = "0000000000001000 foo+0x0\n000000000000100f foo+0xf\n0000000000001010 ??\n";

@@ -2,7 +2,6 @@
 
 //! Listings, reports and pictures: the whole text, or `OutOfMemory` and nothing written.
 
-use crate::erased::test_samples::expected::Expected;
 use crate::erased::test_memory::readers::{FILES, File, bytes_of, magic_of};
 use crate::erased::binfarce::ParseError;
 use crate::erased::binfarce_image::image::ImageError;
@@ -12,6 +11,7 @@ use crate::erased::binfarce_tools::report::{ReportError, report};
 use crate::shim::alloc::{AllocError, Global};
 use crate::erased::test_image_samples::file_beside;
 use crate::erased::test_image_samples::tally::{Row, Tally};
+use crate::erased::test_samples::expected::Expected;
 use crate::erased::test_samples::macho::MACHO;
 use crate::erased::test_samples::{Patch, elf, macho, patched, pe};
 

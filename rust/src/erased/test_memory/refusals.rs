@@ -2,13 +2,13 @@
 
 //! Refusals and empty lists: they come whichever allocation fails.
 
-use crate::erased::test_samples::expected::Expected;
 use crate::erased::test_memory::readers::{FILES, File, Symbols, bytes_of, magic_of, symbols};
 use crate::erased::binfarce::ParseError;
 use crate::erased::binfarce_tools::list::{ListError, Out, list};
 use crate::shim::alloc::Global;
 use crate::erased::test_image_samples::tally::{Row, Tally};
 use crate::erased::test_samples::elf::Layout;
+use crate::erased::test_samples::expected::Expected;
 use crate::erased::test_samples::{Patch, patched};
 
 const TRUNCATED: ParseError = ParseError::UnexpectedEof;

@@ -3,7 +3,6 @@
 //! Calls that don't allocate: these rows make no allocation at all.
 
 use crate::erased::test_memory::expected::is_shown;
-use crate::erased::test_samples::expected::Expected;
 use crate::erased::test_memory::names::NAMES;
 use crate::erased::test_memory::{streams, words};
 use crate::erased::binfarce::demangle::demangle;
@@ -14,6 +13,7 @@ use crate::erased::binfarce_tools::list::{Out, Sink};
 use crate::shim::io;
 use crate::erased::test_image_samples::tally::Tally;
 use crate::erased::test_samples::elf::Layout;
+use crate::erased::test_samples::expected::Expected;
 use crate::erased::test_samples::macho::MACHO;
 use crate::erased::test_samples::pe::PE;
 

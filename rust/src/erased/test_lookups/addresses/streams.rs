@@ -40,15 +40,6 @@ fn answered(
     Ok((ended, out.into_inner().taken))
 }
 
-fn takes(alloc: Global, most: usize) -> Target {
-    Target {
-        taken: Vec::new(alloc),
-        left: usize::MAX,
-        most,
-        end: None,
-    }
-}
-
 // Parts of every length, of which most end within a line.
 #[test]
 fn short_reads_and_writes() -> Result<(), Fail> {
@@ -58,7 +49,7 @@ fn short_reads_and_writes() -> Result<(), Fail> {
             most,
             ..Source::of(TEXT)
         };
-        let (ended, taken) = answered(rt.alloc(), source, takes(rt.alloc(), most))?;
+        let (ended, taken) = answered(rt.alloc(), source, Target::taking(rt.alloc(), most))?;
         assert!(ended == Ok(0), "{most}");
         assert!(taken.as_slice() == ANSWERS, "{most}");
     }
@@ -72,7 +63,7 @@ fn interrupted_reads() -> Result<(), Fail> {
     let places = places(rt.alloc())?;
     let unflushed = Cell::new(0);
     let mut source = InterruptedSource::of(TEXT, &unflushed);
-    let mut out = Out::new(takes(rt.alloc(), usize::MAX));
+    let mut out = Out::new(Target::taking(rt.alloc(), usize::MAX));
     let ended = answer_lines(rt.alloc(), &places, 0x40_0000, &mut source, &mut out);
     assert!(ended == Ok(0));
     assert!(out.into_inner().taken.as_slice() == ANSWERS);
@@ -93,7 +84,7 @@ fn failed_reads() -> Result<(), Fail> {
             end: Some(ErrorKind::Other),
             ..Source::of(&TEXT[..came])
         };
-        let (ended, taken) = answered(rt.alloc(), source, takes(rt.alloc(), usize::MAX))?;
+        let (ended, taken) = answered(rt.alloc(), source, Target::taking(rt.alloc(), usize::MAX))?;
         assert!(ended == Err(LinesError::Read), "{came}");
         assert!(ANSWERS.starts_with(&taken), "{came}");
         let lines = whole_lines(&TEXT[..came]);
@@ -111,7 +102,7 @@ fn failed_writes() -> Result<(), Fail> {
             let target = Target {
                 left,
                 end,
-                ..takes(rt.alloc(), usize::MAX)
+                ..Target::taking(rt.alloc(), usize::MAX)
             };
             let (ended, taken) = answered(rt.alloc(), Source::of(TEXT), target)?;
             assert!(ended == Err(LinesError::Write), "{left}");
@@ -176,7 +167,11 @@ fn lines_of_every_kind() -> Result<(), Fail> {
                 most,
                 ..Source::of(text)
             };
-            let (ended, taken) = answered(rt.alloc(), source, takes(rt.alloc(), usize::MAX))?;
+            let (ended, taken) = answered(
+                rt.alloc(),
+                source,
+                Target::taking(rt.alloc(), usize::MAX),
+            )?;
             assert!(ended == Ok(*missing), "{missing} {most}");
             assert!(taken.as_slice() == answers.as_slice(), "{missing} {most}");
         }
@@ -187,7 +182,7 @@ fn lines_of_every_kind() -> Result<(), Fail> {
 #[test]
 fn empty_text() -> Result<(), Fail> {
     let rt = HostRuntime::new();
-    let (ended, taken) = answered(rt.alloc(), Source::of(b""), takes(rt.alloc(), 1))?;
+    let (ended, taken) = answered(rt.alloc(), Source::of(b""), Target::taking(rt.alloc(), 1))?;
     assert!(ended == Ok(0));
     assert!(taken.is_empty());
     Ok(())

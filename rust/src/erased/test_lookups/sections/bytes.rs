@@ -111,10 +111,8 @@ fn writes_by_few_bytes() -> Result<(), Fail> {
     let rt = HostRuntime::new();
     for most in 1..34 {
         let mut out = Out::new(Target {
-            taken: Vec::new(rt.alloc()),
             left: 32,
-            most,
-            end: None,
+            ..Target::taking(rt.alloc(), most)
         });
         write_section(&ELF64_LITTLE, ".text", &mut out)?;
         assert!(!out.failed());
@@ -132,10 +130,8 @@ fn reports_a_failed_write() -> Result<(), Fail> {
     let rt = HostRuntime::new();
     for left in 0..18 {
         let mut out = Out::new(Target {
-            taken: Vec::new(rt.alloc()),
             left,
-            most: 5,
-            end: None,
+            ..Target::taking(rt.alloc(), 5)
         });
         let written = write_section(&ELF64_LITTLE, ".strtab", &mut out);
         assert_eq!(written, Err(SectionError::Write), "{left}");

@@ -95,10 +95,8 @@ fn reports_a_failed_write() -> Result<(), Fail> {
     let whole = listed(rt.alloc(), &ELF64_LITTLE)?;
     for left in 0..whole.len() {
         let mut out = Out::new(Target {
-            taken: Vec::new(rt.alloc()),
             left,
-            most: 7,
-            end: None,
+            ..Target::taking(rt.alloc(), 7)
         });
         let ended = list_sections(rt.alloc(), &ELF64_LITTLE, &mut out);
         assert_eq!(ended, Err(SectionError::Write), "{left}");

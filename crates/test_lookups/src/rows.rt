@@ -12,10 +12,9 @@ use test_samples::macho::{OFFSET, SIZE};
 use test_samples::pe::RAW_SIZE;
 use test_samples::{Patch, patched};
 
-/// What the row is, a file, what is changed in it, its lines as `readelf -SW` and `llvm-readobj --sections` show such a file's
+/// A file, what is changed in it, its lines as `readelf -SW` and `llvm-readobj --sections` show such a file's
 /// sections, the name of a section, and its bytes.
 pub type Row = (
-    &'static str,
     File,
     &'static [Patch<'static>],
     &'static str,
@@ -46,24 +45,24 @@ const STRINGS: &[u8] = b"\0_ZN3foo3barE\0bad\0";
 /// The samples. Those of Mach-O and PE have no bytes for their section, until it is given the offset of others.
 #[rattlefmt::skip]
 pub const ROWS: [Row; 6] = [
-    ("ELF32, little endian", File::Elf(Layout::Elf32Little), &[], LINES_32, ".strtab", STRINGS),
-    ("ELF32, big endian", File::Elf(Layout::Elf32Big), &[], LINES_32, ".strtab", STRINGS),
-    ("ELF64, little endian", File::Elf(Layout::Elf64Little), &[], LINES_64, ".strtab", STRINGS),
-    ("ELF64, big endian", File::Elf(Layout::Elf64Big), &[], LINES_64, ".strtab", STRINGS),
-    ("Mach-O", File::Macho, &[(SIZE, &[8, 0]), (OFFSET, &[16, 1])],
+    (File::Elf(Layout::Elf32Little), &[], LINES_32, ".strtab", STRINGS),
+    (File::Elf(Layout::Elf32Big), &[], LINES_32, ".strtab", STRINGS),
+    (File::Elf(Layout::Elf64Little), &[], LINES_64, ".strtab", STRINGS),
+    (File::Elf(Layout::Elf64Big), &[], LINES_64, ".strtab", STRINGS),
+    (File::Macho, &[(SIZE, &[8, 0]), (OFFSET, &[16, 1])],
         "0000000000001000        272          8 __TEXT,__text\n", "__text", b"\0a\0b\0c\0d"),
-    ("PE", File::Pe, &[(RAW_SIZE, &[10, 0, 0, 0, 200])],
+    (File::Pe, &[(RAW_SIZE, &[10, 0, 0, 0, 200])],
         "0000000000000000        200         10 .text\n", ".text", b"e\0\0\0\0\0\0\0\0\x01"),
 ];
 
 /// The row's file.
 pub fn file_of(alloc: Global, row: &Row) -> Result<Vec<u8>, AllocError> {
-    patched(alloc, &row.1.whole(alloc)?, row.2)
+    patched(alloc, &row.0.whole(alloc)?, row.1)
 }
 
 /// Whether the row gives its whole answer, in all four calls; an error where an allocation failed.
 pub fn is_right(alloc: Global, row: &Row) -> Result<bool, AllocError> {
-    let (_, _, _, lines, name, bytes) = row;
+    let (_, _, lines, name, bytes) = row;
     let file = file_of(alloc, row)?;
     let source = file.as_slice();
     let mut out = Out::new(Expected::new(bytes));

@@ -29,9 +29,9 @@ fn of_every_prefix(rt: HostRuntime) -> Result<(), AllocError> {
         for count in 0..=file.len() {
             let part = first_bytes(&file, count);
             assert!(rt;
-                are_alike(rt.alloc(), part, row.4)?,
+                are_alike(rt.alloc(), part, row.3)?,
                 "{}, {count} bytes",
-                row.0
+                row.0.name()
             );
         }
     }

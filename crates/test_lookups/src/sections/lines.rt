@@ -32,7 +32,7 @@ fn listed(alloc: Global, file: &[u8]) -> Result<Vec<u8>, Fail> {
 #[test]
 fn samples(rt: HostRuntime) -> Result<(), Fail> {
     for row in &ROWS {
-        assert!(rt; is_right(rt.alloc(), row)?, "{}", row.0);
+        assert!(rt; is_right(rt.alloc(), row)?, "{}", row.0.name());
     }
     Ok(())
 }

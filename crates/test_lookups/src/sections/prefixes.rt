@@ -13,7 +13,7 @@ use test_samples::first_bytes;
 // Whether these are what a file that is cut off may give: its section's bytes, or that they can't be had.
 fn is_part_of(row: &Row, found: Result<&[u8], SectionError>) -> bool {
     match found {
-        Ok(bytes) => bytes == row.5,
+        Ok(bytes) => bytes == row.4,
         Err(SectionError::Unknown | SectionError::NoSection | SectionError::PastEnd) => true,
         Err(SectionError::Parse(ParseError::UnexpectedEof)) => true,
         Err(_) => false,
@@ -52,10 +52,10 @@ fn lists_part_of(
     let written = out.into_inner();
     let text = std::str::from_utf8(&written).unwrap_or("-");
     Ok(match listed {
-        Ok(()) => text == row.3 || (!is_whole && text.is_empty()),
+        Ok(()) => text == row.2 || (!is_whole && text.is_empty()),
         Err(SectionError::Unknown) => !is_whole && text.is_empty(),
         Err(SectionError::Parse(ParseError::UnexpectedEof)) => !is_whole
-            && are_first_of(row.3, text),
+            && are_first_of(row.2, text),
         Err(_) => false,
     })
 }
@@ -67,18 +67,22 @@ fn of_samples(rt: HostRuntime) -> Result<(), Fail> {
         for count in 0..file.len() {
             let part = first_bytes(&file, count);
             assert!(rt;
-                is_part_of(row, section_bytes(part, row.4)),
+                is_part_of(row, section_bytes(part, row.3)),
                 "{}, {count} bytes",
-                row.0
+                row.0.name()
             );
             assert!(rt;
                 lists_part_of(rt.alloc(), row, part, false)?,
                 "{}, {count} bytes",
-                row.0
+                row.0.name()
             );
         }
-        assert_eq!(rt; section_bytes(&file, row.4)?, row.5);
-        assert!(rt; lists_part_of(rt.alloc(), row, &file, true)?, "{}", row.0);
+        assert_eq!(rt; section_bytes(&file, row.3)?, row.4);
+        assert!(rt;
+            lists_part_of(rt.alloc(), row, &file, true)?,
+            "{}",
+            row.0.name()
+        );
     }
     Ok(())
 }

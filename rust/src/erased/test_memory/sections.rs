@@ -8,6 +8,6 @@ use crate::erased::test_lookups::rows::{ROWS, is_right};
 
 pub(crate) fn add_sections(alloc: Global, tally: &mut Tally) {
     for row in &ROWS {
-        tally.add(row.0, is_right(alloc, row));
+        tally.add(row.0.name(), is_right(alloc, row));
     }
 }

@@ -28,6 +28,18 @@ pub const FILES: [File; 6] = [
 ];
 
 impl File {
+    /// Its format, and of ELF the class and the byte order.
+    pub fn name(self) -> &'static str {
+        match self {
+            File::Elf(Layout::Elf32Little) => "ELF32, little endian",
+            File::Elf(Layout::Elf32Big) => "ELF32, big endian",
+            File::Elf(Layout::Elf64Little) => "ELF64, little endian",
+            File::Elf(Layout::Elf64Big) => "ELF64, big endian",
+            File::Macho => "Mach-O",
+            File::Pe => "PE",
+        }
+    }
+
     /// The file, which has no magic number in Mach-O and PE.
     pub fn bytes(self) -> &'static [u8] {
         match self {

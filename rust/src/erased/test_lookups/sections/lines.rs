@@ -36,7 +36,7 @@ fn listed(alloc: Global, file: &[u8]) -> Result<Vec<u8>, Fail> {
 fn samples() -> Result<(), Fail> {
     let rt = HostRuntime::new();
     for row in &ROWS {
-        assert!(is_right(rt.alloc(), row)?, "{}", row.0);
+        assert!(is_right(rt.alloc(), row)?, "{}", row.0.name());
     }
     Ok(())
 }

@@ -51,7 +51,8 @@ const ELF: [(&str, &[(Field, u64)], &str); 4] = [
         "0000000000000000         64          0 \n0000000000000000         64         32 \n"),
     ("a header at the last byte", &[(Field::ShOff, 586), (Field::ShNum, 1), (Field::ShStrNdx, 0)], "unexpected end of file"),
     ("the greatest numbers",
-        &[(Field::ShNum, 2), (Field::ShAddr(1), u64::MAX), (Field::ShOffset(1), u64::MAX), (Field::ShSize(1), u64::MAX)],
+        &[(Field::ShNum, 2), (Field::ShAddr(1), u64::MAX), (Field::ShOffset(1), u64::MAX),
+            (Field::ShSize(1), u64::MAX)],
         "0000000000000000         64          0 \nffffffffffffffff 18446744073709551615 18446744073709551615 .text\n"),
 ];
 

@@ -78,7 +78,8 @@ impl Model for Bars {
 
     ghost view = { λ s. map bar_view s.list.items };
 
-    ghost invariant = { λ s. (total (map bar_view s.list.items) ≡ s.sum) × (total (map bar_view s.list.items) < 2 ^ 64) };
+    ghost invariant = { λ s. (total (map bar_view s.list.items) ≡ s.sum)
+        × (total (map bar_view s.list.items) < 2 ^ 64) };
 }
 
 impl Bars {

@@ -17,7 +17,7 @@ const LISTINGS: [&str; 3] = [elf::LISTING, macho::LISTING, pe::LISTING];
 fn needs_a_file(rt: HostRuntime) -> Result<(), AllocError> {
     let given = words(&[]).map(|_| ());
     let line = "usage: binfarce-list FILE [SECTION]";
-    assert!(&rt; ended_with(rt.alloc(), given, line, 2)?);
+    assert!(&rt; ended_with(rt.alloc(), given, line)?);
     Ok(())
 }
 

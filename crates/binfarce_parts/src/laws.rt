@@ -43,7 +43,8 @@ pub fn elf_parts_decide(file: &[u8], other: &[u8], byte_order: ByteOrder, sectio
 
 /// The same of what the reader of Mach-O answers.
 pub fn macho_parts_decide(file: &[u8], other: &[u8])
-    ensures { SameParts (macho_parts file.now) file.now other.now → macho_file_answer other.now ≡ macho_file_answer file.now }
+    ensures { SameParts (macho_parts file.now) file.now other.now
+        → macho_file_answer other.now ≡ macho_file_answer file.now }
 {
     let _ = file;
     let _ = other;

@@ -20,7 +20,7 @@ const REPORTS: [&str; 3] = [
 fn needs_a_file(rt: HostRuntime) -> Result<(), AllocError> {
     let given = words(&[]).map(|_| ());
     let line = "usage: binfarce-size FILE [SECTION]";
-    assert!(&rt; ended_with(rt.alloc(), given, line, 2)?);
+    assert!(&rt; ended_with(rt.alloc(), given, line)?);
     Ok(())
 }
 

@@ -1,18 +1,18 @@
 //! What stands at addresses: all lines, or `OutOfMemory` and nothing or a beginning of them written.
 
-use crate::expected::Expected;
 use binfarce_addresses::at::{Places, at};
 use binfarce_addresses::stream::{LinesError, answer_lines};
 use binfarce_tools::list::{ListError, Out};
 use std::alloc::{AllocError, Global};
 use test_image_samples::tally::{Row, Tally};
 use test_samples::elf::ELF64_LITTLE;
+use test_samples::expected::Expected;
 use test_samples::streams::Source;
 
 const LINES: &str = "0000000000001000 foo+0x0\n000000000000100f foo+0xf\n0000000000001010 ??\n";
 
 fn is_told(alloc: Global) -> Row {
-    let mut out = Out::new(Expected::new(LINES));
+    let mut out = Out::new(Expected::new(LINES.as_bytes()));
     let addresses = [0x1000, 0x100f, 0x1010];
     let result = at(alloc, &ELF64_LITTLE, ".text", 0, &addresses, &mut out);
     let written = out.into_inner();
@@ -31,7 +31,7 @@ fn is_answered(alloc: Global, text: &[u8]) -> Row {
     };
     places.keep_names(alloc)?;
     let mut input = Source::of(text);
-    let mut out = Out::new(Expected::new(LINES));
+    let mut out = Out::new(Expected::new(LINES.as_bytes()));
     let result = answer_lines(alloc, &places, 0, &mut input, &mut out);
     let written = out.into_inner();
     match result {

@@ -1,7 +1,5 @@
 //! Listings, reports and pictures: the whole text, or `OutOfMemory` and nothing written.
 
-use crate::expected::Expected;
-use crate::readers::{FILES, File, bytes_of, magic_of};
 use binfarce::ParseError;
 use binfarce_image::image::ImageError;
 use binfarce_tools::list::{ListError, Out, list};
@@ -10,12 +8,14 @@ use binfarce_tools::report::{ReportError, report};
 use std::alloc::{AllocError, Global};
 use test_image_samples::file_beside;
 use test_image_samples::tally::{Row, Tally};
-use test_samples::macho::MACHO;
+use test_samples::expected::Expected;
+use test_samples::files::{FILES, File};
+use test_samples::macho::{FOURTH, N_VALUE};
 use test_samples::{Patch, elf, macho, patched, pe};
 
 fn is_listed(alloc: Global, file: File, text: &str) -> Row {
-    let bytes = patched(alloc, bytes_of(file), &[magic_of(file)])?;
-    let mut out = Out::new(Expected::new(text));
+    let bytes = file.whole(alloc)?;
+    let mut out = Out::new(Expected::new(text.as_bytes()));
     let result = list(alloc, &bytes, ".text", &mut out);
     let written = out.into_inner();
     match result {
@@ -36,9 +36,9 @@ fn texts_of(file: File) -> (&'static str, &'static str) {
 
 // The one refusal in whose place `OutOfMemory` may come.
 fn is_past_the_text(alloc: Global) -> Row {
-    let past_the_text: Patch<'_> = (264, &[0, 0x12]);
-    let file = patched(alloc, &MACHO, &[macho::MAGIC, past_the_text])?;
-    let mut out = Out::new(Expected::new(""));
+    let past_the_text: Patch<'_> = (FOURTH + N_VALUE, &[0, 0x12]);
+    let file = patched(alloc, &File::Macho.whole(alloc)?, &[past_the_text])?;
+    let mut out = Out::new(Expected::new(b""));
     let result = list(alloc, &file, ".text", &mut out);
     let is_empty = out.into_inner().is_empty;
     match result {
@@ -48,9 +48,9 @@ fn is_past_the_text(alloc: Global) -> Row {
 }
 
 pub(crate) fn add_listings(alloc: Global, tally: &mut Tally) {
-    for (name, file) in &FILES {
-        let (listing, _) = texts_of(*file);
-        tally.add(name, is_listed(alloc, *file, listing));
+    for file in FILES {
+        let (listing, _) = texts_of(file);
+        tally.add(file.name(), is_listed(alloc, file, listing));
     }
     tally.add("a symbol past the text", is_past_the_text(alloc));
 }
@@ -69,7 +69,7 @@ fn is_reported(alloc: Global, file: &[u8], expected: Reported) -> Row {
         Reported::Picture(text) => text,
         Reported::TooLarge => "",
     };
-    let mut out = Out::new(Expected::new(text));
+    let mut out = Out::new(Expected::new(text.as_bytes()));
     let result = match expected {
         Reported::Picture(_) => map(alloc, file, ".text", &mut out),
         _ => report(alloc, file, ".text", &mut out),
@@ -85,7 +85,7 @@ fn is_reported(alloc: Global, file: &[u8], expected: Reported) -> Row {
 }
 
 fn is_reported_of(alloc: Global, file: File) -> Row {
-    let bytes = patched(alloc, bytes_of(file), &[magic_of(file)])?;
+    let bytes = file.whole(alloc)?;
     let (_, text) = texts_of(file);
     is_reported(alloc, &bytes, Reported::Text(text))
 }
@@ -125,8 +125,8 @@ fn is_reported_beside(alloc: Global, name: &str, expected: Reported) -> Row {
 }
 
 pub(crate) fn add_reports(alloc: Global, tally: &mut Tally) {
-    for (name, file) in &FILES {
-        tally.add(name, is_reported_of(alloc, *file));
+    for file in FILES {
+        tally.add(file.name(), is_reported_of(alloc, file));
     }
     for (name, expected) in &REPORTS {
         tally.add(name, is_reported_beside(alloc, name, *expected));

@@ -3,9 +3,9 @@
 use std::alloc::{AllocError, Global};
 use std::fs::File;
 use test_image_samples::tally::{Row, Tally};
-use test_reading::fronts::{Given, LAYOUTS, compared};
+use test_reading::fronts::{Given, compared};
 use test_reading::{all, macho, pe};
-use test_samples::elf::Layout;
+use test_samples::elf::{LAYOUTS, Layout};
 use test_samples::macho::MACHO;
 use test_samples::pe::PE;
 

@@ -1,13 +1,15 @@
 //! Refusals and empty lists: they come whichever allocation fails.
 
-use crate::expected::Expected;
-use crate::readers::{FILES, File, Symbols, bytes_of, magic_of, symbols};
+use crate::readers::{Symbols, symbols};
 use binfarce::ParseError;
 use binfarce_tools::list::{ListError, Out, list};
 use std::alloc::Global;
 use test_image_samples::tally::{Row, Tally};
-use test_samples::elf::Layout;
-use test_samples::{Patch, patched};
+use test_samples::elf::{LAYOUTS, Layout};
+use test_samples::expected::Expected;
+use test_samples::fields::{Field, sample_with};
+use test_samples::files::{FILES, File};
+use test_samples::{Patch, macho, patched, pe};
 
 const TRUNCATED: ParseError = ParseError::UnexpectedEof;
 
@@ -36,7 +38,7 @@ fn answer_to_the_first(bytes: usize, file: File) -> Counted {
 
 // Whether any number of the first bytes is answered so.
 fn are_answered(alloc: Global, file: File) -> bool {
-    let whole = bytes_of(file);
+    let whole = file.bytes();
     for bytes in 0..whole.len() {
         let answer = counted(symbols(alloc, file, &whole[..bytes], ".text"));
         if answer != answer_to_the_first(bytes, file) {
@@ -46,161 +48,61 @@ fn are_answered(alloc: Global, file: File) -> bool {
     true
 }
 
-struct Changed {
-    what: &'static str,
-    file: File,
-    patches: &'static [Patch<'static>],
-    section: &'static str,
-    answer: Counted,
-}
-
-const CHANGED: [Changed; 17] = [
-    Changed {
-        what: "a table of 2^64 - 1 bytes in ELF64, little endian",
-        file: File::Elf(Layout::Elf64Little),
-        patches: &[(427, &[0xFF; 8])],
-        section: ".text",
-        answer: Err(MALFORMED),
-    },
-    Changed {
-        what: "a table of 2^64 - 1 bytes in ELF64, big endian",
-        file: File::Elf(Layout::Elf64Big),
-        patches: &[(427, &[0xFF; 8])],
-        section: ".text",
-        answer: Err(MALFORMED),
-    },
-    Changed {
-        what: "a table of 2^32 - 1 bytes in ELF32, little endian",
-        file: File::Elf(Layout::Elf32Little),
-        patches: &[(315, &[0xFF; 4])],
-        section: ".text",
-        answer: Err(TRUNCATED),
-    },
-    Changed {
-        what: "a table of 2^32 - 1 bytes in ELF32, big endian",
-        file: File::Elf(Layout::Elf32Big),
-        patches: &[(315, &[0xFF; 4])],
-        section: ".text",
-        answer: Err(TRUNCATED),
-    },
-    Changed {
-        what: "2^32 - 1 rows in Mach-O",
-        file: File::Macho,
-        patches: &[(196, &[0xFF; 4])],
-        section: "",
-        answer: Err(TRUNCATED),
-    },
-    Changed {
-        what: "2^32 - 1 bytes of strings in Mach-O",
-        file: File::Macho,
-        patches: &[(204, &[0xFF; 4])],
-        section: "",
-        answer: Err(TRUNCATED),
-    },
-    Changed {
-        what: "a load command of size 7",
-        file: File::Macho,
-        patches: &[(188, &[7])],
-        section: "",
-        answer: Err(MALFORMED),
-    },
-    Changed {
-        what: "an empty text in Mach-O",
-        file: File::Macho,
-        patches: &[(144, &[0, 0])],
-        section: "",
-        answer: Err(MALFORMED),
-    },
-    Changed {
-        what: "2^32 - 1 rows in PE",
-        file: File::Pe,
-        patches: &[(80, &[0xFF; 4])],
-        section: "",
-        answer: Err(TRUNCATED),
-    },
-    Changed {
-        what: "6 rows in PE",
-        file: File::Pe,
-        patches: &[(80, &[6])],
-        section: "",
-        answer: Err(TRUNCATED),
-    },
-    // Empty lists.
-    Changed {
-        what: "an empty list in ELF32, little endian",
-        file: File::Elf(Layout::Elf32Little),
-        patches: &[],
-        section: ".shstrtab",
-        answer: Ok((0, 33)),
-    },
-    Changed {
-        what: "an empty list in ELF32, big endian",
-        file: File::Elf(Layout::Elf32Big),
-        patches: &[],
-        section: ".shstrtab",
-        answer: Ok((0, 33)),
-    },
-    Changed {
-        what: "an empty list in ELF64, little endian",
-        file: File::Elf(Layout::Elf64Little),
-        patches: &[],
-        section: ".shstrtab",
-        answer: Ok((0, 33)),
-    },
-    Changed {
-        what: "an empty list in ELF64, big endian",
-        file: File::Elf(Layout::Elf64Big),
-        patches: &[],
-        section: ".shstrtab",
-        answer: Ok((0, 33)),
-    },
-    Changed {
-        what: "no symbol table in Mach-O",
-        file: File::Macho,
-        patches: &[(16, &[1])],
-        section: "",
-        answer: Ok((0, 0)),
-    },
-    Changed {
-        what: "no value in the table of Mach-O",
-        file: File::Macho,
-        patches: &[
-            (216, &[0, 0]),
-            (232, &[0, 0]),
-            (248, &[0, 0]),
-            (264, &[0, 0]),
-        ],
-        section: "",
-        answer: Ok((0, 256)),
-    },
-    Changed {
-        what: "no external symbol in PE",
-        file: File::Pe,
-        patches: &[
-            (144, &[3]),
-            (162, &[3]),
-            (180, &[3]),
-            (198, &[3]),
-            (216, &[3]),
-        ],
-        section: "",
-        answer: Ok((0, 256)),
-    },
+// What is changed in the ELF sample, the section that is asked for, and what is found in ELF32 and in ELF64.
+#[rattlefmt::skip]
+const ELF: [(&str, &[(Field, u64)], &str, Counted, Counted); 2] = [
+    ("a table of the greatest size", &[(Field::ShSize(2), u64::MAX)], ".text", Err(TRUNCATED), Err(MALFORMED)),
+    ("an empty list in ELF", &[], ".shstrtab", Ok((0, 33)), Ok((0, 33))),
 ];
 
-fn is_answered(alloc: Global, row: &Changed) -> Row {
-    let file = patched(alloc, bytes_of(row.file), row.patches)?;
-    Ok(counted(symbols(alloc, row.file, &file, row.section)) == row.answer)
+// What is changed in another sample, and what is found.
+#[rattlefmt::skip]
+const OTHERS: [(&str, File, &[Patch<'static>], Counted); 9] = [
+    ("2^32 - 1 rows in Mach-O", File::Macho, &[(macho::NSYMS, &[0xFF; 4])], Err(TRUNCATED)),
+    ("2^32 - 1 bytes of strings in Mach-O", File::Macho, &[(macho::STRSIZE, &[0xFF; 4])], Err(TRUNCATED)),
+    ("a load command of size 7", File::Macho, &[(macho::CMDSIZE, &[7])], Err(MALFORMED)),
+    ("an empty text in Mach-O", File::Macho, &[(macho::SIZE, &[0, 0])], Err(MALFORMED)),
+    ("2^32 - 1 rows in PE", File::Pe, &[(pe::SYMBOLS, &[0xFF; 4])], Err(TRUNCATED)),
+    ("6 rows in PE", File::Pe, &[(pe::SYMBOLS, &[6])], Err(TRUNCATED)),
+    // Empty lists.
+    ("no symbol table in Mach-O", File::Macho, &[(macho::NCMDS, &[1])], Ok((0, 0))),
+    ("no value in the table of Mach-O", File::Macho,
+        &[(216, &[0, 0]), (232, &[0, 0]), (248, &[0, 0]), (264, &[0, 0])], Ok((0, 256))),
+    ("no external symbol in PE", File::Pe,
+        &[(144, &[3]), (162, &[3]), (180, &[3]), (198, &[3]), (216, &[3])], Ok((0, 256))),
+];
+
+fn is_answered_of_elf(
+    alloc: Global,
+    layout: Layout,
+    numbers: &[(Field, u64)],
+    section: &str,
+    answer: &Counted,
+) -> Row {
+    let file = sample_with(alloc, layout, numbers)?;
+    Ok(counted(symbols(alloc, File::Elf(layout), &file, section)) == *answer)
+}
+
+fn is_answered(alloc: Global, file: File, patches: &[Patch<'_>], answer: &Counted) -> Row {
+    let bytes = patched(alloc, file.bytes(), patches)?;
+    Ok(counted(symbols(alloc, file, &bytes, "")) == *answer)
 }
 
 pub(crate) fn add_refusals(alloc: Global, tally: &mut Tally) {
-    for row in &CHANGED {
-        tally.add(row.what, is_answered(alloc, row));
+    for (what, numbers, section, of_32, of_64) in &ELF {
+        for layout in LAYOUTS {
+            let answer = if layout.is_64() { of_64 } else { of_32 };
+            let row = is_answered_of_elf(alloc, layout, numbers, section, answer);
+            tally.add(what, row);
+        }
+    }
+    for (what, file, patches, answer) in &OTHERS {
+        tally.add(what, is_answered(alloc, *file, patches, answer));
     }
 }
 
 fn is_refused(alloc: Global, file: &[u8], refusal: ListError) -> bool {
-    let mut out = Out::new(Expected::new(""));
+    let mut out = Out::new(Expected::new(b""));
     let result = list(alloc, file, ".text", &mut out);
     let written = out.into_inner();
     result == Err(refusal) && written.is_empty
@@ -218,7 +120,7 @@ fn is_refused_of_the_first(alloc: Global, file: File, first: &[u8]) -> bool {
 
 // Whether `list` refuses any number of the first bytes that the reader refuses.
 fn are_refused(alloc: Global, file: File) -> Row {
-    let whole = patched(alloc, bytes_of(file), &[magic_of(file)])?;
+    let whole = file.whole(alloc)?;
     for bytes in 0..whole.len() {
         if !is_refused_of_the_first(alloc, file, &whole[..bytes]) {
             return Ok(false);
@@ -228,8 +130,8 @@ fn are_refused(alloc: Global, file: File) -> Row {
 }
 
 pub(crate) fn add_truncated(alloc: Global, tally: &mut Tally) {
-    for (name, file) in &FILES {
-        tally.add(name, Ok(are_answered(alloc, *file)));
-        tally.add(name, are_refused(alloc, *file));
+    for file in FILES {
+        tally.add(file.name(), Ok(are_answered(alloc, file)));
+        tally.add(file.name(), are_refused(alloc, file));
     }
 }

@@ -1,6 +1,6 @@
 //! Lists of symbols that aren't empty: the whole list, or `OutOfMemory`.
 
-use crate::readers::{FILES, File, Symbols, bytes_of, symbols};
+use crate::readers::{Symbols, symbols};
 use binfarce::ParseError;
 use binfarce::demangle::SymbolData;
 use binfarce_image::image::ImageError;
@@ -8,6 +8,7 @@ use std::alloc::{AllocError, Global};
 use test_image_samples::file_of;
 use test_image_samples::tally::{Row, Tally};
 use test_samples::elf::Layout;
+use test_samples::files::{FILES, File};
 
 // A symbol's complete and trimmed text, its address and its size.
 type Symbol = (&'static str, &'static str, u64, u64);
@@ -86,10 +87,10 @@ fn has_names(alloc: Global) -> Row {
 }
 
 pub(crate) fn add_symbols(alloc: Global, tally: &mut Tally) {
-    for (name, file) in &FILES {
-        let (expected, size) = symbols_of(*file);
-        let found = symbols(alloc, *file, bytes_of(*file), ".text");
-        tally.add(name, has_symbols(found, expected, size));
+    for file in FILES {
+        let (expected, size) = symbols_of(file);
+        let found = symbols(alloc, file, file.bytes(), ".text");
+        tally.add(file.name(), has_symbols(found, expected, size));
     }
     tally.add("a name of each kind", has_names(alloc));
 }

@@ -1,6 +1,6 @@
 //! Calls that don't allocate: these rows make no allocation at all.
 
-use crate::expected::{Expected, is_shown};
+use crate::expected::is_shown;
 use crate::names::NAMES;
 use crate::{streams, words};
 use binfarce::demangle::demangle;
@@ -8,9 +8,8 @@ use binfarce::{ByteOrder, Format, ParseError, detect_format, elf32, elf64, macho
 use binfarce_tools::list::{Out, Sink};
 use std::io;
 use test_image_samples::tally::Tally;
-use test_samples::elf::Layout;
-use test_samples::macho::MACHO;
-use test_samples::pe::PE;
+use test_samples::expected::Expected;
+use test_samples::files::{FILES, File};
 
 fn has_header_32(header: elf32::Elf32Header) -> bool {
     header.elf_type == 1
@@ -117,17 +116,20 @@ fn is_pe(file: &[u8]) -> Result<bool, ParseError> {
     Ok(is_text && is_found && is_shown(&pe.header(), HEADER))
 }
 
+fn is_read(file: File) -> Result<bool, ParseError> {
+    let bytes = file.bytes();
+    match file {
+        File::Elf(layout) if layout.is_64() => is_elf64(bytes, layout.order()),
+        File::Elf(layout) => is_elf32(bytes, layout.order()),
+        File::Macho => is_macho(bytes),
+        File::Pe => is_pe(bytes),
+    }
+}
+
 fn add_readers(tally: &mut Tally) {
-    let elf32_little = is_elf32(Layout::Elf32Little.bytes(), ByteOrder::LittleEndian);
-    tally.add("ELF32, little endian", Ok(elf32_little == Ok(true)));
-    let elf32_big = is_elf32(Layout::Elf32Big.bytes(), ByteOrder::BigEndian);
-    tally.add("ELF32, big endian", Ok(elf32_big == Ok(true)));
-    let elf64_little = is_elf64(Layout::Elf64Little.bytes(), ByteOrder::LittleEndian);
-    tally.add("ELF64, little endian", Ok(elf64_little == Ok(true)));
-    let elf64_big = is_elf64(Layout::Elf64Big.bytes(), ByteOrder::BigEndian);
-    tally.add("ELF64, big endian", Ok(elf64_big == Ok(true)));
-    tally.add("Mach-O", Ok(is_macho(&MACHO) == Ok(true)));
-    tally.add("PE", Ok(is_pe(&PE) == Ok(true)));
+    for file in FILES {
+        tally.add(file.name(), Ok(is_read(file) == Ok(true)));
+    }
 }
 
 // A writer that takes nothing.
@@ -145,7 +147,7 @@ impl io::Write for Full {
 }
 
 fn is_taken() -> bool {
-    let mut out = Out::new(Expected::new("ab"));
+    let mut out = Out::new(Expected::new(b"ab"));
     let is_taken = !out.failed() && out.write(b"ab") == Some(2) && !out.failed();
     is_taken && out.into_inner().is_whole()
 }

@@ -1,4 +1,4 @@
-//! Tests of sections and of files read at offsets, and what `test_memory` too asks of them while one allocation fails.
+//! Tests of files read at offsets, and what `test_memory` too asks of them while one allocation fails.
 #![tactic(auto)]
 
 pub mod all;
@@ -6,8 +6,5 @@ mod expected;
 pub mod fronts;
 pub mod macho;
 pub mod pe;
-pub mod rows;
-#[cfg(test)]
-mod sections;
 #[cfg(test)]
 mod tests;

@@ -1,8 +1,6 @@
 //! The same question of a PE file to both fronts.
 
-use crate::fronts::{Given, is_same};
-use binfarce_bytes::ParseError;
-use binfarce_bytes::functions::FunctionSymbol;
+use crate::fronts::{Given, beside_whole};
 use binfarce_bytes::source::Source;
 use binfarce_reading::ReadError;
 use std::alloc::Global;
@@ -15,37 +13,9 @@ pub fn compared<S: Source>(alloc: Global, file: &[u8], source: &S) -> Given {
     };
     match binfarce_reading::pe::read(alloc, source) {
         Ok(parts) => match parts.functions(alloc) {
-            Ok(answer) => beside(whole, Ok(answer)),
-            Err(ParseError::OutOfMemory) => Given::OutOfMemory,
-            Err(_) => Given::Other,
+            Ok(answer) => beside_whole(&whole, &Ok(answer)),
+            Err(e) => beside_whole(&whole, &Err(ReadError::Refused(e))),
         },
-        Err(e) => beside(whole, Err(e)),
+        Err(e) => beside_whole(&whole, &Err(e)),
     }
-}
-
-fn beside(
-    whole: Result<(Vec<FunctionSymbol<'_>>, u64), ParseError>,
-    parts: Result<(Vec<FunctionSymbol<'_>>, u64), ReadError>,
-) -> Given {
-    let is_same = match (whole, parts) {
-        (_, Err(ReadError::Unreadable)) => return Given::Unreadable,
-        (_, Err(ReadError::OutOfMemory)) => return Given::OutOfMemory,
-        (Err(ParseError::OutOfMemory), _) => return Given::OutOfMemory,
-        (Ok((a, size)), Ok((b, other))) => size == other && are_same(&a, &b),
-        (Err(a), Err(ReadError::Refused(b))) => a == b,
-        _ => false,
-    };
-    if is_same { Given::Same } else { Given::Other }
-}
-
-fn are_same(these: &[FunctionSymbol<'_>], those: &[FunctionSymbol<'_>]) -> bool {
-    if these.len() != those.len() {
-        return false;
-    }
-    for at in 0..these.len() {
-        if !is_same(these[at], those[at]) {
-            return false;
-        }
-    }
-    true
 }

@@ -3,7 +3,8 @@
 //! A file header, the bodies of the sections in order without padding, and the section headers in order. Of the symbol
 //! table's five rows the first alone is a function of `.text` with a size and a name.
 
-use crate::Patch;
+use crate::fields::Field;
+use binfarce_bytes::ByteOrder;
 
 /// What is listed of the file.
 pub const LISTING: &str = "0000000000001000         16 foo\ntext 32\n";
@@ -17,6 +18,18 @@ pub enum Layout {
     Elf64Big,
 }
 
+/// All layouts.
+pub const LAYOUTS: [Layout; 4] = [
+    Layout::Elf32Little,
+    Layout::Elf32Big,
+    Layout::Elf64Little,
+    Layout::Elf64Big,
+];
+
+const LAYOUTS_32: &[Layout] = &[Layout::Elf32Little, Layout::Elf32Big];
+
+const LAYOUTS_64: &[Layout] = &[Layout::Elf64Little, Layout::Elf64Big];
+
 impl Layout {
     /// The file.
     pub fn bytes(self) -> &'static [u8] {
@@ -27,121 +40,52 @@ impl Layout {
             Layout::Elf64Big => &ELF64_BIG,
         }
     }
+
+    /// Whether it is of the class of 64 bits.
+    pub fn is_64(self) -> bool {
+        match self {
+            Layout::Elf32Little | Layout::Elf32Big => false,
+            Layout::Elf64Little | Layout::Elf64Big => true,
+        }
+    }
+
+    /// The byte order.
+    pub fn order(self) -> ByteOrder {
+        match self {
+            Layout::Elf32Little | Layout::Elf64Little => ByteOrder::LittleEndian,
+            Layout::Elf32Big | Layout::Elf64Big => ByteOrder::BigEndian,
+        }
+    }
 }
 
-/// A file whose `.text` has no symbols to list: what is wrong, the layout, the bytes that are changed, and the words of
-/// the refusal.
+/// A file whose `.text` has no symbols to list: what is wrong, in which layouts, the fields that are changed, and the words
+/// of the refusal.
 pub type Refused = (
     &'static str,
-    Layout,
-    &'static [Patch<'static>],
+    &'static [Layout],
+    &'static [(Field, u64)],
     &'static str,
 );
 
-/// Files that are refused, the refusals in their order, and then the greatest sizes that a header can hold.
-pub const REFUSED: [Refused; 17] = [
-    (
-        "section names in section 5 of 5",
-        Layout::Elf64Little,
-        &[(62, &[5])],
-        "symbols section is missing",
-    ),
-    (
-        "section names in section 5 of 5",
-        Layout::Elf64Big,
-        &[(63, &[5])],
-        "symbols section is missing",
-    ),
-    (
-        "no symbol table",
-        Layout::Elf64Little,
-        &[(399, &[1])],
-        "section .symtab is missing",
-    ),
-    (
-        "no linked section",
-        Layout::Elf64Little,
-        &[(435, &[9])],
-        "section .strtab is missing",
-    ),
-    (
-        "a linked section of another type",
-        Layout::Elf64Little,
-        &[(435, &[1])],
-        "expected section type 3 but found 1",
-    ),
-    (
-        "strings past all addresses",
-        Layout::Elf64Little,
-        &[(483, &[0xFF; 8])],
-        "malformed input file",
-    ),
-    (
-        "strings past the end",
-        Layout::Elf64Little,
-        &[(491, &[0, 0, 1])],
-        "unexpected end of file",
-    ),
-    (
-        "rows past all addresses",
-        Layout::Elf64Little,
-        &[(419, &[0xFF; 8])],
-        "malformed input file",
-    ),
-    (
-        "rows past the end",
-        Layout::Elf64Little,
-        &[(427, &[0, 0, 1])],
-        "unexpected end of file",
-    ),
-    (
-        "a truncated second row",
-        Layout::Elf64Little,
-        &[(427, &[47])],
-        "unexpected end of file",
-    ),
-    (
-        "a truncated second row",
-        Layout::Elf64Big,
-        &[(434, &[47])],
-        "unexpected end of file",
-    ),
-    (
-        "a truncated first row",
-        Layout::Elf32Little,
-        &[(315, &[15])],
-        "unexpected end of file",
-    ),
-    (
-        "a truncated first row",
-        Layout::Elf32Big,
-        &[(318, &[15])],
-        "unexpected end of file",
-    ),
-    (
-        "the greatest size of the table",
-        Layout::Elf32Little,
-        &[(315, &[0xFF; 4])],
-        "unexpected end of file",
-    ),
-    (
-        "the greatest size of the table",
-        Layout::Elf32Big,
-        &[(315, &[0xFF; 4])],
-        "unexpected end of file",
-    ),
-    (
-        "the greatest size of the table",
-        Layout::Elf64Little,
-        &[(427, &[0xFF; 8])],
-        "malformed input file",
-    ),
-    (
-        "the greatest size of the table",
-        Layout::Elf64Big,
-        &[(427, &[0xFF; 8])],
-        "malformed input file",
-    ),
+const END: &str = "unexpected end of file";
+
+const MALFORMED: &str = "malformed input file";
+
+/// Files that are refused, the refusals in their order, and then the greatest size that a header can hold.
+#[rattlefmt::skip]
+pub const REFUSED: [Refused; 12] = [
+    ("section names in section 5 of 5", &LAYOUTS, &[(Field::ShStrNdx, 5)], "symbols section is missing"),
+    ("no symbol table", &LAYOUTS, &[(Field::ShType(2), 1)], "section .symtab is missing"),
+    ("no linked section", &LAYOUTS, &[(Field::ShLink(2), 9)], "section .strtab is missing"),
+    ("a linked section of another type", &LAYOUTS, &[(Field::ShLink(2), 1)], "expected section type 3 but found 1"),
+    ("strings past all addresses", LAYOUTS_64, &[(Field::ShOffset(3), u64::MAX)], MALFORMED),
+    ("strings past the end", &LAYOUTS, &[(Field::ShSize(3), 0x1_0000)], END),
+    ("rows past all addresses", LAYOUTS_64, &[(Field::ShOffset(2), u64::MAX)], MALFORMED),
+    ("rows past the end", &LAYOUTS, &[(Field::ShSize(2), 0x1_0000)], END),
+    ("a truncated first row", &LAYOUTS, &[(Field::ShSize(2), 15)], END),
+    ("a truncated second row", LAYOUTS_64, &[(Field::ShSize(2), 47)], END),
+    ("the greatest size of the table", LAYOUTS_32, &[(Field::ShSize(2), u64::MAX)], END),
+    ("the greatest size of the table", LAYOUTS_64, &[(Field::ShSize(2), u64::MAX)], MALFORMED),
 ];
 
 /// The file in 32-bit form, little endian.

@@ -5,6 +5,9 @@ ghost use Rattle.std.specs.Prelude.{◌≡◌, map, set, take, IfOk};
 ghost use Rattle.test_samples.specs.Patched.{patched, patched_at};
 
 pub mod elf;
+pub mod expected;
+pub mod fields;
+pub mod files;
 pub mod interruptions;
 pub mod macho;
 pub mod pe;

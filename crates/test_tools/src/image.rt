@@ -1,8 +1,7 @@
-use binfarce::demangle::SymbolData;
-use binfarce::{ByteOrder, ParseError, elf32, elf64};
 use binfarce_image::image::{ElfLayout, Image, ImageError, Part, lay_out};
 use std::alloc::{AllocError, Global};
 use test_image_samples::{LAYOUTS, bytes, linked_sample, sample, sample_rows, table};
+use test_samples::fields::{Field, sample_with};
 
 fn no_parts(alloc: Global, names_at: u16) -> Image {
     Image {
@@ -16,119 +15,23 @@ fn push(image: &mut Image, part: Result<Part, AllocError>) -> Result<(), AllocEr
     Ok(())
 }
 
+// The links of the symbol table: to the sample's strings, to another section, and to none.
+const LINKS: [u32; 3] = [3, 1, 5];
+
 #[test]
-fn lays_out_the_sample(rt: HostRuntime) -> Result<(), AllocError> {
-    let image = sample(rt.alloc())?;
-    for (layout, file) in &LAYOUTS {
-        match lay_out(rt.alloc(), &image, *layout) {
-            Ok(bytes) => assert!(&rt; bytes.as_slice() == file.bytes(), "{layout:?}"),
-            Err(e) => assert!(&rt; false, "{layout:?}: {e}"),
+fn lays_out_the_sample(rt: HostRuntime) -> Result<(), ImageError> {
+    for link in LINKS {
+        let image = linked_sample(rt.alloc(), link)?;
+        for (layout, sample) in LAYOUTS {
+            let file = lay_out(rt.alloc(), &image, layout)?;
+            let want = sample_with(rt.alloc(), sample, &[(Field::ShLink(2), u64::from(link))])?;
+            assert!(&rt;
+                file.as_slice() == want.as_slice(),
+                "{layout:?}, link {link}"
+            );
         }
     }
     Ok(())
-}
-
-type Symbols = Result<(Vec<SymbolData>, u64), ParseError>;
-
-fn symbols_32(alloc: Global, file: &[u8], order: ByteOrder, name: &str) -> Symbols {
-    match elf32::parse(file, order) {
-        Err(e) => Err(e),
-        Ok(elf) => elf.symbols(alloc, name),
-    }
-}
-
-fn symbols_64(alloc: Global, file: &[u8], order: ByteOrder, name: &str) -> Symbols {
-    match elf64::parse(file, order) {
-        Err(e) => Err(e),
-        Ok(elf) => elf.symbols(alloc, name),
-    }
-}
-
-fn symbols(alloc: Global, file: &[u8], layout: ElfLayout, name: &str) -> Symbols {
-    match layout {
-        ElfLayout::Elf32Little => symbols_32(alloc, file, ByteOrder::LittleEndian, name),
-        ElfLayout::Elf32Big => symbols_32(alloc, file, ByteOrder::BigEndian, name),
-        ElfLayout::Elf64Little => symbols_64(alloc, file, ByteOrder::LittleEndian, name),
-        ElfLayout::Elf64Big => symbols_64(alloc, file, ByteOrder::BigEndian, name),
-    }
-}
-
-// How many symbols a section has, and how large it is.
-type Counted = Result<(usize, u64), ParseError>;
-
-fn counted(alloc: Global, file: &[u8], layout: ElfLayout, name: &str) -> Counted {
-    match symbols(alloc, file, layout, name) {
-        Err(e) => Err(e),
-        Ok((symbols, size)) => Ok((symbols.len(), size)),
-    }
-}
-
-// The first layout in which this is read of the image, or the first in which something else is.
-fn first_layout(
-    alloc: Global,
-    image: &Image,
-    name: &str,
-    read: &Counted,
-    is_read: bool,
-) -> Result<Option<ElfLayout>, ImageError> {
-    for (layout, _) in &LAYOUTS {
-        let file = lay_out(alloc, image, *layout)?;
-        if (counted(alloc, &file, *layout, name) == *read) == is_read {
-            return Ok(Some(*layout));
-        }
-    }
-    Ok(None)
-}
-
-// The section that is asked for, and what is read of the sample in all layouts.
-const INTACT: [(&str, Counted); 3] = [
-    (".text", Ok((1, 32))),
-    (".shstrtab", Ok((0, 33))),
-    ("text", Err(ParseError::SymbolsSectionIsMissing)),
-];
-
-#[test]
-fn reads_back_in_every_layout(rt: HostRuntime) -> Result<(), ImageError> {
-    let image = sample(rt.alloc())?;
-    for (name, want) in &INTACT {
-        let other = first_layout(rt.alloc(), &image, name, want, false)?;
-        assert!(&rt; other.is_none(), "{name}: {other:?}");
-    }
-    Ok(())
-}
-
-// The link of the table, and what is read of `.text` in all layouts, and with the sample's link in none.
-const LINKS: [(u32, Counted); 2] = [
-    (
-        1,
-        Err(ParseError::UnexpectedSectionType {
-            expected: 3,
-            actual: 1,
-        }),
-    ),
-    (5, Err(ParseError::SectionIsMissing(".strtab"))),
-];
-
-#[test]
-fn reads_back_the_link(rt: HostRuntime) -> Result<(), ImageError> {
-    let intact = sample(rt.alloc())?;
-    for (link, want) in &LINKS {
-        let image = linked_sample(rt.alloc(), *link)?;
-        let other = first_layout(rt.alloc(), &image, ".text", want, false)?;
-        assert!(&rt; other.is_none(), "link {link}: {other:?}");
-        let same = first_layout(rt.alloc(), &intact, ".text", want, true)?;
-        assert!(&rt; same.is_none(), "not link {link}: {same:?}");
-    }
-    Ok(())
-}
-
-// Outside the law: the size of the table itself depends on the class.
-#[test]
-fn the_table_has_the_size_of_its_class(rt: HostRuntime) {
-    for ((layout, sample), size) in LAYOUTS.iter().zip([80, 80, 120, 120]) {
-        let read = counted(rt.alloc(), sample.bytes(), *layout, ".symtab");
-        assert!(&rt; read == Ok((1, size)), "{layout:?}");
-    }
 }
 
 // The sample, whose section names are said to be in this part.

@@ -1,11 +1,7 @@
-//! Tests of listings, reports, charts, addresses and images.
+//! Tests of listings, reports, pictures and images.
 #![tactic(auto)]
 
 #[cfg(test)]
-mod addresses;
-#[cfg(test)]
 mod image;
-#[cfg(test)]
-mod map;
 #[cfg(test)]
 mod tools;

@@ -38,6 +38,8 @@ pub mod test_image_samples;
 #[cfg(test)]
 pub mod test_reading;
 #[cfg(test)]
+pub mod test_lookups;
+#[cfg(test)]
 pub mod test_memory;
 #[cfg(test)]
 pub mod test_names;

@@ -5,8 +5,6 @@
 #[cfg(test)]
 mod elf;
 #[cfg(test)]
-mod macho;
+mod macho_pe;
 #[cfg(test)]
 mod parts;
-#[cfg(test)]
-mod pe;

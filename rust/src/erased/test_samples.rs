@@ -3,6 +3,9 @@
 //! Small executables, byte by byte, for tests of what reads them.
 
 pub mod elf;
+pub mod expected;
+pub mod fields;
+pub mod files;
 pub mod interruptions;
 pub mod macho;
 pub mod pe;

@@ -1,12 +1,11 @@
 //! The file header.
 
-use super::{Class, class_of, order_of};
 use binfarce::{elf32, elf64};
 use std::alloc::{AllocError, Global};
 use std::test::Fail;
-use test_samples::Patch;
-use test_samples::elf::Layout;
-use test_samples::question::{Question, wrong_with};
+use test_samples::elf::{LAYOUTS, Layout};
+use test_samples::fields::HEADER;
+use test_samples::question::{Question, wrong_with_fields};
 
 // All fields of the file header, or the words of the refusal.
 #[derive(Clone, Copy)]
@@ -15,14 +14,14 @@ struct Header {
 }
 
 fn header_32(alloc: Global, layout: Layout, file: &[u8]) -> Result<String, AllocError> {
-    match elf32::parse(file, order_of(layout)) {
+    match elf32::parse(file, layout.order()) {
         Err(error) => format!(in alloc; "{error}"),
         Ok(elf) => format!(in alloc; "{:?}", elf.header()),
     }
 }
 
 fn header_64(alloc: Global, layout: Layout, file: &[u8]) -> Result<String, AllocError> {
-    match elf64::parse(file, order_of(layout)) {
+    match elf64::parse(file, layout.order()) {
         Err(error) => format!(in alloc; "{error}"),
         Ok(elf) => format!(in alloc; "{:?}", elf.header()),
     }
@@ -30,97 +29,46 @@ fn header_64(alloc: Global, layout: Layout, file: &[u8]) -> Result<String, Alloc
 
 impl Question for Header {
     fn answer(&self, alloc: Global, file: &[u8]) -> Result<String, AllocError> {
-        match class_of(self.layout) {
-            Class::Elf32 => header_32(alloc, self.layout, file),
-            Class::Elf64 => header_64(alloc, self.layout, file),
+        if self.layout.is_64() {
+            header_64(alloc, self.layout, file)
+        } else {
+            header_32(alloc, self.layout, file)
         }
     }
 }
 
-// The fields of each header at their offsets and in their widths, no two bytes the same.
-const PATCHES_32_LITTLE: [Patch<'static>; 13] = [
-    (16, &[1, 2]),
-    (18, &[3, 4]),
-    (20, &[5, 6, 7, 8]),
-    (24, &[9, 10, 11, 12]),
-    (28, &[13, 14, 15, 16]),
-    (32, &[17, 18, 19, 20]),
-    (36, &[21, 22, 23, 24]),
-    (40, &[25, 26]),
-    (42, &[27, 28]),
-    (44, &[29, 30]),
-    (46, &[31, 32]),
-    (48, &[33, 34]),
-    (50, &[35, 36]),
-];
-
-const PATCHES_32_BIG: [Patch<'static>; 13] = [
-    (16, &[2, 1]),
-    (18, &[4, 3]),
-    (20, &[8, 7, 6, 5]),
-    (24, &[12, 11, 10, 9]),
-    (28, &[16, 15, 14, 13]),
-    (32, &[20, 19, 18, 17]),
-    (36, &[24, 23, 22, 21]),
-    (40, &[26, 25]),
-    (42, &[28, 27]),
-    (44, &[30, 29]),
-    (46, &[32, 31]),
-    (48, &[34, 33]),
-    (50, &[36, 35]),
-];
-
-const PATCHES_64_LITTLE: [Patch<'static>; 13] = [
-    (16, &[1, 2]),
-    (18, &[3, 4]),
-    (20, &[5, 6, 7, 8]),
-    (24, &[9, 10, 11, 12, 13, 14, 15, 16]),
-    (32, &[17, 18, 19, 20, 21, 22, 23, 24]),
-    (40, &[25, 26, 27, 28, 29, 30, 31, 32]),
-    (48, &[33, 34, 35, 36]),
-    (52, &[37, 38]),
-    (54, &[39, 40]),
-    (56, &[41, 42]),
-    (58, &[43, 44]),
-    (60, &[45, 46]),
-    (62, &[47, 48]),
-];
-
-const PATCHES_64_BIG: [Patch<'static>; 13] = [
-    (16, &[2, 1]),
-    (18, &[4, 3]),
-    (20, &[8, 7, 6, 5]),
-    (24, &[16, 15, 14, 13, 12, 11, 10, 9]),
-    (32, &[24, 23, 22, 21, 20, 19, 18, 17]),
-    (40, &[32, 31, 30, 29, 28, 27, 26, 25]),
-    (48, &[36, 35, 34, 33]),
-    (52, &[38, 37]),
-    (54, &[40, 39]),
-    (56, &[42, 41]),
-    (58, &[44, 43]),
-    (60, &[46, 45]),
-    (62, &[48, 47]),
+// A number for each field, no two bytes the same, of which a field has the low ones.
+const NUMBERS: [u64; 13] = [
+    0x0201,
+    0x0403,
+    0x0807_0605,
+    0x100F_0E0D_0C0B_0A09,
+    0x1817_1615_1413_1211,
+    0x201F_1E1D_1C1B_1A19,
+    0x2423_2221,
+    0x2625,
+    0x2827,
+    0x2A29,
+    0x2C2B,
+    0x2E2D,
+    0x302F,
 ];
 
 const TEXT_32: &str =
-    "Elf32Header { elf_type: 513, machine: 1027, version: 134678021, entry: 202050057, phoff: 269422093, shoff: 336794129, flags: 404166165, ehsize: 6681, phentsize: 7195, phnum: 7709, shentsize: 8223, shnum: 8737, shstrndx: 9251 }";
+    "Elf32Header { elf_type: 513, machine: 1027, version: 134678021, entry: 202050057, phoff: 336794129, shoff: 471538201, flags: 606282273, ehsize: 9765, phentsize: 10279, phnum: 10793, shentsize: 11307, shnum: 11821, shstrndx: 12335 }";
 
 const TEXT_64: &str =
     "Elf64Header { elf_type: 513, machine: 1027, version: 134678021, entry: 1157159078456920585, phoff: 1735880461161533969, shoff: 2314601843866147353, flags: 606282273, ehsize: 9765, phentsize: 10279, phnum: 10793, shentsize: 11307, shnum: 11821, shstrndx: 12335 }";
 
-// The fields that are written, and all fields as they are read.
-const HEADERS: [(Layout, &[Patch<'static>], &str); 4] = [
-    (Layout::Elf32Little, &PATCHES_32_LITTLE, TEXT_32),
-    (Layout::Elf32Big, &PATCHES_32_BIG, TEXT_32),
-    (Layout::Elf64Little, &PATCHES_64_LITTLE, TEXT_64),
-    (Layout::Elf64Big, &PATCHES_64_BIG, TEXT_64),
-];
-
 #[test]
 fn headers(rt: HostRuntime) -> Result<(), Fail> {
-    for (layout, patches, text) in &HEADERS {
-        let question = Header { layout: *layout };
-        let wrong = wrong_with(rt.alloc(), &question, layout.bytes(), patches, text)?;
+    let mut numbers = Vec::new(rt.alloc());
+    for (field, number) in HEADER.iter().zip(NUMBERS) {
+        numbers.push((*field, number))?;
+    }
+    for layout in LAYOUTS {
+        let text = if layout.is_64() { TEXT_64 } else { TEXT_32 };
+        let wrong = wrong_with_fields(rt.alloc(), &Header { layout }, layout, &numbers, text)?;
         assert!(rt; wrong.is_none(), "{layout:?}: {wrong:?}");
     }
     Ok(())

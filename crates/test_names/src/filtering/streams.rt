@@ -24,15 +24,6 @@ fn written(
     (ended, target.taken)
 }
 
-fn takes(alloc: Global, most: usize) -> Target {
-    Target {
-        taken: Vec::new(alloc),
-        left: usize::MAX,
-        most,
-        end: None,
-    }
-}
-
 #[test]
 fn short_reads_and_writes(rt: HostRuntime) -> Result<(), AllocError> {
     for most in 1..TEXT.len() + 1 {
@@ -40,7 +31,7 @@ fn short_reads_and_writes(rt: HostRuntime) -> Result<(), AllocError> {
             most,
             ..Source::of(TEXT)
         };
-        let (ended, taken) = written(rt.alloc(), source, takes(rt.alloc(), most));
+        let (ended, taken) = written(rt.alloc(), source, Target::taking(rt.alloc(), most));
         assert!(&rt; ended == Ok(()), "{most}");
         assert!(&rt; taken.as_slice() == SHOWN, "{most}");
     }
@@ -61,7 +52,7 @@ fn failed_reads(rt: HostRuntime) -> Result<(), AllocError> {
             end: Some(ErrorKind::Other),
             ..Source::of(&TEXT[..*came])
         };
-        let (ended, taken) = written(rt.alloc(), source, takes(rt.alloc(), usize::MAX));
+        let (ended, taken) = written(rt.alloc(), source, Target::taking(rt.alloc(), usize::MAX));
         assert!(&rt; ended == Err(StreamError::Read), "{came}");
         assert!(&rt; taken.as_slice() == *want, "{came}");
     }
@@ -76,7 +67,7 @@ fn failed_writes(rt: HostRuntime) -> Result<(), AllocError> {
             let target = Target {
                 left,
                 end,
-                ..takes(rt.alloc(), usize::MAX)
+                ..Target::taking(rt.alloc(), usize::MAX)
             };
             let (ended, taken) = written(rt.alloc(), Source::of(TEXT), target);
             assert!(&rt; ended == Err(StreamError::Write), "{left}");
@@ -92,7 +83,7 @@ fn interrupted_reads_and_writes(rt: HostRuntime) -> Result<(), AllocError> {
     let unflushed = Cell::new(0);
     let mut source = InterruptedSource::of(TEXT, &unflushed);
     let mut target = InterruptedTarget {
-        target: takes(rt.alloc(), 1),
+        target: Target::taking(rt.alloc(), 1),
         was_interrupted: false,
         unflushed: &unflushed,
         flush_error: None,
@@ -112,7 +103,7 @@ fn failed_flushes(rt: HostRuntime) -> Result<(), AllocError> {
         let unflushed = Cell::new(0);
         let mut source = Source::of(text);
         let mut target = InterruptedTarget {
-            target: takes(rt.alloc(), usize::MAX),
+            target: Target::taking(rt.alloc(), usize::MAX),
             was_interrupted: true,
             unflushed: &unflushed,
             flush_error: Some(ErrorKind::Other),
@@ -130,11 +121,19 @@ fn longest_names(rt: HostRuntime) -> Result<(), AllocError> {
     text.resize(MAX_RUN - 8, b'0')?;
     text.extend_from_slice(b"3foo1bE.")?;
     text.extend_from_slice(b"+1")?;
-    let (ended, taken) = written(rt.alloc(), Source::of(&text), takes(rt.alloc(), usize::MAX));
+    let (ended, taken) = written(
+        rt.alloc(),
+        Source::of(&text),
+        Target::taking(rt.alloc(), usize::MAX),
+    );
     assert!(&rt; ended == Ok(()));
     assert!(&rt; taken.as_slice() == b"foo.+1".as_slice());
     text.insert(3, b'0')?;
-    let (_, taken) = written(rt.alloc(), Source::of(&text), takes(rt.alloc(), usize::MAX));
+    let (_, taken) = written(
+        rt.alloc(),
+        Source::of(&text),
+        Target::taking(rt.alloc(), usize::MAX),
+    );
     assert!(&rt; taken.as_slice() == text.as_slice());
     Ok(())
 }

@@ -190,13 +190,7 @@ fn keeps_500_levels(rt: HostRuntime) -> Result<(), Fail> {
 fn keeps_500_levels_of_the_reading(rt: HostRuntime) -> Result<(), Fail> {
     let alloc = rt.alloc();
     let name = in_slices(alloc, "_RMC0RL0_", 497, "u")?;
-    check_text(
-        &rt,
-        alloc,
-        name.as_str(),
-        "<&'? ?>",
-        "a reading of 500 levels",
-    )?;
+    check_text(&rt, alloc, name.as_str(), "<&'? ?>", "500 levels read")?;
     let past = in_slices(alloc, "_RMC0RL0_", 498, "u")?;
     check_unknown(&rt, alloc, past.as_str(), "a reading of 501 levels")
 }
@@ -205,13 +199,7 @@ fn keeps_500_levels_of_the_reading(rt: HostRuntime) -> Result<(), Fail> {
 fn keeps_500_levels_of_the_second_path(rt: HostRuntime) -> Result<(), Fail> {
     let alloc = rt.alloc();
     let name = in_slices(alloc, "_RC1aMC0", 498, "u")?;
-    check_text(
-        &rt,
-        alloc,
-        name.as_str(),
-        "a[0]",
-        "a second path of 500 levels",
-    )?;
+    check_text(&rt, alloc, name.as_str(), "a[0]", "500 levels, second path")?;
     let past = in_slices(alloc, "_RC1aMC0", 499, "u")?;
     check_unknown(&rt, alloc, past.as_str(), "a second path of 501 levels")
 }
@@ -229,13 +217,7 @@ fn counts_levels_in_targets(rt: HostRuntime) -> Result<(), Fail> {
     let second = slices_text(alloc, 496)?;
     let text = format!(in alloc; "<({first}, {second})>")?;
     let name = shared_slices(alloc, 196)?;
-    check_text(
-        &rt,
-        alloc,
-        name.as_str(),
-        text.as_str(),
-        "500 levels by a back reference, 802 steps",
-    )?;
+    check_text(&rt, alloc, name.as_str(), text.as_str(), "802 steps")?;
     let past = shared_slices(alloc, 197)?;
     check_unknown(&rt, alloc, past.as_str(), "501 levels by a back reference")
 }
@@ -289,12 +271,7 @@ fn counts_announced_lifetimes(rt: HostRuntime) -> Result<(), Fail> {
         alloc,
         "_RMIC1aFGh2V_EuEu",
         "<()>",
-        "65,536 steps in a dropped impl path",
+        "65,536 steps, dropped",
     )?;
-    check_unknown(
-        &rt,
-        alloc,
-        "_RMIC1aFGh2W_EuEu",
-        "65,537 steps in a dropped impl path",
-    )
+    check_unknown(&rt, alloc, "_RMIC1aFGh2W_EuEu", "65,537 steps, dropped")
 }

@@ -1,22 +1,80 @@
-//! Files with other bytes: each of few bytes everywhere, and tables that lie where they shouldn't.
+//! Every prefix of each sample and of files that are refused, and files with other bytes everywhere.
 
-use super::SECTIONS;
-use crate::fronts::{Given, LAYOUTS, compared};
+use super::samples;
+use crate::fronts::{Given, compared_of};
+use crate::macho::SAID;
 use std::alloc::{AllocError, Global};
 use std::test::Fail;
-use test_samples::elf::Layout;
-use test_samples::{Patch, patched};
+use test_samples::elf::REFUSED as REFUSED_ELF;
+use test_samples::fields::sample_with;
+use test_samples::files::File;
+use test_samples::macho::{MACHO, REFUSED as REFUSED_MACHO};
+use test_samples::pe::{PE, REFUSED as REFUSED_PE};
+use test_samples::{first_bytes, patched};
 
-/// Bytes that stand in place of others: none, the least, and the greatest of each width.
-pub(super) const BYTES: [&[u8]; 5] = [&[0], &[1], &[0xFF; 2], &[0xFF; 4], &[0xFF; 8]];
+// The sections that are asked for: one with functions, one with none, and none.
+const SECTIONS: [&str; 3] = [".text", ".shstrtab", "nope"];
+
+// The first number of bytes of which a part gives another answer.
+fn other_prefix(alloc: Global, kind: File, file: &[u8], section: &str) -> Option<usize> {
+    for count in 0..file.len().saturating_add(1) {
+        let part = first_bytes(file, count);
+        if compared_of(alloc, kind, part, &part, section) != Given::Same {
+            return Some(count);
+        }
+    }
+    None
+}
+
+#[test]
+fn prefixes_of_samples(rt: HostRuntime) -> Result<(), Fail> {
+    for sample in &samples(rt.alloc())? {
+        for section in SECTIONS {
+            let other = other_prefix(rt.alloc(), sample.kind, &sample.bytes, section);
+            assert!(rt; other.is_none(), "{:?}, {section}: {other:?}", sample.kind);
+        }
+    }
+    Ok(())
+}
+
+#[test]
+fn prefixes_of_refused_files(rt: HostRuntime) -> Result<(), Fail> {
+    for (what, layouts, numbers, _) in &REFUSED_ELF {
+        for layout in layouts.iter() {
+            let file = sample_with(rt.alloc(), *layout, numbers)?;
+            let other = other_prefix(rt.alloc(), File::Elf(*layout), &file, ".text");
+            assert!(rt; other.is_none(), "{layout:?}, {what}: {other:?}");
+        }
+    }
+    for (what, patches, _) in &REFUSED_MACHO {
+        for sample in [MACHO.as_slice(), &patched(rt.alloc(), &MACHO, &[SAID])?] {
+            let file = patched(rt.alloc(), sample, patches)?;
+            let other = other_prefix(rt.alloc(), File::Macho, &file, "");
+            assert!(rt; other.is_none(), "Mach-O, {what}: {other:?}");
+        }
+    }
+    for (what, patches, _) in &REFUSED_PE {
+        let file = patched(rt.alloc(), &PE, patches)?;
+        let other = other_prefix(rt.alloc(), File::Pe, &file, "");
+        assert!(rt; other.is_none(), "PE, {what}: {other:?}");
+    }
+    Ok(())
+}
+
+// Bytes that are written over others: none, the least, and the greatest of each width.
+const BYTES: [&[u8]; 5] = [&[0], &[1], &[0xFF; 2], &[0xFF; 4], &[0xFF; 8]];
 
 // The first offset at which these bytes give another answer.
-fn other_offset(alloc: Global, layout: Layout, bytes: &[u8]) -> Result<Option<usize>, AllocError> {
-    let file = layout.bytes();
+fn other_offset(
+    alloc: Global,
+    kind: File,
+    file: &[u8],
+    bytes: &[u8],
+) -> Result<Option<usize>, AllocError> {
     for offset in 0..file.len() {
         let changed = patched(alloc, file, &[(offset, bytes)])?;
         let whole = changed.as_slice();
-        if compared(alloc, layout, whole, &whole, ".text") != Given::Same {
+        if compared_of(alloc, kind, whole, &whole, ".text") != Given::Same {
             return Ok(Some(offset));
         }
     }
@@ -24,97 +82,12 @@ fn other_offset(alloc: Global, layout: Layout, bytes: &[u8]) -> Result<Option<us
 }
 
 #[test]
-fn everywhere(rt: HostRuntime) -> Result<(), Fail> {
-    for layout in LAYOUTS {
+fn other_bytes_everywhere(rt: HostRuntime) -> Result<(), Fail> {
+    for sample in &samples(rt.alloc())? {
         for bytes in BYTES {
-            let other = other_offset(rt.alloc(), layout, bytes)?;
-            assert!(rt; other.is_none(), "{layout:?}, {bytes:?}: {other:?}");
+            let other = other_offset(rt.alloc(), sample.kind, &sample.bytes, bytes)?;
+            assert!(rt; other.is_none(), "{:?}, {bytes:?}: {other:?}", sample.kind);
         }
     }
-    Ok(())
-}
-
-// What is changed of the 64-bit sample, and how.
-type Row = (&'static str, &'static [Patch<'static>]);
-
-// The header's place of the section headers at 40, their count at 60, the index of the names at 62; the section headers
-// at 267, of 64 bytes: of `.text` at 331, of the symbols at 395, of their strings at 459, of the names at 523. In each the
-// offset at 24 and the size at 32.
-const OVERLAPPING: [Row; 7] = [
-    ("strings that are the symbols", &[(483, &[96])]),
-    ("strings that are the section names", &[(483, &[234])]),
-    (
-        "symbols that are the section headers",
-        &[(419, &[11, 1]), (427, &[216])],
-    ),
-    ("symbols that are the strings", &[(419, &[216])]),
-    ("names that are the strings", &[(547, &[216])]),
-    (
-        "names that are the section headers",
-        &[(547, &[11, 1]), (555, &[0x40, 1])],
-    ),
-    (
-        "section headers that are the file",
-        &[(40, &[0, 0]), (60, &[9, 0])],
-    ),
-];
-
-const AT_THE_END: [Row; 8] = [
-    ("section headers at the last byte", &[(40, &[74, 2])]),
-    ("section headers at the end", &[(40, &[75, 2])]),
-    ("section headers past all bytes", &[(40, &[0xFF; 8])]),
-    ("strings up to the end", &[(491, &[115, 1])]),
-    ("strings past the end by a byte", &[(491, &[116, 1])]),
-    ("symbols from the end on", &[(419, &[75, 2]), (427, &[0])]),
-    ("names up to the end", &[(555, &[97, 1])]),
-    ("names past the end by a byte", &[(555, &[98, 1])]),
-];
-
-const EMPTY: [Row; 7] = [
-    ("no symbols", &[(427, &[0])]),
-    ("no strings", &[(491, &[0])]),
-    ("no names", &[(555, &[0])]),
-    ("no section headers", &[(60, &[0, 0])]),
-    (
-        "no section headers past the end",
-        &[(40, &[75, 2]), (60, &[0, 0])],
-    ),
-    ("names in a header past the count", &[(60, &[4, 0])]),
-    ("names in a header past the end", &[(62, &[5, 0])]),
-];
-
-// The first of the rows that gives another answer.
-fn other_row(alloc: Global, rows: &[Row]) -> Result<Option<&'static str>, AllocError> {
-    let layout = Layout::Elf64Little;
-    for (what, patches) in rows {
-        let file = patched(alloc, layout.bytes(), patches)?;
-        let whole = file.as_slice();
-        for section in SECTIONS {
-            if compared(alloc, layout, whole, &whole, section) != Given::Same {
-                return Ok(Some(*what));
-            }
-        }
-    }
-    Ok(None)
-}
-
-#[test]
-fn overlapping_tables(rt: HostRuntime) -> Result<(), Fail> {
-    let other = other_row(rt.alloc(), &OVERLAPPING)?;
-    assert!(rt; other.is_none(), "{other:?}");
-    Ok(())
-}
-
-#[test]
-fn tables_at_the_end(rt: HostRuntime) -> Result<(), Fail> {
-    let other = other_row(rt.alloc(), &AT_THE_END)?;
-    assert!(rt; other.is_none(), "{other:?}");
-    Ok(())
-}
-
-#[test]
-fn empty_parts(rt: HostRuntime) -> Result<(), Fail> {
-    let other = other_row(rt.alloc(), &EMPTY)?;
-    assert!(rt; other.is_none(), "{other:?}");
     Ok(())
 }

@@ -1,13 +1,16 @@
 //! Sources that fail at a call, that end early, and that count what is read of them.
 
-use crate::fronts::{Given, LAYOUTS, compared};
+use super::{samples, with_strings};
+use crate::fronts::{Given, compared_of};
+use crate::pe::compared;
 use binfarce_bytes::source::Source;
 use std::alloc::Global;
 use std::cell::Cell;
 use std::io::{self, Error, ErrorKind};
 use std::test::Fail;
-use test_samples::elf::Layout;
-use test_samples::first_bytes;
+use test_samples::files::File;
+use test_samples::pe::{OPTIONAL_HEADER, SECTIONS, SIGNATURE, SYMBOL_TABLE, SYMBOLS};
+use test_samples::{Patch, first_bytes, patched};
 
 /// Bytes in memory: how many calls are answered before one fails, with which error, and how many bytes were given.
 #[derive(Drop)]
@@ -52,9 +55,6 @@ impl<'a> Source for Failing<'a> {
     }
 }
 
-// The length, the file header, the header of the names, the names, the section headers, the strings, the symbols.
-const CALLS: usize = 7;
-
 pub(super) const ERRORS: [(ErrorKind, Given); 5] = [
     (ErrorKind::Other, Given::Unreadable),
     (ErrorKind::UnexpectedEof, Given::Unreadable),
@@ -65,15 +65,16 @@ pub(super) const ERRORS: [(ErrorKind, Given); 5] = [
 
 #[test]
 fn each_call_fails_in_turn(rt: HostRuntime) -> Result<(), Fail> {
-    for layout in LAYOUTS {
-        let file = layout.bytes();
+    for sample in &samples(rt.alloc())? {
+        let file = sample.bytes.as_slice();
         for (error, wanted) in ERRORS {
-            for call in 0..CALLS {
+            for call in 0..sample.calls {
                 let source = Failing::new(file, call, error);
-                let got = compared(rt.alloc(), layout, file, &source, ".text");
+                let got = compared_of(rt.alloc(), sample.kind, file, &source, ".text");
                 assert!(rt;
                     got == wanted,
-                    "{layout:?}, {error:?}, call {call}: {got:?}"
+                    "{:?}, {error:?}, call {call}: {got:?}",
+                    sample.kind
                 );
             }
         }
@@ -81,23 +82,40 @@ fn each_call_fails_in_turn(rt: HostRuntime) -> Result<(), Fail> {
     Ok(())
 }
 
-// How many bytes are read of a sample.
-fn read_of(layout: Layout) -> usize {
-    match layout {
-        Layout::Elf32Little | Layout::Elf32Big => 52 + 40 + 33 + 5 * 40 + 18 + 80,
-        Layout::Elf64Little | Layout::Elf64Big => 64 + 64 + 33 + 5 * 64 + 18 + 120,
-    }
-}
-
 #[test]
 fn no_other_byte_is_read(rt: HostRuntime) -> Result<(), Fail> {
-    for layout in LAYOUTS {
-        let file = layout.bytes();
-        let source = Failing::new(file, CALLS, ErrorKind::Other);
-        let got = compared(rt.alloc(), layout, file, &source, ".text");
+    for sample in &samples(rt.alloc())? {
+        let file = sample.bytes.as_slice();
+        let source = Failing::new(file, sample.calls, ErrorKind::Other);
+        let got = compared_of(rt.alloc(), sample.kind, file, &source, ".text");
         assert_eq!(rt; got, Given::Same);
-        assert_eq!(rt; source.left.get(), 0);
-        assert_eq!(rt; source.given.get(), read_of(layout));
+        assert_eq!(rt; source.left.get(), 0, "{:?}", sample.kind);
+        assert_eq!(rt; source.given.get(), sample.read, "{:?}", sample.kind);
+    }
+    Ok(())
+}
+
+// Counts and offsets of the PE file that are too great.
+const GREATEST: [&[Patch<'static>]; 6] = [
+    &[(SIGNATURE, &[0xFF; 4])],
+    &[(SECTIONS, &[0xFF; 2])],
+    &[(SYMBOL_TABLE, &[0xFF; 4])],
+    &[(SYMBOLS, &[0xFF; 4])],
+    &[(SYMBOL_TABLE, &[0xFF; 4]), (SYMBOLS, &[0xFF; 4])],
+    &[(OPTIONAL_HEADER, &[0xFF; 2])],
+];
+
+// Of each part no more is read than the file holds from its offset on: of the section headers 146 bytes, and of the records
+// and the strings 106.
+#[test]
+fn no_byte_is_read_for_a_count(rt: HostRuntime) -> Result<(), Fail> {
+    let sample = with_strings(rt.alloc())?;
+    for patches in GREATEST {
+        let file = patched(rt.alloc(), &sample, patches)?;
+        let source = Failing::new(&file, 6, ErrorKind::Other);
+        assert_eq!(rt; compared(rt.alloc(), &file, &source), Given::Same);
+        let given = source.given.get();
+        assert!(rt; given <= 4 + 24 + 146 + 106, "{patches:?}: {given}");
     }
     Ok(())
 }
@@ -119,15 +137,14 @@ impl<'a> Source for Shrunk<'a> {
     }
 }
 
-// The first number of bytes left of a file that is answered, since its length was told, though a part is cut off.
-fn answered(alloc: Global, layout: Layout) -> Option<usize> {
-    let file = layout.bytes();
+// The first number of bytes left of a file that is answered, since its length was given, though a part is cut off.
+fn answered(alloc: Global, kind: File, file: &[u8]) -> Option<usize> {
     for count in 0..file.len() {
         let source = Shrunk {
             bytes: first_bytes(file, count),
             length: file.len() as u64,
         };
-        if compared(alloc, layout, file, &source, ".text") != Given::Unreadable {
+        if compared_of(alloc, kind, file, &source, ".text") != Given::Unreadable {
             return Some(count);
         }
     }
@@ -136,20 +153,20 @@ fn answered(alloc: Global, layout: Layout) -> Option<usize> {
 
 #[test]
 fn files_that_became_shorter(rt: HostRuntime) -> Result<(), Fail> {
-    for layout in LAYOUTS {
-        let count = answered(rt.alloc(), layout);
-        assert!(rt; count.is_none(), "{layout:?}: {count:?}");
+    for sample in &samples(rt.alloc())? {
+        let count = answered(rt.alloc(), sample.kind, &sample.bytes);
+        assert!(rt; count.is_none(), "{:?}: {count:?}", sample.kind);
     }
     Ok(())
 }
 
 // The first length up to which a file that became longer isn't answered as the bytes up to there.
-fn otherwise(alloc: Global, layout: Layout) -> Option<usize> {
-    let bytes = layout.bytes();
+fn otherwise(alloc: Global, kind: File, bytes: &[u8]) -> Option<usize> {
     for count in 0..bytes.len() {
         let length = count as u64;
         let source = Shrunk { bytes, length };
-        if compared(alloc, layout, first_bytes(bytes, count), &source, ".text") != Given::Same {
+        let part = first_bytes(bytes, count);
+        if compared_of(alloc, kind, part, &source, ".text") != Given::Same {
             return Some(count);
         }
     }
@@ -158,9 +175,9 @@ fn otherwise(alloc: Global, layout: Layout) -> Option<usize> {
 
 #[test]
 fn files_that_became_longer(rt: HostRuntime) -> Result<(), Fail> {
-    for layout in LAYOUTS {
-        let count = otherwise(rt.alloc(), layout);
-        assert!(rt; count.is_none(), "{layout:?}: {count:?}");
+    for sample in &samples(rt.alloc())? {
+        let count = otherwise(rt.alloc(), sample.kind, &sample.bytes);
+        assert!(rt; count.is_none(), "{:?}: {count:?}", sample.kind);
     }
     Ok(())
 }

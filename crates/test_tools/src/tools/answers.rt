@@ -1,132 +1,74 @@
 //! What is written of a file, or the words of the refusal.
 
-use super::{Ask, Call, File, NO_SECTION, REPORT, TRUNCATED, UNKNOWN, bytes_of};
+use super::{Ask, CALLS, Call, MACHO_REPORT, NO_SECTION, PE_REPORT, REPORT, TRUNCATED, UNKNOWN};
 use std::test::Fail;
 use test_samples::Patch;
-use test_samples::elf::{LISTING, Layout};
-use test_samples::macho::{LISTING as MACHO_LISTING, MAGIC as MACHO_MAGIC};
-use test_samples::pe::{LISTING as PE_LISTING, MAGIC as PE_MAGIC};
-use test_samples::question::wrong_with;
+use test_samples::elf::{LAYOUTS, LISTING, Layout};
+use test_samples::fields::Field;
+use test_samples::files::File;
+use test_samples::macho::LISTING as MACHO_LISTING;
+use test_samples::pe::LISTING as PE_LISTING;
+use test_samples::question::{wrong_with, wrong_with_fields};
 
-// Who is asked, of which file and section, and the answer.
-const INTACT: [(Call, Layout, &str, &str); 12] = [
-    (Call::List, Layout::Elf32Little, ".text", LISTING),
-    (Call::Report, Layout::Elf32Little, ".text", REPORT),
-    (Call::List, Layout::Elf32Big, ".text", LISTING),
-    (Call::Report, Layout::Elf32Big, ".text", REPORT),
-    (Call::List, Layout::Elf64Little, ".text", LISTING),
-    (Call::Report, Layout::Elf64Little, ".text", REPORT),
-    (Call::List, Layout::Elf64Big, ".text", LISTING),
-    (Call::Report, Layout::Elf64Big, ".text", REPORT),
-    (Call::List, Layout::Elf64Little, ".shstrtab", "text 33\n"),
-    (
-        Call::Report,
-        Layout::Elf64Little,
-        ".shstrtab",
-        "sum 0\ntext 33\n",
-    ),
-    (Call::List, Layout::Elf64Little, "text", NO_SECTION),
-    (Call::Report, Layout::Elf64Little, "text", NO_SECTION),
+// The section that is asked for, and what `list` and `report` write of the ELF sample.
+const ELF: [(&str, &str, &str); 3] = [
+    (".text", LISTING, REPORT),
+    (".shstrtab", "text 33\n", "sum 0\ntext 33\n"),
+    ("text", NO_SECTION, NO_SECTION),
+];
+
+// The same of Mach-O and PE, which have one section of code, whichever is asked for. They need their magic numbers.
+const OTHERS: [(File, &str, &str); 2] = [
+    (File::Macho, MACHO_LISTING, MACHO_REPORT),
+    (File::Pe, PE_LISTING, PE_REPORT),
 ];
 
 #[test]
 fn intact_files(rt: HostRuntime) -> Result<(), Fail> {
-    for (call, layout, section, text) in &INTACT {
-        let ask = Ask {
-            call: *call,
-            section,
-        };
-        let wrong = wrong_with(rt.alloc(), &ask, layout.bytes(), &[], text)?;
-        assert!(rt; wrong.is_none(), "{layout:?}, {ask:?}: {wrong:?}");
+    for layout in LAYOUTS {
+        for (section, listing, report) in &ELF {
+            for (call, text) in [(Call::List, listing), (Call::Report, report)] {
+                let ask = Ask { call, section };
+                let wrong = wrong_with(rt.alloc(), &ask, layout.bytes(), &[], text)?;
+                assert!(rt; wrong.is_none(), "{layout:?}, {ask:?}: {wrong:?}");
+            }
+        }
+    }
+    for (file, listing, report) in &OTHERS {
+        for (call, text) in [(Call::List, listing), (Call::Report, report)] {
+            let section = ".data";
+            let ask = Ask { call, section };
+            let wrong = wrong_with(rt.alloc(), &ask, file.bytes(), file.magic(), text)?;
+            assert!(rt; wrong.is_none(), "{file:?}, {ask:?}: {wrong:?}");
+        }
     }
     Ok(())
 }
 
-type Row = (
-    &'static str,
-    File,
-    &'static [Patch<'static>],
-    &'static str,
-    &'static str,
-    &'static str,
-);
+// First bytes of no known format.
+const UNKNOWNS: [Patch<'static>; 3] = [(5, &[3]), (4, &[3]), (0, b"ELF\x7F0000")];
 
-// What is changed, the section that is asked for, and what `list` and `report` answer. Mach-O and PE have one section
-// of code, whichever is asked for.
-const CHANGED: [Row; 8] = [
-    (
-        "the magic number",
-        File::Macho,
-        &[MACHO_MAGIC],
-        ".data",
-        MACHO_LISTING,
-        "       320 [unknown]\nsum 320\ntext 256\n",
-    ),
-    (
-        "the magic number",
-        File::Pe,
-        &[PE_MAGIC],
-        ".data",
-        PE_LISTING,
-        "       448 [unknown]\nsum 448\ntext 256\n",
-    ),
-    (
-        "no byte order",
-        File::Elf(Layout::Elf64Little),
-        &[(5, &[3])],
-        ".text",
-        UNKNOWN,
-        UNKNOWN,
-    ),
-    (
-        "no class",
-        File::Elf(Layout::Elf64Little),
-        &[(4, &[3])],
-        ".text",
-        UNKNOWN,
-        UNKNOWN,
-    ),
-    (
-        "text",
-        File::Elf(Layout::Elf64Little),
-        &[(0, b"ELF\x7F0000")],
-        ".text",
-        UNKNOWN,
-        UNKNOWN,
-    ),
-    (
-        "65,535 sections",
-        File::Elf(Layout::Elf32Big),
-        &[(48, &[0xFF; 2])],
-        "nope",
-        TRUNCATED,
-        TRUNCATED,
-    ),
-    (
-        "65,535 sections",
-        File::Elf(Layout::Elf64Little),
-        &[(60, &[0xFF; 2])],
-        "nope",
-        TRUNCATED,
-        TRUNCATED,
-    ),
-    (
-        "section names in section 5 of 5",
-        File::Elf(Layout::Elf64Little),
-        &[(62, &[5])],
-        ".shstrtab",
-        NO_SECTION,
-        NO_SECTION,
-    ),
+// Fields that are changed, the section that is asked for, and the words.
+const CHANGED: [(&[(Field, u64)], &str, &str); 2] = [
+    (&[(Field::ShNum, 0xFFFF)], "nope", TRUNCATED),
+    (&[(Field::ShStrNdx, 5)], ".shstrtab", NO_SECTION),
 ];
 
 #[test]
 fn changed_files(rt: HostRuntime) -> Result<(), Fail> {
-    for (what, file, patches, section, listing, report) in &CHANGED {
-        for (call, text) in [(Call::List, listing), (Call::Report, report)] {
-            let ask = Ask { call, section };
-            let wrong = wrong_with(rt.alloc(), &ask, bytes_of(*file), patches, text)?;
-            assert!(rt; wrong.is_none(), "{what}, {file:?}, {ask:?}: {wrong:?}");
+    for call in CALLS {
+        for patch in UNKNOWNS {
+            let section = ".text";
+            let file = Layout::Elf64Little.bytes();
+            let wrong = wrong_with(rt.alloc(), &Ask { call, section }, file, &[patch], UNKNOWN)?;
+            assert!(rt; wrong.is_none(), "{call:?}, {patch:?}: {wrong:?}");
+        }
+        for (numbers, section, words) in &CHANGED {
+            for layout in LAYOUTS {
+                let ask = Ask { call, section };
+                let wrong = wrong_with_fields(rt.alloc(), &ask, layout, numbers, words)?;
+                assert!(rt; wrong.is_none(), "{layout:?}, {ask:?}: {wrong:?}");
+            }
         }
     }
     Ok(())

@@ -1,6 +1,6 @@
 //! Reports by crate.
 
-use super::{Ask, Call, NO_SECTION, reported};
+use super::{Ask, Call, NO_SECTION, answered};
 use std::test::Fail;
 use test_image_samples::{file_beside, file_of};
 use test_samples::question::{wrong_despite, wrong_with};
@@ -31,7 +31,7 @@ const CRATES: [(&str, &str); 12] = [
 fn counts_for_the_crate_of_a_name(rt: HostRuntime) -> Result<(), Fail> {
     for (name, crates) in &CRATES {
         let file = file_beside(rt.alloc(), name)?;
-        let text = reported(rt.alloc(), &file, ".text")?;
+        let text = answered(rt.alloc(), Call::Report, &file, ".text")?;
         let want = format!(in rt.alloc(); "{crates}sum 32\ntext 32\n")?;
         assert!(&rt; text.as_str() == want.as_str(), "{name}: {text}");
     }
@@ -56,7 +56,7 @@ const SUMS: [(&[&str], &str); 3] = [
 fn sums_by_crate(rt: HostRuntime) -> Result<(), Fail> {
     for (names, sums) in &SUMS {
         let file = file_of(rt.alloc(), names)?;
-        let text = reported(rt.alloc(), &file, ".text")?;
+        let text = answered(rt.alloc(), Call::Report, &file, ".text")?;
         let want = format!(in rt.alloc(); "{sums}text 32\n")?;
         assert!(&rt; text.as_str() == want.as_str(), "{names:?}: {text}");
     }

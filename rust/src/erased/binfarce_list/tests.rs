@@ -21,7 +21,7 @@ fn needs_a_file() -> Result<(), AllocError> {
     let rt = HostRuntime::new();
     let given = words(&[]).map(|_| ());
     let line = "usage: binfarce-list FILE [SECTION]";
-    assert!(ended_with(rt.alloc(), given, line, 2)?);
+    assert!(ended_with(rt.alloc(), given, line)?);
     Ok(())
 }
 

@@ -24,7 +24,7 @@ fn needs_a_file() -> Result<(), AllocError> {
     let rt = HostRuntime::new();
     let given = words(&[]).map(|_| ());
     let line = "usage: binfarce-size FILE [SECTION]";
-    assert!(ended_with(rt.alloc(), given, line, 2)?);
+    assert!(ended_with(rt.alloc(), given, line)?);
     Ok(())
 }
 

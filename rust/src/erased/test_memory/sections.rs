@@ -4,10 +4,10 @@
 
 use crate::shim::alloc::Global;
 use crate::erased::test_image_samples::tally::Tally;
-use crate::erased::test_reading::rows::{ROWS, is_right};
+use crate::erased::test_lookups::rows::{ROWS, is_right};
 
 pub(crate) fn add_sections(alloc: Global, tally: &mut Tally) {
     for row in &ROWS {
-        tally.add(row.0, is_right(alloc, row));
+        tally.add(row.0.name(), is_right(alloc, row));
     }
 }

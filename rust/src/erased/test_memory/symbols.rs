@@ -2,7 +2,7 @@
 
 //! Lists of symbols that aren't empty: the whole list, or `OutOfMemory`.
 
-use crate::erased::test_memory::readers::{FILES, File, Symbols, bytes_of, symbols};
+use crate::erased::test_memory::readers::{Symbols, symbols};
 use crate::erased::binfarce::ParseError;
 use crate::erased::binfarce::demangle::SymbolData;
 use crate::erased::binfarce_image::image::ImageError;
@@ -10,6 +10,7 @@ use crate::shim::alloc::{AllocError, Global};
 use crate::erased::test_image_samples::file_of;
 use crate::erased::test_image_samples::tally::{Row, Tally};
 use crate::erased::test_samples::elf::Layout;
+use crate::erased::test_samples::files::{FILES, File};
 
 // A symbol's complete and trimmed text, its address and its size.
 type Symbol = (&'static str, &'static str, u64, u64);
@@ -88,10 +89,10 @@ fn has_names(alloc: Global) -> Row {
 }
 
 pub(crate) fn add_symbols(alloc: Global, tally: &mut Tally) {
-    for (name, file) in &FILES {
-        let (expected, size) = symbols_of(*file);
-        let found = symbols(alloc, *file, bytes_of(*file), ".text");
-        tally.add(name, has_symbols(found, expected, size));
+    for file in FILES {
+        let (expected, size) = symbols_of(file);
+        let found = symbols(alloc, file, file.bytes(), ".text");
+        tally.add(file.name(), has_symbols(found, expected, size));
     }
     tally.add("a name of each kind", has_names(alloc));
 }

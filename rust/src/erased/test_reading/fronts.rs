@@ -2,6 +2,7 @@
 
 //! The same question to both fronts: to the bytes of a whole file, and to a source that holds them.
 
+use crate::shim::Vec;
 use crate::erased::binfarce_bytes::functions::FunctionSymbol;
 use crate::erased::binfarce_bytes::source::Source;
 use crate::erased::binfarce_bytes::{ByteOrder, ParseError};
@@ -10,14 +11,7 @@ use crate::erased::binfarce_elf::symbols::Functions;
 use crate::erased::binfarce_reading::ReadError;
 use crate::shim::alloc::Global;
 use crate::erased::test_samples::elf::Layout;
-
-/// The layouts of the samples.
-pub const LAYOUTS: [Layout; 4] = [
-    Layout::Elf32Little,
-    Layout::Elf32Big,
-    Layout::Elf64Little,
-    Layout::Elf64Big,
-];
+use crate::erased::test_samples::files::File;
 
 /// What a source gives beside the whole file's answer.
 #[derive(Debug, Clone, Copy, PartialEq)]
@@ -32,28 +26,22 @@ pub enum Given {
     OutOfMemory,
 }
 
-/// Which reader reads a file.
-#[derive(Clone, Copy)]
-enum Reader {
-    Elf32,
-    Elf64,
-}
-
-fn reader_of(layout: Layout) -> Reader {
-    match layout {
-        Layout::Elf32Little | Layout::Elf32Big => Reader::Elf32,
-        Layout::Elf64Little | Layout::Elf64Big => Reader::Elf64,
+/// What the source gives of this section, beside what the whole file does, by the reader of this sample's format.
+pub fn compared_of<S: Source>(
+    alloc: Global,
+    kind: File,
+    file: &[u8],
+    source: &S,
+    section: &str,
+) -> Given {
+    match kind {
+        File::Elf(layout) => compared(alloc, layout, file, source, section),
+        File::Macho => crate::erased::test_reading::macho::compared(alloc, file, source),
+        File::Pe => crate::erased::test_reading::pe::compared(alloc, file, source),
     }
 }
 
-fn order_of(layout: Layout) -> ByteOrder {
-    match layout {
-        Layout::Elf32Little | Layout::Elf64Little => ByteOrder::LittleEndian,
-        Layout::Elf32Big | Layout::Elf64Big => ByteOrder::BigEndian,
-    }
-}
-
-/// What the source gives of this section, beside what the whole file does.
+/// The same of an ELF file.
 pub fn compared<S: Source>(
     alloc: Global,
     layout: Layout,
@@ -61,9 +49,10 @@ pub fn compared<S: Source>(
     source: &S,
     section: &str,
 ) -> Given {
-    match reader_of(layout) {
-        Reader::Elf32 => compared_32(alloc, order_of(layout), file, source, section),
-        Reader::Elf64 => compared_64(alloc, order_of(layout), file, source, section),
+    if layout.is_64() {
+        compared_64(alloc, layout.order(), file, source, section)
+    } else {
+        compared_32(alloc, layout.order(), file, source, section)
     }
 }
 
@@ -125,6 +114,27 @@ fn are_same<C: Class>(these: Functions<'_, C>, mut those: Functions<'_, C>) -> b
     those.next().is_none()
 }
 
-pub fn is_same(function: FunctionSymbol<'_>, other: FunctionSymbol<'_>) -> bool {
+fn is_same(function: FunctionSymbol<'_>, other: FunctionSymbol<'_>) -> bool {
     function.name == other.name && function.address == other.address && function.size == other.size
+}
+
+/// The function symbols of a file, and the size of their section.
+pub(crate) type Answer<'a, E> = Result<(Vec<FunctionSymbol<'a>>, u64), E>;
+
+/// What the parts of a Mach-O or PE file give beside what the whole file does.
+pub(crate) fn beside_whole(whole: &Answer<'_, ParseError>, parts: &Answer<'_, ReadError>) -> Given {
+    let is_same = match (whole, parts) {
+        (_, Err(ReadError::Unreadable)) => return Given::Unreadable,
+        (_, Err(ReadError::OutOfMemory)) => return Given::OutOfMemory,
+        (_, Err(ReadError::Refused(ParseError::OutOfMemory))) => return Given::OutOfMemory,
+        (Err(ParseError::OutOfMemory), _) => return Given::OutOfMemory,
+        (Ok((a, size)), Ok((b, other))) => size == other && are_all_same(a, b),
+        (Err(a), Err(ReadError::Refused(b))) => a == b,
+        _ => false,
+    };
+    if is_same { Given::Same } else { Given::Other }
+}
+
+fn are_all_same(these: &[FunctionSymbol<'_>], those: &[FunctionSymbol<'_>]) -> bool {
+    these.len() == those.len() && these.iter().zip(those).all(|(a, b)| is_same(*a, *b))
 }

@@ -2,20 +2,15 @@
 
 //! The same question to both fronts of a Mach-O file.
 
-use crate::shim::Vec;
-use crate::erased::test_reading::fronts::{Given, is_same};
-use crate::erased::binfarce_bytes::ParseError;
-use crate::erased::binfarce_bytes::functions::FunctionSymbol;
+use crate::erased::test_reading::fronts::{Given, beside_whole};
 use crate::erased::binfarce_bytes::source::Source;
 use crate::erased::binfarce_reading::ReadError;
 use crate::shim::alloc::Global;
-use crate::erased::test_samples::macho::MACHO;
+use crate::erased::test_samples::macho::{MACHO, SIZEOFCMDS};
 use crate::erased::test_samples::{Patch, patched};
 
 /// The size of the sample's load commands in its header, which has none.
-pub const SAID: Patch<'static> = (20, &[0xB0]);
-
-type Answer<'a, E> = Result<(Vec<FunctionSymbol<'a>>, u64), E>;
+pub const SAID: Patch<'static> = (SIZEOFCMDS, &[0xB0]);
 
 /// What the source gives, beside what the whole file does.
 pub fn compared<S: Source>(alloc: Global, file: &[u8], source: &S) -> Given {
@@ -25,10 +20,10 @@ pub fn compared<S: Source>(alloc: Global, file: &[u8], source: &S) -> Given {
     };
     match crate::erased::binfarce_reading::macho::read(alloc, source) {
         Ok(parts) => match parts.functions(alloc) {
-            Ok(answer) => beside(&whole, &Ok(answer)),
-            Err(e) => beside(&whole, &Err(ReadError::Refused(e))),
+            Ok(answer) => beside_whole(&whole, &Ok(answer)),
+            Err(e) => beside_whole(&whole, &Err(ReadError::Refused(e))),
         },
-        Err(e) => beside(&whole, &Err(e)),
+        Err(e) => beside_whole(&whole, &Err(e)),
     }
 }
 
@@ -38,21 +33,4 @@ pub fn compared_with_parts(alloc: Global) -> Given {
         Ok(file) => compared(alloc, &file, &file.as_slice()),
         Err(_) => Given::OutOfMemory,
     }
-}
-
-fn beside(whole: &Answer<'_, ParseError>, parts: &Answer<'_, ReadError>) -> Given {
-    let is_same = match (whole, parts) {
-        (_, Err(ReadError::Unreadable)) => return Given::Unreadable,
-        (_, Err(ReadError::OutOfMemory)) => return Given::OutOfMemory,
-        (_, Err(ReadError::Refused(ParseError::OutOfMemory))) => return Given::OutOfMemory,
-        (Err(ParseError::OutOfMemory), _) => return Given::OutOfMemory,
-        (Ok((a, size)), Ok((b, other))) => size == other && are_same(a, b),
-        (Err(a), Err(ReadError::Refused(b))) => a == b,
-        _ => false,
-    };
-    if is_same { Given::Same } else { Given::Other }
-}
-
-fn are_same(these: &[FunctionSymbol<'_>], those: &[FunctionSymbol<'_>]) -> bool {
-    these.len() == those.len() && these.iter().zip(those).all(|(a, b)| is_same(*a, *b))
 }

@@ -2,10 +2,7 @@
 
 //! The same question of a PE file to both fronts.
 
-use crate::shim::Vec;
-use crate::erased::test_reading::fronts::{Given, is_same};
-use crate::erased::binfarce_bytes::ParseError;
-use crate::erased::binfarce_bytes::functions::FunctionSymbol;
+use crate::erased::test_reading::fronts::{Given, beside_whole};
 use crate::erased::binfarce_bytes::source::Source;
 use crate::erased::binfarce_reading::ReadError;
 use crate::shim::alloc::Global;
@@ -18,37 +15,9 @@ pub fn compared<S: Source>(alloc: Global, file: &[u8], source: &S) -> Given {
     };
     match crate::erased::binfarce_reading::pe::read(alloc, source) {
         Ok(parts) => match parts.functions(alloc) {
-            Ok(answer) => beside(whole, Ok(answer)),
-            Err(ParseError::OutOfMemory) => Given::OutOfMemory,
-            Err(_) => Given::Other,
+            Ok(answer) => beside_whole(&whole, &Ok(answer)),
+            Err(e) => beside_whole(&whole, &Err(ReadError::Refused(e))),
         },
-        Err(e) => beside(whole, Err(e)),
+        Err(e) => beside_whole(&whole, &Err(e)),
     }
-}
-
-fn beside(
-    whole: Result<(Vec<FunctionSymbol<'_>>, u64), ParseError>,
-    parts: Result<(Vec<FunctionSymbol<'_>>, u64), ReadError>,
-) -> Given {
-    let is_same = match (whole, parts) {
-        (_, Err(ReadError::Unreadable)) => return Given::Unreadable,
-        (_, Err(ReadError::OutOfMemory)) => return Given::OutOfMemory,
-        (Err(ParseError::OutOfMemory), _) => return Given::OutOfMemory,
-        (Ok((a, size)), Ok((b, other))) => size == other && are_same(&a, &b),
-        (Err(a), Err(ReadError::Refused(b))) => a == b,
-        _ => false,
-    };
-    if is_same { Given::Same } else { Given::Other }
-}
-
-fn are_same(these: &[FunctionSymbol<'_>], those: &[FunctionSymbol<'_>]) -> bool {
-    if these.len() != those.len() {
-        return false;
-    }
-    for at in 0..these.len() {
-        if !is_same(these[at], those[at]) {
-            return false;
-        }
-    }
-    true
 }

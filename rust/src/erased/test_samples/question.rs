@@ -3,6 +3,8 @@
 //! A question that a test asks of a file, and of the same file without the bytes that the question is about.
 
 use crate::shim::{String, Vec};
+use crate::erased::test_samples::elf::Layout;
+use crate::erased::test_samples::fields::{Field, patches_of, written};
 use crate::erased::test_samples::{Patch, patched};
 use crate::shim::alloc::{AllocError, Global};
 
@@ -59,6 +61,32 @@ pub fn wrong_despite<Q: Question>(
         }
     }
     Ok(None)
+}
+
+/// The first wrong answer (`wrong_with`) of the ELF sample in this layout, where these numbers are what it comes from.
+pub fn wrong_with_fields<Q: Question>(
+    alloc: Global,
+    question: &Q,
+    layout: Layout,
+    numbers: &[(Field, u64)],
+    text: &str,
+) -> Result<Option<String>, AllocError> {
+    let written = written(alloc, layout, numbers)?;
+    let patches = patches_of(alloc, &written)?;
+    wrong_with(alloc, question, layout.bytes(), &patches, text)
+}
+
+/// The first wrong answer (`wrong_despite`) of the ELF sample in this layout, where these numbers must not matter.
+pub fn wrong_despite_fields<Q: Question>(
+    alloc: Global,
+    question: &Q,
+    layout: Layout,
+    numbers: &[(Field, u64)],
+    text: &str,
+) -> Result<Option<String>, AllocError> {
+    let written = written(alloc, layout, numbers)?;
+    let patches = patches_of(alloc, &written)?;
+    wrong_despite(alloc, question, layout.bytes(), &patches, text)
 }
 
 // The patched file without the patch of this index.

@@ -7,8 +7,8 @@ use crate::erased::test_samples::elf::ELF64_LITTLE;
 use crate::erased::test_samples::macho::{MACHO, MAGIC as MACHO_MAGIC};
 use crate::erased::test_samples::pe::{MAGIC as PE_MAGIC, PE};
 use crate::erased::test_samples::{first_bytes, patched};
-use crate::erased::binfarce_program::Fault;
 use crate::shim::alloc::{AllocError, Global};
+use std::fmt;
 use crate::shim::io::{self, Error, ErrorKind, Read, Write};
 
 /// Gives its bytes, at most `most` in a call, and then ends or fails.
@@ -143,6 +143,18 @@ pub struct Target {
     pub end: Option<ErrorKind>,
 }
 
+impl Target {
+    /// Takes all bytes, at most `most` in a call.
+    pub fn taking(alloc: Global, most: usize) -> Target {
+        Target {
+            taken: Vec::new(alloc),
+            left: usize::MAX,
+            most,
+            end: None,
+        }
+    }
+}
+
 impl Write for Target {
     fn write(&mut self, bytes: &[u8]) -> io::Result<usize> {
         let n = bytes.len().min(self.left).min(self.most);
@@ -227,29 +239,28 @@ pub fn large_file(alloc: Global) -> Result<Vec<u8>, AllocError> {
     Ok(bytes)
 }
 
-/// Whether it ended with a fault of this text, and of this status.
-pub fn ended_with<F: Fault>(
+/// Whether it ended with a fault of this text.
+pub fn ended_with<F: fmt::Display>(
     alloc: Global,
     ended: Result<(), F>,
     line: &str,
-    code: u8,
 ) -> Result<bool, AllocError> {
     match ended {
         Ok(()) => Ok(false),
         Err(fault) => {
             let text = String::formatted(alloc, format_args!("{fault}"))?;
-            Ok(text.as_str() == line && fault.status() == code)
+            Ok(text.as_str() == line)
         }
     }
 }
 
-/// Whether it ended with a fault of status 1, whose text is the program's name, a colon, a blank and these words.
-pub fn failed_with<F: Fault>(
+/// Whether it ended with a fault whose text is the program's name, a colon, a blank and these words.
+pub fn failed_with<F: fmt::Display>(
     alloc: Global,
     ended: Result<(), F>,
     program: &str,
     words: &str,
 ) -> Result<bool, AllocError> {
     let line = String::formatted(alloc, format_args!("{program}: {words}"))?;
-    ended_with(alloc, ended, line.as_str(), 1)
+    ended_with(alloc, ended, line.as_str())
 }

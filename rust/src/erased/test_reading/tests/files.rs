@@ -3,7 +3,8 @@
 //! What is opened by a path.
 
 use crate::shim::HostRuntime;
-use crate::erased::test_reading::fronts::{Given, LAYOUTS, compared};
+use super::samples;
+use crate::erased::test_reading::fronts::{Given, compared_of};
 use crate::shim::fs::File;
 use crate::shim::test::Fail;
 
@@ -12,9 +13,13 @@ fn what_is_no_regular_file() -> Result<(), Fail> {
     let rt = HostRuntime::new();
     for path in ["/", "/dev/null"] {
         let file = File::open(&rt, path)?;
-        for layout in LAYOUTS {
-            let got = compared(rt.alloc(), layout, layout.bytes(), &file, ".text");
-            assert!(got == Given::Unreadable, "{path}: {got:?}");
+        for sample in &samples(rt.alloc())? {
+            let got = compared_of(rt.alloc(), sample.kind, &sample.bytes, &file, ".text");
+            assert!(
+                got == Given::Unreadable,
+                "{path}, {:?}: {got:?}",
+                sample.kind
+            );
         }
     }
     Ok(())

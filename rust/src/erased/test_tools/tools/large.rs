@@ -3,14 +3,16 @@
 //! Files of over 1 MiB, whose listings have over 64 KiB and over 1,000 lines: neither is a reason to give up.
 
 use crate::shim::{HostRuntime, String, Vec};
-use super::{MACHO_MAGIC, PE_MAGIC, listed, reported};
+use super::{Call, answered};
 use crate::erased::binfarce_image::image::{ElfLayout, Image, lay_out};
 use crate::shim::alloc::{AllocError, Global};
 use crate::shim::test::Abort;
 use crate::shim::test::Fail;
 use crate::erased::test_image_samples::{LAYOUTS, function, image};
-use crate::erased::test_samples::macho::MACHO;
-use crate::erased::test_samples::pe::PE;
+use crate::erased::test_samples::macho::{
+    MACHO, MAGIC as MACHO_MAGIC, NSYMS, ROWS, SIZE, STROFF, STRSIZE,
+};
+use crate::erased::test_samples::pe::{MAGIC as PE_MAGIC, PE, RAW_SIZE, RECORD, SYMBOLS};
 use crate::erased::test_samples::{Patch, patched};
 
 // How many functions a file has. Each has the name `a` and 16 bytes, and begins where the one before ends.
@@ -24,20 +26,20 @@ fn elf_image(alloc: Global) -> Result<Image, AllocError> {
     image(alloc, b"\0a\0", rows.as_slice())
 }
 
-// The rows begin at 208, and the strings follow them.
+// The strings follow the rows.
 fn macho_file(alloc: Global) -> Result<Vec<u8>, AllocError> {
     let text_size = (16 * FUNCTIONS).to_le_bytes();
     let rows = FUNCTIONS.to_le_bytes();
     let strings = (208 + 16 * FUNCTIONS).to_le_bytes();
     let patches: [Patch<'_>; 5] = [
         MACHO_MAGIC,
-        (144, &text_size),
-        (196, &rows),
-        (200, &strings),
-        (204, &[3]),
+        (SIZE, &text_size),
+        (NSYMS, &rows),
+        (STROFF, &strings),
+        (STRSIZE, &[3]),
     ];
     let mut file = patched(alloc, &MACHO, &patches)?;
-    file.truncate(208);
+    file.truncate(ROWS);
     for row in 0..FUNCTIONS {
         file.extend_from_slice(&[1, 0, 0, 0, 0x0F, 1, 0, 0])?;
         file.extend_from_slice(&u64::from(0x1000 + 16 * row).to_le_bytes())?;
@@ -46,13 +48,12 @@ fn macho_file(alloc: Global) -> Result<Vec<u8>, AllocError> {
     Ok(file)
 }
 
-// The rows begin at 128.
 fn pe_file(alloc: Global) -> Result<Vec<u8>, AllocError> {
     let text_size = (16 * FUNCTIONS).to_le_bytes();
     let rows = FUNCTIONS.to_le_bytes();
-    let patches: [Patch<'_>; 3] = [PE_MAGIC, (80, &rows), (104, &text_size)];
+    let patches: [Patch<'_>; 3] = [PE_MAGIC, (SYMBOLS, &rows), (RAW_SIZE, &text_size)];
     let mut file = patched(alloc, &PE, &patches)?;
-    file.truncate(128);
+    file.truncate(RECORD);
     for row in 0..FUNCTIONS {
         file.extend_from_slice(b"a\0\0\0\0\0\0\0")?;
         file.extend_from_slice(&(16 * row).to_le_bytes())?;
@@ -90,7 +91,7 @@ fn lists_all(
     last: &str,
 ) -> Result<(), Fail> {
     assert!(file.len() > 1 << 20);
-    let text = listed(alloc, file, ".text")?;
+    let text = answered(alloc, Call::List, file, ".text")?;
     assert!(text.len() > 1 << 16);
     assert_eq!(other_line(alloc, text.as_str(), start, last)?, None);
     Ok(())
@@ -125,7 +126,7 @@ fn a_large_pe_file() -> Result<(), Fail> {
 fn a_report_of_many_functions() -> Result<(), Fail> {
     let rt = HostRuntime::new();
     let file = pe_file(rt.alloc())?;
-    let text = reported(rt.alloc(), &file, ".text")?;
+    let text = answered(rt.alloc(), Call::Report, &file, ".text")?;
     assert_eq!(
         text.as_str(),
         "   1120000 [unknown]\nsum 1120000\ntext 1120000\n"
@@ -162,7 +163,7 @@ fn a_report_of_many_crates() -> Result<(), Fail> {
     let rt = HostRuntime::new();
     let image = image_of_crates(rt.alloc())?;
     let file = lay_out(rt.alloc(), &image, ElfLayout::Elf64Little)?;
-    let text = reported(rt.alloc(), &file, ".text")?;
+    let text = answered(rt.alloc(), Call::Report, &file, ".text")?;
     assert!(text.len() > 1 << 16);
     assert!(text.as_str() == report_of_crates(rt.alloc())?.as_str());
     Ok(())

@@ -3,7 +3,7 @@
 //! Reports by crate.
 
 use crate::shim::{HostRuntime, String};
-use super::{Ask, Call, NO_SECTION, reported};
+use super::{Ask, Call, NO_SECTION, answered};
 use crate::shim::test::Fail;
 use crate::erased::test_image_samples::{file_beside, file_of};
 use crate::erased::test_samples::question::{wrong_despite, wrong_with};
@@ -35,7 +35,7 @@ fn counts_for_the_crate_of_a_name() -> Result<(), Fail> {
     let rt = HostRuntime::new();
     for (name, crates) in &CRATES {
         let file = file_beside(rt.alloc(), name)?;
-        let text = reported(rt.alloc(), &file, ".text")?;
+        let text = answered(rt.alloc(), Call::Report, &file, ".text")?;
         let want = String::formatted(rt.alloc(), format_args!("{crates}sum 32\ntext 32\n"))?;
         assert!(text.as_str() == want.as_str(), "{name}: {text}");
     }
@@ -61,7 +61,7 @@ fn sums_by_crate() -> Result<(), Fail> {
     let rt = HostRuntime::new();
     for (names, sums) in &SUMS {
         let file = file_of(rt.alloc(), names)?;
-        let text = reported(rt.alloc(), &file, ".text")?;
+        let text = answered(rt.alloc(), Call::Report, &file, ".text")?;
         let want = String::formatted(rt.alloc(), format_args!("{sums}text 32\n"))?;
         assert!(text.as_str() == want.as_str(), "{names:?}: {text}");
     }

@@ -1,0 +1,9 @@
+// From crates/test_lookups/src/lib.rt, by tools/erase.
+
+//! Tests of addresses and of sections, and what `test_memory` too asks of sections while one allocation fails.
+
+#[cfg(test)]
+mod addresses;
+pub mod rows;
+#[cfg(test)]
+mod sections;

@@ -1,10 +1,9 @@
 #!/usr/bin/env python3
-"""Counts the functions and the lines of code of each crate, and ends with status 1 where one isn't below
-both bounds.
+"""Counts the functions and the lines of code of each crate, and ends with status 1 where one isn't below both bounds.
 
-Counted is what is compiled: the files that `mod` items reach from src/lib.rt or src/main.rt, without what stands under
-`#[cfg(test)]`. A function is an `fn` with a name and a body. A line of code is a line on which something is left once
-comments, contracts (`requires`, `ensures` and all `ghost` items) and the attributes of the prover are taken out.
+Counted are the files that `mod` items reach from src/lib.rt or src/main.rt, tests among them. A function is an `fn` with a name
+and a body. A line of code is a line on which something is left once comments, contracts (`requires`, `ensures` and all `ghost`
+items) and the attributes of the prover are taken out.
 
 Usage: count.py [CRATE..]
 """
@@ -20,11 +19,9 @@ CLOSING = {"{": "}", "[": "]", "(": ")"}
 
 
 def blank(text):
-    """The text as long as it was, with comments as spaces and texts as quotes alone."""
+    """The text as long as it was, with spaces for comments, and for texts quotes and no other sign."""
     def instead(match):
-        token = match[0]
-        kept = re.sub(r"[^\n]", " ", token)
-        return kept if token.startswith("//") else '"' + kept[1:-1] + '"'
+        return re.sub(r"[^\n]", " ", match[0]) if match[0].startswith("//") else re.sub(r"\S", '"', match[0])
     return TOKENS.sub(instead, text)
 
 
@@ -66,14 +63,13 @@ def end_of_clause(text, match):
 
 def code_of(text):
     """The text with spaces for what isn't counted."""
-    text = without(blank(text), re.compile(r"#\[cfg\(test\)\]"), end_of_item)
-    text = without(text, re.compile(r"#!?\[\s*(?:tactic|cycle|rattlefmt)\b"), end_of_attribute)
+    text = without(blank(text), re.compile(r"#!?\[\s*(?:tactic|cycle|rattlefmt)\b"), end_of_attribute)
     text = without(text, re.compile(r"\bghost\b"), end_of_item)
     return without(text, re.compile(r"\b(?:requires|ensures)\b\*?\s*\w*\s*\{"), end_of_clause)
 
 
 def counted(file, folder):
-    """Functions and lines of a file and of the modules that it names; their files stand in the folder."""
+    """Functions and lines of a file and of the modules that it names; their files are in the folder."""
     text = code_of(file.read_text(encoding="utf-8"))
     functions = sum(text[end_of_item(text, match) - 1] == "}" for match in re.finditer(r"\bfn\s+\w+", text))
     lines = sum(bool(line.strip()) for line in text.split("\n"))

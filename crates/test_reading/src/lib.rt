@@ -2,7 +2,6 @@
 #![tactic(auto)]
 
 pub mod all;
-mod expected;
 pub mod fronts;
 pub mod macho;
 pub mod pe;

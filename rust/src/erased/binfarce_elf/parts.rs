@@ -1,6 +1,6 @@
 // From crates/binfarce_elf/src/parts.rt, by tools/erase.
 
-//! What the symbols of a section, and those of all sections, need, found in the section headers alone.
+//! The sections that the symbols of one section, or of all sections, need, found in the section headers alone.
 
 use crate::erased::binfarce_elf::all::{AllFunctions, whole_sections};
 use crate::erased::binfarce_elf::class::{Class, Half, Word};
@@ -27,8 +27,8 @@ pub struct NeededTable<C> {
     pub strings: Section<C>,
 }
 
-/// These sections, found in `count` section headers, whose names are among `names`. Refused as `functions` and
-/// `dynamic_functions` of a reader are, up to the string table's kind.
+/// These sections, found in `count` section headers, whose names are in `names`. Refused as `functions` and
+/// `dynamic_functions` of a reader are, up to the string table's type.
 pub fn needed_sections<C: Class>(
     headers: &[u8],
     byte_order: ByteOrder,
@@ -46,7 +46,7 @@ pub fn needed_sections<C: Class>(
 }
 
 /// These sections, found in `count` section headers. Refused as `all_functions` of a reader is, up to the string table's
-/// kind.
+/// type.
 pub fn needed_table<C: Class>(
     headers: &[u8],
     byte_order: ByteOrder,
@@ -56,7 +56,8 @@ pub fn needed_table<C: Class>(
     table_of::<C>(headers_alone(headers, byte_order, count), which)
 }
 
-/// The sections of `count` section headers, in order; `UnexpectedEof` where the headers end before, or there are no bytes.
+/// The sections of `count` section headers, in order; `UnexpectedEof` where a header is truncated, or there are no
+/// bytes.
 pub fn sections_in<C: Class>(headers: &[u8], byte_order: ByteOrder, count: Half) -> Sections<'_, C> {
     sections_of::<C>(headers_alone(headers, byte_order, count))
 }

@@ -111,7 +111,7 @@ fn are_same<C: Class>(these: Functions<'_, C>, mut those: Functions<'_, C>) -> b
     those.next().is_none()
 }
 
-fn is_same(function: FunctionSymbol<'_>, other: FunctionSymbol<'_>) -> bool {
+pub fn is_same(function: FunctionSymbol<'_>, other: FunctionSymbol<'_>) -> bool {
     function.name == other.name && function.address == other.address && function.size == other.size
 }
 

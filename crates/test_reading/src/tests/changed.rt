@@ -62,7 +62,7 @@ fn prefixes_of_refused_files(rt: HostRuntime) -> Result<(), Fail> {
 }
 
 // Bytes that are written over others: none, the least, and the greatest of each width.
-const BYTES: [&[u8]; 5] = [&[0], &[1], &[0xFF; 2], &[0xFF; 4], &[0xFF; 8]];
+pub const BYTES: [&[u8]; 5] = [&[0], &[1], &[0xFF; 2], &[0xFF; 4], &[0xFF; 8]];
 
 // The first offset at which these bytes give another answer.
 fn other_offset(

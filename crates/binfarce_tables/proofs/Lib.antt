@@ -9,3 +9,4 @@ mod MachoLocated
 pub mod SomeAddress
 mod SectionsRead
 mod PeBeginning
+pub mod AllRead

@@ -1,3 +1,4 @@
+mod all;
 mod changed;
 mod faults;
 mod files;

@@ -9,4 +9,6 @@ mod MachoLocated
 pub mod SomeAddress
 mod SectionsRead
 mod PeBeginning
-pub mod AllRead
+mod AllRead
+mod MachoAllLocated
+mod PeAllLocated

@@ -5,4 +5,6 @@ pub mod PeReading
 pub mod Reading
 pub mod SectionReading
 pub mod MachoReading
+pub mod MachoAllReading
+pub mod PeAllReading
 pub mod machine

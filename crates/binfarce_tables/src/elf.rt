@@ -259,6 +259,7 @@ pub fn part<S: Source>(
     ensures part { (file : List ℕ) → S.bytes source.now ≡ Some file → offset + size ≤ length file
         → Reads (S.may_fail source.now) (λ v. v.items) (Ok (bytes_at file offset size)) result }
     ensures past_end { (file : List ℕ) → S.bytes source.now ≡ Some file → length file < offset + size → IsErr result }
+    ensures size { IfOk result (λ v. length v.items ≡ size) }
     ensures failed { IfErr result (λ e. (e ≡ Unreadable) ⊎ (e ≡ OutOfMemory)) }
 {
     Ok(read_part(alloc, source, offset as u64, size)?)

@@ -8,7 +8,9 @@ pub mod elf32;
 pub mod elf64;
 mod error;
 pub mod macho;
+mod macho_all;
 pub mod pe;
+mod pe_all;
 mod sections;
 
 pub use crate::erased::binfarce_tables::beginning::Beginning;

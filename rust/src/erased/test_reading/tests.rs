@@ -1,5 +1,6 @@
 // From crates/test_reading/src/tests.rt, by tools/erase.
 
+mod all;
 mod changed;
 mod faults;
 mod files;

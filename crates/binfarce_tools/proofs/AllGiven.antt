@@ -1,6 +1,6 @@
 -- What the parts of a file give is what the file answers for all sections.
-use Rattle.std.proofs.Common.{◌≡◌, ℕ, Bool, true, List, [], ◌++◌, map, Vec, Global, Option, Some, None, Result, Ok, Err, refl, sym, ap, subst, ◌∙◌, inl, inr}
-use Rattle.std.specs.Prelude.{◌≢◌, codes}
+use Rattle.std.proofs.Common.{◌≡◌, ℕ, Bool, true, false, cond, ltb, length, List, [], ◌++◌, map, Vec, Global, Option, Some, None, Result, Ok, Err, refl, sym, ap, subst, ◌∙◌, inl, inr}
+use Rattle.std.specs.Prelude.{◌≢◌, codes, nat_eq}
 use Rattle.std.specs.List.{AllZip, concat}
 use Rattle.std.specs.Result.{IsErr, IsErrAnd}
 use Rattle.binfarce_bytes.specs.declared.error.ParseError.{ParseError}
@@ -8,13 +8,17 @@ use Rattle.binfarce_bytes.specs.declared.format.Format.{Format}
 use Rattle.binfarce_bytes.specs.declared.format.Format.TheVariants as formats
 use Rattle.binfarce_bytes.specs.declared.functions.SectionFunction.{SectionFunction}
 use Rattle.binfarce_bytes.specs.Format.{format_of}
-use Rattle.binfarce_bytes.specs.Refusal.{◌>>=◌, Refusal, refusal_of, section_is_missing}
+use Rattle.binfarce_bytes.specs.Refusal.{◌>>=◌, Refusal, refusal_of, section_is_missing, unexpected_eof}
 use Rattle.binfarce_bytes.specs.SectionEntries.{SectionEntry, AllSymbols, AnswersAll}
 use Rattle.binfarce_bytes.specs.SymbolViews.{section_function_view, HoldsSectionFunctions}
 use Rattle.binfarce_elf.specs.Elf.{elf32, elf64}
 use Rattle.binfarce_elf.specs.declared.symbol_table.SymbolTable.{SymbolTable}
 use Rattle.binfarce_elf.specs.declared.symbol_table.SymbolTable.TheVariants.{Dynsym}
+use Rattle.binfarce_macho.specs.Macho as macho_file
+use Rattle.binfarce_macho.specs.Macho.{least_length}
 use Rattle.binfarce_macho.specs.MachoAll as macho_all
+use Rattle.binfarce_macho.proofs.AllRows.{has_start}
+use Rattle.binfarce_pe.specs.Pe as pe_file
 use Rattle.binfarce_tables.specs.ElfAllReading.{all_file_answer, all_view}
 use Rattle.binfarce_tables.specs.MachoAllReading as macho
 use Rattle.binfarce_tables.specs.PeAllReading as pe
@@ -25,7 +29,7 @@ use Rattle.binfarce_tools.specs.declared.list.ListError.{ListError}
 use Rattle.binfarce_tools.specs.declared.list.ListError.TheVariants as errors
 use Rattle.binfarce_tools.specs.AllAnswer.{all_symbols_answer, all_answer_of, by_symbol_table, HasSections, AllNeedsMemory}
 use Rattle.binfarce_tools.specs.AllListing.{IsLineIn, IsAllListingOf}
-use Rattle.binfarce_tools.specs.AllTables.{AreAllTablesOf, section_names}
+use Rattle.binfarce_tools.specs.AllTables.{AreAllTablesOf, section_names, is_object_of}
 use Rattle.binfarce_tools.specs.Entries.{GetsAs, HoldsAll, all_left}
 use Rattle.binfarce_tools.specs.ListWords.{list_error_of}
 use Rattle.binfarce_tools.proofs.Lines.{AreLines}
@@ -106,14 +110,45 @@ module _ (which : SymbolTable) (file : List ℕ) (found : macho.AllLocated)
       got which file formats.Macho (macho.all_symbols found) result is.0 (is.1 ∙ ap Some same)
       (not_listed SomeEnd (HasSections formats.Macho file) (macho_all.name_of found.names) found.is_object (macho.all_entries found) e result (told_all_of found.ends found.symbols) needs answers err)
 
--- the names that were read are the file's
-names_of_macho : (entries : Result (List SectionEntry) Refusal) (names : ℕ → Option (List ℕ)) (is_object : Bool) (all : AllSymbols)
-    → (entries >>= λ e. Ok (record { entries = e; section_name = names; is_object = is_object })) ≡ Ok all → names ≡ all.section_name
-names_of_macho (Ok entries) names is_object all is = let same : (record { entries = entries; section_name = names; is_object = is_object }) ≡ all = of_ok is in ap (λ (a : AllSymbols). a.section_name) same
+-- a Mach-O file with an end of a section has a section
+pub macho_needs : (file : List ℕ) (found : macho.AllLocated) → macho.all_located_answer file ≡ Ok found → found.ends ≢ [] → HasSections formats.Macho file
+unfolding HasSections
+macho_needs file found is some = by_length (ltb (length file) least_length) is
   where
-    of_ok : {a b : AllSymbols} → Path (Result AllSymbols Refusal) (Ok a) (Ok b) → a ≡ b
-    of_ok e = cc
-names_of_macho (Err refusal) names is_object all is = absurd cc
+    by_starts : (starts : Result (List ℕ) Refusal) → macho_all.section_starts file ≡ starts
+        → (starts >>= λ s. macho_all.symbols_of file >>= λ symbols. Ok (record { ends = map (macho_all.end_at file) s; names = map (macho_all.name_at file) s; symbols = symbols; is_object = nat_eq (macho_file.header_of file).filetype 1 })) ≡ Ok found
+        → macho_all.HasSection file
+    by_starts (Err refusal) at e = absurd cc
+    by_starts (Ok starts) at e = has_start file starts at (λ none. some (by_symbols (macho_all.symbols_of file) e ∙ ap (map (macho_all.end_at file)) none))
+      where
+        by_symbols : (symbols : Result (Option macho_all.Symbols) Refusal)
+            → (symbols >>= λ symbols. Ok (record { ends = map (macho_all.end_at file) starts; names = map (macho_all.name_at file) starts; symbols = symbols; is_object = nat_eq (macho_file.header_of file).filetype 1 })) ≡ Ok found
+            → found.ends ≡ map (macho_all.end_at file) starts
+        by_symbols (Err refusal) e = absurd cc
+        by_symbols (Ok symbols) e = ap (λ (l : macho.AllLocated). l.ends) (of_ok e)
+
+        of_ok : {a b : macho.AllLocated} → Path (Result macho.AllLocated Refusal) (Ok a) (Ok b) → b ≡ a
+        of_ok e = cc
+
+    by_length : (short : Bool) → cond short (Err unexpected_eof) (macho.all_located file) ≡ Ok found → macho_all.HasSection file
+    by_length true e = absurd cc
+    by_length false e = by_starts (macho_all.section_starts file) refl e
+
+module _ (which : SymbolTable) (file : List ℕ) (read : pe.AllTables)
+    (is : (format_of file ≡ formats.PE) × (all_answer_of which file ≡ Some (Ok (pe.all_view read))) × (read.sections.count ≡ (pe_file.header_of file).number_of_sections)) where
+  pub given_pe : (functions : Vec SectionFunction Global) (value : AllFunctions) → AnswersAll HoldsSectionFunctions (read.sections.count ≢ 0) (Ok (pe.all_view read).entries) (Ok functions) → all_left value ≡ map section_function_view functions.items
+      → GetsAs HoldsAll (AllNeedsMemory file) (all_answer_of which file) (Ok value)
+  given_pe functions value answers left = got which file formats.PE (Ok (pe.all_view read)) (Ok value) is.0 is.1 (left ∙ answers)
+
+  needs : read.sections.count ≢ 0 → HasSections formats.PE file
+  unfolding HasSections
+  needs some none = some (is.2 ∙ none)
+
+  pub not_given_pe : (e : ParseError) (result : Result AllFunctions ListError) → AnswersAll HoldsSectionFunctions (read.sections.count ≢ 0) (Ok (pe.all_view read).entries) (Err e) → IsErrAnd result (λ f. f ≡ list_error_of e)
+      → GetsAs HoldsAll (AllNeedsMemory file) (all_answer_of which file) result
+  not_given_pe e result answers err =
+      got which file formats.PE (Ok (pe.all_view read)) result is.0 is.1
+      (not_listed (read.sections.count ≢ 0) (HasSections formats.PE file) (pe.all_view read).section_name false (Ok (pe.all_view read).entries) e result tt needs answers err)
 
 some_ok : {a b : AllSymbols} → Path (Option (Result AllSymbols Refusal)) (Some (Ok a)) (Some (Ok b)) → a ≡ b
 some_ok e = cc
@@ -121,17 +156,35 @@ some_ok e = cc
 some_same : {a b : Result AllSymbols Refusal} → Path (Option (Result AllSymbols Refusal)) (Some a) (Some b) → a ≡ b
 some_same e = cc
 
-pub names_are : (which : SymbolTable) (file : List ℕ) (read : AllTables) (all : AllSymbols) → AreAllTablesOf which file read → all_answer_of which file ≡ Some (Ok all) → section_names read ≡ all.section_name
+-- what was read beside the entries of a Mach-O file is the file's
+macho_all_is : (entries : Result (List SectionEntry) Refusal) (names : ℕ → Option (List ℕ)) (is_object : Bool) (all : AllSymbols)
+    → (entries >>= λ e. Ok (record { entries = e; section_name = names; is_object = is_object })) ≡ Ok all → (names ≡ all.section_name) × (is_object ≡ all.is_object)
+macho_all_is (Ok entries) names is_object all is = let same : (record { entries = entries; section_name = names; is_object = is_object }) ≡ all = of_ok is in
+    (ap (λ (a : AllSymbols). a.section_name) same, ap (λ (a : AllSymbols). a.is_object) same)
+  where
+    of_ok : {a b : AllSymbols} → Path (Result AllSymbols Refusal) (Ok a) (Ok b) → a ≡ b
+    of_ok e = cc
+macho_all_is (Err refusal) names is_object all is = absurd cc
+
+-- and so for any file: the names, and whether it is an object file
+all_is : (which : SymbolTable) (file : List ℕ) (read : AllTables) (all : AllSymbols) → AreAllTablesOf which file read → all_answer_of which file ≡ Some (Ok all)
+    → (section_names read ≡ all.section_name) × (is_object_of read ≡ all.is_object)
 unfolding AreAllTablesOf all_symbols_answer
-names_are which file (tables.Elf32 parts) all are is = ap (λ (a : AllSymbols). a.section_name) (some_ok (sym are ∙ is))
-names_are which file (tables.Elf64 parts) all are is = ap (λ (a : AllSymbols). a.section_name) (some_ok (sym are ∙ is))
-names_are which file (tables.Macho parts) all are is =
+all_is which file (tables.Elf32 parts) all are is = (ap (λ (a : AllSymbols). a.section_name) (some_ok (sym are ∙ is)), ap (λ (a : AllSymbols). a.is_object) (some_ok (sym are ∙ is)))
+all_is which file (tables.Elf64 parts) all are is = (ap (λ (a : AllSymbols). a.section_name) (some_ok (sym are ∙ is)), ap (λ (a : AllSymbols). a.is_object) (some_ok (sym are ∙ is)))
+all_is which file (tables.Macho parts) all are is =
     let found = macho.all_view parts in
-    names_of_macho (macho.all_entries found) (macho_all.name_of found.names) found.is_object all
+    macho_all_is (macho.all_entries found) (macho_all.name_of found.names) found.is_object all
     (sym (ap (λ (l : Result macho.AllLocated Refusal). l >>= macho.all_symbols) are.2) ∙ some_same (sym are.1 ∙ is))
-names_are which file (tables.Pe parts) all are is = ap (λ (a : AllSymbols). a.section_name) (some_ok (sym are.1 ∙ is))
-names_are which file tables.Unknown all are is =
+all_is which file (tables.Pe parts) all are is = (ap (λ (a : AllSymbols). a.section_name) (some_ok (sym are.1 ∙ is)), ap (λ (a : AllSymbols). a.is_object) (some_ok (sym are.1 ∙ is)))
+all_is which file tables.Unknown all are is =
     let e : Path (Option (Result AllSymbols Refusal)) None (Some (Ok all)) = sym (ap (λ (f : Format). all_symbols_answer which f file) are) ∙ is in absurd cc
+
+pub names_are : (which : SymbolTable) (file : List ℕ) (read : AllTables) (all : AllSymbols) → AreAllTablesOf which file read → all_answer_of which file ≡ Some (Ok all) → section_names read ≡ all.section_name
+names_are which file read all are is = (all_is which file read all are is).0
+
+pub object_is : (which : SymbolTable) (file : List ℕ) (read : AllTables) (all : AllSymbols) → AreAllTablesOf which file read → all_answer_of which file ≡ Some (Ok all) → is_object_of read ≡ all.is_object
+object_is which file read all are is = (all_is which file read all are is).1
 
 -- the lines of what a file holds are its listing
 pub is_all_listing : (names : ℕ → Option (List ℕ)) (entries : List SectionEntry) (text : List ℕ) (all : AllSymbols) → AreLines (IsLineIn names) entries text → entries ≡ all.entries → names ≡ all.section_name → IsAllListingOf all text

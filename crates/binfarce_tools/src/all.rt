@@ -84,6 +84,14 @@ impl AllTables {
     /// The name of the section of this number, a part of what was read. `None` where there is no such section, and where it
     /// has no valid name.
     pub fn section_name(&self, number: u32) -> Option<&str>
+        ensures read { option_map (λ t. t.now) result ≡ section_names self.entry.now number }
+        ensures file { (which : SymbolTable) (file : List ℕ) (all : AllSymbols) → AreAllTablesOf which file self.entry.now
+            → all_answer_of which file ≡ Some (Ok all) → option_map (λ t. t.now) result ≡ all.section_name number }
+    {
+        self.name_read(number)
+    }
+
+    fn name_read(&self, number: u32) -> Option<&str>
         ensures { option_map (λ t. t.now) result ≡ section_names self.entry.now number }
     {
         match self {
@@ -98,6 +106,14 @@ impl AllTables {
     /// Whether the file is an object file, whose sections share addresses: in ELF of the type `ET_REL`, in Mach-O
     /// `MH_OBJECT`. A PE image is none.
     pub fn is_object(&self) -> bool
+        ensures read { result ≡ is_object_of self.now }
+        ensures file { (which : SymbolTable) (file : List ℕ) (all : AllSymbols) → AreAllTablesOf which file self.now
+            → all_answer_of which file ≡ Some (Ok all) → result ≡ all.is_object }
+    {
+        self.object_read()
+    }
+
+    fn object_read(&self) -> bool
         ensures { result ≡ is_object_of self.now }
     {
         match self {

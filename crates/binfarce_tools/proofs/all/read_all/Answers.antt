@@ -76,7 +76,7 @@ returns-in_ok-parts-in-PE g c = λ file known.
     let told : Known (g.S.Source.bytes c.args.source.now) c.in_ok-len.len file = (known, length_told _ file c.in_ok-len.len known c.in_ok-len.ensures.length) in
     let format : format_of file ≡ PE = sym (taken (c.in_ok-byte_order.ensures file told)) ∙ c.in-PE.is in
     let answered : all_answer_of c.args.which file ≡ Some (pe.all_file_answer file) = answer_pe c.args.which file format ∙ ap (λ (w : SymbolTable). Some (by_symbol_table w (pe.all_file_answer file))) c.in_ok-has_table-in-PE.ensures in
-    (format, answered ∙ ap (λ (a : Result AllSymbols Refusal). Some a) (c.in_ok-parts-in-PE.ensures file known))
+    (format, answered ∙ ap (λ (a : Result AllSymbols Refusal). Some a) (c.in_ok-parts-in-PE.ensures.parts file known), c.in_ok-parts-in-PE.ensures.count file known)
 
 pub returns-in_err-parts-in-PE : goal.returns-in_err-parts-in-PE
 unfolding AreAllTablesOf
@@ -84,8 +84,8 @@ returns-in_err-parts-in-PE g c = λ file known.
     let told : Known (g.S.Source.bytes c.args.source.now) c.in_ok-len.len file = (known, length_told _ file c.in_ok-len.len known c.in_ok-len.ensures.length) in
     let format : format_of file ≡ PE = sym (taken (c.in_ok-byte_order.ensures file told)) ∙ c.in-PE.is in
     let answered : all_answer_of c.args.which file ≡ Some (pe.all_file_answer file) = answer_pe c.args.which file format ∙ ap (λ (w : SymbolTable). Some (by_symbol_table w (pe.all_file_answer file))) c.in_ok-has_table-in-PE.ensures in
-    unread_as (AreAllTablesOf c.args.which file) (g.S.Source.may_fail c.args.source.now) (all_answer_of c.args.which file) pe.all_parts_view (pe.all_file_answer file) c.in_err-parts-in-PE.field-0.0 c.from_residual-in_err-parts-in-PE.result
-    answered (c.in_err-parts-in-PE.ensures file known) c.from_residual-in_err-parts-in-PE.ensures
+    unread_as (AreAllTablesOf c.args.which file) (g.S.Source.may_fail c.args.source.now) (all_answer_of c.args.which file) pe.all_view (pe.all_file_answer file) c.in_err-parts-in-PE.field-0.0 c.from_residual-in_err-parts-in-PE.result
+    answered (c.in_err-parts-in-PE.ensures.parts file known) c.from_residual-in_err-parts-in-PE.ensures
 
 pub returns-in_err-has_table-in-PE : goal.returns-in_err-has_table-in-PE
 unfolding AreAllTablesOf

@@ -1,5 +1,6 @@
 //! Listings, reports and pictures of all sections.
 
+use binfarce_tables::ReadError;
 use binfarce_tools::SymbolTable;
 use binfarce_tools::all::{AllTables, list_all, map_all, read_all, report_all};
 use binfarce_tools::list::Out;
@@ -247,7 +248,8 @@ fn written(
 ) -> Result<String, AllocError> {
     let tables = match read_all(alloc, &file, which) {
         Ok(tables) => tables,
-        Err(e) => return format!(in alloc; "{e}"),
+        Err(ReadError::Refused(e)) => return format!(in alloc; "{e}"),
+        Err(e) => return format!(in alloc; "{e:?}"),
     };
     let mut out = Out::new(Vec::new(alloc));
     let refusal = match call {

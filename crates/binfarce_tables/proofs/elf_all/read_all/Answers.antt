@@ -1,4 +1,4 @@
-use Rattle.std.proofs.Common.{◌≡◌, List, ℕ, Err, ap, ◌∙◌}
+use Rattle.std.proofs.Common.{◌≡◌, List, ℕ, Ok, Err, ap, ◌∙◌}
 use Rattle.std.specs.Option.{option_map}
 use Rattle.binfarce_elf.specs.Elf.{header_of, walk, names_bytes}
 use Rattle.binfarce_elf.specs.ElfParts.{headers_alone}

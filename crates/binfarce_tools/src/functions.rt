@@ -8,6 +8,7 @@ ghost use Rattle.binfarce.specs.SymbolViews.{function_view};
 ghost use Rattle.binfarce_tools.specs.Answer.{elf_file_answer, macho_file_answer, pe_file_answer, symbols_answer, NeedsMemory, file_answer, FileNeedsMemory};
 ghost use Rattle.binfarce_tools.specs.Entries.{arranged_left, HoldsLeft, IsArranged, Gets};
 
+use crate::all::AllFunctions;
 use crate::list::ListError;
 use binfarce::{
     ByteOrder, Format, FunctionSymbol, ParseError, detect_format, elf32, elf64, macho, pe,
@@ -20,6 +21,7 @@ pub enum Functions<'a> {
     Elf32(elf32::Functions<'a>),
     Elf64(elf64::Functions<'a>),
     Arranged(Arranged<'a>),
+    All(AllFunctions<'a>),
 }
 
 /// Function symbols that stand in a list, from a place on.
@@ -45,6 +47,7 @@ impl<'a> Iterator for Functions<'a> {
             Functions::Elf32(functions) => functions.next(),
             Functions::Elf64(functions) => functions.next(),
             Functions::Arranged(functions) => functions.next(),
+            Functions::All(functions) => Some(functions.next()?.function),
         }
     }
 }

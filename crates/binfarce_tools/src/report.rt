@@ -3,12 +3,13 @@
 ghost use Rattle.std.specs.Prelude.{◌≡◌, ◌≢◌, ◌⊎◌, ◌+◌, ◌^◌, ◌<◌, ◌≤◌, ◌++◌, ℕ, List, Some, MatchResult, IfOk, IfErr, OnOk};
 ghost use Rattle.std.specs.List.{AllZip, sum_by};
 ghost use Rattle.std.specs.String.{string_bytes};
+ghost use Rattle.binfarce_bytes.specs.Format.{format_of};
 ghost use Rattle.binfarce_names.specs.Name.{Name};
 ghost use Rattle.binfarce_names.specs.Named.{IsNamed};
-ghost use Rattle.binfarce.specs.SymbolViews.{function_view};
-ghost use Rattle.binfarce.specs.declared.SymbolTable.{SymbolTable};
-ghost use Rattle.binfarce_tools.specs.Answer.{answer_of, file_answer, FileNeedsMemory};
-ghost use Rattle.binfarce_tools.specs.Report.{Share, IsShareOf, IsReportOf, IsReportOfShares, ReportFits, crate_text, crate_line};
+ghost use Rattle.binfarce_bytes.specs.SymbolViews.{function_view};
+ghost use Rattle.binfarce_elf.specs.declared.symbol_table.SymbolTable.{SymbolTable};
+ghost use Rattle.binfarce_tools.specs.Answer.{symbols_answer, answer_of, NeedsMemory};
+ghost use Rattle.binfarce_tools.specs.Report.{Share, IsShareOf, IsReportOf, IsReportOfShares, IsSumsOfShares, ReportFits, crate_text, crate_line};
 ghost use Rattle.binfarce_tools.specs.ReportWords.{outcome_of};
 ghost use Rattle.binfarce_tools.specs.Writing.{Tells, Takes, Fails, Leaves};
 ghost use Rattle.binfarce_tools.specs.declared.report.ReportError.TheVariants.{OutOfMemory, TooLarge, Write};
@@ -21,7 +22,8 @@ use crate::functions::{Functions, functions_of_file};
 use crate::list::{ListError, Sink};
 use crate::tables::Tables;
 use crate::writing::write_whole;
-use binfarce::{FunctionSymbol, ParseError};
+use binfarce_bytes::ParseError;
+use binfarce_bytes::functions::FunctionSymbol;
 use binfarce_names::demangle::push_crate;
 use std::alloc::{AllocError, Global};
 use std::collections::BTreeMap;
@@ -109,8 +111,9 @@ pub fn report<S: Sink>(
     section: &str,
     out: &mut S,
 ) -> Result<(), ReportError>
-    ensures tells { Tells ReportFits (FileNeedsMemory data.now) (file_answer data.now section.now) (outcome_of result) }
-    ensures takes { Takes IsReportOf (file_answer data.now section.now) (S.taken out.old)
+    ensures tells { Tells ReportFits (NeedsMemory (format_of data.now) data.now)
+        (symbols_answer (format_of data.now) data.now section.now) (outcome_of result) }
+    ensures takes { Takes IsReportOf (symbols_answer (format_of data.now) data.now section.now) (S.taken out.old)
         (S.taken out.new) (outcome_of result) }
     ensures fails { Fails (S.has_failed out.old) (S.has_failed out.new) (outcome_of result) }
     ensures leaves { Leaves out.old out.new (outcome_of result) }
@@ -132,7 +135,7 @@ pub fn report_tables<S: Sink>(
     out: &mut S,
 ) -> Result<(), ReportError>
     ensures tells { (which : SymbolTable) (file section : List ℕ) → AreTablesOf which file section tables.now
-        → Tells ReportFits (FileNeedsMemory file) (answer_of which file section) (outcome_of result) }
+        → Tells ReportFits (NeedsMemory (format_of file) file) (answer_of which file section) (outcome_of result) }
     ensures takes { (which : SymbolTable) (file section : List ℕ) → AreTablesOf which file section tables.now
         → Takes IsReportOf (answer_of which file section) (S.taken out.old) (S.taken out.new) (outcome_of result) }
     ensures fails { Fails (S.has_failed out.old) (S.has_failed out.new) (outcome_of result) }
@@ -161,7 +164,8 @@ pub struct CrateSums {
 ///
 /// As `report`, but for `Write`.
 pub fn sums_of_file(alloc: Global, data: &[u8], section: &str) -> Result<CrateSums, ReportError>
-    ensures { GetsSums (FileNeedsMemory data.now) (file_answer data.now section.now) result }
+    ensures { GetsSums (NeedsMemory (format_of data.now) data.now)
+        (symbols_answer (format_of data.now) data.now section.now) result }
 {
     let (functions, size) = functions_of_file(alloc, data, section)?;
     crate_sums(alloc, functions, size)
@@ -174,7 +178,7 @@ pub fn sums_of_file(alloc: Global, data: &[u8], section: &str) -> Result<CrateSu
 /// As `report_tables`, but for `Write`.
 pub fn sums_of_tables(alloc: Global, tables: &Tables) -> Result<CrateSums, ReportError>
     ensures sums { (which : SymbolTable) (file section : List ℕ) → AreTablesOf which file section tables.now
-        → GetsSums (FileNeedsMemory file) (answer_of which file section) result }
+        → GetsSums (NeedsMemory (format_of file) file) (answer_of which file section) result }
     ensures made { IfOk result (λ s. (shares : List Share) × AreSumsOf shares s) }
     ensures unwritten { IfErr result (λ e. e ≢ Write) }
 {
@@ -183,7 +187,7 @@ pub fn sums_of_tables(alloc: Global, tables: &Tables) -> Result<CrateSums, Repor
 }
 
 // The sums of the functions, beside the section's size. `TooLarge` where the sum of all doesn't fit.
-fn crate_sums(
+pub(crate) fn crate_sums(
     alloc: Global,
     functions: Functions<'_>,
     section_size: u64,
@@ -262,12 +266,21 @@ fn report_text(alloc: Global, sums: &CrateSums) -> Result<String, AllocError>
         (λ t. (shares : List Share) → AreSumsOf shares sums.now
         → IsReportOfShares shares sums.now.section_size (string_bytes t)) }
 {
+    let mut text = sums_text(alloc, sums)?;
+    writeln!(text, "text {}", sums.section_size)?;
+    Ok(text)
+}
+
+// The lines of the crates, and that of the sum of all sizes.
+pub(crate) fn sums_text(alloc: Global, sums: &CrateSums) -> Result<String, AllocError>
+    ensures { IfOk result
+        (λ t. (shares : List Share) → AreSumsOf shares sums.now → IsSumsOfShares shares (string_bytes t)) }
+{
     let mut text = String::new(alloc);
     for (name, sum) in sums.crates.iter() {
         push_crate_line(&mut text, name.as_str(), *sum)?;
     }
     writeln!(text, "sum {}", sums.total)?;
-    writeln!(text, "text {}", sums.section_size)?;
     Ok(text)
 }
 

@@ -3,6 +3,7 @@
 //! The function symbols of a file of any format.
 
 use crate::shim::Vec;
+use crate::erased::binfarce_tools::all::AllFunctions;
 use crate::erased::binfarce_tools::list::ListError;
 use crate::erased::binfarce::{
     ByteOrder, Format, FunctionSymbol, ParseError, detect_format, elf32, elf64, macho, pe,
@@ -14,6 +15,7 @@ pub enum Functions<'a> {
     Elf32(elf32::Functions<'a>),
     Elf64(elf64::Functions<'a>),
     Arranged(Arranged<'a>),
+    All(AllFunctions<'a>),
 }
 
 /// Function symbols that stand in a list, from a place on.
@@ -30,6 +32,7 @@ impl<'a> Iterator for Functions<'a> {
             Functions::Elf32(functions) => functions.next(),
             Functions::Elf64(functions) => functions.next(),
             Functions::Arranged(functions) => functions.next(),
+            Functions::All(functions) => Some(functions.next()?.function),
         }
     }
 }

@@ -3,22 +3,22 @@ use Rattle.std.proofs.Common.{◌≡◌, ℕ, Bool, true, false, cond, ltb, leng
 use Rattle.std.specs.Prelude.{◌≢◌, codes, nat_eq}
 use Rattle.std.specs.List.{AllZip, concat}
 use Rattle.std.specs.Result.{IsErr, IsErrAnd}
-use Rattle.binfarce_bytes.specs.declared.error.ParseError.{ParseError}
-use Rattle.binfarce_bytes.specs.declared.format.Format.{Format}
-use Rattle.binfarce_bytes.specs.declared.format.Format.TheVariants as formats
-use Rattle.binfarce_bytes.specs.declared.functions.SectionFunction.{SectionFunction}
-use Rattle.binfarce_bytes.specs.Format.{format_of}
-use Rattle.binfarce_bytes.specs.Refusal.{◌>>=◌, Refusal, refusal_of, section_is_missing, unexpected_eof}
-use Rattle.binfarce_bytes.specs.SectionEntries.{SectionEntry, AllSymbols, AnswersAll}
-use Rattle.binfarce_bytes.specs.SymbolViews.{section_function_view, HoldsSectionFunctions}
-use Rattle.binfarce_elf.specs.Elf.{elf32, elf64}
-use Rattle.binfarce_elf.specs.declared.symbol_table.SymbolTable.{SymbolTable}
-use Rattle.binfarce_elf.specs.declared.symbol_table.SymbolTable.TheVariants.{Dynsym}
-use Rattle.binfarce_macho.specs.Macho as macho_file
-use Rattle.binfarce_macho.specs.Macho.{least_length}
-use Rattle.binfarce_macho.specs.MachoAll as macho_all
+use Rattle.binfarce.specs.declared.ParseError.{ParseError}
+use Rattle.binfarce.specs.declared.Format.{Format}
+use Rattle.binfarce.specs.declared.Format.TheVariants as formats
+use Rattle.binfarce.specs.declared.SectionFunction.{SectionFunction}
+use Rattle.binfarce.specs.Format.{format_of}
+use Rattle.binfarce.specs.Refusal.{◌>>=◌, Refusal, refusal_of, section_is_missing, unexpected_eof}
+use Rattle.binfarce.specs.SectionEntries.{SectionEntry, AllSymbols, AnswersAll}
+use Rattle.binfarce.specs.SymbolViews.{section_function_view, HoldsSectionFunctions}
+use Rattle.binfarce.specs.Elf.{elf32, elf64}
+use Rattle.binfarce.specs.declared.SymbolTable.{SymbolTable}
+use Rattle.binfarce.specs.declared.SymbolTable.TheVariants.{Dynsym}
+use Rattle.binfarce.specs.Macho as macho_file
+use Rattle.binfarce.specs.Macho.{least_length}
+use Rattle.binfarce.specs.MachoAll as macho_all
 use Rattle.binfarce_macho.proofs.AllRows.{has_start}
-use Rattle.binfarce_pe.specs.Pe as pe_file
+use Rattle.binfarce.specs.Pe as pe_file
 use Rattle.binfarce_tables.specs.ElfAllReading.{all_file_answer, all_view}
 use Rattle.binfarce_tables.specs.MachoAllReading as macho
 use Rattle.binfarce_tables.specs.PeAllReading as pe

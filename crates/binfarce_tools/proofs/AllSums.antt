@@ -3,9 +3,9 @@ use Rattle.std.proofs.Common.{◌≡◌, ℕ, ◌≤◌, ◌^◌, List, map, Opt
 use Rattle.std.specs.Prelude.{◌≢◌}
 use Rattle.std.specs.Result.{IsErrAnd}
 use Rattle.std.specs.List.{AllZip}
-use Rattle.binfarce_bytes.specs.Refusal.{Refusal, refusal_of}
-use Rattle.binfarce_bytes.specs.Entries.{Entry, Listed}
-use Rattle.binfarce_bytes.specs.SectionEntries.{SectionEntry, AllSymbols}
+use Rattle.binfarce.specs.Refusal.{Refusal, refusal_of}
+use Rattle.binfarce.specs.Symbol.{Entry, Listed}
+use Rattle.binfarce.specs.SectionEntries.{SectionEntry, AllSymbols}
 use Rattle.binfarce_tools.specs.declared.all.AllFunctions.{AllFunctions}
 use Rattle.binfarce_tools.specs.declared.functions.Functions.TheVariants.{All}
 use Rattle.binfarce_tools.specs.declared.list.ListError.{ListError}

@@ -3,8 +3,8 @@ use Rattle.std.proofs.Common.{◌≡◌, ℕ, List, [], ◌∷◌, ◌++◌, Opt
 use Rattle.std.specs.Io.KnownBytes.{Appends}
 use Rattle.std.specs.Result.{IsErrAnd}
 use Rattle.std.specs.List.{AllZip, concat}
-use Rattle.binfarce_bytes.specs.Refusal.{Refusal}
-use Rattle.binfarce_bytes.specs.Entries.{Entry, Listed}
+use Rattle.binfarce.specs.Refusal.{Refusal}
+use Rattle.binfarce.specs.Symbol.{Entry, Listed}
 use Rattle.binfarce_tools.specs.declared.list.ListError.{ListError}
 use Rattle.binfarce_tools.specs.declared.list.ListError.TheVariants.{Unknown, Parse, OutOfMemory, Write}
 use Rattle.binfarce_tools.specs.Listing.{IsLineOf, IsListingOf, size_line}

@@ -1,26 +1,26 @@
 -- No file's answer is that an allocation failed.
 use Rattle.std.proofs.Common.{◌≡◌, ℕ, zero, suc, ◌*◌, ◌-◌, [], ◌∷◌, Bool, true, false, ◌&&◌, List, Option, Some, None, Result, Ok, Err, refl, ltb, leb, length}
 use Rattle.std.specs.Prelude.{if◌then◌else◌, find, nat_eq, codes, ◌+◌, ◌%◌, ◌^◌, drop}
-use Rattle.binfarce_bytes.specs.declared.ByteOrder.{ByteOrder}
-use Rattle.binfarce_bytes.specs.Refusal.{Refusal, ◌>>=◌, required, symbols_section_is_missing, section_is_missing, unexpected_section_type, malformed_input, unexpected_eof, out_of_memory, bytes_in_file}
-use Rattle.binfarce_bytes.specs.Walk.{Walk, found_or_end, first, ended, ahead_of, and_then}
-use Rattle.binfarce_elf.specs.Elf.{ElfClass, SectionTable, Section, walk, name_of, section_table, whole_headers}
-use Rattle.binfarce_elf.specs.ElfSymbols.{sought, is_named, section_data, located, located_in, rows_in, elf_answer}
-use Rattle.binfarce_elf.specs.SymbolTables.{section_type, table_name, strings_name}
-use Rattle.binfarce_elf.specs.declared.symbol_table.SymbolTable.{SymbolTable}
-use Rattle.binfarce_elf.specs.declared.symbol_table.SymbolTable.TheVariants.{Symtab}
+use Rattle.binfarce.specs.declared.ByteOrder.{ByteOrder}
+use Rattle.binfarce.specs.Refusal.{Refusal, ◌>>=◌, required, symbols_section_is_missing, section_is_missing, unexpected_section_type, malformed_input, unexpected_eof, out_of_memory, bytes_in_file}
+use Rattle.binfarce.specs.Walk.{Walk, found_or_end, first, ended, ahead_of, and_then}
+use Rattle.binfarce.specs.Elf.{ElfClass, SectionTable, Section, walk, name_of, section_table, whole_headers}
+use Rattle.binfarce.specs.ElfSymbols.{sought, is_named, section_data, located, located_in, rows_in, elf_answer}
+use Rattle.binfarce.specs.SymbolTables.{section_type, table_name, strings_name}
+use Rattle.binfarce.specs.declared.SymbolTable.{SymbolTable}
+use Rattle.binfarce.specs.declared.SymbolTable.TheVariants.{Symtab}
 use Rattle.std.specs.Str.{bytes_eq}
-use Rattle.binfarce_bytes.specs.Number.{bytes_at}
-use Rattle.binfarce_bytes.specs.Sizes.{RowAddress, arranged, least_above}
-use Rattle.binfarce_pe.specs.Pe as pe_file
-use Rattle.binfarce_pe.specs.Pe.{least_length, walk as pe_walk}
-use Rattle.binfarce_pe.specs.PeSymbols as pe
-use Rattle.binfarce_pe.specs.PeSymbols.{pe_answer}
-use Rattle.binfarce_macho.specs.Macho as macho_file
-use Rattle.binfarce_macho.specs.Macho.{Command, command_at, commands_from, commands, body_of, header_of, segment, is_segment, sections_of, walk as macho_walk}
-use Rattle.binfarce_macho.specs.MachoAll as all
-use Rattle.binfarce_macho.specs.MachoSymbols as macho
-use Rattle.binfarce_macho.specs.MachoSymbols.{size_up_to, macho_size, whole_table, slice_at, text_end_of, symbol_table_at, some_size, symbol_command, located_by, row_addresses, kept, answer_of, macho_answer}
+use Rattle.binfarce.specs.Number.{bytes_at}
+use Rattle.binfarce.specs.Sizes.{RowAddress, arranged, least_above}
+use Rattle.binfarce.specs.Pe as pe_file
+use Rattle.binfarce.specs.Pe.{least_length, walk as pe_walk}
+use Rattle.binfarce.specs.PeSymbols as pe
+use Rattle.binfarce.specs.PeSymbols.{pe_answer}
+use Rattle.binfarce.specs.Macho as macho_file
+use Rattle.binfarce.specs.Macho.{Command, command_at, commands_from, commands, body_of, header_of, segment, is_segment, sections_of, walk as macho_walk}
+use Rattle.binfarce.specs.MachoAll as all
+use Rattle.binfarce.specs.MachoSymbols as macho
+use Rattle.binfarce.specs.MachoSymbols.{size_up_to, macho_size, whole_table, slice_at, text_end_of, symbol_table_at, some_size, symbol_command, located_by, row_addresses, kept, answer_of, macho_answer}
 use Rattle.binfarce_tools.specs.Answer.{elf_file_answer, macho_file_answer, pe_file_answer}
 
 -- a refusal that isn't that an allocation failed

@@ -1,17 +1,17 @@
 -- The function symbols of all sections of a file of any format, and the sections' names.
 use Rattle.std.specs.Prelude.{ℕ, List, codes, map, Option, Some, None, Result, Ok, Err}
 use Rattle.std.specs.List.{sum_by}
-use Rattle.binfarce_bytes.specs.declared.format.Format.{Format}
-use Rattle.binfarce_bytes.specs.declared.format.Format.TheVariants.{Elf32, Elf64, Macho, PE, Unknown}
-use Rattle.binfarce_bytes.specs.Entries.{Listed}
-use Rattle.binfarce_bytes.specs.Format.{format_of}
-use Rattle.binfarce_bytes.specs.Refusal.{Refusal, section_is_missing}
-use Rattle.binfarce_bytes.specs.SectionEntries.{AllSymbols}
-use Rattle.binfarce_elf.specs.Elf.{elf32, elf64}
-use Rattle.binfarce_elf.specs.declared.symbol_table.SymbolTable.{SymbolTable}
-use Rattle.binfarce_elf.specs.declared.symbol_table.SymbolTable.TheVariants.{Symtab, Dynsym}
-use Rattle.binfarce_macho.specs.MachoAll as macho
-use Rattle.binfarce_pe.specs.PeAll as pe
+use Rattle.binfarce.specs.declared.Format.{Format}
+use Rattle.binfarce.specs.declared.Format.TheVariants.{Elf32, Elf64, Macho, PE, Unknown}
+use Rattle.binfarce.specs.Symbol.{Listed}
+use Rattle.binfarce.specs.Format.{format_of}
+use Rattle.binfarce.specs.Refusal.{Refusal, section_is_missing}
+use Rattle.binfarce.specs.SectionEntries.{AllSymbols}
+use Rattle.binfarce.specs.Elf.{elf32, elf64}
+use Rattle.binfarce.specs.declared.SymbolTable.{SymbolTable}
+use Rattle.binfarce.specs.declared.SymbolTable.TheVariants.{Symtab, Dynsym}
+use Rattle.binfarce.specs.MachoAll as macho
+use Rattle.binfarce.specs.PeAll as pe
 use Rattle.binfarce_tables.specs.ElfAllReading.{all_file_answer}
 use Rattle.binfarce_tables.specs.MachoAllReading as macho_reading
 use Rattle.binfarce_tables.specs.PeAllReading as pe_reading

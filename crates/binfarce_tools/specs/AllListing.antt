@@ -4,7 +4,7 @@ use Rattle.std.specs.Fmt.{decimal}
 use Rattle.std.specs.List.{AllZip, concat}
 use Rattle.binfarce_names.specs.Name.{Name}
 use Rattle.binfarce_names.specs.Named.{IsNamed}
-use Rattle.binfarce_bytes.specs.SectionEntries.{SectionEntry, AllSymbols}
+use Rattle.binfarce.specs.SectionEntries.{SectionEntry, AllSymbols}
 use Rattle.binfarce_tools.specs.Listing.{line_head}
 
 -- a section in a line: its name as it is stored, or where it has none its number in brackets

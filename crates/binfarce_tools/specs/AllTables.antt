@@ -1,11 +1,11 @@
 -- What was read of a file to list the function symbols of all sections, and what such a reading gives.
 use Rattle.std.specs.Prelude.{◌≡◌, ℕ, Bool, false, List, Option, Some, None, Result, Ok}
-use Rattle.binfarce_bytes.specs.declared.format.Format.TheVariants as formats
-use Rattle.binfarce_bytes.specs.Format.{format_of}
-use Rattle.binfarce_elf.specs.Elf.{elf32, elf64}
-use Rattle.binfarce_elf.specs.declared.symbol_table.SymbolTable.{SymbolTable}
-use Rattle.binfarce_macho.specs.MachoAll as macho_all
-use Rattle.binfarce_pe.specs.Pe.{header_of}
+use Rattle.binfarce.specs.declared.Format.TheVariants as formats
+use Rattle.binfarce.specs.Format.{format_of}
+use Rattle.binfarce.specs.Elf.{elf32, elf64}
+use Rattle.binfarce.specs.declared.SymbolTable.{SymbolTable}
+use Rattle.binfarce.specs.MachoAll as macho_all
+use Rattle.binfarce.specs.Pe.{header_of}
 use Rattle.binfarce_tables.specs.ElfAllReading.{all_view}
 use Rattle.binfarce_tables.specs.MachoAllReading as macho
 use Rattle.binfarce_tables.specs.PeAllReading as pe

@@ -1,15 +1,15 @@
 -- The entries of a file of any format: what is left of them, and what a call returns that reads them.
 use Rattle.std.specs.Prelude.{◌≡◌, ◌⊎◌, ℕ, List, map, drop, Option, Some, None, Result, Ok, Err}
 use Rattle.std.specs.Global.{Vec}
-use Rattle.binfarce_bytes.specs.declared.functions.FunctionSymbol.{FunctionSymbol}
-use Rattle.binfarce_bytes.specs.declared.error.ParseError.{ParseError}
-use Rattle.binfarce_elf.specs.Elf.{elf32, elf64}
-use Rattle.binfarce_elf.specs.ElfAll as elf_all
-use Rattle.binfarce_elf.specs.ElfViews as elf
-use Rattle.binfarce_bytes.specs.Refusal.{Refusal, refusal_of}
-use Rattle.binfarce_bytes.specs.Entries.{Entry, Listed}
-use Rattle.binfarce_bytes.specs.SectionEntries.{SectionEntry, AllSymbols}
-use Rattle.binfarce_bytes.specs.SymbolViews.{function_view, section_function_view}
+use Rattle.binfarce.specs.declared.FunctionSymbol.{FunctionSymbol}
+use Rattle.binfarce.specs.declared.ParseError.{ParseError}
+use Rattle.binfarce.specs.Elf.{elf32, elf64}
+use Rattle.binfarce.specs.ElfAll as elf_all
+use Rattle.binfarce.specs.ElfViews as elf
+use Rattle.binfarce.specs.Refusal.{Refusal, refusal_of}
+use Rattle.binfarce.specs.Symbol.{Entry, Listed}
+use Rattle.binfarce.specs.SectionEntries.{SectionEntry, AllSymbols}
+use Rattle.binfarce.specs.SymbolViews.{function_view, section_function_view}
 use Rattle.binfarce_tools.specs.declared.all.AllFunctions.{AllFunctions}
 use Rattle.binfarce_tools.specs.declared.all.AllArranged.{AllArranged}
 use Rattle.binfarce_tools.specs.declared.all.AllFunctions.TheVariants as all_variants

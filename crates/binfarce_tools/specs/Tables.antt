@@ -1,15 +1,15 @@
 -- What was read of a file to list its function symbols, and what such a reading gives.
 use Rattle.std.specs.Prelude.{◌≡◌, ℕ, List, Option, Some, Result, Ok, Err}
-use Rattle.binfarce_bytes.specs.declared.format.Format.TheVariants as formats
-use Rattle.binfarce_elf.specs.Elf.{elf32, elf64}
-use Rattle.binfarce_bytes.specs.Format.{format_of}
-use Rattle.binfarce_bytes.specs.Refusal.{Refusal, refusal_of}
+use Rattle.binfarce.specs.declared.Format.TheVariants as formats
+use Rattle.binfarce.specs.Elf.{elf32, elf64}
+use Rattle.binfarce.specs.Format.{format_of}
+use Rattle.binfarce.specs.Refusal.{Refusal, refusal_of}
 use Rattle.binfarce_tables.specs.MachoReading as macho
 use Rattle.binfarce_tables.specs.PeReading as pe
 use Rattle.binfarce_tables.specs.Reading.{parts_view}
 use Rattle.binfarce_tables.specs.declared.error.ReadError.{ReadError}
 use Rattle.binfarce_tables.specs.declared.error.ReadError.TheVariants.{Refused, Unreadable, OutOfMemory}
-use Rattle.binfarce_elf.specs.declared.symbol_table.SymbolTable.{SymbolTable}
+use Rattle.binfarce.specs.declared.SymbolTable.{SymbolTable}
 use Rattle.binfarce_tools.specs.Answer.{answer_of, macho_file_answer}
 use Rattle.binfarce_tools.specs.declared.tables.Tables.{Tables}
 use Rattle.binfarce_tools.specs.declared.tables.Tables.TheVariants.{Elf32, Elf64, Macho, Pe, Unknown}

@@ -1,7 +1,7 @@
 -- What a call tells and leaves that makes a text of what a file holds and then writes it: whatever the text is, and whatever the call's errors are.
 use Rattle.std.specs.Prelude.{◌≡◌, ◌⊎◌, ◌++◌, ℕ, List, [], Bool, true, Option, Some, None, Result, Ok, Err}
 use Rattle.std.specs.Io.KnownBytes.{Appends}
-use Rattle.binfarce_bytes.specs.Refusal.{Refusal}
+use Rattle.binfarce.specs.Refusal.{Refusal}
 
 -- how a call ended: its text was written; a write of its sink failed; or, before its first write: no reader reads the file's format, the reader refused the file, an allocation failed, the text would hold a number above 64 bits; and of a program: the file can't be read, no file is named
 pub data Outcome : Type 0 where

@@ -4,10 +4,10 @@ ghost use Rattle.std.specs.Prelude.{◌≡◌, ◌≢◌, ◌++◌, ℕ, List, m
 ghost use Rattle.std.specs.Iterator.{YieldsFirstBy};
 ghost use Rattle.std.specs.Option.{option_map};
 ghost use Rattle.std.specs.String.{string_bytes};
-ghost use Rattle.binfarce_bytes.specs.Format.{format_of};
-ghost use Rattle.binfarce_bytes.specs.SectionEntries.{AllSymbols};
-ghost use Rattle.binfarce_bytes.specs.SymbolViews.{section_function_view};
-ghost use Rattle.binfarce_elf.specs.declared.symbol_table.SymbolTable.{SymbolTable};
+ghost use Rattle.binfarce.specs.Format.{format_of};
+ghost use Rattle.binfarce.specs.SectionEntries.{AllSymbols};
+ghost use Rattle.binfarce.specs.SymbolViews.{section_function_view};
+ghost use Rattle.binfarce.specs.declared.SymbolTable.{SymbolTable};
 ghost use Rattle.binfarce_tools.specs.AllAnswer.{all_answer_of, AllNeedsMemory, one_answer};
 ghost use Rattle.binfarce_tools.specs.AllListing.{section_text, IsLineIn, IsAllListingOf, AllListingFits};
 ghost use Rattle.binfarce_tools.specs.AllTables.{AreAllTablesOf, ReadsAllTables, section_names, is_object_of};
@@ -28,11 +28,8 @@ use crate::map::picture;
 use crate::report::{CrateSums, ReportError, crate_sums, sums_text};
 use crate::tables::{has_table, read_format};
 use crate::writing::write_whole;
-use binfarce_bytes::format::Format;
-use binfarce_bytes::functions::SectionFunction;
+use binfarce::{Format, SectionFunction, SymbolTable};
 use binfarce_bytes::source::Source;
-use binfarce_elf::all as elf;
-use binfarce_elf::symbol_table::SymbolTable;
 use binfarce_names::demangle::Demangler;
 use binfarce_tables::{ReadError, elf32, elf64, macho, pe};
 use std::alloc::{AllocError, Global};
@@ -129,8 +126,8 @@ impl AllTables {
 /// The function symbols of all sections of a file that are left, in the order of its listing.
 #[derive(Drop)]
 pub enum AllFunctions<'a> {
-    Elf32(elf::AllFunctions<'a, u32>),
-    Elf64(elf::AllFunctions<'a, u64>),
+    Elf32(binfarce::elf32::AllFunctions<'a>),
+    Elf64(binfarce::elf64::AllFunctions<'a>),
     Arranged(AllArranged<'a>),
 }
 
@@ -143,7 +140,7 @@ pub struct AllArranged<'a> {
 
 impl<'a> Iterator for AllFunctions<'a> {
     ghost use Rattle.std.specs.Iterator.{YieldsFirstBy, item_count};
-    ghost use Rattle.binfarce_bytes.specs.SymbolViews.{section_function_view};
+    ghost use Rattle.binfarce.specs.SymbolViews.{section_function_view};
     ghost use Rattle.binfarce_tools.specs.Entries.{all_left};
 
     type Item = SectionFunction<'a>;

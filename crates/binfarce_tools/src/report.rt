@@ -3,12 +3,11 @@
 ghost use Rattle.std.specs.Prelude.{◌≡◌, ◌≢◌, ◌⊎◌, ◌+◌, ◌^◌, ◌<◌, ◌≤◌, ◌++◌, ℕ, List, Some, MatchResult, IfOk, IfErr, OnOk};
 ghost use Rattle.std.specs.List.{AllZip, sum_by};
 ghost use Rattle.std.specs.String.{string_bytes};
-ghost use Rattle.binfarce_bytes.specs.Format.{format_of};
 ghost use Rattle.binfarce_names.specs.Name.{Name};
 ghost use Rattle.binfarce_names.specs.Named.{IsNamed};
-ghost use Rattle.binfarce_bytes.specs.SymbolViews.{function_view};
-ghost use Rattle.binfarce_elf.specs.declared.symbol_table.SymbolTable.{SymbolTable};
-ghost use Rattle.binfarce_tools.specs.Answer.{symbols_answer, answer_of, NeedsMemory};
+ghost use Rattle.binfarce.specs.SymbolViews.{function_view};
+ghost use Rattle.binfarce.specs.declared.SymbolTable.{SymbolTable};
+ghost use Rattle.binfarce_tools.specs.Answer.{answer_of, file_answer, FileNeedsMemory};
 ghost use Rattle.binfarce_tools.specs.Report.{Share, IsShareOf, IsReportOf, IsReportOfShares, IsSumsOfShares, ReportFits, crate_text, crate_line};
 ghost use Rattle.binfarce_tools.specs.ReportWords.{outcome_of};
 ghost use Rattle.binfarce_tools.specs.Writing.{Tells, Takes, Fails, Leaves};
@@ -22,8 +21,7 @@ use crate::functions::{Functions, functions_of_file};
 use crate::list::{ListError, Sink};
 use crate::tables::Tables;
 use crate::writing::write_whole;
-use binfarce_bytes::ParseError;
-use binfarce_bytes::functions::FunctionSymbol;
+use binfarce::{FunctionSymbol, ParseError};
 use binfarce_names::demangle::push_crate;
 use std::alloc::{AllocError, Global};
 use std::collections::BTreeMap;
@@ -111,9 +109,9 @@ pub fn report<S: Sink>(
     section: &str,
     out: &mut S,
 ) -> Result<(), ReportError>
-    ensures tells { Tells ReportFits (NeedsMemory (format_of data.now) data.now)
-        (symbols_answer (format_of data.now) data.now section.now) (outcome_of result) }
-    ensures takes { Takes IsReportOf (symbols_answer (format_of data.now) data.now section.now) (S.taken out.old)
+    ensures tells { Tells ReportFits (FileNeedsMemory data.now)
+        (file_answer data.now section.now) (outcome_of result) }
+    ensures takes { Takes IsReportOf (file_answer data.now section.now) (S.taken out.old)
         (S.taken out.new) (outcome_of result) }
     ensures fails { Fails (S.has_failed out.old) (S.has_failed out.new) (outcome_of result) }
     ensures leaves { Leaves out.old out.new (outcome_of result) }
@@ -135,7 +133,7 @@ pub fn report_tables<S: Sink>(
     out: &mut S,
 ) -> Result<(), ReportError>
     ensures tells { (which : SymbolTable) (file section : List ℕ) → AreTablesOf which file section tables.now
-        → Tells ReportFits (NeedsMemory (format_of file) file) (answer_of which file section) (outcome_of result) }
+        → Tells ReportFits (FileNeedsMemory file) (answer_of which file section) (outcome_of result) }
     ensures takes { (which : SymbolTable) (file section : List ℕ) → AreTablesOf which file section tables.now
         → Takes IsReportOf (answer_of which file section) (S.taken out.old) (S.taken out.new) (outcome_of result) }
     ensures fails { Fails (S.has_failed out.old) (S.has_failed out.new) (outcome_of result) }
@@ -164,8 +162,8 @@ pub struct CrateSums {
 ///
 /// As `report`, but for `Write`.
 pub fn sums_of_file(alloc: Global, data: &[u8], section: &str) -> Result<CrateSums, ReportError>
-    ensures { GetsSums (NeedsMemory (format_of data.now) data.now)
-        (symbols_answer (format_of data.now) data.now section.now) result }
+    ensures { GetsSums (FileNeedsMemory data.now)
+        (file_answer data.now section.now) result }
 {
     let (functions, size) = functions_of_file(alloc, data, section)?;
     crate_sums(alloc, functions, size)
@@ -178,7 +176,7 @@ pub fn sums_of_file(alloc: Global, data: &[u8], section: &str) -> Result<CrateSu
 /// As `report_tables`, but for `Write`.
 pub fn sums_of_tables(alloc: Global, tables: &Tables) -> Result<CrateSums, ReportError>
     ensures sums { (which : SymbolTable) (file section : List ℕ) → AreTablesOf which file section tables.now
-        → GetsSums (NeedsMemory (format_of file) file) (answer_of which file section) result }
+        → GetsSums (FileNeedsMemory file) (answer_of which file section) result }
     ensures made { IfOk result (λ s. (shares : List Share) × AreSumsOf shares s) }
     ensures unwritten { IfErr result (λ e. e ≢ Write) }
 {

@@ -10,11 +10,8 @@ use crate::erased::binfarce_tools::map::picture;
 use crate::erased::binfarce_tools::report::{CrateSums, ReportError, crate_sums, sums_text};
 use crate::erased::binfarce_tools::tables::{has_table, read_format};
 use crate::erased::binfarce_tools::writing::write_whole;
-use crate::erased::binfarce_bytes::format::Format;
-use crate::erased::binfarce_bytes::functions::SectionFunction;
+use crate::erased::binfarce::{Format, SectionFunction, SymbolTable};
 use crate::erased::binfarce_bytes::source::Source;
-use crate::erased::binfarce_elf::all as elf;
-use crate::erased::binfarce_elf::symbol_table::SymbolTable;
 use crate::erased::binfarce_names::demangle::Demangler;
 use crate::erased::binfarce_tables::{ReadError, elf32, elf64, macho, pe};
 use crate::shim::alloc::{AllocError, Global};
@@ -92,8 +89,8 @@ impl AllTables {
 
 /// The function symbols of all sections of a file that are left, in the order of its listing.
 pub enum AllFunctions<'a> {
-    Elf32(elf::AllFunctions<'a, u32>),
-    Elf64(elf::AllFunctions<'a, u64>),
+    Elf32(crate::erased::binfarce::elf32::AllFunctions<'a>),
+    Elf64(crate::erased::binfarce::elf64::AllFunctions<'a>),
     Arranged(AllArranged<'a>),
 }
 

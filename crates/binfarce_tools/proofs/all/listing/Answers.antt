@@ -1,5 +1,5 @@
 use Rattle.std.specs.String.{string_bytes}
-use Rattle.binfarce_bytes.specs.SymbolViews.{section_function_view}
+use Rattle.binfarce.specs.SymbolViews.{section_function_view}
 use Rattle.binfarce_tools.specs.AllListing.{IsLineIn}
 use Rattle.binfarce_tools.specs.AllTables.{section_names}
 use Rattle.binfarce_tools.specs.Entries.{all_left}

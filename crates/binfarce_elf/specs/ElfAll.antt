@@ -6,7 +6,7 @@ use Rattle.binfarce_bytes.specs.declared.ByteOrder.{ByteOrder}
 use Rattle.binfarce_bytes.specs.Refusal.{◌>>=◌, Refusal}
 use Rattle.binfarce_bytes.specs.SectionEntries.{SectionEntry, unless}
 use Rattle.binfarce_bytes.specs.Walk.{Walk}
-use Rattle.binfarce_elf.specs.Elf.{ElfClass, SectionTable, SymbolRow, walk, name_among}
+use Rattle.binfarce_elf.specs.Elf.{ElfClass, SectionTable, Section, SymbolRow, walk, name_among}
 use Rattle.binfarce_elf.specs.ElfSymbols.{symbol_at, entry_of, rows_in}
 use Rattle.binfarce_elf.specs.declared.all.AllFunctions.{AllFunctions}
 use Rattle.binfarce_elf.specs.declared.symbol_table.SymbolTable.{SymbolTable}

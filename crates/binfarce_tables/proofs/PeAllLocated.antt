@@ -8,7 +8,7 @@ use Rattle.binfarce_bytes.specs.declared.ByteOrder.TheVariants.{LittleEndian}
 use Rattle.binfarce_bytes.specs.Field.{value_at}
 use Rattle.binfarce_bytes.specs.Refusal.{◌>>=◌, Refusal, unexpected_eof}
 use Rattle.binfarce_bytes.specs.SectionEntries.{SectionEntry, AllSymbols, in_section, unless}
-use Rattle.binfarce_pe.specs.Pe.{Section, least_length, section_fields}
+use Rattle.binfarce_pe.specs.Pe.{Section, header_of, least_length, section_fields}
 use Rattle.binfarce_pe.specs.PeAll.{size_in, section_entries, all_entries, name_of, whole_sections, all_answer}
 use Rattle.binfarce_pe.specs.PeParts.{TablePlaces, SectionTable, places_of, section_table, section_in, whole_in, table_walk}
 use Rattle.binfarce_pe.specs.PeSymbols.{SymbolTable, symbol_table, entries_of}
@@ -143,3 +143,14 @@ pub all_read : (file : List ℕ) (places : TablePlaces) (sections : SectionTable
     → all_file_answer file ≡ Ok (all_view (record { sections = sections; symbols = symbols }))
 all_read file places sections symbols is whole table =
     from_sections file places sections is whole ∙ ap (λ (r : Result SymbolTable Refusal). r >>= λ symbols. Ok (all_view (record { sections = sections; symbols = symbols }))) table
+
+-- the count that the file header states
+pub count_is : (file : List ℕ) (places : TablePlaces) → places_step file ≡ Ok places → places.section_count ≡ (header_of file).number_of_sections
+count_is file places is = by_test (ltb (length file) (least_length file)) is
+  where
+    by_test : (short : Bool) → cond short (Err unexpected_eof) (Ok (places_of file)) ≡ Ok places → places.section_count ≡ (header_of file).number_of_sections
+    by_test true e = absurd cc
+    by_test false e = ap (λ (p : TablePlaces). p.section_count) (same e)
+
+    same : {a b : TablePlaces} → Path (Result TablePlaces Refusal) (Ok a) (Ok b) → b ≡ a
+    same e = cc

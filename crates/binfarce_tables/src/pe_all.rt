@@ -4,6 +4,7 @@ ghost use Rattle.std.specs.Prelude.{◌≡◌, ◌≢◌, ◌≤◌, List, ℕ, 
 ghost use Rattle.std.specs.Option.{option_map};
 ghost use Rattle.binfarce_bytes.specs.SectionEntries.{AnswersAll};
 ghost use Rattle.binfarce_bytes.specs.SymbolViews.{HoldsSectionFunctions};
+ghost use Rattle.binfarce_pe.specs.Pe.{header_of};
 ghost use Rattle.binfarce_pe.specs.PeParts.{headers_alone, places_view, whole_in};
 ghost use Rattle.binfarce_tables.specs.PeAllReading.{all_file_answer, all_view};
 ghost use Rattle.binfarce_tables.specs.Reading.{Reads, Known};
@@ -93,8 +94,10 @@ impl AllParts {
 /// be read at offsets, or a read of it fails, and never of a source that can't fail, as bytes in memory are; `OutOfMemory`
 /// where an allocation fails.
 pub fn read_all<S: Source>(alloc: Global, source: &S) -> Result<AllParts, ReadError>
-    ensures { (file : List ℕ) → S.bytes source.now ≡ Some file
+    ensures parts { (file : List ℕ) → S.bytes source.now ≡ Some file
         → Reads (S.may_fail source.now) all_view (all_file_answer file) result }
+    ensures count { (file : List ℕ) → S.bytes source.now ≡ Some file
+        → IfOk result (λ p. p.sections.count ≡ (header_of file).number_of_sections) }
 {
     let len = source.length()? as usize;
     let places = read_places(alloc, source, len)?;

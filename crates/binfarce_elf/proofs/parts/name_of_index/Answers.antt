@@ -1,6 +1,5 @@
-use Rattle.std.proofs.Common.{◌≡◌, ℕ, ◌+◌, ◌*◌, ◌<◌, ap, sym, ◌∙◌, arith}
+use Rattle.std.proofs.Common.{◌≡◌, ℕ, ◌*◌, ◌<◌, ap, ◌∙◌, arith}
 use Rattle.std.specs.Option.{option_map}
-use Rattle.binfarce_elf.specs.ElfViews.{section_view}
 use Rattle.binfarce_elf.specs.Elf as elf
 use Rattle.binfarce_elf.proofs.Numbered.{none_past, none_truncated, name_is}
 use Rattle.binfarce_elf.proofs.parts.name_of_index.Goals as goal

@@ -69,7 +69,8 @@ pub fn needed_table<C: Class>(
     ensures { Gives refusal_of (needed_table_view C.number_of)
         (needed_of_all which C.table (headers_alone byte_order headers.now count)) result }
 {
-    table_of::<C>(headers_alone(headers, byte_order, count), which)
+    let table = headers_alone(headers, byte_order, count);
+    table_of::<C>(table, which)
 }
 
 /// The sections of `count` section headers, in order; `UnexpectedEof` where the headers end before, or there are no bytes.

@@ -154,12 +154,9 @@ all_read file places sections symbols is whole table =
 pub count_is : (file : List ℕ) (places : TablePlaces) → places_step file ≡ Ok places → places.section_count ≡ (header_of file).number_of_sections
 count_is file places is = by_test (ltb (length file) (least_length file)) is
   where
-    same : {a b : TablePlaces} → Path (Result TablePlaces Refusal) (Ok a) (Ok b) → b ≡ a
-    same e = cc
-
     by_test : (short : Bool) → cond short (Err unexpected_eof) (Ok (places_of file)) ≡ Ok places → places.section_count ≡ (header_of file).number_of_sections
     by_test true e = absurd cc
-    by_test false e = ap (λ (p : TablePlaces). p.section_count) (same e)
+    by_test false e = ap (λ (p : TablePlaces). p.section_count) (taken e)
 
 -- the section headers that were read
 pub headers_read : (fails : Bool) (file : List ℕ) (places : TablePlaces) (size : ℕ) (r : Result (Vec ℕ Global) ReadError) → size ≡ min (places.section_count * 40) (length file - places.sections) → whole_at file places ≡ Ok (alone_at file places)

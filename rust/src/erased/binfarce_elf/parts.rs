@@ -53,7 +53,8 @@ pub fn needed_table<C: Class>(
     count: Half,
     which: SymbolTable,
 ) -> Result<NeededTable<C>, ParseError> {
-    table_of::<C>(headers_alone(headers, byte_order, count), which)
+    let table = headers_alone(headers, byte_order, count);
+    table_of::<C>(table, which)
 }
 
 /// The sections of `count` section headers, in order; `UnexpectedEof` where the headers end before, or there are no bytes.

@@ -1,5 +1,5 @@
 -- The lines of a text, the addresses that they write, and what is written of them.
-use Rattle.std.specs.Prelude.{◌≡◌, ◌≢◌, ◌⊎◌, ℕ, ◌-◌, ◌^◌, min, List, [], ◌∷◌, ◌++◌, All, codes, length, take, drop, Option, Some, None, is_none, Result, Ok, Err}
+use Rattle.std.specs.Prelude.{◌≡◌, ◌≢◌, ◌⊎◌, ℕ, ◌-◌, ◌^◌, min, Bool, true, List, [], ◌∷◌, ◌++◌, All, codes, length, take, drop, Option, Some, None, is_none, Result, Ok, Err}
 use Rattle.std.specs.Char.{is_ascii_whitespace}
 use Rattle.std.specs.Io.KnownBytes.{Appends, Consumes, IsAtEnd}
 use Rattle.std.specs.List.{AllZip, concat, count_by, flat_map, prefix_len, suffix_len}
@@ -89,3 +89,8 @@ Streams entries base given left old new (Err Read) =
     (came : List ℕ) × (addresses : List (Option ℕ)) × (rest : List ℕ) × Consumes given left came × Begins came addresses rest × HasNoLineFeed rest × AreAnswered entries base addresses old new
 Streams entries base given left old new (Err OutOfMemory) = StopsWithin entries base given left old new
 Streams entries base given left old new (Err Write) = StopsWithin entries base given left old new
+
+-- whether the sink has failed afterwards: where a write failed; anything else leaves it as it was
+abbrev pub Fails : {X : Type 0} → Bool → Bool → Result X LinesError → Type 0
+Fails old new (Err Write) = new ≡ true
+Fails old new result = new ≡ old

@@ -2,7 +2,7 @@
 
 ghost use Rattle.std.specs.Prelude.{◌≡◌, ◌≤◌, ◌<◌, ◌++◌, ◌∷◌, [], ℕ, List, length, MatchOption, IfOk};
 ghost use Rattle.binfarce_addresses.specs.Answered.{AnswersOf};
-ghost use Rattle.binfarce_addresses.specs.Stream.{line_address, HasNoLineFeed, Streams};
+ghost use Rattle.binfarce_addresses.specs.Stream.{line_address, Fails, HasNoLineFeed, Streams};
 ghost use Rattle.binfarce_addresses.specs.machine.Answering.{AreAddressesOf, AnswersAll, AnswersLast, AnswersPart, AnswersUpTo, IsFirst, IsKeptOf, WritesAll};
 
 use crate::address::{hex_line, parse_address};
@@ -152,8 +152,9 @@ pub fn answer_lines<R: Read, S: Sink>(
     input: &mut R,
     out: &mut S,
 ) -> Result<u64, LinesError>
-    ensures { Streams places.now base (R.remaining input.old) (R.remaining input.new) (S.taken out.old)
+    ensures answers { Streams places.now base (R.remaining input.old) (R.remaining input.new) (S.taken out.old)
         (S.taken out.new) result }
+    ensures fails { Fails (S.has_failed out.old) (S.has_failed out.new) result }
 {
     let mut chunk = new_chunk(alloc)?;
     let mut line = Vec::new(alloc);
@@ -188,8 +189,9 @@ fn answer_whole<R: Read, S: Sink>(
 ) -> Result<u64, LinesError>
     requires empty { line.old.items ≡ [] }
     requires room { 0 < length chunk.now }
-    ensures { AnswersAll places.now base line.new.items (R.remaining input.old) (R.remaining input.new)
+    ensures answers { AnswersAll places.now base line.new.items (R.remaining input.old) (R.remaining input.new)
         (S.taken out.old) (S.taken out.new) result }
+    ensures fails { Fails (S.has_failed out.old) (S.has_failed out.new) result }
 {
     let mut missing = 0;
     for _ in 0..u64::MAX {
@@ -218,8 +220,9 @@ fn answer_part<S: Sink>(
     part: &[u8],
     out: &mut S,
 ) -> Result<u64, LinesError>
-    ensures { AnswersPart places.now base (line.old.items ++ part.now) line.new.items (S.taken out.old)
+    ensures answers { AnswersPart places.now base (line.old.items ++ part.now) line.new.items (S.taken out.old)
         (S.taken out.new) result }
+    ensures fails { Fails (S.has_failed out.old) (S.has_failed out.new) result }
 {
     line.extend_from_slice(part)?;
     let answered = answer(alloc, places, base, line.as_slice(), out)?;
@@ -253,7 +256,8 @@ fn answer<S: Sink>(
     bytes: &[u8],
     out: &mut S,
 ) -> Result<Answered, LinesError>
-    ensures { AnswersUpTo places.now base bytes.now (S.taken out.old) (S.taken out.new) result }
+    ensures answers { AnswersUpTo places.now base bytes.now (S.taken out.old) (S.taken out.new) result }
+    ensures fails { Fails (S.has_failed out.old) (S.has_failed out.new) result }
 {
     let mut text = Vec::with_capacity(alloc, bytes.len().saturating_mul(GROWTH))?;
     let answered = push_lines(alloc, places, base, bytes, &mut text)?;
@@ -270,7 +274,8 @@ fn answer_last<S: Sink>(
     missing: u64,
     out: &mut S,
 ) -> Result<u64, LinesError>
-    ensures { AnswersLast places.now base line.old.items missing (S.taken out.old) (S.taken out.new) result }
+    ensures answers { AnswersLast places.now base line.old.items missing (S.taken out.old) (S.taken out.new) result }
+    ensures fails { Fails (S.has_failed out.old) (S.has_failed out.new) result }
 {
     if line.as_slice().is_empty() {
         return Ok(missing);
@@ -281,7 +286,8 @@ fn answer_last<S: Sink>(
 
 // Writes the bytes in as many calls as the sink needs.
 fn write_all<S: Sink>(out: &mut S, bytes: &[u8]) -> Result<(), LinesError>
-    ensures { WritesAll (S.taken out.old) (S.taken out.new) bytes.now result }
+    ensures takes { WritesAll (S.taken out.old) (S.taken out.new) bytes.now result }
+    ensures fails { Fails (S.has_failed out.old) (S.has_failed out.new) result }
 {
     write_whole(out, bytes).map_err(|_| LinesError::Write)
 }

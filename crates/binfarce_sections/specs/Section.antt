@@ -82,3 +82,11 @@ sections_of (Elf64 order) file = Some (elf_sections elf64 order file)
 sections_of Macho file = Some (macho_sections file)
 sections_of PE file = Some (pe_sections file)
 sections_of Unknown file = None
+
+-- how many bytes a file of this format has at least: those up to the end of its header
+abbrev pub least_length : Format → List ℕ → ℕ
+least_length (Elf32 order) file = elf32.header_length
+least_length (Elf64 order) file = elf64.header_length
+least_length Macho file = macho.least_length
+least_length PE file = pe.least_length file
+least_length Unknown file = 0

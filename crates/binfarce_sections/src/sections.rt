@@ -1,17 +1,19 @@
 //! The sections of a file of any format, one after the other.
 
-ghost use Rattle.std.specs.Prelude.{◌≡◌};
+ghost use Rattle.std.specs.Prelude.{◌≡◌, ◌⊎◌, ◌<◌, ◌≤◌, length, MatchResult};
 ghost use Rattle.std.specs.Option.{option_map};
 ghost use Rattle.binfarce.specs.Elf as elf;
 ghost use Rattle.binfarce.specs.ElfViews as elf_views;
 ghost use Rattle.binfarce.specs.Format.{format_of};
+ghost use Rattle.binfarce.specs.declared.Format.TheVariants.{Macho, PE};
 ghost use Rattle.binfarce.specs.MachoViews as macho_views;
 ghost use Rattle.binfarce.specs.PeViews as pe_views;
 ghost use Rattle.binfarce.specs.Refusal.{refusal_of};
 ghost use Rattle.binfarce.specs.Walk.{YieldsNext};
 ghost use Rattle.binfarce_tables.specs.SectionReading.{sections_view};
-ghost use Rattle.binfarce_sections.specs.Section.{elf_named, macho_section, pe_section, pe_size, mapped, sections_of, elf_sections, macho_sections, pe_sections};
+ghost use Rattle.binfarce_sections.specs.Section.{elf_named, macho_section, pe_section, pe_size, mapped, least_length, sections_of, elf_sections, macho_sections, pe_sections};
 ghost use Rattle.binfarce_sections.specs.Views.{section_view, sections_left, elf32_left, elf64_left, elf32_name, elf64_name, Opens};
+ghost use Rattle.binfarce_sections.specs.declared.error.SectionError.TheVariants.{Unknown};
 ghost use Rattle.binfarce_sections.specs.machine.Opened.{OpensWalk};
 
 use crate::error::SectionError;
@@ -106,7 +108,10 @@ impl<'a> Iterator for Sections<'a> {
 /// `Unknown` where the format isn't one that is read; `Parse` where the file is too short for its header.
 #[tactic(auto, unfolding(crate::specs::Section::sections_of))]
 pub fn sections_of(data: &[u8]) -> Result<Sections<'_>, SectionError>
-    ensures { Opens (sections_of (format_of data.entry.now) data.entry.now) result }
+    ensures opens { Opens (sections_of (format_of data.entry.now) data.entry.now) result }
+    ensures header { let least = least_length (format_of data.entry.now) data.entry.now in MatchResult result
+        (λ _. least ≤ length data.entry.now)
+        (λ e. (e ≡ Unknown) ⊎ (length data.entry.now < least)) }
 {
     match detect_format(data) {
         Format::Elf32 { byte_order } => Ok(open_elf32(data, byte_order)?),
@@ -119,7 +124,10 @@ pub fn sections_of(data: &[u8]) -> Result<Sections<'_>, SectionError>
 
 #[tactic(auto, using(crate::proofs::Opening::of_32_bits))]
 fn open_elf32(data: &[u8], byte_order: ByteOrder) -> Result<Sections<'_>, ParseError>
-    ensures { OpensWalk (elf_sections elf.elf32 byte_order data.entry.now) result }
+    ensures opens { OpensWalk (elf_sections elf.elf32 byte_order data.entry.now) result }
+    ensures header { let least = elf.elf32.header_length in MatchResult result
+        (λ _. least ≤ length data.entry.now)
+        (λ _. length data.entry.now < least) }
 {
     let file = elf32::parse(data, byte_order)?;
     let left = file.sections();
@@ -139,7 +147,10 @@ pub(crate) fn elf32_sections(parts: &binfarce_tables::elf32::SectionParts) -> Se
 
 #[tactic(auto, using(crate::proofs::Opening::of_64_bits))]
 fn open_elf64(data: &[u8], byte_order: ByteOrder) -> Result<Sections<'_>, ParseError>
-    ensures { OpensWalk (elf_sections elf.elf64 byte_order data.entry.now) result }
+    ensures opens { OpensWalk (elf_sections elf.elf64 byte_order data.entry.now) result }
+    ensures header { let least = elf.elf64.header_length in MatchResult result
+        (λ _. least ≤ length data.entry.now)
+        (λ _. length data.entry.now < least) }
 {
     let file = elf64::parse(data, byte_order)?;
     let left = file.sections();
@@ -158,14 +169,20 @@ pub(crate) fn elf64_sections(parts: &binfarce_tables::elf64::SectionParts) -> Se
 }
 
 pub(crate) fn open_macho(data: &[u8]) -> Result<Sections<'_>, ParseError>
-    ensures { OpensWalk (macho_sections data.entry.now) result }
+    ensures opens { OpensWalk (macho_sections data.entry.now) result }
+    ensures header { let least = least_length Macho data.entry.now in MatchResult result
+        (λ _. least ≤ length data.entry.now)
+        (λ _. length data.entry.now < least) }
 {
     let file = macho::parse(data)?;
     Ok(Sections::Macho(file.sections()))
 }
 
 pub(crate) fn open_pe(data: &[u8]) -> Result<Sections<'_>, ParseError>
-    ensures { OpensWalk (pe_sections data.entry.now) result }
+    ensures opens { OpensWalk (pe_sections data.entry.now) result }
+    ensures header { let least = least_length PE data.entry.now in MatchResult result
+        (λ _. least ≤ length data.entry.now)
+        (λ _. length data.entry.now < least) }
 {
     let file = pe::parse(data)?;
     Ok(Sections::Pe(file.sections()))

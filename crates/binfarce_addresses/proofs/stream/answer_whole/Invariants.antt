@@ -1,4 +1,4 @@
-use Rattle.std.proofs.Common.{◌<◌, length}
+use Rattle.std.proofs.Common.{◌≡◌, ◌<◌, length}
 use Rattle.binfarce_addresses.specs.machine.Answering.{HasAnswered}
 use Rattle.binfarce_addresses.proofs.stream.answer_whole.Given as goal
 
@@ -7,4 +7,5 @@ abbrev pub invariant-loop : goal.invariant-loop
 invariant-loop g l = record {
   room : 0 < length l.chunk;
   answered : HasAnswered l.places l.base l.line.items l.missing (g.R.Read.remaining l.fn.input) (g.R.Read.remaining l.input) (g.S.Sink.taken l.fn.out) (g.S.Sink.taken l.out);
+  unfailed : g.S.Sink.has_failed l.out ≡ g.S.Sink.has_failed l.fn.out;
 }

@@ -143,7 +143,7 @@ fn wrong_row(alloc: Global, row: &Row, matters: bool) -> Result<Option<String>, 
 }
 
 #[test]
-fn found(rt: HostRuntime) -> Result<(), Fail> {
+fn finds_sections(rt: HostRuntime) -> Result<(), Fail> {
     for row in &FOUND {
         let wrong = wrong_row(rt.alloc(), row, true)?;
         assert!(rt; wrong.is_none(), "{wrong:?}");

@@ -146,7 +146,7 @@ fn wrong_row(alloc: Global, row: &Row, matters: bool) -> Result<Option<String>, 
 }
 
 #[test]
-fn found() -> Result<(), Fail> {
+fn finds_sections() -> Result<(), Fail> {
     let rt = HostRuntime::new();
     for row in &FOUND {
         let wrong = wrong_row(rt.alloc(), row, true)?;

@@ -106,8 +106,8 @@ module _ (files : List (Bor (List ℕ))) (i : ℕ) (d : Bor (List ℕ)) (lt : i 
       subst (λ (path : List ℕ). bytes_at path ≡ Some (held path)) here (are i [] (omega (arith, lt, length-map (λ (t : Bor (List ℕ)). t.now) files)))
 
 module _ (asked : Asked) (may_fail : List ℕ → Bool) (held : List ℕ → List ℕ) (are_several : Bool) (files : List (Bor (List ℕ))) (i : ℕ) (d : Bor (List ℕ)) (lt : i < length files)
-         (old mid new taken : Option (List ℕ)) (before between after : Option (List Refused)) (all : Bool)
-         (shows : Shows asked may_fail held are_several (paths_of (take i files)) old mid before between all) where
+    (old mid new taken : Option (List ℕ)) (before between after : Option (List Refused)) (all : Bool)
+    (shows : Shows asked may_fail held are_several (paths_of (take i files)) old mid before between all) where
   -- a file is done
   pub goes_on : (this : Bool) → ShowsOne asked (may_fail (get_or files i d).now) (held (get_or files i d).now) are_several (get_or files i d).now mid new taken between after (Ok this)
       → Shows asked may_fail held are_several (paths_of (take (i + 1) files)) old new before after (all && this)
@@ -118,22 +118,28 @@ module _ (asked : Asked) (may_fail : List ℕ → Bool) (held : List ℕ → Lis
   -- a file ends it
   pub ends : (e : Fault) → ShowsOne asked (may_fail (get_or files i d).now) (held (get_or files i d).now) are_several (get_or files i d).now mid new taken between after (Err e)
       → ShowsAll asked may_fail held are_several (paths_of files) old new taken before after (Err e)
-  ends e (inl (is, text, shown, begins), told) = inl (is, record {
-    first = paths_of (take i files);
-    next = (get_or files i d).now;
-    others = paths_of (drop (suc i) files);
-    paths_are = paths_split files i d lt;
-    between = mid;
-    all = all;
-    shows = later asked may_fail held are_several (paths_of (take i files)) old mid mid before between after all shows (nothing_more mid) told;
-    text = text;
-    is = shown;
-    begins = begins;
-  })
-  ends e (inr (is, none), told) = inr (is, record {
-    first = paths_of (take i files);
-    others = (get_or files i d).now ∷ paths_of (drop (suc i) files);
-    paths_are = paths_split files i d lt;
-    all = all;
-    shows = later asked may_fail held are_several (paths_of (take i files)) old mid new before between after all shows none told;
-  })
+  ends e (inl (is, text, shown, begins), told) = inl (
+    is,
+    record {
+      first = paths_of (take i files);
+      next = (get_or files i d).now;
+      others = paths_of (drop (suc i) files);
+      paths_are = paths_split files i d lt;
+      between = mid;
+      all = all;
+      shows = later asked may_fail held are_several (paths_of (take i files)) old mid mid before between after all shows (nothing_more mid) told;
+      text = text;
+      is = shown;
+      begins = begins;
+    },
+  )
+  ends e (inr (is, none), told) = inr (
+    is,
+    record {
+      first = paths_of (take i files);
+      others = (get_or files i d).now ∷ paths_of (drop (suc i) files);
+      paths_are = paths_split files i d lt;
+      all = all;
+      shows = later asked may_fail held are_several (paths_of (take i files)) old mid new before between after all shows none told;
+    },
+  )

@@ -12,6 +12,8 @@ mod input;
 mod report;
 mod section;
 mod show;
+#[cfg(test)]
+mod tests;
 
 use crate::at::{answer_all, answer_input, read_addresses};
 use crate::fault::Fault;

@@ -1,5 +1,5 @@
 -- What is shown of several files, file after file.
-use Rattle.std.proofs.Common.{◌≡◌, ◌≢◌, ◌∙◌, ◌⊎◌, inl, inr, ℕ, suc, ◌+◌, ◌<◌, ◌≤◌, Bool, true, false, ◌&&◌, List, [], ◌∷◌, ◌++◌, map, length, take, drop, get_or, Option, Some, None, Result, Ok, Err, refl, sym, ap, subst, add-one, append_assoc, append-nil, drop-cons, take-append-drop, Bor}
+use Rattle.std.proofs.Common.{◌≡◌, ◌≢◌, ◌∙◌, ◌⊎◌, inl, inr, ℕ, suc, ◌+◌, ◌<◌, ◌≤◌, Bool, true, false, ◌&&◌, List, [], ◌∷◌, ◌++◌, map, length, take, drop, get_or, Option, Some, None, Result, Ok, Err, refl, sym, ap, subst, add-one, append_assoc, append-nil, drop-cons, take-append-drop, Bor, IsErrAnd, arith}
 use Rattle.std.proofs.Math.ListN.{drop_of_length-le}
 use Rattle.std.proofs.lemmas.List.{map-append, take_more, take_all, get_or-map, length-map}
 use Rattle.std.proofs.lemmas.List.Elements.{All-nil, All-push}
@@ -97,7 +97,7 @@ module _ (files : List (Bor (List ℕ))) (i : ℕ) (d : Bor (List ℕ)) (lt : i 
   pub paths_split : paths_of files ≡ paths_of (take i files) ++ (get_or files i d).now ∷ paths_of (drop (suc i) files)
   paths_split =
       ap paths_of (sym (take-append-drop i files)) ∙ map-append (λ (t : Bor (List ℕ)). t.now) (take i files) (drop i files)
-      ∙ ap (λ (xs : List (Bor (List ℕ))). paths_of (take i files) ++ paths_of xs) (drop-cons files i d)
+      ∙ ap (λ (xs : List (Bor (List ℕ))). paths_of (take i files) ++ paths_of xs) (drop-cons files i d lt)
 
   -- what the file there holds is known
   pub held_there : (bytes_at : List ℕ → Option (List ℕ)) (held : List ℕ → List ℕ) → AreHeld bytes_at held (paths_of files) → bytes_at (get_or files i d).now ≡ Some (held (get_or files i d).now)
@@ -118,7 +118,7 @@ module _ (asked : Asked) (may_fail : List ℕ → Bool) (held : List ℕ → Lis
   -- a file ends it
   pub ends : (e : Fault) → ShowsOne asked (may_fail (get_or files i d).now) (held (get_or files i d).now) are_several (get_or files i d).now mid new taken between after (Err e)
       → ShowsAll asked may_fail held are_several (paths_of files) old new taken before after (Err e)
-  ends e (inl (is, text, shown, begins), told) = inl (
+  ends e (inl (is, (text, (shown, begins))), told) = inl (
     is,
     record {
       first = paths_of (take i files);
@@ -143,3 +143,19 @@ module _ (asked : Asked) (may_fail : List ℕ → Bool) (held : List ℕ → Lis
       shows = later asked may_fail held are_several (paths_of (take i files)) old mid new before between after all shows none told;
     },
   )
+
+-- how the showing of all ended, as `?` passes the fault on
+pub passed_on : (asked : Asked) (may_fail : List ℕ → Bool) (held : List ℕ → List ℕ) (are_several : Bool) (paths : List (List ℕ)) (old new taken : Option (List ℕ)) (before after : Option (List Refused)) (e : Fault) (result : Result Bool Fault)
+    → IsErrAnd result (λ f. f ≡ e) → ShowsAll asked may_fail held are_several paths old new taken before after (Err e) → ShowsAll asked may_fail held are_several paths old new taken before after result
+passed_on asked may_fail held are_several paths old new taken before after e (Ok all) is ends = absurd is
+passed_on asked may_fail held are_several paths old new taken before after e (Err f) is ends =
+    subst (λ (f : Fault). ShowsAll asked may_fail held are_several paths old new taken before after (Err f)) (sym is) ends
+
+-- what one file came to, by what is known of its path
+pub one_at : (asked : Asked) (bytes_at bytes_now : List ℕ → Option (List ℕ)) (may_fail may_now : List ℕ → Bool) (held : List ℕ → List ℕ) (are_several : Bool) (path : List ℕ) (mid new taken : Option (List ℕ)) (between after : Option (List Refused)) (result : Result Bool Fault)
+    → bytes_now ≡ bytes_at → may_now ≡ may_fail → bytes_at path ≡ Some (held path)
+    → ((file : List ℕ) → bytes_now path ≡ Some file → ShowsOne asked (may_now path) file are_several path mid new taken between after result)
+    → ShowsOne asked (may_fail path) (held path) are_several path mid new taken between after result
+one_at asked bytes_at bytes_now may_fail may_now held are_several path mid new taken between after result same may_same known shows =
+    subst (λ (m : List ℕ → Bool). ShowsOne asked (m path) (held path) are_several path mid new taken between after result) may_same
+    (shows (held path) (ap (λ (b : List ℕ → Option (List ℕ)). b path) same ∙ known))

@@ -1,6 +1,6 @@
 //! Does a command's work on files, one after the other.
 
-ghost use Rattle.std.specs.Prelude.{◌≡◌, ◌×◌, [], ◌∷◌, ℕ, Bool, List, true, Option, Some, None, map, nat_lt, length, IfErr, IfOk, IfSome, MatchOption};
+ghost use Rattle.std.specs.Prelude.{◌≡◌, [], ◌∷◌, ℕ, Bool, List, true, Option, Some, None, map, nat_lt, length, IfErr, IfOk, IfSome, MatchOption};
 ghost use Rattle.binfarce_command.specs.Files.{Refused, Reports, AreHeld, IsUnreadable, ReportsWhy, ShowsAll, ShowsHeld, ShowsOne, heading};
 ghost use Rattle.binfarce_command.specs.Headed.{pending, taken, writer_of};
 ghost use Rattle.binfarce_command.specs.Input.{IsReadOf, held_bytes, held_may_fail, input_of};
@@ -60,9 +60,8 @@ pub fn show_files<F: Read + Source + Drop, Y: System<F>, W: Write>(
     let are_several = files.len() > 1;
     let mut are_shown = true;
     for path in files {
-        if !show_file(alloc, system, asked, path, are_several, out)? {
-            are_shown = false;
-        }
+        let is_shown = show_file(alloc, system, asked, path, are_several, out)?;
+        are_shown = are_shown && is_shown;
     }
     Ok(are_shown)
 }

@@ -9,8 +9,8 @@ use Rattle.binfarce_bytes.specs.Refusal.{Refusal, refusal_of}
 use Rattle.binfarce_bytes.specs.declared.error.ParseError.{ParseError}
 use Rattle.binfarce_bytes.specs.declared.format.Format.{Format}
 use Rattle.binfarce_bytes.specs.declared.format.Format.TheVariants as formats
-use Rattle.binfarce_elf.specs.declared.symbol_table.SymbolTable.{SymbolTable}
-use Rattle.binfarce_elf.specs.declared.symbol_table.SymbolTable.TheVariants.{Symtab, Dynsym}
+use Rattle.binfarce_tools.specs.declared.SymbolTable.{SymbolTable}
+use Rattle.binfarce_tools.specs.declared.SymbolTable.TheVariants.{Symtab, Dynsym}
 use Rattle.binfarce_tools.proofs.TablesRead.{format_of_first}
 use Rattle.binfarce_tools.specs.Answer.{NeedsMemory, answer_of, dynamic_symbols_answer, symbols_answer}
 use Rattle.binfarce_tools.specs.Writing.{AppendsBeginning, IsDue, Leaves, Outcome, ProgramTells, Tells, unknown_format, wrong_usage}
@@ -67,9 +67,9 @@ never_wrong MayFail fits memory None (inr (inr is)) = cc
 never_wrong MayFail fits memory (Some (Err refusal)) (inr (inr (inl is))) = cc
 never_wrong MayFail fits memory (Some (Err refusal)) (inr (inr (inr (needs, is)))) = cc
 never_wrong MayFail fits memory (Some (Ok listed)) (inr (inr (inl is))) = cc
-never_wrong MayFail fits memory (Some (Ok listed)) (inr (inr (inr (inl (yes, inl is))))) = cc
-never_wrong MayFail fits memory (Some (Ok listed)) (inr (inr (inr (inl (yes, inr is))))) = cc
-never_wrong MayFail fits memory (Some (Ok listed)) (inr (inr (inr (inr (no, is))))) = cc
+never_wrong MayFail fits memory (Some (Ok listed)) (inr (inr (inr (inl (may, inl is))))) = cc
+never_wrong MayFail fits memory (Some (Ok listed)) (inr (inr (inr (inl (may, inr is))))) = cc
+never_wrong MayFail fits memory (Some (Ok listed)) (inr (inr (inr (inr (never, is))))) = cc
 
 -- what is left of a heading precedes the text
 pub after_heading : (old mid : Option (List ℕ)) (left text : List ℕ) → Appends (option_map (λ b. b ++ left) old) mid text → Appends old mid (left ++ text)
@@ -78,7 +78,7 @@ after_heading (Some a) None left text is = absurd is
 after_heading (Some a) (Some b) left text is = is ∙ append_assoc a left text
 
 pub beginning_after : (old taken : Option (List ℕ)) (left text : List ℕ) → AppendsBeginning (option_map (λ b. b ++ left) old) taken text → AppendsBeginning old taken (left ++ text)
-beginning_after old taken left text (beginning, (others, (is, begins))) =
+beginning_after old taken left text (beginning, others, is, begins) =
     (left ++ beginning, others, ap (λ (z : List ℕ). left ++ z) is ∙ sym (append_assoc left beginning others), after_heading old taken left beginning begins)
 
 -- a text whose heading is written is written
@@ -98,11 +98,15 @@ whole_taken old mid taken left text took kept = (left ++ text, [], sym (append-n
     by (Some a) (Some b) None took kept = absurd kept
     by (Some a) (Some b) (Some c) took kept = kept ∙ took ∙ append_assoc a left text
 
+-- the work failed
+abbrev pub failed : Fault → Result (Unit {0}) Fault
+failed fault = Err fault
+
 module _ {W : Type 0} (contents : W → Option (List ℕ)) (asked : Asked) (MayFail : Type 0) (file : List ℕ) (old mid : Headed W) where
   -- a file whose showing failed
   pub unshown : (e : Fault) → e ≢ Input → MayEnd MayFail asked file (outcome_of (Err e)) → TakesShown asked file (taken contents old) (taken contents mid) (outcome_of (Err e)) → Leaves old mid (outcome_of (Err e))
       → ShowsHeld asked MayFail file (pending old) (contents (writer_of old)) (contents (writer_of mid)) (taken contents mid) (Err e)
-  unshown Write other ends (text, (due, begins)) leaves = (text, due, beginning_after (contents (writer_of old)) (taken contents mid) (pending old) text begins)
+  unshown Write other ends (text, due, begins) leaves = (text, due, beginning_after (contents (writer_of old)) (taken contents mid) (pending old) text begins)
   unshown Unreadable other ends takes leaves = (other, ends, ap (λ (s : Headed W). contents (writer_of s)) leaves)
   unshown Input other ends takes leaves = (other, ends, ap (λ (s : Headed W). contents (writer_of s)) leaves)
   unshown OutOfMemory other ends takes leaves = (other, ends, ap (λ (s : Headed W). contents (writer_of s)) leaves)
@@ -117,23 +121,23 @@ module _ {W : Type 0} (contents : W → Option (List ℕ)) (asked : Asked) (MayF
   -- a file that is shown, and its heading written
   pub ended : (new : Headed W) → (text : List ℕ) × IsShownText asked file text × Appends (taken contents old) (taken contents mid) text → Keeps (taken contents mid) (taken contents new) → pending new ≡ []
       → (x : Unit {0}) → ShowsHeld asked MayFail file (pending old) (contents (writer_of old)) (contents (writer_of new)) (taken contents new) (Ok x)
-  ended new (text, (due, took)) kept none x = (text, due, whole (contents (writer_of old)) (taken contents mid) (contents (writer_of new)) (pending old) (pending new) text took kept none)
+  ended new (text, due, took) kept none x = (text, due, whole (contents (writer_of old)) (taken contents mid) (contents (writer_of new)) (pending old) (pending new) text took kept none)
 
   -- the same, where the writing of the heading failed
   pub broke_off : (new : Headed W) (e : Fault) → (text : List ℕ) × IsShownText asked file text × Appends (taken contents old) (taken contents mid) text → Keeps (taken contents mid) (taken contents new) → e ≡ Write
       → ShowsHeld asked MayFail file (pending old) (contents (writer_of old)) (contents (writer_of new)) (taken contents new) (Err e)
-  broke_off new e (text, (due, took)) kept is =
+  broke_off new e (text, due, took) kept is =
       subst (λ (e : Fault). ShowsHeld asked MayFail file (pending old) (contents (writer_of old)) (contents (writer_of new)) (taken contents new) (Err e)) (sym is)
       (text, due, whole_taken (contents (writer_of old)) (taken contents mid) (taken contents new) (pending old) text took kept)
 
-  Held : Headed W → Result (Unit {0}) Fault → Type 0
+  abbrev pub Held : Headed W → Result (Unit {0}) Fault → Type 0
   Held new result = ShowsHeld asked MayFail file (pending old) (contents (writer_of old)) (contents (writer_of new)) (taken contents new) result
 
   -- the same, as `?` passes the fault on
-  pub show_failed : (e : Fault) (result : Result (Unit {0}) Fault) → IsErrAnd result (λ f. f ≡ e) → Err {A = Unit {0}} e ≢ Err Input → MayEnd MayFail asked file (outcome_of (Err e)) → TakesShown asked file (taken contents old) (taken contents mid) (outcome_of (Err e)) → Leaves old mid (outcome_of (Err e))
+  pub show_failed : (e : Fault) (result : Result (Unit {0}) Fault) → IsErrAnd result (λ f. f ≡ e) → failed e ≢ failed Input → MayEnd MayFail asked file (outcome_of (Err e)) → TakesShown asked file (taken contents old) (taken contents mid) (outcome_of (Err e)) → Leaves old mid (outcome_of (Err e))
       → Held mid result
   show_failed e (Ok x) is other ends takes leaves = absurd is
-  show_failed e (Err f) is other ends takes leaves = subst (λ (f : Fault). Held mid (Err f)) (sym is) (unshown e (λ same. other (ap (λ (f : Fault). Err {A = Unit {0}} f) same)) ends takes leaves)
+  show_failed e (Err f) is other ends takes leaves = subst (λ (f : Fault). Held mid (Err f)) (sym is) (unshown e (λ same. other (ap failed same)) ends takes leaves)
 
   -- a file that is shown, by how the writing of its heading ended
   pub was_shown : (new : Headed W) (P Q : Type 0) (result : Result (Unit {0}) Fault) → (text : List ℕ) × IsShownText asked file text × Appends (taken contents old) (taken contents mid) text → Keeps (taken contents mid) (taken contents new)
@@ -142,7 +146,7 @@ module _ {W : Type 0} (contents : W → Option (List ℕ)) (asked : Asked) (MayF
   was_shown new P Q (Err e) took kept done failed = broke_off new e took kept failed.0
 
 module _ (asked : Asked) (may : Bool) (file path : List ℕ) (are_several : Bool) (old new taken : Option (List ℕ)) (before after : Option (List Refused)) where
-  One : Result Bool Fault → Type 0
+  abbrev pub One : Result Bool Fault → Type 0
   One result = ShowsOne asked may file are_several path old new taken before after result
 
   was_refused : (fault : Fault) (result : Result Bool Fault) → fault ≢ Write → MayEnd ((may ≡ true) ⊎ (file ≡ [])) asked file (outcome_of (Err fault)) → new ≡ old
@@ -166,17 +170,17 @@ module _ (asked : Asked) (may : Bool) (file path : List ℕ) (are_several : Bool
   -- a file that is read, by how its showing ended
   pub came_to : (bytes left : List ℕ) (MayFail : Type 0) → IsReadOf file bytes → (MayFail → may ≡ true) → left ≡ heading are_several path
       → (done : Result (Unit {0}) Fault) (result : Result Bool Fault) → ShowsHeld asked MayFail bytes left old new taken done → ReportsWhy path before after done result → One result
-  came_to bytes left MayFail read more is (Ok x) result (text, (due, wrote)) (ok, told) =
+  came_to bytes left MayFail read more is (Ok x) result (text, due, wrote) (ok, told) =
       subst One (sym ok) (shown text, text_of_file asked file bytes text read due, refl, subst (λ (h : List ℕ). Appends old new (h ++ text)) is wrote, told)
-  came_to bytes left MayFail read more is (Err Write) result (text, (due, wrote)) (err, told) =
-      subst One (sym err) (inl (refl, text, text_of_file asked file bytes text read due, subst (λ (h : List ℕ). AppendsBeginning old taken (h ++ text)) is wrote), told)
-  came_to bytes left MayFail read more is (Err Input) result (other, (ends, same)) told = absurd (other refl)
-  came_to bytes left MayFail read more is (Err (Missing count)) result (other, (ends, same)) told = absurd (never_wrong MayFail (Fits asked.kind) (NeedsMemory (format_of bytes) bytes) (answer_for asked.symbols bytes) ends)
-  came_to bytes left MayFail read more is (Err Unreadable) result (other, (ends, same)) told = was_refused Unreadable result (λ e. cc) (as_file bytes MayFail read more Unreadable ends) same told
-  came_to bytes left MayFail read more is (Err OutOfMemory) result (other, (ends, same)) told = was_refused OutOfMemory result (λ e. cc) (as_file bytes MayFail read more OutOfMemory ends) same told
-  came_to bytes left MayFail read more is (Err Unknown) result (other, (ends, same)) told = was_refused Unknown result (λ e. cc) (as_file bytes MayFail read more Unknown ends) same told
-  came_to bytes left MayFail read more is (Err (Parse p)) result (other, (ends, same)) told = was_refused (Parse p) result (λ e. cc) (as_file bytes MayFail read more (Parse p) ends) same told
-  came_to bytes left MayFail read more is (Err TooLarge) result (other, (ends, same)) told = was_refused TooLarge result (λ e. cc) (as_file bytes MayFail read more TooLarge ends) same told
-  came_to bytes left MayFail read more is (Err NoSection) result (other, (ends, same)) told = was_refused NoSection result (λ e. cc) (as_file bytes MayFail read more NoSection ends) same told
-  came_to bytes left MayFail read more is (Err NoBytes) result (other, (ends, same)) told = was_refused NoBytes result (λ e. cc) (as_file bytes MayFail read more NoBytes ends) same told
-  came_to bytes left MayFail read more is (Err PastEnd) result (other, (ends, same)) told = was_refused PastEnd result (λ e. cc) (as_file bytes MayFail read more PastEnd ends) same told
+  came_to bytes left MayFail read more is (Err Write) result (text, due, wrote) (err, told) =
+      subst One (sym err) (inl (refl, (text, text_of_file asked file bytes text read due, subst (λ (h : List ℕ). AppendsBeginning old taken (h ++ text)) is wrote)), told)
+  came_to bytes left MayFail read more is (Err Input) result (other, ends, same) told = absurd (other refl)
+  came_to bytes left MayFail read more is (Err (Missing count)) result (other, ends, same) told = absurd (never_wrong MayFail (Fits asked.kind) (NeedsMemory (format_of bytes) bytes) (answer_for asked.symbols bytes) ends)
+  came_to bytes left MayFail read more is (Err Unreadable) result (other, ends, same) told = was_refused Unreadable result (λ e. cc) (as_file bytes MayFail read more Unreadable ends) same told
+  came_to bytes left MayFail read more is (Err OutOfMemory) result (other, ends, same) told = was_refused OutOfMemory result (λ e. cc) (as_file bytes MayFail read more OutOfMemory ends) same told
+  came_to bytes left MayFail read more is (Err Unknown) result (other, ends, same) told = was_refused Unknown result (λ e. cc) (as_file bytes MayFail read more Unknown ends) same told
+  came_to bytes left MayFail read more is (Err (Parse p)) result (other, ends, same) told = was_refused (Parse p) result (λ e. cc) (as_file bytes MayFail read more (Parse p) ends) same told
+  came_to bytes left MayFail read more is (Err TooLarge) result (other, ends, same) told = was_refused TooLarge result (λ e. cc) (as_file bytes MayFail read more TooLarge ends) same told
+  came_to bytes left MayFail read more is (Err NoSection) result (other, ends, same) told = was_refused NoSection result (λ e. cc) (as_file bytes MayFail read more NoSection ends) same told
+  came_to bytes left MayFail read more is (Err NoBytes) result (other, ends, same) told = was_refused NoBytes result (λ e. cc) (as_file bytes MayFail read more NoBytes ends) same told
+  came_to bytes left MayFail read more is (Err PastEnd) result (other, ends, same) told = was_refused PastEnd result (λ e. cc) (as_file bytes MayFail read more PastEnd ends) same told

@@ -103,7 +103,7 @@ module _ (files : List (Bor (List ℕ))) (i : ℕ) (d : Bor (List ℕ)) (lt : i 
   pub held_there : (bytes_at : List ℕ → Option (List ℕ)) (held : List ℕ → List ℕ) → AreHeld bytes_at held (paths_of files) → bytes_at (get_or files i d).now ≡ Some (held (get_or files i d).now)
   held_there bytes_at held are =
       let here : get_or (paths_of files) i [] ≡ (get_or files i d).now = get_or-map (λ (t : Bor (List ℕ)). t.now) files i d [] lt in
-      subst (λ (path : List ℕ). bytes_at path ≡ Some (held path)) here (are i [] (omega (arith, lt, length-map (λ (t : Bor (List ℕ)). t.now) files)))
+      subst (λ (path : List ℕ). bytes_at path ≡ Some (held path)) here (are i [] (omega (arith, lt, length-map files (λ (t : Bor (List ℕ)). t.now))))
 
 module _ (asked : Asked) (may_fail : List ℕ → Bool) (held : List ℕ → List ℕ) (are_several : Bool) (files : List (Bor (List ℕ))) (i : ℕ) (d : Bor (List ℕ)) (lt : i < length files)
     (old mid new taken : Option (List ℕ)) (before between after : Option (List Refused)) (all : Bool)
@@ -118,7 +118,7 @@ module _ (asked : Asked) (may_fail : List ℕ → Bool) (held : List ℕ → Lis
   -- a file ends it
   pub ends : (e : Fault) → ShowsOne asked (may_fail (get_or files i d).now) (held (get_or files i d).now) are_several (get_or files i d).now mid new taken between after (Err e)
       → ShowsAll asked may_fail held are_several (paths_of files) old new taken before after (Err e)
-  ends e (inl (is, (text, (shown, begins))), told) = inl (
+  ends e (inl (is, (text, shown, begins)), told) = inl (
     is,
     record {
       first = paths_of (take i files);

@@ -61,7 +61,7 @@ pub fn show_files<F: Read + Source + Drop, Y: System<F>, W: Write>(
     let mut are_shown = true;
     for path in files {
         let is_shown = show_file(alloc, system, asked, path, are_several, out)?;
-        are_shown = are_shown && is_shown;
+        are_shown &= is_shown;
     }
     Ok(are_shown)
 }

@@ -16,7 +16,7 @@ returns-in-Some-clause-shows g c = λ file is.
     let after = g.Y.System.reports c.reported.new.system in
     let held = c.in-Some.ensures.held file is in
     let one = came_to asked may file path c.args.are_several (g.W.Write.contents (writer_of begun)) new took (g.Y.System.reports c.open_held.new.system) after held.0 (pending begun)
-        (held_may_fail (λ n. g.F.Source.may_fail (input_of n)) c.in-Some.held ≡ true) held.1 held.3 (c.begin.ensures.pending ∙ c.in_ok-heading.ensures) c.show_held-shown.result c.reported.result (c.show_held-shown.ensures held.0 held.2) c.reported.ensures.reports in
+    (held_may_fail (λ n. g.F.Source.may_fail (input_of n)) c.in-Some.held ≡ true) held.1 held.3 (c.begin.ensures.pending ∙ c.in_ok-heading.ensures) c.show_held-shown.result c.reported.result (c.show_held-shown.ensures held.0 held.2) c.reported.ensures.reports in
     subst (λ (before : Option (List Refused)). ShowsOne asked may file c.args.are_several path (g.W.Write.contents (writer_of c.args.out.now)) new took before after c.reported.result) (ap g.Y.System.reports c.in-Some.ensures.unchanged)
     (subst (λ (old : Option (List ℕ)). ShowsOne asked may file c.args.are_several path old new took (g.Y.System.reports c.open_held.new.system) after c.reported.result) (ap g.W.Write.contents c.begin.ensures.writer) one)
 

@@ -6,9 +6,9 @@ _binfarce() {
         return
     fi
     case ${COMP_WORDS[1]} in
-        list | size | map) options="--dynamic --section --help" ;;
+        list | size | map) options="--dynamic --section --all --help" ;;
         filter) options="--full --help" ;;
-        at) options="--dynamic --base --help" ;;
+        at) options="--dynamic --section --all --base --help" ;;
         section) options="--help" ;;
         help) COMPREPLY=($(compgen -W "list size map filter at section" -- "$word")) && return ;;
     esac

@@ -3,3 +3,5 @@ pub mod Streams
 pub mod Shown
 pub mod Lines
 pub mod AddressWords
+mod FileLoop
+mod FileFates

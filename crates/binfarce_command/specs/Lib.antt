@@ -1,6 +1,7 @@
 pub mod Input
 pub mod Faults
 pub mod Show
+pub mod Files
 pub mod Headed
 pub mod Section
 pub mod Filter

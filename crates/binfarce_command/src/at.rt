@@ -1,6 +1,6 @@
 //! `binfarce at [--base=ADDRESS] FILE [ADDRESS..]`: the function symbol at each address.
 
-ghost use Rattle.std.specs.Prelude.{◌≡◌, ℕ, List, true, codes, map, Some};
+ghost use Rattle.std.specs.Prelude.{◌≡◌, ℕ, List, true, map, Some};
 ghost use Rattle.binfarce_addresses.specs.Lines.{AreLinesAt};
 ghost use Rattle.binfarce_addresses.specs.PlacesViews.{IsMadeOf};
 ghost use Rattle.binfarce_tools.specs.Answer.{answer_of, FileNeedsMemory};
@@ -10,22 +10,20 @@ ghost use Rattle.binfarce_tools.specs.declared.SymbolTable.{SymbolTable};
 ghost use Rattle.binfarce_tools.specs.Writing.{Tells, ProgramTells, Takes, Fails, Leaves};
 ghost use Rattle.binfarce_command.specs.At.{AnswersLines, addresses_of};
 ghost use Rattle.binfarce_command.specs.Faults.{outcome_of};
+ghost use Rattle.binfarce_command.specs.Show.{answer_for};
 ghost use Rattle.binfarce_words.specs.WordViews.{Gives};
 
 use crate::fault::Fault;
+use crate::show::Symbols;
 use binfarce_addresses::at::{Places, at_tables};
 use binfarce_addresses::parse_address;
 use binfarce_addresses::stream::answer_lines;
 use binfarce_bytes::source::Source;
-use binfarce_tools::SymbolTable;
 use binfarce_tools::list::{ListError, Sink};
 use binfarce_tools::tables::{Tables, read_by};
 use binfarce_words::words::Wrong;
 use std::alloc::Global;
 use std::io::Read;
-
-// The section whose function symbols are looked up in an ELF file.
-const SECTION: &str = ".text";
 
 /// The addresses that the words write.
 ///
@@ -48,8 +46,8 @@ pub fn read_addresses<'a>(alloc: Global, words: &[&'a str]) -> Result<Vec<u64>, 
     Ok(addresses)
 }
 
-/// Symbolizes the addresses, once the base is subtracted: of an ELF file by the function symbols of `.text` in this symbol
-/// table. Of the source it reads the headers, that table and the names alone.
+/// Symbolizes the addresses, once the base is subtracted, by these function symbols. Of the source it reads the headers, the symbol
+/// table and the names alone.
 ///
 /// # Errors
 ///
@@ -57,20 +55,20 @@ pub fn read_addresses<'a>(alloc: Global, words: &[&'a str]) -> Result<Vec<u64>, 
 pub fn answer_all<S: Source, K: Sink>(
     alloc: Global,
     source: &S,
-    which: SymbolTable,
+    symbols: &Symbols<'_>,
     base: u64,
     addresses: &[u64],
     out: &mut K,
 ) -> Result<(), Fault>
     ensures tells { (file : List ℕ) → S.bytes source.now ≡ Some file
         → ProgramTells (S.may_fail source.now ≡ true) ListingFits
-        (FileNeedsMemory file) (answer_of which file (codes ".text")) (outcome_of result) }
+        (FileNeedsMemory file) (answer_for symbols.now file) (outcome_of result) }
     ensures takes { (file : List ℕ) → S.bytes source.now ≡ Some file → Takes (AreLinesAt base addresses.now)
-        (answer_of which file (codes ".text")) (K.taken out.old) (K.taken out.new) (outcome_of result) }
+        (answer_for symbols.now file) (K.taken out.old) (K.taken out.new) (outcome_of result) }
     ensures fails { Fails (K.has_failed out.old) (K.has_failed out.new) (outcome_of result) }
     ensures leaves { Leaves out.old out.new (outcome_of result) }
 {
-    let tables = read_by(alloc, source, which, SECTION)?;
+    let tables = read_by(alloc, source, symbols.which, symbols.section)?;
     answer_tables(alloc, &tables, base, addresses, out)
 }
 
@@ -103,16 +101,16 @@ fn answer_tables<K: Sink>(
 pub fn answer_input<S: Source, I: Read, K: Sink>(
     alloc: Global,
     source: &S,
-    which: SymbolTable,
+    symbols: &Symbols<'_>,
     base: u64,
     input: &mut I,
     out: &mut K,
 ) -> Result<u64, Fault>
     ensures { (file : List ℕ) → S.bytes source.now ≡ Some file → AnswersLines (S.may_fail source.now ≡ true)
-        (FileNeedsMemory file) (answer_of which file (codes ".text")) base
+        (FileNeedsMemory file) (answer_for symbols.now file) base
         (I.remaining input.old) (I.remaining input.new) (K.taken out.old) (K.taken out.new) result }
 {
-    let tables = read_by(alloc, source, which, SECTION)?;
+    let tables = read_by(alloc, source, symbols.which, symbols.section)?;
     answer_in_tables(alloc, &tables, base, input, out)
 }
 
@@ -124,8 +122,8 @@ fn answer_in_tables<I: Read, K: Sink>(
     input: &mut I,
     out: &mut K,
 ) -> Result<u64, Fault>
-    ensures { (which : SymbolTable) (file : List ℕ) → AreTablesOf which file (codes ".text") tables.now → AnswersLines ⊥
-        (FileNeedsMemory file) (answer_of which file (codes ".text")) base
+    ensures { (which : SymbolTable) (file section : List ℕ) → AreTablesOf which file section tables.now → AnswersLines ⊥
+        (FileNeedsMemory file) (answer_of which file section) base
         (I.remaining input.old) (I.remaining input.new) (K.taken out.old) (K.taken out.new) result }
 {
     let places = named_places(alloc, tables)?;
@@ -135,8 +133,8 @@ fn answer_in_tables<I: Read, K: Sink>(
 
 // The places of the function symbols, with their names.
 fn named_places(alloc: Global, tables: &Tables) -> Result<Places<'_>, ListError>
-    ensures { (which : SymbolTable) (file : List ℕ) → AreTablesOf which file (codes ".text") tables.entry.now
-        → IsMadeOf (FileNeedsMemory file) (answer_of which file (codes ".text")) result }
+    ensures { (which : SymbolTable) (file section : List ℕ) → AreTablesOf which file section tables.entry.now
+        → IsMadeOf (FileNeedsMemory file) (answer_of which file section) result }
 {
     let mut places = Places::of_tables(alloc, tables)?;
     places.keep_names(alloc)?;

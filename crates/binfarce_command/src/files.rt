@@ -1,52 +1,102 @@
 //! Does a command's work on files, one after the other.
 
+ghost use Rattle.std.specs.Prelude.{◌≡◌, [], ◌∷◌, ℕ, Bool, List, true, Option, Some, None, map, nat_lt, length, IfErr, IfOk, IfSome, MatchOption};
+ghost use Rattle.binfarce_command.specs.Files.{Refused, Reports, AreHeld, IsUnreadable, ReportsWhy, ShowsAll, ShowsHeld, ShowsOne, heading};
+ghost use Rattle.binfarce_command.specs.Headed.{pending, taken, writer_of};
+ghost use Rattle.binfarce_command.specs.Input.{IsReadOf, held_bytes, held_may_fail, input_of};
+
 use crate::fault::Fault;
 use crate::headed::Headed;
 use crate::held::Held;
 use crate::input::Noted;
-use crate::show::{Kind, show};
+use crate::show::{Asked, show};
 use binfarce_bytes::source::Source;
-use binfarce_tools::SymbolTable;
 use std::alloc::{AllocError, Global};
 use std::io::{self, Error, Read, Write};
 
 /// What a command reaches outside of it.
 pub trait System<F: Read + Source> {
+    // The bytes of the file at a path, where they are known.
+    ghost bytes_at: { Self → List ℕ → Option (List ℕ) } = { λ _ _. None };
+
+    // The file at a path may fail to be opened or read.
+    ghost may_fail_at: { Self → List ℕ → Bool } = { λ _ _. true };
+
+    // What was reported so far, where that is known.
+    ghost reports: { Self → Option (List Refused) } = { λ _. None };
+
     /// The file at this path, to be read.
-    fn open(&self, path: &str) -> io::Result<F>;
+    fn open(&self, path: &str) -> io::Result<F>
+        ensures bytes { IfOk result (λ f. IfSome (bytes_at self.now path.now)
+            (λ bytes. (F.bytes f ≡ Some bytes) × (F.remaining f ≡ Some bytes))) }
+        ensures may_fail { IfOk result (λ f. F.may_fail f ≡ true → may_fail_at self.now path.now ≡ true) }
+        ensures failed { IfErr result (λ _. may_fail_at self.now path.now ≡ true) };
 
     /// Reports why the file at this path is refused. `reason` is the system's, if a read failed.
-    fn report(&self, path: &str, fault: Fault, reason: Option<Error>);
+    fn report(&mut self, path: &str, fault: Fault, reason: Option<Error>)
+        ensures reports { Reports (reports self.old) (reports self.new) ((path.now, fault) ∷ []) }
+        ensures bytes { bytes_at self.new ≡ bytes_at self.old }
+        ensures may_fail { may_fail_at self.new ≡ may_fail_at self.old };
 }
 
-/// Shows the function symbols of a section of each file, in order. Of several, each is shown under a line with its name. One that
-/// is refused is reported, and the others follow: then the result is `false`.
+/// Shows each file, in order. Of several, each is shown under a line with its name. One that is refused is reported, and the others
+/// follow: then the result is `false`.
 ///
 /// # Errors
 ///
 /// `Write` where a write fails, and `OutOfMemory` where an allocation for a heading fails.
 pub fn show_files<F: Read + Source + Drop, Y: System<F>, W: Write>(
     alloc: Global,
-    system: &Y,
-    kind: Kind,
-    which: SymbolTable,
-    section: &str,
+    system: &mut Y,
+    asked: &Asked<'_>,
     files: &[&str],
     out: &mut Headed<W>,
-) -> Result<bool, Fault> {
+) -> Result<bool, Fault>
+    ensures { (held : List ℕ → List ℕ) → AreHeld (Y.bytes_at system.old) held (map (λ t. t.now) files.now)
+        → ShowsAll asked.now (Y.may_fail_at system.old) held (nat_lt 1 (length files.now)) (map (λ t. t.now) files.now)
+        (W.contents (writer_of out.old)) (W.contents (writer_of out.new)) (taken W.contents out.new)
+        (Y.reports system.old) (Y.reports system.new) result }
+{
+    let are_several = files.len() > 1;
     let mut are_shown = true;
     for path in files {
-        out.begin(heading(alloc, path, files.len() > 1)?);
-        if !show_file(alloc, system, kind, which, section, path, out)? {
-            are_shown = false;
-        }
+        let is_shown = show_file(alloc, system, asked, path, are_several, out)?;
+        are_shown &= is_shown;
     }
     Ok(are_shown)
 }
 
-// A blank line and the file's name, where several files are shown.
-fn heading(alloc: Global, path: &str, is_one_of_several: bool) -> Result<Vec<u8>, AllocError> {
-    if is_one_of_several {
+// Shows a file, under its heading. `false` where it is refused.
+fn show_file<F: Read + Source + Drop, Y: System<F>, W: Write>(
+    alloc: Global,
+    system: &mut Y,
+    asked: &Asked<'_>,
+    path: &str,
+    are_several: bool,
+    out: &mut Headed<W>,
+) -> Result<bool, Fault>
+    ensures shows { (file : List ℕ) → Y.bytes_at system.old path.now ≡ Some file
+        → ShowsOne asked.now (Y.may_fail_at system.old path.now) file are_several path.now
+        (W.contents (writer_of out.old)) (W.contents (writer_of out.new)) (taken W.contents out.new)
+        (Y.reports system.old) (Y.reports system.new) result }
+    ensures bytes { Y.bytes_at system.new ≡ Y.bytes_at system.old }
+    ensures may_fail { Y.may_fail_at system.new ≡ Y.may_fail_at system.old }
+{
+    out.begin(heading(alloc, path, are_several)?);
+    match open_held(alloc, system, path) {
+        Some(held) => {
+            let shown = show_held(alloc, asked, &held, out);
+            reported(system, path, &held, shown)
+        }
+        None => Ok(false),
+    }
+}
+
+// What precedes a file's text.
+fn heading(alloc: Global, path: &str, are_several: bool) -> Result<Vec<u8>, AllocError>
+    ensures { IfOk result (λ v. v.items ≡ heading are_several path.now) }
+{
+    if are_several {
         let text = format!(in alloc; "\n{path}:\n")?;
         Vec::from_slice(alloc, text.as_bytes())
     } else {
@@ -54,31 +104,36 @@ fn heading(alloc: Global, path: &str, is_one_of_several: bool) -> Result<Vec<u8>
     }
 }
 
-// Shows a file. `false` where it is refused.
-fn show_file<F: Read + Source + Drop, Y: System<F>, W: Write>(
+// Shows the source after what is left of the heading, which is written also where the text is empty.
+fn show_held<S: Source, W: Write>(
     alloc: Global,
-    system: &Y,
-    kind: Kind,
-    which: SymbolTable,
-    section: &str,
-    path: &str,
+    asked: &Asked<'_>,
+    source: &S,
     out: &mut Headed<W>,
-) -> Result<bool, Fault> {
-    match open_held(alloc, system, path) {
-        Some(held) => {
-            let shown = show(alloc, kind, &held, which, section, out);
-            reported(system, path, &held, shown)
-        }
-        None => Ok(false),
-    }
+) -> Result<(), Fault>
+    ensures { (file : List ℕ) → S.bytes source.now ≡ Some file
+        → ShowsHeld asked.now (S.may_fail source.now ≡ true) file (pending out.old)
+        (W.contents (writer_of out.old)) (W.contents (writer_of out.new)) (taken W.contents out.new) result }
+{
+    show(alloc, asked, source, out)?;
+    out.end()
 }
 
 /// Opens the file at this path, and loads it. `None` where it can't be opened or read, which is reported.
 pub fn open_held<F: Read + Source + Drop, Y: System<F>>(
     alloc: Global,
-    system: &Y,
+    system: &mut Y,
     path: &str,
-) -> Option<Held<Noted<F>>> {
+) -> Option<Held<Noted<F>>>
+    ensures held { (file : List ℕ) → Y.bytes_at system.old path.now ≡ Some file → MatchOption result
+        ((fault : Fault) × IsUnreadable (Y.may_fail_at system.old path.now) file fault
+        × Reports (Y.reports system.old) (Y.reports system.new) ((path.now, fault) ∷ []))
+        (λ held. (bytes : List ℕ) × IsReadOf file bytes × (held_bytes (λ n. F.bytes (input_of n)) held ≡ Some bytes)
+        × (held_may_fail (λ n. F.may_fail (input_of n)) held ≡ true → Y.may_fail_at system.old path.now ≡ true)) }
+    ensures unchanged { IfSome result (λ _. system.new ≡ system.old) }
+    ensures bytes { Y.bytes_at system.new ≡ Y.bytes_at system.old }
+    ensures may_fail { Y.may_fail_at system.new ≡ Y.may_fail_at system.old }
+{
     match system.open(path) {
         Ok(file) => {
             let mut held = Held::new(Noted::new(file));
@@ -103,11 +158,15 @@ pub fn open_held<F: Read + Source + Drop, Y: System<F>>(
 ///
 /// What isn't of the file: `Write` and `Missing`.
 pub fn reported<F: Read + Source, Y: System<F>>(
-    system: &Y,
+    system: &mut Y,
     path: &str,
     held: &Held<Noted<F>>,
     done: Result<(), Fault>,
-) -> Result<bool, Fault> {
+) -> Result<bool, Fault>
+    ensures reports { ReportsWhy path.now (Y.reports system.old) (Y.reports system.new) done result }
+    ensures bytes { Y.bytes_at system.new ≡ Y.bytes_at system.old }
+    ensures may_fail { Y.may_fail_at system.new ≡ Y.may_fail_at system.old }
+{
     match done {
         Ok(()) => Ok(true),
         Err(Fault::Write) => Err(Fault::Write),

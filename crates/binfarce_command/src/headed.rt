@@ -1,9 +1,11 @@
 //! What a command writes: a sink that writes a heading before the first byte that follows it.
 
-ghost use Rattle.std.specs.Prelude.{◌≡◌, [], true, false, IfSome, IfNone};
+ghost use Rattle.std.specs.Prelude.{◌≡◌, [], true, false, IfErr, IfSome, IfNone, OnOk};
 ghost use Rattle.std.specs.Io.KnownBytes.{Keeps};
 ghost use Rattle.binfarce_command.specs.Headed.{writer_of, pending, has_failed, taken};
+ghost use Rattle.binfarce_command.specs.declared.fault.Fault.TheVariants.{Write as Unwritten};
 
+use crate::fault::Fault;
 use binfarce_tools::list::Sink;
 use std::alloc::Global;
 use std::io::{self, Error, ErrorKind, Write};
@@ -42,6 +44,22 @@ impl<W: Write> Headed<W> {
     {
         self.heading = heading;
         self.done = 0;
+    }
+
+    /// Writes what is left of the heading.
+    ///
+    /// # Errors
+    ///
+    /// `Write` where a write fails.
+    pub fn end(&mut self) -> Result<(), Fault>
+        ensures kept { Keeps (taken W.contents self.old) (taken W.contents self.new) }
+        ensures written { OnOk result ((pending self.new ≡ []) × (has_failed self.new ≡ has_failed self.old)) }
+        ensures fails { IfErr result (λ e. (e ≡ Unwritten) × (has_failed self.new ≡ true)) }
+    {
+        match self.write_heading() {
+            Some(()) => Ok(()),
+            None => Err(Fault::Write),
+        }
     }
 
     // Writes what is left of the heading.

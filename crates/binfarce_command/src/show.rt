@@ -1,12 +1,13 @@
 //! Shows the function symbols of a file: as a listing, as sums by crate, or as a picture.
 
-ghost use Rattle.std.specs.Prelude.{◌≡◌, ℕ, List, true, Some};
+ghost use Rattle.std.specs.Prelude.{◌≡◌, ◌≢◌, ℕ, List, true, Some, Err};
 ghost use Rattle.binfarce_tools.specs.Answer.{answer_of, FileNeedsMemory};
 ghost use Rattle.binfarce_tools.specs.Tables.{AreTablesOf};
 ghost use Rattle.binfarce_tools.specs.declared.SymbolTable.{SymbolTable};
-ghost use Rattle.binfarce_tools.specs.Writing.{Tells, ProgramTells, Takes, Fails, Leaves};
+ghost use Rattle.binfarce_tools.specs.Writing.{Tells, Takes, Fails, Leaves};
 ghost use Rattle.binfarce_command.specs.Faults.{outcome_of};
-ghost use Rattle.binfarce_command.specs.Show.{Fits, IsTextOf};
+ghost use Rattle.binfarce_command.specs.Show.{Fits, IsTextOf, MayEnd, TakesShown};
+ghost use Rattle.binfarce_command.specs.declared.fault.Fault.TheVariants.{Input};
 
 use crate::fault::Fault;
 use binfarce_bytes::source::Source;
@@ -28,9 +29,26 @@ pub enum Kind {
     Picture,
 }
 
-/// Shows the function symbols of a section of the source by this symbol table. Of the source it reads the headers, that table and
-/// the names alone.
-/// The section is that of an ELF file, and of a Mach-O or PE file it is the code.
+/// Which function symbols of a file are taken.
+#[derive(Debug, Clone, Copy)]
+pub struct Symbols<'a> {
+    /// The symbol table that they are read by.
+    pub which: SymbolTable,
+    /// The section of an ELF file; of a Mach-O or PE file they are those of the code.
+    pub section: &'a str,
+}
+
+/// What is shown of a file.
+#[derive(Debug, Clone, Copy)]
+pub struct Asked<'a> {
+    /// How its function symbols are shown.
+    pub kind: Kind,
+    /// Which they are.
+    pub symbols: Symbols<'a>,
+}
+
+/// Shows the function symbols of the source that are asked for. Of the source it reads the headers, the symbol table and the names
+/// alone.
 ///
 /// # Errors
 ///
@@ -38,22 +56,20 @@ pub enum Kind {
 /// `Write` can leave a beginning written.
 pub fn show<S: Source, K: Sink>(
     alloc: Global,
-    kind: Kind,
+    asked: &Asked<'_>,
     source: &S,
-    which: SymbolTable,
-    section: &str,
     out: &mut K,
 ) -> Result<(), Fault>
     ensures tells { (file : List ℕ) → S.bytes source.now ≡ Some file
-        → ProgramTells (S.may_fail source.now ≡ true) (Fits kind)
-        (FileNeedsMemory file) (answer_of which file section.now) (outcome_of result) }
-    ensures takes { (file : List ℕ) → S.bytes source.now ≡ Some file → Takes (IsTextOf kind)
-        (answer_of which file section.now) (K.taken out.old) (K.taken out.new) (outcome_of result) }
+        → MayEnd (S.may_fail source.now ≡ true) asked.now file (outcome_of result) }
+    ensures takes { (file : List ℕ) → S.bytes source.now ≡ Some file
+        → TakesShown asked.now file (K.taken out.old) (K.taken out.new) (outcome_of result) }
+    ensures of_file { result ≢ Err Input }
     ensures fails { Fails (K.has_failed out.old) (K.has_failed out.new) (outcome_of result) }
     ensures leaves { Leaves out.old out.new (outcome_of result) }
 {
-    let tables = read_by(alloc, source, which, section)?;
-    show_tables(alloc, kind, &tables, out)
+    let tables = read_by(alloc, source, asked.symbols.which, asked.symbols.section)?;
+    show_tables(alloc, asked.kind, &tables, out)
 }
 
 // The same, of the tables of the source.
@@ -69,6 +85,7 @@ fn show_tables<K: Sink>(
     ensures takes { (which : SymbolTable) (file section : List ℕ) → AreTablesOf which file section tables.now
         → Takes (IsTextOf kind)
         (answer_of which file section) (K.taken out.old) (K.taken out.new) (outcome_of result) }
+    ensures of_file { result ≢ Err Input }
     ensures fails { Fails (K.has_failed out.old) (K.has_failed out.new) (outcome_of result) }
     ensures leaves { Leaves out.old out.new (outcome_of result) }
 {

@@ -3,7 +3,7 @@ use Rattle.std.specs.Prelude.{ℕ, List, [], ◌∷◌, codes, Option, Some, Non
 use Rattle.std.specs.declared.io.ErrorKind.{ErrorKind}
 use Rattle.std.specs.declared.io.ErrorKind.TheVariants as kinds
 use Rattle.binfarce_program.specs.declared.Failure.{Failure}
-use Rattle.binfarce_program.specs.declared.Failure.TheVariants.{File, OutOfMemory}
+use Rattle.binfarce_program.specs.declared.Failure.TheVariants.{Usage, File, OutOfMemory}
 
 -- the file and the section that arguments give, if there are one or two; arguments of which one isn't UTF-8 are refused before, as a wrong call
 abbrev pub words_of : List (List ℕ) → Option (List ℕ × List ℕ)
@@ -16,3 +16,8 @@ words_of (file ∷ section ∷ more ∷ others) = None
 abbrev pub failure_of : ErrorKind → Failure
 failure_of kinds.OutOfMemory = OutOfMemory
 failure_of kind = File
+
+-- why the arguments can't be taken, where an error of this kind came: a failed allocation is reported as such, and else one isn't UTF-8
+abbrev pub arguments_failure_of : ErrorKind → Failure
+arguments_failure_of kinds.OutOfMemory = OutOfMemory
+arguments_failure_of kind = Usage

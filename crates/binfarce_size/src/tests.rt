@@ -1,5 +1,4 @@
-// bench/refuse-memory.sh lets each of the program's allocations fail in turn: it prints the usage, `out of memory` or the
-// whole report.
+// bench/refuse-memory.sh lets each of the program's allocations fail in turn: it prints `out of memory` or the whole report.
 
 use crate::program::{Fault, run, run_at, run_file, status, words};
 use binfarce_tools::list::Out;

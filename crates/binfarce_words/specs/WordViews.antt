@@ -1,5 +1,6 @@
 -- What clauses see of a call, of what words give, and of why they are wrong.
 use Rattle.std.specs.Prelude.{◌≡◌, ◌⊎◌, map, Option, Some, None, Result, Ok, Err}
+use Rattle.std.specs.Option.{option_map}
 use Rattle.binfarce_words.specs.Named.{IsNearest}
 use Rattle.binfarce_words.specs.Words as words
 use Rattle.binfarce_words.specs.Words.{commands, command_name, flags_of, flag_name}
@@ -8,10 +9,10 @@ use Rattle.binfarce_words.specs.declared.words.Call.TheVariants as calls
 use Rattle.binfarce_words.specs.declared.words.Given.{Given}
 use Rattle.binfarce_words.specs.declared.words.Reading.{Reading}
 use Rattle.binfarce_words.specs.declared.words.Wrong.{Wrong}
-use Rattle.binfarce_words.specs.declared.words.Wrong.TheVariants.{NoCommand, UnknownCommand, UnknownOption, NoValue, NoAddress, NoFile, TooMany, NotUtf8, OutOfMemory}
+use Rattle.binfarce_words.specs.declared.words.Wrong.TheVariants.{NoCommand, UnknownCommand, UnknownOption, NoValue, Exclusive, NoAddress, NoFile, TooMany, NotUtf8, OutOfMemory}
 
 abbrev pub given_view : Given → words.Given
-given_view g = record { help = g.help; section = g.section.now; full = g.full; base = g.base; dynamic = g.dynamic; operands = map (λ t. t.now) g.operands.items }
+given_view g = record { help = g.help; section = option_map (λ t. t.now) g.section; full = g.full; base = g.base; dynamic = g.dynamic; all = g.all; operands = map (λ t. t.now) g.operands.items }
 
 abbrev pub reading_view : Reading → words.Reading
 reading_view r = record { given = given_view r.given; waiting = r.waiting; are_operands = r.are_operands }
@@ -27,6 +28,7 @@ IsWrong wrong NoCommand = wrong ≡ words.no_command
 IsWrong wrong (UnknownCommand word nearest) = (wrong ≡ words.unknown_command word.now) × IsNearest command_name commands word.now 0 nearest
 IsWrong wrong (UnknownOption command word nearest) = (wrong ≡ words.unknown_option command word.now) × IsNearest flag_name (flags_of command) word.now 2 nearest
 IsWrong wrong (NoValue flag) = wrong ≡ words.no_value flag
+IsWrong wrong (Exclusive one other) = wrong ≡ words.exclusive one other
 IsWrong wrong (NoAddress word) = wrong ≡ words.no_address word.now
 IsWrong wrong (NoFile command) = wrong ≡ words.no_file command
 IsWrong wrong (TooMany word) = wrong ≡ words.too_many word.now

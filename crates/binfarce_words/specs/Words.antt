@@ -1,5 +1,5 @@
 -- What the words of a call ask for: `COMMAND [OPTION..] [OPERAND..]`.
-use Rattle.std.specs.Prelude.{◌==◌, ◌++◌, ◌||◌, ℕ, Bool, true, false, not, List, [], ◌∷◌, codes, find, length, Option, Some, None, Result, Ok, Err, if◌then◌else◌}
+use Rattle.std.specs.Prelude.{◌==◌, ◌++◌, ◌&&◌, ◌||◌, ℕ, Bool, true, false, not, List, [], ◌∷◌, codes, find, length, Option, Some, None, is_some, Result, Ok, Err, if◌then◌else◌}
 use Rattle.std.specs.List.{position_or_len, before_first, after_first}
 use Rattle.std.specs.Str.{byte, bytes_eq}
 use Rattle.binfarce_addresses.specs.Address.{address_of}
@@ -22,11 +22,11 @@ command_name Section = codes "section"
 
 -- the options of a command, and the name of each
 abbrev pub flags_of : Command → List Flag
-flags_of Listing = flags.Help ∷ flags.Section ∷ flags.Dynamic ∷ []
-flags_of Size = flags.Help ∷ flags.Section ∷ flags.Dynamic ∷ []
-flags_of Map = flags.Help ∷ flags.Section ∷ flags.Dynamic ∷ []
+flags_of Listing = flags.Help ∷ flags.Section ∷ flags.Dynamic ∷ flags.All ∷ []
+flags_of Size = flags.Help ∷ flags.Section ∷ flags.Dynamic ∷ flags.All ∷ []
+flags_of Map = flags.Help ∷ flags.Section ∷ flags.Dynamic ∷ flags.All ∷ []
 flags_of Filter = flags.Help ∷ flags.Full ∷ []
-flags_of At = flags.Help ∷ flags.Base ∷ flags.Dynamic ∷ []
+flags_of At = flags.Help ∷ flags.Section ∷ flags.Base ∷ flags.Dynamic ∷ flags.All ∷ []
 flags_of Section = flags.Help ∷ []
 
 abbrev pub flag_name : Flag → List ℕ
@@ -35,6 +35,7 @@ flag_name flags.Section = codes "--section"
 flag_name flags.Full = codes "--full"
 flag_name flags.Base = codes "--base"
 flag_name flags.Dynamic = codes "--dynamic"
+flag_name flags.All = codes "--all"
 
 -- whether an option has a value: `--base ADDRESS` or `--base=ADDRESS`
 abbrev pub takes_value : Flag → Bool
@@ -43,6 +44,7 @@ takes_value flags.Section = true
 takes_value flags.Full = false
 takes_value flags.Base = true
 takes_value flags.Dynamic = false
+takes_value flags.All = false
 
 -- why a call is wrong
 pub data Wrong : Type 0 where
@@ -50,6 +52,7 @@ pub data Wrong : Type 0 where
   unknown_command : (word : List ℕ) → Wrong
   unknown_option : (command : Command) (word : List ℕ) → Wrong
   no_value : (flag : Flag) → Wrong
+  exclusive : (one other : Flag) → Wrong
   no_address : (word : List ℕ) → Wrong
   no_file : (command : Command) → Wrong
   too_many : (word : List ℕ) → Wrong
@@ -57,15 +60,16 @@ pub data Wrong : Type 0 where
 -- what the words after a command give: the options' values, and the other words in their order
 pub record Given : Type 0 where
   pub help : Bool
-  pub section : List ℕ
+  pub section : Option (List ℕ)
   pub full : Bool
   pub base : ℕ
   pub dynamic : Bool
+  pub all : Bool
   pub operands : List (List ℕ)
 
 -- nothing is given
 abbrev pub nothing : Given
-nothing = record { help = false; section = codes ".text"; full = false; base = 0; dynamic = false; operands = [] }
+nothing = record { help = false; section = None; full = false; base = 0; dynamic = false; all = false; operands = [] }
 
 -- what is given with this base, if that is an address
 abbrev pub with_base : Given → (word : List ℕ) → Option ℕ → Result Given Wrong
@@ -75,10 +79,11 @@ with_base given word (Some base) = Ok (record given { base = base })
 -- what is given with this option and its value
 abbrev pub with_flag : Given → Flag → (value : List ℕ) → Result Given Wrong
 with_flag given flags.Help value = Ok (record given { help = true })
-with_flag given flags.Section value = Ok (record given { section = value })
+with_flag given flags.Section value = Ok (record given { section = Some value })
 with_flag given flags.Full value = Ok (record given { full = true })
 with_flag given flags.Base value = with_base given value (address_of value)
 with_flag given flags.Dynamic value = Ok (record given { dynamic = true })
+with_flag given flags.All value = Ok (record given { all = true })
 
 abbrev pub with_operand : Given → List ℕ → Given
 with_operand given word = record given { operands = given.operands ++ word ∷ [] }
@@ -188,13 +193,17 @@ operand_fault command [] = Some (no_file command)
 operand_fault Section (file ∷ section ∷ more ∷ others) = Some (too_many more)
 operand_fault command operands = None
 
+-- what is wrong with what is given: all sections and one of them, or the operands
+abbrev pub fault_of : Command → Given → Option Wrong
+fault_of command given = if given.all && is_some given.section then Some (exclusive flags.All flags.Section) else operand_fault command given.operands
+
 abbrev pub unless_fault : Option Wrong → Call → Result Call Wrong
 unless_fault (Some wrong) call = Err wrong
 unless_fault None call = Ok call
 
 -- the command's work, or help on it, where that is asked for
 abbrev pub call_with : Command → Given → Result Call Wrong
-call_with command given = if given.help then Ok (show_help (Some command)) else unless_fault (operand_fault command given.operands) (run command given)
+call_with command given = if given.help then Ok (show_help (Some command)) else unless_fault (fault_of command given) (run command given)
 
 abbrev pub run_of : Command → Result Given Wrong → Result Call Wrong
 run_of command (Err wrong) = Err wrong

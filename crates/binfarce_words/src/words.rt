@@ -3,7 +3,7 @@
 ghost use Rattle.std.specs.Prelude.{◌≡◌, ◌∷◌, map, Ok, None, false};
 ghost use Rattle.std.specs.Option.{option_map};
 ghost use Rattle.std.specs.String.{string_bytes};
-ghost use Rattle.binfarce_words.specs.Words.{asks_help, asks_version, command_call, command_named, call_of, call_with, flag_named, flags_of, takes_value, is_option, value_parts, with_flag, with_operand, after_option, after_name, after_value, after_word, begun, given_of, finished, help_call, help_of, operand_fault, run_of, unknown_command, unknown_option};
+ghost use Rattle.binfarce_words.specs.Words.{asks_help, asks_version, command_call, command_named, call_of, call_with, flag_named, flags_of, takes_value, is_option, value_parts, with_flag, with_operand, after_option, after_name, after_value, after_word, begun, given_of, finished, help_call, help_of, fault_of, operand_fault, run_of, unknown_command, unknown_option};
 ghost use Rattle.binfarce_words.specs.WordViews.{Gives, Changes, IsFault, IsWrong, given_view, reading_view, call_view};
 
 use crate::named::{Named, find_named, nearest};
@@ -68,6 +68,8 @@ pub enum Flag {
     Base,
     /// Reads the dynamic symbol table of an ELF file.
     Dynamic,
+    /// Takes the function symbols of all sections.
+    All,
 }
 
 impl Named for Flag {
@@ -82,6 +84,7 @@ impl Named for Flag {
             Flag::Full => "--full",
             Flag::Base => "--base",
             Flag::Dynamic => "--dynamic",
+            Flag::All => "--all",
         }
     }
 }
@@ -97,6 +100,7 @@ impl Flag {
             Flag::Full => false,
             Flag::Base => true,
             Flag::Dynamic => false,
+            Flag::All => false,
         }
     }
 }
@@ -108,10 +112,16 @@ impl Command {
     {
         match self {
             Command::List | Command::Size | Command::Map => {
-                &[Flag::Help, Flag::Section, Flag::Dynamic]
+                &[Flag::Help, Flag::Section, Flag::Dynamic, Flag::All]
             }
             Command::Filter => &[Flag::Help, Flag::Full],
-            Command::At => &[Flag::Help, Flag::Base, Flag::Dynamic],
+            Command::At => &[
+                Flag::Help,
+                Flag::Section,
+                Flag::Base,
+                Flag::Dynamic,
+                Flag::All,
+            ],
             Command::Section => &[Flag::Help],
         }
     }
@@ -128,6 +138,8 @@ pub enum Wrong<'a> {
     UnknownOption(Command, &'a str, Option<Flag>),
     /// The option has no value.
     NoValue(Flag),
+    /// Two options that exclude each other.
+    Exclusive(Flag, Flag),
     /// The word is no address.
     NoAddress(&'a str),
     /// The command has no file.
@@ -168,6 +180,11 @@ impl<'a> fmt::Display for Wrong<'a> {
                 let name = flag.name();
                 write!(f, "{name} has no value")
             }
+            Wrong::Exclusive(one, other) => {
+                let first = one.name();
+                let second = other.name();
+                write!(f, "{first} and {second} exclude each other")
+            }
             Wrong::NoAddress(word) => write!(f, "not an address: {word}"),
             Wrong::NoFile(command) => {
                 let name = command.name();
@@ -185,14 +202,16 @@ impl<'a> fmt::Display for Wrong<'a> {
 pub struct Given<'a> {
     /// Help is asked for.
     pub help: bool,
-    /// The section of an ELF file.
-    pub section: &'a str,
+    /// The section of an ELF file that is named.
+    pub section: Option<&'a str>,
     /// Names keep their hashes.
     pub full: bool,
     /// What is subtracted from each address.
     pub base: u64,
     /// The dynamic symbol table is read.
     pub dynamic: bool,
+    /// The function symbols of all sections are taken.
+    pub all: bool,
     /// The words that are no options.
     pub operands: Vec<&'a str>,
 }
@@ -300,10 +319,20 @@ fn call_with<'a>(command: Command, given: Given<'a>) -> Result<Call<'a>, Wrong<'
     if given.help {
         return Ok(Call::Help(Some(command)));
     }
-    match operand_fault(command, given.operands.as_slice()) {
+    match fault_of(command, &given) {
         Some(wrong) => Err(wrong),
         None => Ok(Call::Run(command, given)),
     }
+}
+
+// What is wrong with what is given: all sections and one of them, or the operands.
+fn fault_of<'a>(command: Command, given: &Given<'a>) -> Option<Wrong<'a>>
+    ensures { IsFault (fault_of command (given_view given.entry.now)) result }
+{
+    if given.all && given.section.is_some() {
+        return Some(Wrong::Exclusive(Flag::All, Flag::Section));
+    }
+    operand_fault(command, given.operands.as_slice())
 }
 
 // What is wrong with a command's operands.
@@ -352,10 +381,11 @@ impl<'a> Reading<'a> {
     {
         let given = Given {
             help: false,
-            section: ".text",
+            section: None,
             full: false,
             base: 0,
             dynamic: false,
+            all: false,
             operands: Vec::new(alloc),
         };
         Reading {
@@ -461,13 +491,14 @@ impl<'a> Given<'a> {
     {
         match flag {
             Flag::Help => self.help = true,
-            Flag::Section => self.section = value,
+            Flag::Section => self.section = Some(value),
             Flag::Full => self.full = true,
             Flag::Base => match parse_address(value.as_bytes()) {
                 Some(base) => self.base = base,
                 None => return Err(Wrong::NoAddress(value)),
             },
             Flag::Dynamic => self.dynamic = true,
+            Flag::All => self.all = true,
         }
         Ok(())
     }

@@ -1,0 +1,186 @@
+-- What a file comes to, by what is read of it and by how its showing ended.
+use Rattle.std.proofs.Common.{◌≡◌, ◌≢◌, ◌∙◌, ◌⊎◌, inl, inr, ℕ, Bool, true, false, List, [], ◌∷◌, ◌++◌, take, Option, Some, None, Result, Ok, Err, refl, sym, ap, subst, append_assoc, append-nil, IsErrAnd}
+use Rattle.std.specs.Option.{option_map}
+use Rattle.std.specs.Prelude.{IfErr, OnOk}
+use Rattle.std.specs.Io.KnownBytes.{Appends, Keeps}
+use Rattle.binfarce_bytes.specs.Entries.{Listed}
+use Rattle.binfarce_bytes.specs.Format.{format_of}
+use Rattle.binfarce_bytes.specs.Refusal.{Refusal, refusal_of}
+use Rattle.binfarce_bytes.specs.declared.error.ParseError.{ParseError}
+use Rattle.binfarce_bytes.specs.declared.format.Format.{Format}
+use Rattle.binfarce_bytes.specs.declared.format.Format.TheVariants as formats
+use Rattle.binfarce_tools.specs.declared.SymbolTable.{SymbolTable}
+use Rattle.binfarce_tools.specs.declared.SymbolTable.TheVariants.{Symtab, Dynsym}
+use Rattle.binfarce_tools.proofs.TablesRead.{format_of_first}
+use Rattle.binfarce_tools.specs.Answer.{NeedsMemory, answer_of, dynamic_symbols_answer, symbols_answer}
+use Rattle.binfarce_tools.specs.Writing.{AppendsBeginning, IsDue, Leaves, Outcome, ProgramTells, Tells, unknown_format, wrong_usage}
+use Rattle.binfarce_command.specs.Faults.{outcome_of}
+use Rattle.binfarce_command.specs.Files.{Fate, IsUnreadable, MayComeTo, Refused, Reports, ReportsWhy, ShowsHeld, ShowsOne, heading, refused, shown}
+use Rattle.binfarce_command.specs.Headed.{pending, taken, writer_of}
+use Rattle.binfarce_command.specs.Input.{IsReadOf}
+use Rattle.binfarce_command.specs.Show.{Fits, IsShownText, IsTextOf, MayEnd, TakesShown, answer_for}
+use Rattle.binfarce_command.specs.declared.fault.Fault.{Fault}
+use Rattle.binfarce_command.specs.declared.fault.Fault.TheVariants.{Unreadable, Input, OutOfMemory, Write, Unknown, Parse, TooLarge, NoSection, NoBytes, PastEnd, Missing}
+use Rattle.binfarce_command.specs.declared.headed.Headed.{Headed}
+use Rattle.binfarce_command.specs.declared.show.Asked.{Asked}
+use Rattle.binfarce_command.specs.declared.show.Symbols.{Symbols}
+
+-- a file of an unknown format has no answer
+no_answer : (which : SymbolTable) (file section : List ℕ) → format_of file ≡ formats.Unknown → answer_of which file section ≡ None
+unfolding symbols_answer dynamic_symbols_answer
+no_answer Symtab file section is = ap (λ (f : Format). symbols_answer f file section) is
+no_answer Dynsym file section is = ap (λ (f : Format). dynamic_symbols_answer f file section) is
+
+unknown_too : (file bytes : List ℕ) → format_of file ≡ formats.Unknown → bytes ≡ take 8 file → format_of bytes ≡ formats.Unknown
+unknown_too file bytes unknown is = ap format_of is ∙ format_of_first file ∙ unknown
+
+-- a text of what was read of a file is one of the file
+pub text_of_file : (asked : Asked) (file bytes text : List ℕ) → IsReadOf file bytes → IsShownText asked bytes text → IsShownText asked file text
+text_of_file asked file bytes text (inl same) is = subst (λ (f : List ℕ). IsShownText asked f text) same is
+text_of_file asked file bytes text (inr (unknown, first)) is =
+    let none = no_answer asked.symbols.which bytes asked.symbols.section.now (unknown_too file bytes unknown first) in
+    absurd (subst (λ (answer : Option (Result Listed Refusal)). IsDue (IsTextOf asked.kind) answer text) none is)
+
+weaker : (P Q : Type 0) → (P → Q) → (asked : Asked) (file : List ℕ) (o : Outcome) → MayEnd P asked file o → MayEnd Q asked file o
+weaker P Q more asked file o (inl (may, is)) = inl (more may, is)
+weaker P Q more asked file o (inr (inl is)) = inr (inl is)
+weaker P Q more asked file o (inr (inr tells)) = inr (inr tells)
+
+unknown_ends : (P Q : Type 0) → (P → Q) → (asked : Asked) (file bytes : List ℕ) (o : Outcome) → answer_for asked.symbols file ≡ None → answer_for asked.symbols bytes ≡ None → MayEnd P asked bytes o → MayEnd Q asked file o
+unknown_ends P Q more asked file bytes o none also (inl (may, is)) = inl (more may, is)
+unknown_ends P Q more asked file bytes o none also (inr (inl is)) = inr (inl is)
+unknown_ends P Q more asked file bytes o none also (inr (inr tells)) =
+    let is : o ≡ unknown_format = subst (λ (answer : Option (Result Listed Refusal)). Tells (Fits asked.kind) (NeedsMemory (format_of bytes) bytes) answer o) also tells in
+    inr (inr (subst (λ (answer : Option (Result Listed Refusal)). Tells (Fits asked.kind) (NeedsMemory (format_of file) file) answer o) (sym none) is))
+
+-- the showing of what was read of a file ends as that of the file may
+pub end_of_file : (P Q : Type 0) → (P → Q) → (asked : Asked) (file bytes : List ℕ) (o : Outcome) → IsReadOf file bytes → MayEnd P asked bytes o → MayEnd Q asked file o
+end_of_file P Q more asked file bytes o (inl same) ends = subst (λ (f : List ℕ). MayEnd Q asked f o) same (weaker P Q more asked bytes o ends)
+end_of_file P Q more asked file bytes o (inr (unknown, first)) ends =
+    unknown_ends P Q more asked file bytes o (no_answer asked.symbols.which file asked.symbols.section.now unknown) (no_answer asked.symbols.which bytes asked.symbols.section.now (unknown_too file bytes unknown first)) ends
+
+-- a call about a file is never wrong in itself
+never_wrong : (MayFail : Type 0) (fits : Listed → Type 0) (memory : Result Listed Refusal → Type 0) (answer : Option (Result Listed Refusal)) → ProgramTells MayFail fits memory answer wrong_usage → ⊥
+never_wrong MayFail fits memory answer (inl (may, is)) = cc
+never_wrong MayFail fits memory answer (inr (inl is)) = cc
+never_wrong MayFail fits memory None (inr (inr is)) = cc
+never_wrong MayFail fits memory (Some (Err refusal)) (inr (inr (inl is))) = cc
+never_wrong MayFail fits memory (Some (Err refusal)) (inr (inr (inr (needs, is)))) = cc
+never_wrong MayFail fits memory (Some (Ok listed)) (inr (inr (inl is))) = cc
+never_wrong MayFail fits memory (Some (Ok listed)) (inr (inr (inr (inl (may, inl is))))) = cc
+never_wrong MayFail fits memory (Some (Ok listed)) (inr (inr (inr (inl (may, inr is))))) = cc
+never_wrong MayFail fits memory (Some (Ok listed)) (inr (inr (inr (inr (never, is))))) = cc
+
+-- what is left of a heading precedes the text
+pub after_heading : (old mid : Option (List ℕ)) (left text : List ℕ) → Appends (option_map (λ b. b ++ left) old) mid text → Appends old mid (left ++ text)
+after_heading None mid left text is = tt
+after_heading (Some a) None left text is = absurd is
+after_heading (Some a) (Some b) left text is = is ∙ append_assoc a left text
+
+pub beginning_after : (old taken : Option (List ℕ)) (left text : List ℕ) → AppendsBeginning (option_map (λ b. b ++ left) old) taken text → AppendsBeginning old taken (left ++ text)
+beginning_after old taken left text (beginning, others, is, begins) =
+    (left ++ beginning, others, ap (λ (z : List ℕ). left ++ z) is ∙ sym (append_assoc left beginning others), after_heading old taken left beginning begins)
+
+-- a text whose heading is written is written
+whole : (old mid new : Option (List ℕ)) (left none text : List ℕ) → Appends (option_map (λ b. b ++ left) old) mid text → Keeps mid (option_map (λ b. b ++ none) new) → none ≡ [] → Appends old new (left ++ text)
+whole None mid new left none text took kept is = tt
+whole (Some a) None new left none text took kept is = absurd took
+whole (Some a) (Some b) None left none text took kept is = absurd kept
+whole (Some a) (Some b) (Some c) left none text took kept is =
+    sym (append-nil c) ∙ ap (λ (z : List ℕ). c ++ z) (sym is) ∙ kept ∙ took ∙ append_assoc a left text
+
+whole_taken : (old mid taken : Option (List ℕ)) (left text : List ℕ) → Appends (option_map (λ b. b ++ left) old) mid text → Keeps mid taken → AppendsBeginning old taken (left ++ text)
+whole_taken old mid taken left text took kept = (left ++ text, [], sym (append-nil (left ++ text)), by old mid taken took kept)
+  where
+    by : (old mid taken : Option (List ℕ)) → Appends (option_map (λ b. b ++ left) old) mid text → Keeps mid taken → Appends old taken (left ++ text)
+    by None mid taken took kept = tt
+    by (Some a) None taken took kept = absurd took
+    by (Some a) (Some b) None took kept = absurd kept
+    by (Some a) (Some b) (Some c) took kept = kept ∙ took ∙ append_assoc a left text
+
+-- the work failed
+abbrev pub failed : Fault → Result (Unit {0}) Fault
+failed fault = Err fault
+
+module _ {W : Type 0} (contents : W → Option (List ℕ)) (asked : Asked) (MayFail : Type 0) (file : List ℕ) (old mid : Headed W) where
+  -- a file whose showing failed
+  pub unshown : (e : Fault) → e ≢ Input → MayEnd MayFail asked file (outcome_of (Err e)) → TakesShown asked file (taken contents old) (taken contents mid) (outcome_of (Err e)) → Leaves old mid (outcome_of (Err e))
+      → ShowsHeld asked MayFail file (pending old) (contents (writer_of old)) (contents (writer_of mid)) (taken contents mid) (Err e)
+  unshown Write other ends (text, due, begins) leaves = (text, due, beginning_after (contents (writer_of old)) (taken contents mid) (pending old) text begins)
+  unshown Unreadable other ends takes leaves = (other, ends, ap (λ (s : Headed W). contents (writer_of s)) leaves)
+  unshown Input other ends takes leaves = (other, ends, ap (λ (s : Headed W). contents (writer_of s)) leaves)
+  unshown OutOfMemory other ends takes leaves = (other, ends, ap (λ (s : Headed W). contents (writer_of s)) leaves)
+  unshown Unknown other ends takes leaves = (other, ends, ap (λ (s : Headed W). contents (writer_of s)) leaves)
+  unshown (Parse e) other ends takes leaves = (other, ends, ap (λ (s : Headed W). contents (writer_of s)) leaves)
+  unshown TooLarge other ends takes leaves = (other, ends, ap (λ (s : Headed W). contents (writer_of s)) leaves)
+  unshown NoSection other ends takes leaves = (other, ends, ap (λ (s : Headed W). contents (writer_of s)) leaves)
+  unshown NoBytes other ends takes leaves = (other, ends, ap (λ (s : Headed W). contents (writer_of s)) leaves)
+  unshown PastEnd other ends takes leaves = (other, ends, ap (λ (s : Headed W). contents (writer_of s)) leaves)
+  unshown (Missing count) other ends takes leaves = (other, ends, ap (λ (s : Headed W). contents (writer_of s)) leaves)
+
+  -- a file that is shown, and its heading written
+  pub ended : (new : Headed W) → (text : List ℕ) × IsShownText asked file text × Appends (taken contents old) (taken contents mid) text → Keeps (taken contents mid) (taken contents new) → pending new ≡ []
+      → (x : Unit {0}) → ShowsHeld asked MayFail file (pending old) (contents (writer_of old)) (contents (writer_of new)) (taken contents new) (Ok x)
+  ended new (text, due, took) kept none x = (text, due, whole (contents (writer_of old)) (taken contents mid) (contents (writer_of new)) (pending old) (pending new) text took kept none)
+
+  -- the same, where the writing of the heading failed
+  pub broke_off : (new : Headed W) (e : Fault) → (text : List ℕ) × IsShownText asked file text × Appends (taken contents old) (taken contents mid) text → Keeps (taken contents mid) (taken contents new) → e ≡ Write
+      → ShowsHeld asked MayFail file (pending old) (contents (writer_of old)) (contents (writer_of new)) (taken contents new) (Err e)
+  broke_off new e (text, due, took) kept is =
+      subst (λ (e : Fault). ShowsHeld asked MayFail file (pending old) (contents (writer_of old)) (contents (writer_of new)) (taken contents new) (Err e)) (sym is)
+      (text, due, whole_taken (contents (writer_of old)) (taken contents mid) (taken contents new) (pending old) text took kept)
+
+  abbrev pub Held : Headed W → Result (Unit {0}) Fault → Type 0
+  Held new result = ShowsHeld asked MayFail file (pending old) (contents (writer_of old)) (contents (writer_of new)) (taken contents new) result
+
+  -- the same, as `?` passes the fault on
+  pub show_failed : (e : Fault) (result : Result (Unit {0}) Fault) → IsErrAnd result (λ f. f ≡ e) → failed e ≢ failed Input → MayEnd MayFail asked file (outcome_of (Err e)) → TakesShown asked file (taken contents old) (taken contents mid) (outcome_of (Err e)) → Leaves old mid (outcome_of (Err e))
+      → Held mid result
+  show_failed e (Ok x) is other ends takes leaves = absurd is
+  show_failed e (Err f) is other ends takes leaves = subst (λ (f : Fault). Held mid (Err f)) (sym is) (unshown e (λ same. other (ap failed same)) ends takes leaves)
+
+  -- a file that is shown, by how the writing of its heading ended
+  pub was_shown : (new : Headed W) (P Q : Type 0) (result : Result (Unit {0}) Fault) → (text : List ℕ) × IsShownText asked file text × Appends (taken contents old) (taken contents mid) text → Keeps (taken contents mid) (taken contents new)
+      → OnOk result ((pending new ≡ []) × P) → IfErr result (λ e. (e ≡ Write) × Q) → Held new result
+  was_shown new P Q (Ok x) took kept done failed = ended new took kept done.0 x
+  was_shown new P Q (Err e) took kept done failed = broke_off new e took kept failed.0
+
+module _ (asked : Asked) (may : Bool) (file path : List ℕ) (are_several : Bool) (old new taken : Option (List ℕ)) (before after : Option (List Refused)) where
+  abbrev pub One : Result Bool Fault → Type 0
+  One result = ShowsOne asked may file are_several path old new taken before after result
+
+  was_refused : (fault : Fault) (result : Result Bool Fault) → fault ≢ Write → MayEnd ((may ≡ true) ⊎ (file ≡ [])) asked file (outcome_of (Err fault)) → new ≡ old
+      → (result ≡ Ok false) × Reports before after ((path, fault) ∷ []) → One result
+  was_refused fault result other ends same (is, told) = subst One (sym is) (refused fault, (other, ends), refl, unwritten old new same, told)
+    where
+      unwritten : (old new : Option (List ℕ)) → new ≡ old → Appends old new []
+      unwritten None new same = tt
+      unwritten (Some a) new same = subst (λ (n : Option (List ℕ)). Appends (Some a) n []) (sym same) (sym (append-nil a))
+
+  -- a file that can't be opened or read
+  pub unopened : (fault : Fault) → IsUnreadable may file fault → new ≡ old → Reports before after ((path, fault) ∷ []) → One (Ok false)
+  unopened fault (inl is) same told =
+      was_refused OutOfMemory (Ok false) (λ e. cc) (inr (inl refl)) same (refl, subst (λ (f : Fault). Reports before after ((path, f) ∷ [])) is told)
+  unopened fault (inr (is, why)) same told =
+      was_refused Unreadable (Ok false) (λ e. cc) (inl (why, refl)) same (refl, subst (λ (f : Fault). Reports before after ((path, f) ∷ [])) is told)
+
+  as_file : (bytes : List ℕ) (MayFail : Type 0) → IsReadOf file bytes → (MayFail → may ≡ true) → (fault : Fault) → MayEnd MayFail asked bytes (outcome_of (Err fault)) → MayEnd ((may ≡ true) ⊎ (file ≡ [])) asked file (outcome_of (Err fault))
+  as_file bytes MayFail read more fault ends = end_of_file MayFail ((may ≡ true) ⊎ (file ≡ [])) (λ m. inl (more m)) asked file bytes (outcome_of (Err fault)) read ends
+
+  -- a file that is read, by how its showing ended
+  pub came_to : (bytes left : List ℕ) (MayFail : Type 0) → IsReadOf file bytes → (MayFail → may ≡ true) → left ≡ heading are_several path
+      → (done : Result (Unit {0}) Fault) (result : Result Bool Fault) → ShowsHeld asked MayFail bytes left old new taken done → ReportsWhy path before after done result → One result
+  came_to bytes left MayFail read more is (Ok x) result (text, due, wrote) (ok, told) =
+      subst One (sym ok) (shown text, text_of_file asked file bytes text read due, refl, subst (λ (h : List ℕ). Appends old new (h ++ text)) is wrote, told)
+  came_to bytes left MayFail read more is (Err Write) result (text, due, wrote) (err, told) =
+      subst One (sym err) (inl (refl, (text, text_of_file asked file bytes text read due, subst (λ (h : List ℕ). AppendsBeginning old taken (h ++ text)) is wrote)), told)
+  came_to bytes left MayFail read more is (Err Input) result (other, ends, same) told = absurd (other refl)
+  came_to bytes left MayFail read more is (Err (Missing count)) result (other, ends, same) told = absurd (never_wrong MayFail (Fits asked.kind) (NeedsMemory (format_of bytes) bytes) (answer_for asked.symbols bytes) ends)
+  came_to bytes left MayFail read more is (Err Unreadable) result (other, ends, same) told = was_refused Unreadable result (λ e. cc) (as_file bytes MayFail read more Unreadable ends) same told
+  came_to bytes left MayFail read more is (Err OutOfMemory) result (other, ends, same) told = was_refused OutOfMemory result (λ e. cc) (as_file bytes MayFail read more OutOfMemory ends) same told
+  came_to bytes left MayFail read more is (Err Unknown) result (other, ends, same) told = was_refused Unknown result (λ e. cc) (as_file bytes MayFail read more Unknown ends) same told
+  came_to bytes left MayFail read more is (Err (Parse p)) result (other, ends, same) told = was_refused (Parse p) result (λ e. cc) (as_file bytes MayFail read more (Parse p) ends) same told
+  came_to bytes left MayFail read more is (Err TooLarge) result (other, ends, same) told = was_refused TooLarge result (λ e. cc) (as_file bytes MayFail read more TooLarge ends) same told
+  came_to bytes left MayFail read more is (Err NoSection) result (other, ends, same) told = was_refused NoSection result (λ e. cc) (as_file bytes MayFail read more NoSection ends) same told
+  came_to bytes left MayFail read more is (Err NoBytes) result (other, ends, same) told = was_refused NoBytes result (λ e. cc) (as_file bytes MayFail read more NoBytes ends) same told
+  came_to bytes left MayFail read more is (Err PastEnd) result (other, ends, same) told = was_refused PastEnd result (λ e. cc) (as_file bytes MayFail read more PastEnd ends) same told

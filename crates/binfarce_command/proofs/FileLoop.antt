@@ -1,0 +1,161 @@
+-- What is shown of several files, file after file.
+use Rattle.std.proofs.Common.{◌≡◌, ◌≢◌, ◌∙◌, ◌⊎◌, inl, inr, ℕ, suc, ◌+◌, ◌<◌, ◌≤◌, Bool, true, false, ◌&&◌, List, [], ◌∷◌, ◌++◌, map, length, take, drop, get_or, Option, Some, None, Result, Ok, Err, refl, sym, ap, subst, add-one, append_assoc, append-nil, drop-cons, take-append-drop, Bor, IsErrAnd, arith}
+use Rattle.std.proofs.Math.ListN.{drop_of_length-le}
+use Rattle.std.proofs.lemmas.List.{map-append, take_more, take_all, get_or-map, length-map}
+use Rattle.std.proofs.lemmas.List.Elements.{All-nil, All-push}
+use Rattle.std.proofs.lemmas.List.Concat.{flat_map-append}
+use Rattle.std.proofs.lemmas.List.Folds.{list_all-append}
+use Rattle.std.specs.Io.KnownBytes.{Appends}
+use Rattle.std.specs.List.{flat_map, list_all}
+use Rattle.binfarce_command.specs.Files.{AreHeld, BreaksOff, Fate, MayComeTo, Refused, Reports, Shows, ShowsAll, ShowsOne, StopsBefore, is_shown, reported, written}
+use Rattle.binfarce_command.specs.declared.fault.Fault.{Fault}
+use Rattle.binfarce_command.specs.declared.show.Asked.{Asked}
+
+-- the paths of texts
+abbrev pub paths_of : List (Bor (List ℕ)) → List (List ℕ)
+paths_of files = map (λ t. t.now) files
+
+pub reports_more : (a b c : Option (List Refused)) (xs ys : List Refused) → Reports a b xs → Reports b c ys → Reports a c (xs ++ ys)
+reports_more None b c xs ys x y = tt
+reports_more (Some a) None c xs ys x y = absurd x
+reports_more (Some a) (Some b) None xs ys x y = absurd y
+reports_more (Some a) (Some b) (Some c) xs ys x y = y ∙ ap (λ (z : List Refused). z ++ ys) x ∙ append_assoc a xs ys
+
+pub appends_more : (a b c : Option (List ℕ)) (xs ys : List ℕ) → Appends a b xs → Appends b c ys → Appends a c (xs ++ ys)
+appends_more None b c xs ys x y = tt
+appends_more (Some a) None c xs ys x y = absurd x
+appends_more (Some a) (Some b) None xs ys x y = absurd y
+appends_more (Some a) (Some b) (Some c) xs ys x y = y ∙ ap (λ (z : List ℕ). z ++ ys) x ∙ append_assoc a xs ys
+
+no_report : (a : Option (List Refused)) → Reports a a []
+no_report None = tt
+no_report (Some a) = sym (append-nil a)
+
+nothing_more : (a : Option (List ℕ)) → Appends a a []
+nothing_more None = tt
+nothing_more (Some a) = sym (append-nil a)
+
+flat_map-push : {X A : Type 0} (f : X → List A) (xs : List X) (x : X) → flat_map f (xs ++ x ∷ []) ≡ flat_map f xs ++ f x
+flat_map-push f xs x = flat_map-append f xs (x ∷ []) ∙ ap (λ z. flat_map f xs ++ z) (append-nil (f x))
+
+module _ (asked : Asked) (may_fail : List ℕ → Bool) (held : List ℕ → List ℕ) (are_several : Bool) where
+  -- no file is shown yet
+  pub none_shown : (old : Option (List ℕ)) (before : Option (List Refused)) → Shows asked may_fail held are_several [] old old before before true
+  none_shown old before = record {
+    files = [];
+    paths_are = refl;
+    each = All-nil (λ (f : List ℕ × Fate). MayComeTo asked (may_fail f.0) (held f.0) f.1);
+    written_are = nothing_more old;
+    reported_are = no_report before;
+    all_is = refl;
+  }
+
+  -- one file more
+  pub one_shown : (paths : List (List ℕ)) (path : List ℕ) (old mid new : Option (List ℕ)) (before between after : Option (List Refused)) (all this : Bool)
+      → Shows asked may_fail held are_several paths old mid before between all
+      → (fate : Fate) → MayComeTo asked (may_fail path) (held path) fate → this ≡ is_shown fate → Appends mid new (written are_several path fate) → Reports between after (reported path fate)
+      → Shows asked may_fail held are_several (paths ++ path ∷ []) old new before after (all && this)
+  one_shown paths path old mid new before between after all this shows fate may this_is wrote told =
+      let f : List ℕ × Fate = (path, fate) in
+      let text : List ℕ × Fate → List ℕ = λ f. written are_several f.0 f.1 in
+      let report : List ℕ × Fate → List Refused = λ f. reported f.0 f.1 in
+      let test : List ℕ × Fate → Bool = λ f. is_shown f.1 in
+      record {
+        files = shows.files ++ f ∷ [];
+        paths_are = map-append (λ (f : List ℕ × Fate). f.0) shows.files (f ∷ []) ∙ ap (λ (xs : List (List ℕ)). xs ++ path ∷ []) shows.paths_are;
+        each = All-push (λ (f : List ℕ × Fate). MayComeTo asked (may_fail f.0) (held f.0) f.1) shows.files f shows.each may;
+        written_are = subst (Appends old new) (sym (flat_map-push text shows.files f)) (appends_more old mid new (flat_map text shows.files) (text f) shows.written_are wrote);
+        reported_are = subst (Reports before after) (sym (flat_map-push report shows.files f)) (reports_more before between after (flat_map report shows.files) (report f) shows.reported_are told);
+        all_is = ap (λ (b : Bool). b && this) shows.all_is ∙ ap (λ (b : Bool). list_all test shows.files && b) (this_is ∙ last (is_shown fate)) ∙ sym (list_all-append test shows.files (f ∷ []));
+      }
+    where
+      last : (b : Bool) → b ≡ (b && true)
+      last true = refl
+      last false = refl
+
+  -- the same, where no more was written or reported
+  pub later : (paths : List (List ℕ)) (old mid new : Option (List ℕ)) (before between after : Option (List Refused)) (all : Bool)
+      → Shows asked may_fail held are_several paths old mid before between all → Appends mid new [] → Reports between after [] → Shows asked may_fail held are_several paths old new before after all
+  later paths old mid new before between after all shows wrote told =
+      let text = flat_map (λ (f : List ℕ × Fate). written are_several f.0 f.1) shows.files in
+      let reports = flat_map (λ (f : List ℕ × Fate). reported f.0 f.1) shows.files in
+      record {
+        files = shows.files;
+        paths_are = shows.paths_are;
+        each = shows.each;
+        written_are = subst (Appends old new) (append-nil text) (appends_more old mid new text [] shows.written_are wrote);
+        reported_are = subst (Reports before after) (append-nil reports) (reports_more before between after reports [] shows.reported_are told);
+        all_is = shows.all_is;
+      }
+
+module _ (files : List (Bor (List ℕ))) (i : ℕ) (d : Bor (List ℕ)) (lt : i < length files) where
+  -- the paths up to this one
+  pub paths_more : paths_of (take (i + 1) files) ≡ paths_of (take i files) ++ (get_or files i d).now ∷ []
+  paths_more = ap paths_of (take_more files i d lt) ∙ map-append (λ (t : Bor (List ℕ)). t.now) (take i files) (get_or files i d ∷ [])
+
+  -- all paths: those before this one, this one, and the others
+  pub paths_split : paths_of files ≡ paths_of (take i files) ++ (get_or files i d).now ∷ paths_of (drop (suc i) files)
+  paths_split =
+      ap paths_of (sym (take-append-drop i files)) ∙ map-append (λ (t : Bor (List ℕ)). t.now) (take i files) (drop i files)
+      ∙ ap (λ (xs : List (Bor (List ℕ))). paths_of (take i files) ++ paths_of xs) (drop-cons files i d lt)
+
+  -- what the file there holds is known
+  pub held_there : (bytes_at : List ℕ → Option (List ℕ)) (held : List ℕ → List ℕ) → AreHeld bytes_at held (paths_of files) → bytes_at (get_or files i d).now ≡ Some (held (get_or files i d).now)
+  held_there bytes_at held are =
+      let here : get_or (paths_of files) i [] ≡ (get_or files i d).now = get_or-map (λ (t : Bor (List ℕ)). t.now) files i d [] lt in
+      subst (λ (path : List ℕ). bytes_at path ≡ Some (held path)) here (are i [] (omega (arith, lt, length-map files (λ (t : Bor (List ℕ)). t.now))))
+
+module _ (asked : Asked) (may_fail : List ℕ → Bool) (held : List ℕ → List ℕ) (are_several : Bool) (files : List (Bor (List ℕ))) (i : ℕ) (d : Bor (List ℕ)) (lt : i < length files)
+    (old mid new taken : Option (List ℕ)) (before between after : Option (List Refused)) (all : Bool)
+    (shows : Shows asked may_fail held are_several (paths_of (take i files)) old mid before between all) where
+  -- a file is done
+  pub goes_on : (this : Bool) → ShowsOne asked (may_fail (get_or files i d).now) (held (get_or files i d).now) are_several (get_or files i d).now mid new taken between after (Ok this)
+      → Shows asked may_fail held are_several (paths_of (take (i + 1) files)) old new before after (all && this)
+  goes_on this one =
+      subst (λ (paths : List (List ℕ)). Shows asked may_fail held are_several paths old new before after (all && this)) (sym (paths_more files i d lt))
+      (one_shown asked may_fail held are_several (paths_of (take i files)) (get_or files i d).now old mid new before between after all this shows one.0 one.1 one.2 one.3 one.4)
+
+  -- a file ends it
+  pub ends : (e : Fault) → ShowsOne asked (may_fail (get_or files i d).now) (held (get_or files i d).now) are_several (get_or files i d).now mid new taken between after (Err e)
+      → ShowsAll asked may_fail held are_several (paths_of files) old new taken before after (Err e)
+  ends e (inl (is, (text, shown, begins)), told) = inl (
+    is,
+    record {
+      first = paths_of (take i files);
+      next = (get_or files i d).now;
+      others = paths_of (drop (suc i) files);
+      paths_are = paths_split files i d lt;
+      between = mid;
+      all = all;
+      shows = later asked may_fail held are_several (paths_of (take i files)) old mid mid before between after all shows (nothing_more mid) told;
+      text = text;
+      is = shown;
+      begins = begins;
+    },
+  )
+  ends e (inr (is, none), told) = inr (
+    is,
+    record {
+      first = paths_of (take i files);
+      others = (get_or files i d).now ∷ paths_of (drop (suc i) files);
+      paths_are = paths_split files i d lt;
+      all = all;
+      shows = later asked may_fail held are_several (paths_of (take i files)) old mid new before between after all shows none told;
+    },
+  )
+
+-- how the showing of all ended, as `?` passes the fault on
+pub passed_on : (asked : Asked) (may_fail : List ℕ → Bool) (held : List ℕ → List ℕ) (are_several : Bool) (paths : List (List ℕ)) (old new taken : Option (List ℕ)) (before after : Option (List Refused)) (e : Fault) (result : Result Bool Fault)
+    → IsErrAnd result (λ f. f ≡ e) → ShowsAll asked may_fail held are_several paths old new taken before after (Err e) → ShowsAll asked may_fail held are_several paths old new taken before after result
+passed_on asked may_fail held are_several paths old new taken before after e (Ok all) is ends = absurd is
+passed_on asked may_fail held are_several paths old new taken before after e (Err f) is ends =
+    subst (λ (f : Fault). ShowsAll asked may_fail held are_several paths old new taken before after (Err f)) (sym is) ends
+
+-- what one file came to, by what is known of its path
+pub one_at : (asked : Asked) (bytes_at bytes_now : List ℕ → Option (List ℕ)) (may_fail may_now : List ℕ → Bool) (held : List ℕ → List ℕ) (are_several : Bool) (path : List ℕ) (mid new taken : Option (List ℕ)) (between after : Option (List Refused)) (result : Result Bool Fault)
+    → bytes_now ≡ bytes_at → may_now ≡ may_fail → bytes_at path ≡ Some (held path)
+    → ((file : List ℕ) → bytes_now path ≡ Some file → ShowsOne asked (may_now path) file are_several path mid new taken between after result)
+    → ShowsOne asked (may_fail path) (held path) are_several path mid new taken between after result
+one_at asked bytes_at bytes_now may_fail may_now held are_several path mid new taken between after result same may_same known shows =
+    subst (λ (m : List ℕ → Bool). ShowsOne asked (m path) (held path) are_several path mid new taken between after result) may_same
+    (shows (held path) (ap (λ (b : List ℕ → Option (List ℕ)). b path) same ∙ known))

@@ -13,6 +13,8 @@ mod input;
 mod report;
 mod section;
 mod show;
+#[cfg(test)]
+mod tests;
 
 use crate::shim::{HostRuntime, Vec};
 use crate::erased::binfarce_command::at::{answer_all, answer_input, read_addresses};
@@ -24,10 +26,10 @@ use crate::erased::binfarce_command::help::{VERSION, help};
 use crate::erased::binfarce_command::input::{Noted, Opened};
 use crate::erased::binfarce_command::report::{ended, refuse, report};
 use crate::erased::binfarce_command::section::write_or_list;
-use crate::erased::binfarce_command::show::Kind;
+use crate::erased::binfarce_command::show::{Asked, Kind, Symbols};
 use crate::erased::binfarce_bytes::source::Source;
 use crate::erased::binfarce_filtering::stream::{StreamError, filter_stream};
-use crate::erased::binfarce_program::arguments;
+use crate::erased::binfarce_program::{Failure, arguments};
 use crate::erased::binfarce_tools::SymbolTable;
 use crate::erased::binfarce_words::words::{Call, Command, Given, Wrong, read_call};
 use crate::shim::alloc::Global;
@@ -41,6 +43,7 @@ pub fn main(rt: HostRuntime) -> ExitCode {
             Ok(call) => run(&rt, &call),
             Err(wrong) => refuse(&rt, &wrong),
         },
+        Err(Failure::OutOfMemory) => refuse(&rt, &Wrong::OutOfMemory),
         Err(_) => refuse(&rt, &Wrong::NotUtf8),
     };
     ExitCode::from(status)
@@ -125,14 +128,16 @@ fn show_all<W: Write>(
     given: &Given<'_>,
     out: &mut Headed<W>,
 ) -> Result<bool, Fault> {
-    let files = given.operands.as_slice();
+    let asked = Asked {
+        kind,
+        symbols: symbols_of(given),
+    };
+    let mut system = rt;
     show_files(
         rt.alloc(),
-        rt,
-        kind,
-        table_of(given),
-        given.section,
-        files,
+        &mut system,
+        &asked,
+        given.operands.as_slice(),
         out,
     )
 }
@@ -175,21 +180,16 @@ fn symbolize<W: Write>(
     out: &mut Headed<W>,
 ) -> Result<bool, Fault> {
     let path = first(given);
-    match open_held(rt.alloc(), rt, path) {
+    let symbols = symbols_of(given);
+    let mut system = rt;
+    match open_held(rt.alloc(), &mut system, path) {
         Some(held) => {
             let done = if addresses.is_empty() {
-                answer_lines(rt, &held, table_of(given), given.base, out)
+                answer_lines(rt, &held, &symbols, given.base, out)
             } else {
-                answer_all(
-                    rt.alloc(),
-                    &held,
-                    table_of(given),
-                    given.base,
-                    addresses,
-                    out,
-                )
+                answer_all(rt.alloc(), &held, &symbols, given.base, addresses, out)
             };
-            reported(rt, path, &held, done)
+            reported(&mut system, path, &held, done)
         }
         None => Ok(false),
     }
@@ -199,12 +199,12 @@ fn symbolize<W: Write>(
 fn answer_lines<S: Source, W: Write>(
     rt: &HostRuntime,
     source: &S,
-    which: SymbolTable,
+    symbols: &Symbols<'_>,
     base: u64,
     out: &mut Headed<W>,
 ) -> Result<(), Fault> {
     let mut input = Noted::new(rt.reader());
-    match answer_input(rt.alloc(), source, which, base, &mut input, out) {
+    match answer_input(rt.alloc(), source, symbols, base, &mut input, out) {
         Ok(0) => Ok(()),
         Ok(missing) => Err(Fault::Missing(missing)),
         Err(Fault::Input) => {
@@ -222,22 +222,27 @@ fn write_section<W: Write>(
     out: &mut Headed<W>,
 ) -> Result<bool, Fault> {
     let path = first(given);
-    match open_held(rt.alloc(), rt, path) {
+    let mut system = rt;
+    match open_held(rt.alloc(), &mut system, path) {
         Some(held) => {
             let name = others(given).first().copied();
             let written = write_or_list(rt.alloc(), &held, name, out).map_err(Fault::from);
-            reported(rt, path, &held, written)
+            reported(&mut system, path, &held, written)
         }
         None => Ok(false),
     }
 }
 
-// The symbol table that is asked for.
-fn table_of(given: &Given<'_>) -> SymbolTable {
-    if given.dynamic {
+// The function symbols that are asked for.
+fn symbols_of<'a>(given: &Given<'a>) -> Symbols<'a> {
+    let which = if given.dynamic {
         SymbolTable::Dynsym
     } else {
         SymbolTable::Symtab
+    };
+    Symbols {
+        which,
+        section: given.section.unwrap_or(".text"),
     }
 }
 
@@ -246,18 +251,18 @@ fn first<'a>(given: &Given<'a>) -> &'a str {
     given.operands.first().copied().unwrap_or("")
 }
 
-impl System<Opened> for HostRuntime {
+impl System<Opened> for &HostRuntime {
     fn open(&self, path: &str) -> io::Result<Opened> {
         if path == "-" {
             return Ok(Opened::Standard(self.stdin()));
         }
-        match File::open(self, path) {
+        match File::open(*self, path) {
             Ok(file) => Ok(Opened::File(file)),
             Err(e) => Err(e),
         }
     }
 
-    fn report(&self, path: &str, fault: Fault, reason: Option<Error>) {
+    fn report(&mut self, path: &str, fault: Fault, reason: Option<Error>) {
         report(self, path, fault, reason);
     }
 }

@@ -30,10 +30,18 @@ pub trait Fault: fmt::Display + From<Failure> {
     fn status(&self) -> u8;
 }
 
-/// The arguments after the program's own name. `Usage` where they can't be taken.
+/// The arguments after the program's own name. `Usage` where one isn't UTF-8, and `OutOfMemory` where an allocation fails.
 pub fn arguments(rt: &HostRuntime) -> Result<Vec<String>, Failure> {
-    let words = env::args(rt).map_err(|_| Failure::Usage)?.skip(1);
-    words.collect_in(rt.alloc()).map_err(|_| Failure::Usage)
+    let words = env::args(rt).map_err(arguments_failure)?.skip(1);
+    words.collect_in(rt.alloc()).map_err(|_| Failure::OutOfMemory)
+}
+
+/// The failure that an error of the arguments is: `OutOfMemory` where an allocation failed, and `Usage` for any other.
+pub fn arguments_failure(e: io::Error) -> Failure {
+    match e.kind() {
+        ErrorKind::OutOfMemory => Failure::OutOfMemory,
+        _ => Failure::Usage,
+    }
 }
 
 /// The file and the section that the arguments after the program's own name give. The section is by default `.text`.

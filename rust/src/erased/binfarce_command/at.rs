@@ -4,19 +4,16 @@
 
 use crate::shim::Vec;
 use crate::erased::binfarce_command::fault::Fault;
+use crate::erased::binfarce_command::show::Symbols;
 use crate::erased::binfarce_addresses::at::{Places, at_tables};
 use crate::erased::binfarce_addresses::parse_address;
 use crate::erased::binfarce_addresses::stream::answer_lines;
 use crate::erased::binfarce_bytes::source::Source;
-use crate::erased::binfarce_tools::SymbolTable;
 use crate::erased::binfarce_tools::list::{ListError, Sink};
 use crate::erased::binfarce_tools::tables::{Tables, read_by};
 use crate::erased::binfarce_words::words::Wrong;
 use crate::shim::alloc::Global;
 use crate::shim::io::Read;
-
-// The section whose function symbols are looked up in an ELF file.
-const SECTION: &str = ".text";
 
 /// The addresses that the words write.
 ///
@@ -37,8 +34,8 @@ pub fn read_addresses<'a>(alloc: Global, words: &[&'a str]) -> Result<Vec<u64>, 
     Ok(addresses)
 }
 
-/// Symbolizes the addresses, once the base is subtracted: of an ELF file by the function symbols of `.text` in this symbol
-/// table. Of the source it reads the headers, that table and the names alone.
+/// Symbolizes the addresses, once the base is subtracted, by these function symbols. Of the source it reads the headers, the symbol
+/// table and the names alone.
 ///
 /// # Errors
 ///
@@ -46,12 +43,12 @@ pub fn read_addresses<'a>(alloc: Global, words: &[&'a str]) -> Result<Vec<u64>, 
 pub fn answer_all<S: Source, K: Sink>(
     alloc: Global,
     source: &S,
-    which: SymbolTable,
+    symbols: &Symbols<'_>,
     base: u64,
     addresses: &[u64],
     out: &mut K,
 ) -> Result<(), Fault> {
-    let tables = read_by(alloc, source, which, SECTION)?;
+    let tables = read_by(alloc, source, symbols.which, symbols.section)?;
     answer_tables(alloc, &tables, base, addresses, out)
 }
 
@@ -75,12 +72,12 @@ fn answer_tables<K: Sink>(
 pub fn answer_input<S: Source, I: Read, K: Sink>(
     alloc: Global,
     source: &S,
-    which: SymbolTable,
+    symbols: &Symbols<'_>,
     base: u64,
     input: &mut I,
     out: &mut K,
 ) -> Result<u64, Fault> {
-    let tables = read_by(alloc, source, which, SECTION)?;
+    let tables = read_by(alloc, source, symbols.which, symbols.section)?;
     answer_in_tables(alloc, &tables, base, input, out)
 }
 

@@ -7,9 +7,8 @@ use crate::erased::binfarce_command::fault::Fault;
 use crate::erased::binfarce_command::headed::Headed;
 use crate::erased::binfarce_command::held::Held;
 use crate::erased::binfarce_command::input::Noted;
-use crate::erased::binfarce_command::show::{Kind, show};
+use crate::erased::binfarce_command::show::{Asked, show};
 use crate::erased::binfarce_bytes::source::Source;
-use crate::erased::binfarce_tools::SymbolTable;
 use crate::shim::alloc::{AllocError, Global};
 use crate::shim::io::{self, Error, Read, Write};
 
@@ -19,37 +18,53 @@ pub trait System<F: Read + Source> {
     fn open(&self, path: &str) -> io::Result<F>;
 
     /// Reports why the file at this path is refused. `reason` is the system's, if a read failed.
-    fn report(&self, path: &str, fault: Fault, reason: Option<Error>);
+    fn report(&mut self, path: &str, fault: Fault, reason: Option<Error>);
 }
 
-/// Shows the function symbols of a section of each file, in order. Of several, each is shown under a line with its name. One that
-/// is refused is reported, and the others follow: then the result is `false`.
+/// Shows each file, in order. Of several, each is shown under a line with its name. One that is refused is reported, and the others
+/// follow: then the result is `false`.
 ///
 /// # Errors
 ///
 /// `Write` where a write fails, and `OutOfMemory` where an allocation for a heading fails.
 pub fn show_files<F: Read + Source, Y: System<F>, W: Write>(
     alloc: Global,
-    system: &Y,
-    kind: Kind,
-    which: SymbolTable,
-    section: &str,
+    system: &mut Y,
+    asked: &Asked<'_>,
     files: &[&str],
     out: &mut Headed<W>,
 ) -> Result<bool, Fault> {
+    let are_several = files.len() > 1;
     let mut are_shown = true;
     for path in files {
-        out.begin(heading(alloc, path, files.len() > 1)?);
-        if !show_file(alloc, system, kind, which, section, path, out)? {
-            are_shown = false;
-        }
+        let is_shown = show_file(alloc, system, asked, path, are_several, out)?;
+        are_shown &= is_shown;
     }
     Ok(are_shown)
 }
 
-// A blank line and the file's name, where several files are shown.
-fn heading(alloc: Global, path: &str, is_one_of_several: bool) -> Result<Vec<u8>, AllocError> {
-    if is_one_of_several {
+// Shows a file, under its heading. `false` where it is refused.
+fn show_file<F: Read + Source, Y: System<F>, W: Write>(
+    alloc: Global,
+    system: &mut Y,
+    asked: &Asked<'_>,
+    path: &str,
+    are_several: bool,
+    out: &mut Headed<W>,
+) -> Result<bool, Fault> {
+    out.begin(heading(alloc, path, are_several)?);
+    match open_held(alloc, system, path) {
+        Some(held) => {
+            let shown = show_held(alloc, asked, &held, out);
+            reported(system, path, &held, shown)
+        }
+        None => Ok(false),
+    }
+}
+
+// What precedes a file's text.
+fn heading(alloc: Global, path: &str, are_several: bool) -> Result<Vec<u8>, AllocError> {
+    if are_several {
         let text = String::formatted(alloc, format_args!("\n{path}:\n"))?;
         Vec::from_slice(alloc, text.as_bytes())
     } else {
@@ -57,29 +72,21 @@ fn heading(alloc: Global, path: &str, is_one_of_several: bool) -> Result<Vec<u8>
     }
 }
 
-// Shows a file. `false` where it is refused.
-fn show_file<F: Read + Source, Y: System<F>, W: Write>(
+// Shows the source after what is left of the heading, which is written also where the text is empty.
+fn show_held<S: Source, W: Write>(
     alloc: Global,
-    system: &Y,
-    kind: Kind,
-    which: SymbolTable,
-    section: &str,
-    path: &str,
+    asked: &Asked<'_>,
+    source: &S,
     out: &mut Headed<W>,
-) -> Result<bool, Fault> {
-    match open_held(alloc, system, path) {
-        Some(held) => {
-            let shown = show(alloc, kind, &held, which, section, out);
-            reported(system, path, &held, shown)
-        }
-        None => Ok(false),
-    }
+) -> Result<(), Fault> {
+    show(alloc, asked, source, out)?;
+    out.end()
 }
 
 /// Opens the file at this path, and loads it. `None` where it can't be opened or read, which is reported.
 pub fn open_held<F: Read + Source, Y: System<F>>(
     alloc: Global,
-    system: &Y,
+    system: &mut Y,
     path: &str,
 ) -> Option<Held<Noted<F>>> {
     match system.open(path) {
@@ -106,7 +113,7 @@ pub fn open_held<F: Read + Source, Y: System<F>>(
 ///
 /// What isn't of the file: `Write` and `Missing`.
 pub fn reported<F: Read + Source, Y: System<F>>(
-    system: &Y,
+    system: &mut Y,
     path: &str,
     held: &Held<Noted<F>>,
     done: Result<(), Fault>,

@@ -3,6 +3,7 @@
 //! What a command writes: a sink that writes a heading before the first byte that follows it.
 
 use crate::shim::Vec;
+use crate::erased::binfarce_command::fault::Fault;
 use crate::erased::binfarce_tools::list::Sink;
 use crate::shim::alloc::Global;
 use crate::shim::io::{self, Error, ErrorKind, Write};
@@ -32,6 +33,18 @@ impl<W: Write> Headed<W> {
     pub fn begin(&mut self, heading: Vec<u8>) {
         self.heading = heading;
         self.done = 0;
+    }
+
+    /// Writes what is left of the heading.
+    ///
+    /// # Errors
+    ///
+    /// `Write` where a write fails.
+    pub fn end(&mut self) -> Result<(), Fault> {
+        match self.write_heading() {
+            Some(()) => Ok(()),
+            None => Err(Fault::Write),
+        }
     }
 
     // Writes what is left of the heading.

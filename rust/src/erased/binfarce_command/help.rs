@@ -29,7 +29,7 @@ was refused, or a read or a write failed; 2 for a wrong call.
 ";
 
 const LIST: &str = "\
-usage: binfarce list [--dynamic] [--section=NAME] FILE..
+usage: binfarce list [--dynamic] [--section=NAME | --all] FILE..
 
 Writes a line for each function symbol: its address, its size in bytes, and its
 readable name; last the size of the section. Several files are each listed under a
@@ -38,11 +38,12 @@ line with the file's name.
   --dynamic        by the dynamic symbol table of an ELF file (.dynsym)
   --section=NAME   the section of an ELF file, by default .text; of Mach-O and PE
                    files the code section is listed
+  --all            the symbols of all sections, each line with its section's name
   --help           this text
 ";
 
 const SIZE: &str = "\
-usage: binfarce size [--dynamic] [--section=NAME] FILE..
+usage: binfarce size [--dynamic] [--section=NAME | --all] FILE..
 
 Writes a line for each crate: the sum of the sizes of its function symbols, and its
 name; last the sum of all, and the size of the section.
@@ -50,17 +51,19 @@ name; last the sum of all, and the size of the section.
   --dynamic        by the dynamic symbol table of an ELF file (.dynsym)
   --section=NAME   the section of an ELF file, by default .text; of Mach-O and PE
                    files the code section is taken
+  --all            the symbols of all sections
   --help           this text
 ";
 
 const MAP: &str = "\
-usage: binfarce map [--dynamic] [--section=NAME] FILE..
+usage: binfarce map [--dynamic] [--section=NAME | --all] FILE..
 
 Draws the sums of `binfarce size` as an SVG picture with a bar for each crate.
 
   --dynamic        by the dynamic symbol table of an ELF file (.dynsym)
   --section=NAME   the section of an ELF file, by default .text; of Mach-O and PE
                    files the code section is taken
+  --all            the symbols of all sections
   --help           this text
 ";
 
@@ -74,12 +77,16 @@ Writes standard input with its mangled Rust names readable, or each NAME on a li
 ";
 
 const AT: &str = "\
-usage: binfarce at [--dynamic] [--base=ADDRESS] FILE [ADDRESS..]
+usage: binfarce at [OPTION..] FILE [ADDRESS..]
 
 Writes a line for each address: the function symbol that holds it, and the offset in
 it. Without an ADDRESS the addresses are the lines of standard input.
 
   --dynamic        by the dynamic symbol table of an ELF file (.dynsym)
+  --section=NAME   the section of an ELF file, by default .text; of Mach-O and PE
+                   files the code section is taken
+  --all            the symbols of all sections; refused of an object file, whose
+                   sections share addresses
   --base=ADDRESS   is subtracted from each address: where the file is loaded
   --help           this text
 ";

@@ -22,9 +22,26 @@ pub enum Kind {
     Picture,
 }
 
-/// Shows the function symbols of a section of the source by this symbol table. Of the source it reads the headers, that table and
-/// the names alone.
-/// The section is that of an ELF file, and of a Mach-O or PE file it is the code.
+/// Which function symbols of a file are taken.
+#[derive(Debug, Clone, Copy)]
+pub struct Symbols<'a> {
+    /// The symbol table that they are read by.
+    pub which: SymbolTable,
+    /// The section of an ELF file; of a Mach-O or PE file they are those of the code.
+    pub section: &'a str,
+}
+
+/// What is shown of a file.
+#[derive(Debug, Clone, Copy)]
+pub struct Asked<'a> {
+    /// How its function symbols are shown.
+    pub kind: Kind,
+    /// Which they are.
+    pub symbols: Symbols<'a>,
+}
+
+/// Shows the function symbols of the source that are asked for. Of the source it reads the headers, the symbol table and the names
+/// alone.
 ///
 /// # Errors
 ///
@@ -32,14 +49,12 @@ pub enum Kind {
 /// `Write` can leave a beginning written.
 pub fn show<S: Source, K: Sink>(
     alloc: Global,
-    kind: Kind,
+    asked: &Asked<'_>,
     source: &S,
-    which: SymbolTable,
-    section: &str,
     out: &mut K,
 ) -> Result<(), Fault> {
-    let tables = read_by(alloc, source, which, section)?;
-    show_tables(alloc, kind, &tables, out)
+    let tables = read_by(alloc, source, asked.symbols.which, asked.symbols.section)?;
+    show_tables(alloc, asked.kind, &tables, out)
 }
 
 // The same, of the tables of the source.

@@ -1,7 +1,6 @@
 // From crates/binfarce_list/src/tests.rt, by tools/erase.
 
-// bench/refuse-memory.sh lets each of the program's allocations fail in turn: it prints the usage, `out of memory` or the
-// whole listing.
+// bench/refuse-memory.sh lets each of the program's allocations fail in turn: it prints `out of memory` or the whole listing.
 
 use crate::shim::{HostRuntime, Vec};
 use crate::erased::binfarce_list::program::{Fault, run, run_at, run_file, status, words};

@@ -1,7 +1,6 @@
 // From crates/binfarce_size/src/tests.rt, by tools/erase.
 
-// bench/refuse-memory.sh lets each of the program's allocations fail in turn: it prints the usage, `out of memory` or the
-// whole report.
+// bench/refuse-memory.sh lets each of the program's allocations fail in turn: it prints `out of memory` or the whole report.
 
 use crate::shim::{HostRuntime, Vec};
 use crate::erased::binfarce_size::program::{Fault, run, run_at, run_file, status, words};

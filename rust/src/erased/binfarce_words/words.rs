@@ -61,6 +61,8 @@ pub enum Flag {
     Base,
     /// Reads the dynamic symbol table of an ELF file.
     Dynamic,
+    /// Takes the function symbols of all sections.
+    All,
 }
 
 impl Named for Flag {
@@ -71,6 +73,7 @@ impl Named for Flag {
             Flag::Full => "--full",
             Flag::Base => "--base",
             Flag::Dynamic => "--dynamic",
+            Flag::All => "--all",
         }
     }
 }
@@ -84,6 +87,7 @@ impl Flag {
             Flag::Full => false,
             Flag::Base => true,
             Flag::Dynamic => false,
+            Flag::All => false,
         }
     }
 }
@@ -93,10 +97,16 @@ impl Command {
     pub fn flags(self) -> &'static [Flag] {
         match self {
             Command::List | Command::Size | Command::Map => {
-                &[Flag::Help, Flag::Section, Flag::Dynamic]
+                &[Flag::Help, Flag::Section, Flag::Dynamic, Flag::All]
             }
             Command::Filter => &[Flag::Help, Flag::Full],
-            Command::At => &[Flag::Help, Flag::Base, Flag::Dynamic],
+            Command::At => &[
+                Flag::Help,
+                Flag::Section,
+                Flag::Base,
+                Flag::Dynamic,
+                Flag::All,
+            ],
             Command::Section => &[Flag::Help],
         }
     }
@@ -113,6 +123,8 @@ pub enum Wrong<'a> {
     UnknownOption(Command, &'a str, Option<Flag>),
     /// The option has no value.
     NoValue(Flag),
+    /// Two options that exclude each other.
+    Exclusive(Flag, Flag),
     /// The word is no address.
     NoAddress(&'a str),
     /// The command has no file.
@@ -153,6 +165,11 @@ impl<'a> fmt::Display for Wrong<'a> {
                 let name = flag.name();
                 write!(f, "{name} has no value")
             }
+            Wrong::Exclusive(one, other) => {
+                let first = one.name();
+                let second = other.name();
+                write!(f, "{first} and {second} exclude each other")
+            }
             Wrong::NoAddress(word) => write!(f, "not an address: {word}"),
             Wrong::NoFile(command) => {
                 let name = command.name();
@@ -170,14 +187,16 @@ impl<'a> fmt::Display for Wrong<'a> {
 pub struct Given<'a> {
     /// Help is asked for.
     pub help: bool,
-    /// The section of an ELF file.
-    pub section: &'a str,
+    /// The section of an ELF file that is named.
+    pub section: Option<&'a str>,
     /// Names keep their hashes.
     pub full: bool,
     /// What is subtracted from each address.
     pub base: u64,
     /// The dynamic symbol table is read.
     pub dynamic: bool,
+    /// The function symbols of all sections are taken.
+    pub all: bool,
     /// The words that are no options.
     pub operands: Vec<&'a str>,
 }
@@ -266,10 +285,18 @@ fn call_with<'a>(command: Command, given: Given<'a>) -> Result<Call<'a>, Wrong<'
     if given.help {
         return Ok(Call::Help(Some(command)));
     }
-    match operand_fault(command, given.operands.as_slice()) {
+    match fault_of(command, &given) {
         Some(wrong) => Err(wrong),
         None => Ok(Call::Run(command, given)),
     }
+}
+
+// What is wrong with what is given: all sections and one of them, or the operands.
+fn fault_of<'a>(command: Command, given: &Given<'a>) -> Option<Wrong<'a>> {
+    if given.all && given.section.is_some() {
+        return Some(Wrong::Exclusive(Flag::All, Flag::Section));
+    }
+    operand_fault(command, given.operands.as_slice())
 }
 
 // What is wrong with a command's operands.
@@ -311,10 +338,11 @@ impl<'a> Reading<'a> {
     fn new(alloc: Global) -> Reading<'a> {
         let given = Given {
             help: false,
-            section: ".text",
+            section: None,
             full: false,
             base: 0,
             dynamic: false,
+            all: false,
             operands: Vec::new(alloc),
         };
         Reading {
@@ -397,13 +425,14 @@ impl<'a> Given<'a> {
     fn set(&mut self, flag: Flag, value: &'a str) -> Result<(), Wrong<'a>> {
         match flag {
             Flag::Help => self.help = true,
-            Flag::Section => self.section = value,
+            Flag::Section => self.section = Some(value),
             Flag::Full => self.full = true,
             Flag::Base => match parse_address(value.as_bytes()) {
                 Some(base) => self.base = base,
                 None => return Err(Wrong::NoAddress(value)),
             },
             Flag::Dynamic => self.dynamic = true,
+            Flag::All => self.all = true,
         }
         Ok(())
     }

@@ -9,6 +9,7 @@ import os
 import re
 
 TOP = os.path.dirname(os.path.dirname(os.path.abspath(__file__)))
+PARTS = ("src", "specs", "proofs")
 ITEM = re.compile(r"(?:pub(?:\([a-z]+\))? )?(?:const )?(?:extern .C. )?(fn|const|static|struct|enum|trait|impl)\b(?:<.*?>)? ?(\w*)")
 
 
@@ -63,6 +64,18 @@ def item_at(crate, file, lines, at):
         if depth == 0 and kind:
             break
     return kind, name, f"{holder}::{name}".removeprefix("::")
+
+
+def functions(crate):
+    """The functions with a body in a crate's sources, as `rt fmt` lays them out, but for tests and traits: each one's path, file and text."""
+    top = f"{TOP}/crates/{crate}"
+    for file in sorted(os.path.relpath(f"{folder}/{name}", top) for folder, _, names in os.walk(f"{top}/src") for name in names):
+        text = "" if file == "src/tests.rt" else read(f"crates/{crate}/{file}")
+        traits = {f"{module_of(file)}::{it}".removeprefix("::") for it in re.findall(r"^(?:pub )?trait (\w+)", text, re.M)}
+        for found in re.finditer(r'(?:^ *#\[.*\n)*^( *)(?:pub(?:\(\w+\))? )?(?:const )?(?:extern "C" )?fn \w', text, re.M):
+            path = item_at(crate, file, text.split("\n"), text.count("\n", 0, found.start()))[2]
+            if path.rpartition("::")[0] not in traits:
+                yield path, file, text[found.start() : re.compile(rf"^{found[1]}\}}$|\{{\}}$", re.M).search(text, found.end()).end()]
 
 
 class Edit:

@@ -1,13 +1,13 @@
 #!/usr/bin/env python3
 """Tries wrong bodies, those of different functions in one check.
 
-    tests/try_wrong_bodies.py [--whole] CRATES LOG     CRATES: the folder of the crates that `rt ci` proves; LOG: what it prints, as it grows; a line `ended` comes last
+    tests/try_wrong_bodies.py [--whole] CRATES LOG     CRATES: the crates that `rt ci` proves; LOG: what it prints, with `ended` as its last line
 
 The edits that are always tried, or with --whole all. What the prover has to show of a function is made of its own body and of
-the contracts of what it calls, and of no other function's body. So the bodies of several functions can be wrong in one check,
-which loads the libraries once: each is refused by goals of its own function, and no other function may have an open goal.
-Only these functions are checked. An edit is tried alone where it has a line `in:`, and once more where the check before didn't
-refuse it.
+the contracts of what it calls, and of no other function's body. So the bodies of several functions can be wrong in one check:
+each is refused by goals of its own function, and no other function may have an open goal. The functions that no edit changes
+have a hole for their proof and no body: the prover then takes their contracts, and searches for the goals of the others alone.
+A hole refuses nothing. An edit that isn't refused over holes is tried once more with all proofs, alone if it has a line `in:`.
 
 A crate's edits are tried as soon as the libraries below it are proved, in time that `rt ci` leaves over. A line for each edit
 has the first goal that refuses it; the last line counts them. The status is 1 if one wasn't refused.
@@ -24,43 +24,74 @@ import time
 from concurrent.futures import FIRST_COMPLETED, ThreadPoolExecutor, wait
 
 sys.dont_write_bytecode = True
-from edits import TOP, changed, edits, item_at, read
+from edits import PARTS, TOP, changed, edits, functions, item_at, read
 
-PARTS = ("src", "specs", "proofs")
-# Words that say nothing of a contract: a text that can't be read, a proof that names what isn't there, or one that rests on a refused one.
-UNREAD = re.compile(r"is not in scope|has no field|has no `|was not admitted|was not checked|is no name|operand is missing|expected the end|cannot continue")
+# Words that say nothing of a contract: a text that can't be read, and a proof that names what isn't there or rests on a refused one.
+UNREAD = re.compile(r"is not in scope|has no field|has no `|was not admitted|was not checked|is no name|operand is missing"
+                    r"|expected the end|cannot continue")
+HOLE = """use Rattle.{crate}.proofs.{module}.Statement.{{statement}}
+
+pub {name}_spec : {{M : Type 1}} → statement M
+{name}_spec = ?
+"""
 printing = threading.Lock()
 
 
-def uses():
-    """The crates that each crate uses, by crates.txt."""
-    return {head.split()[0]: names.split() for head, names in re.findall(r"^([a-z]\w*(?: \w+)*):(.*)$", read("crates.txt"), re.M)}
+def say(text):
+    with printing:
+        print(text, flush=True)
 
 
-def below(crate, known):
+def below(crate, uses):
     """A crate and all crates of the repository below it, lowest first."""
-    return [*dict.fromkeys(at for it in known[crate] if it in known for at in below(it, known)), crate]
+    return [*dict.fromkeys(at for it in uses[crate] if it in uses for at in below(it, uses)), crate]
 
 
-def path_of_answer(folder, goal):
-    """The function that an answer belongs to. The functions of a cycle share a folder, whose name begins with `+`; a goal's name begins with its function's."""
+def function_of(folder, goal):
+    """The function that an answer belongs to. Those of a cycle share a folder `+NAME`; a goal's name begins with its function's."""
     *path, name = folder.split("/")
     return "::".join([*path, goal.split("-", 1)[0] if name.startswith("+") else name])
+
+
+def write(path, text):
+    os.makedirs(os.path.dirname(path), exist_ok=True)
+    with open(path, "w", encoding="utf-8") as file:
+        file.write(text)
+
+
+def with_holes(room, crate, kept):
+    """Gives each function but those kept a hole for its proof, and an empty loop of as many lines for its body, which calls nothing.
+    Those of a cycle share one proof, and keep it."""
+    for path, file, item in functions(crate):
+        if path not in kept and "#[cycle(" not in item:
+            folder = f"{room}/proofs/{path.replace('::', '/')}"
+            for name in ("Invariants.antt", "Answers.antt"):
+                if os.path.exists(f"{folder}/{name}"):
+                    os.remove(f"{folder}/{name}")
+            write(f"{folder}/Proof.antt", HOLE.format(crate=crate, module=path.replace("::", "."), name=path.split("::")[-1]))
+            end = item.split("\n")[-1]
+            # The body begins behind a brace alone in its line or, with no clause, behind the signature.
+            found = re.match(rf"(?:.*\n)*?{end[:-1]}\{{\n|(?:.*\n)*?.* \{{\n", item) if end.strip() == "}" else None
+            without = found[0] + "loop {}" + "\n" * item.count("\n", found.end()) + end if found else item
+            with open(f"{room}/{file}", encoding="utf-8") as source:
+                text = source.read()
+            write(f"{room}/{file}", text.replace(item, without, 1))
 
 
 class Prover:
     """Checks crates over the libraries that `rt ci` has proved. This alone knows how the toolchain is laid out and called."""
 
     def __init__(self, crates):
-        self.crates, self.uses = os.path.abspath(crates), uses()
+        rows = re.findall(r"^([a-z]\w*)( staticlib)?.*?:(.*)$", read("crates.txt"), re.M)
+        self.uses, self.static = {name: used.split() for name, _, used in rows}, [name for name, static, _ in rows if static]
+        self.crates = os.path.abspath(crates)
         self.kit = os.path.dirname(subprocess.run(["rt", "doc"], stdout=subprocess.PIPE, text=True, check=True).stdout.strip())
-        self.static = re.findall(r"^(\w+) staticlib", read("crates.txt"), re.M)
 
     def words(self, crate):
-        at = f"{TOP}/crates/{crate}"
-        words = ["src/main.rt" if os.path.exists(f"{at}/src/main.rt") else "src/lib.rt", "--crate-name", crate]
-        words += ["--logic-built", f"{self.kit}/logic_built", "--antt-project", f"{self.kit}/rattle/logic/antt-project.json"]
-        words += ["--extern", f"std={self.kit}/rlibs/std.rlib", "-L", f"dependency={self.kit}/rlibs", "--jobs", "1"]
+        root = "src/main.rt" if os.path.exists(f"{TOP}/crates/{crate}/src/main.rt") else "src/lib.rt"
+        words = [f"{self.kit}/bin/rattle", "check", root, "--crate-name", crate, "--logic-built", f"{self.kit}/logic_built"]
+        words += ["--antt-project", f"{self.kit}/rattle/logic/antt-project.json", "--jobs", "1"]
+        words += ["--extern", f"std={self.kit}/rlibs/std.rlib", "-L", f"dependency={self.kit}/rlibs"]
         words += ["--crate-type", "staticlib"] * (crate in self.static)
         for it in self.uses[crate]:
             folder = f"{self.crates}/{it}/out/rlib" if it in self.uses else f"{self.kit}/rlibs"
@@ -69,37 +100,39 @@ class Prover:
             words += ["-L", f"dependency={self.crates}/{it}/out/rlib"]
         return words
 
-    def check(self, crate, texts, only):
-        """The status of a check of the crate, or of these functions, with these texts in place of its own, and what it prints."""
+    def check(self, crate, these, over_holes):
+        """The status of a check of the functions that refuse these edits, and what it prints."""
+        words = [*self.words(crate), *(word for it in these for word in ("--only", it.refused_in))]
         with tempfile.TemporaryDirectory(prefix="edit-") as room:
             for part in PARTS:
                 if os.path.isdir(f"{TOP}/crates/{crate}/{part}"):
                     shutil.copytree(f"{TOP}/crates/{crate}/{part}", f"{room}/{part}")
-            for path, text in texts.items():
-                with open(f"{room}/{path}", "w", encoding="utf-8") as file:
-                    file.write(text)
-            words = [f"{self.kit}/bin/rattle", "check", *self.words(crate), *(word for it in only for word in ("--only", it))]
+            for path, text in changed(these).items():
+                write(f"{room}/{path}", text)
+            if over_holes:
+                with_holes(room, crate, {path for it in these for path in (it.own, it.refused_in)})
+                words += ["--allow-holes", "--short-goals"]
             with open(f"{room}/printed", "w+", encoding="utf-8", errors="replace") as printed:
                 running = subprocess.Popen(words, cwd=room, stdin=subprocess.DEVNULL, stdout=printed, stderr=subprocess.STDOUT)
                 _, status, used = os.wait4(running.pid, 0)
                 printed.seek(0)
                 lines = printed.read().rstrip("\n").split("\n")
-        with printing:
-            print(f"{crate}: a check of {len(only)} functions, {used.ru_utime + used.ru_stime:.0f} processor seconds", flush=True)
+        how = "over holes" if over_holes else "with all proofs"
+        say(f"{crate}: a check of {len(these)} edits {how}, {used.ru_utime + used.ru_stime:.0f} processor seconds")
         return os.waitstatus_to_exitcode(status), lines
 
-    def goals(self, crate, texts, only=()):
+    def goals(self, crate, these, over_holes):
         """The first goal that a check finds open in each function, or why there is no verdict."""
-        status, lines = self.check(crate, texts, only)
+        status, lines = self.check(crate, these, over_holes)
         if status < 0:
             # Most likely for memory.
             time.sleep(60)
-            status, lines = self.check(crate, texts, only)
+            status, lines = self.check(crate, these, over_holes)
         if any(re.match(r"(\./)?(src|specs)/\S+:\d+:\d+: error: (?!`)", it) for it in lines):
             return {}, "the edited text can't be read"
-        if status != 1 or not lines[-1].startswith(("logic=not-proved", "only=")):
+        if status != 1 or not lines[-1].startswith("only="):
             return {}, "it is still proved" if status == 0 else f"the prover ended with status {status}: {lines[-1]}"
-        found = {}
+        texts, found = changed(these), {}
         for line in (it for it in lines if not UNREAD.search(re.sub(r"`[^`]*`", "``", it))):
             source = re.match(r"note: (?:\./)?(src/\S+?\.rt):(\d+):\d+: |(?:\./)?(src/\S+?\.rt):(\d+):\d+: error", line)
             answer = re.match(r"(?:note: )?(?:\./)?proofs/(\S+)/[A-Z]\w*\.antt:\d+:\d+: error: `([^`]+)`", line)
@@ -108,40 +141,39 @@ class Prover:
                 text = texts.get(file) or read(f"crates/{crate}/{file}")
                 found.setdefault(item_at(crate, file, text.split("\n"), int(number) - 1)[2], line)
             elif answer:
-                found.setdefault(path_of_answer(*answer.groups()), line)
+                found.setdefault(function_of(*answer.groups()), line)
             elif re.match(r"(note: )?(\./)?(proofs|specs)/\S+:\d+:\d+: error", line):
                 found.setdefault("", line)
-        return found, "" if found else "no goal is false: a proof names what isn't there"
+        return found, "" if found else "no goal is false: a proof names what isn't there, or nothing is changed"
 
-    def try_together(self, crate, these):
+    def try_together(self, crate, these, over_holes=True):
         """What refuses each of these edits, by name; of the others why they aren't refused."""
-        texts = changed(these)
-        found, why = self.goals(crate, texts, [it.refused_in for it in these])
+        found, why = self.goals(crate, these, over_holes)
         refused = {it.name: found[it.refused_in] for it in these if it.refused_in in found}
-        if len(these) == 1:
-            return (refused, {}) if refused else ({}, {these[0].name: why or f"no goal of {these[0].refused_in} is open"})
-        if found.keys() - {it.refused_in for it in these}:
+        if len(these) > 1 and found.keys() - {it.refused_in for it in these}:
             # A function is refused that none of them changes.
             refused = {}
         missing = [it for it in these if it.name not in refused]
+        if missing and len(these) == 1 and not over_holes:
+            return {}, {these[0].name: why or f"no goal of {these[0].refused_in} is open"}
         # Those without an open goal once more: the goals of a function wait for the proofs of what it calls. Where there is none, by halves.
-        parts = [missing] if refused else [missing[: len(these) // 2], missing[len(these) // 2 :]]
-        more = [self.try_together(crate, it) for it in parts if it]
+        parts = [missing] if refused or over_holes else [missing[: len(these) // 2], missing[len(these) // 2 :]]
+        more = [self.try_together(crate, it, False) for it in parts if it]
         return {**refused, **{name: line for it, _ in more for name, line in it.items()}}, {name: line for _, it in more for name, line in it.items()}
 
     def try_and_print(self, crate, these):
         refused, kept = self.try_together(crate, these)
-        with printing:
-            for it in these:
-                print(f"{it.label()}: refused: {refused[it.name][:200]}" if it.name in refused else f"{it.label()}: NOT REFUSED: {kept[it.name][:200]}", flush=True)
+        for it in these:
+            verdict = f"refused: {refused[it.name][:200]}" if it.name in refused else f"NOT REFUSED: {kept[it.name][:200]}"
+            say(f"must-fail {crate}/{it.name}.edit: {verdict}")
         return len(refused), len(kept)
 
 
 def in_sets(these):
     """Those edits of one crate together that change different functions, and can be made at once."""
-    alone, sets = [[it] for it in these if it.is_alone()], []
-    for edit in (it for it in these if not it.is_alone()):
-        for fitting in (it for it in sets if edit.own not in {at.own for at in it}):
+    sets = []
+    for edit in sorted(these, key=lambda it: it.is_alone()):
+        for fitting in (it for it in sets if not edit.is_alone() and edit.own not in {at.own for at in it}):
             try:
                 changed([*fitting, edit])
                 fitting.append(edit)
@@ -150,7 +182,7 @@ def in_sets(these):
                 pass
         else:
             sets.append([edit])
-    return sets + alone
+    return sets
 
 
 def has_room():
@@ -177,7 +209,7 @@ def try_all(these, crates, log):
                 left.remove(it)
                 running.add(pool.submit(prover.try_and_print, *it))
             if ended and left and not running:
-                print(f"wrong bodies: not tried, since what is below them isn't proved: those of {' '.join(sorted({it for it, _ in left}))}")
+                print(f"wrong bodies: not tried, since what is below them isn't proved: {' '.join(sorted({it for it, _ in left}))}")
                 return 1
             done, running = wait(running, timeout=2, return_when=FIRST_COMPLETED) if running else (time.sleep(2), running)
             counts += [it.result() for it in done or ()]
@@ -186,10 +218,6 @@ def try_all(these, crates, log):
     return 1 if kept else 0
 
 
-def main(words):
-    every, (crates, log) = words[0] == "--whole", words[-2:]
-    return try_all([it for it in edits() if every or it.always], crates, log)
-
-
 if __name__ == "__main__":
-    sys.exit(main(sys.argv[1:]))
+    whole, (at, printed) = sys.argv[1] == "--whole", sys.argv[-2:]
+    sys.exit(try_all([it for it in edits() if whole or it.always], at, printed))

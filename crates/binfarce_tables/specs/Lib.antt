@@ -1,4 +1,5 @@
 pub mod BeginningReading
+pub mod ElfAllReading
 pub mod Errors
 pub mod PeReading
 pub mod Reading

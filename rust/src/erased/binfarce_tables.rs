@@ -6,6 +6,7 @@ mod beginning;
 pub mod elf;
 pub mod elf32;
 pub mod elf64;
+mod elf_all;
 mod error;
 pub mod macho;
 mod macho_all;

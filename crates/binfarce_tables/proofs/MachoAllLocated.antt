@@ -1,16 +1,20 @@
 -- Where the symbols of all sections of a Mach-O file are, by what was read of it.
 use Rattle.std.proofs.Common.{◌≡◌, ◌⊎◌, ◌≢◌, ℕ, ◌+◌, ◌*◌, ◌≤◌, Bool, true, false, nat_eq, List, [], ◌∷◌, length, map, All, Option, None, Some, Result, Ok, Err, inl, inr, refl, sym, ap, ap₂, subst, ◌∙◌}
+use Rattle.std.specs.Global.{Vec}
 use Rattle.std.proofs.lemmas.Bool.{le-ltb}
 use Rattle.std.proofs.lemmas.List.Elements.{All-head, All-tail}
 use Rattle.binfarce_bytes.specs.declared.error.ParseError.{ParseError}
 use Rattle.binfarce_bytes.specs.Refusal.{◌>>=◌, Refusal, refusal_of, out_of_memory}
+use Rattle.binfarce_bytes.specs.declared.functions.SectionFunction.{SectionFunction}
+use Rattle.binfarce_bytes.specs.SectionEntries.{AnswersAll}
+use Rattle.binfarce_bytes.specs.SymbolViews.{HoldsSectionFunctions}
 use Rattle.binfarce_macho.specs.Macho.{header_of}
-use Rattle.binfarce_macho.specs.MachoAll.{Symbols, section_starts, end_at, name_at, symbols_by, symbols_of}
+use Rattle.binfarce_macho.specs.MachoAll.{Symbols, section_starts, end_at, name_at, symbols_by, symbols_of, all_of}
 use Rattle.binfarce_macho.specs.MachoParts.{named_table, table_of}
 use Rattle.binfarce_macho.specs.MachoSymbols.{SymbolTable, slice_at, symbol_command, symbol_length}
 use Rattle.binfarce_tables.specs.declared.error.ReadError.{ReadError}
 use Rattle.binfarce_tables.specs.declared.error.ReadError.TheVariants.{Refused, Unreadable, OutOfMemory}
-use Rattle.binfarce_tables.specs.MachoAllReading.{AllLocated, all_located, all_located_answer}
+use Rattle.binfarce_tables.specs.MachoAllReading.{AllLocated, all_located, all_located_answer, all_entries}
 use Rattle.binfarce_tables.specs.Reading.{Reads}
 use Rattle.binfarce_tables.specs.machine.MachoPlaces.{CommandParts, all_commands, command_bytes}
 use Rattle.binfarce_tables.proofs.MachoPrefix.{assoc, same_sections}
@@ -98,3 +102,13 @@ pub as_told : {X Y : Type 0} (view : X → Y) (answer : Result Y Refusal) (p : P
     → (refusal_of p ≢ out_of_memory → answer ≡ Err (refusal_of p)) → Reads false view answer (Err e)
 as_told view answer p e (inl memory) refused = subst (λ (error : ReadError). Reads false view answer (Err error)) (sym memory.1) tt
 as_told view answer p e (inr other) refused = subst (λ (error : ReadError). Reads false view answer (Err error)) (sym other.1) (refused other.0)
+
+-- another refusal
+pub not_memory : {A : Type 0} {answer : Result A Refusal} {why memory : Refusal} {N : Type 0} → (answer ≡ Err why) ⊎ ((why ≡ memory) × N) → (why ≢ memory) → answer ≡ Err why
+not_memory (inl refused) other = refused
+not_memory (inr out) other = absurd (other out.0)
+
+-- without a symbol table nothing is listed
+pub nothing_listed : (N : Type 0) (found : AllLocated) (functions : Vec SectionFunction) → found.symbols ≡ None → functions.items ≡ [] → AnswersAll HoldsSectionFunctions N (all_entries found) (Ok functions)
+unfolding all_of
+nothing_listed N found functions none empty = rw (none, empty) refl

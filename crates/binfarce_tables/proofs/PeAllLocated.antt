@@ -1,5 +1,5 @@
 -- The entries of all sections of a PE file, by what was read of it.
-use Rattle.std.proofs.Common.{◌≡◌, ℕ, zero, suc, ◌+◌, ◌*◌, ◌-◌, ◌/◌, ◌<◌, ◌≤◌, Bool, true, false, cond, ltb, leb, ◌&&◌, List, ◌++◌, length, min, Option, Some, None, Result, Ok, Err, inl, inr, refl, sym, ap, ap₂, ◌∙◌, arith}
+use Rattle.std.proofs.Common.{◌≡◌, ℕ, zero, suc, ◌+◌, ◌*◌, ◌-◌, ◌/◌, ◌<◌, ◌≤◌, Bool, true, false, cond, ltb, leb, ◌&&◌, List, ◌++◌, length, min, Vec, Global, Option, Some, None, Result, Ok, Err, inl, inr, refl, sym, ap, ap₂, ◌∙◌, arith}
 use Rattle.std.proofs.Math.Path.{fun_ext}
 use Rattle.std.proofs.lemmas.Bool.{cases_lt, cases_eq, eq-eqb, ne_eqb, lt-ltb, le-ltb, lt-leb, le-leb, ltb-true, leb-true}
 use Rattle.std.proofs.lemmas.Nat.{le-div, div_below}
@@ -7,16 +7,21 @@ use Rattle.std.specs.List.{range_with_len, flat_map}
 use Rattle.std.specs.Option.{option_map}
 use Rattle.binfarce_bytes.specs.declared.ByteOrder.TheVariants.{LittleEndian}
 use Rattle.binfarce_bytes.specs.Field.{value_at}
+use Rattle.binfarce_bytes.specs.Number.{bytes_at}
 use Rattle.binfarce_bytes.specs.Refusal.{◌>>=◌, Refusal, unexpected_eof}
 use Rattle.binfarce_bytes.specs.SectionEntries.{SectionEntry, AllSymbols, in_section, unless}
 use Rattle.binfarce_pe.specs.Pe.{Section, header_of, least_length, section_fields}
 use Rattle.binfarce_pe.specs.PeAll.{size_in, section_entries, all_entries, name_of, whole_sections, all_answer}
-use Rattle.binfarce_pe.specs.PeParts.{TablePlaces, SectionTable, places_of, section_table, section_in, whole_in, table_walk}
+use Rattle.binfarce_pe.specs.PeParts.{TablePlaces, SectionTable, headers_alone, places_of, section_table, section_in, whole_in, table_walk}
 use Rattle.binfarce_pe.specs.PeSymbols.{SymbolTable, symbol_table, entries_of}
 use Rattle.binfarce_tables.specs.PeAllReading.{AllTables, all_view, all_file_answer}
 use Rattle.binfarce_tables.specs.machine.PePlaces.{places_step, headers_at, alone_at, whole_at, table_at}
+use Rattle.binfarce_tables.specs.declared.error.ReadError.{ReadError}
+use Rattle.binfarce_tables.specs.declared.error.ReadError.TheVariants.{Refused, Unreadable, OutOfMemory}
+use Rattle.binfarce_tables.specs.Reading.{Reads}
 use Rattle.binfarce_tables.proofs.HeadersAlone.{value_in}
 use Rattle.binfarce_tables.proofs.PeAlone.{same_header}
+use Rattle.binfarce_tables.proofs.Readings.{taken}
 
 -- functions that agree on so many numbers
 flat_map_same : {X : Type 0} (f g : ℕ → List X) (a n : ℕ) → ((i : ℕ) → i < a + n → f i ≡ g i) → flat_map f (range_with_len a n) ≡ flat_map g (range_with_len a n)
@@ -145,13 +150,21 @@ pub all_read : (file : List ℕ) (places : TablePlaces) (sections : SectionTable
 all_read file places sections symbols is whole table =
     from_sections file places sections is whole ∙ ap (λ (r : Result SymbolTable Refusal). r >>= λ symbols. Ok (all_view (record { sections = sections; symbols = symbols }))) table
 
-same_places : {a b : TablePlaces} → Path (Result TablePlaces Refusal) (Ok a) (Ok b) → b ≡ a
-same_places e = cc
-
 -- the count that the file header states
 pub count_is : (file : List ℕ) (places : TablePlaces) → places_step file ≡ Ok places → places.section_count ≡ (header_of file).number_of_sections
 count_is file places is = by_test (ltb (length file) (least_length file)) is
   where
     by_test : (short : Bool) → cond short (Err unexpected_eof) (Ok (places_of file)) ≡ Ok places → places.section_count ≡ (header_of file).number_of_sections
     by_test true e = absurd cc
-    by_test false e = ap (λ (p : TablePlaces). p.section_count) (same_places e)
+    by_test false e = ap (λ (p : TablePlaces). p.section_count) (taken e)
+
+-- the section headers that were read
+pub headers_read : (fails : Bool) (file : List ℕ) (places : TablePlaces) (size : ℕ) (r : Result (Vec ℕ Global) ReadError) → size ≡ min (places.section_count * 40) (length file - places.sections) → whole_at file places ≡ Ok (alone_at file places)
+    → Reads fails (λ v. v.items) (Ok (bytes_at file places.sections size)) r → Reads fails (λ v. headers_alone v.items places.section_count) (whole_at file places) r
+headers_read fails file places size r is whole reads = rw whole (by_result r (rw is at reads))
+  where
+    by_result : (r : Result (Vec ℕ Global) ReadError) → Reads fails (λ v. v.items) (Ok (alone_at file places).bytes) r → Reads fails (λ v. headers_alone v.items places.section_count) (Ok (alone_at file places)) r
+    by_result (Ok v) read = ap (λ (bytes : List ℕ). Ok (headers_alone bytes places.section_count)) (sym (taken read))
+    by_result (Err (Refused p)) read = absurd cc
+    by_result (Err Unreadable) read = read
+    by_result (Err OutOfMemory) read = read

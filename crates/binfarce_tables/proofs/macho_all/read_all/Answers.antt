@@ -1,4 +1,4 @@
-use Rattle.std.proofs.Common.{◌≡◌, ◌≤◌, ◌∙◌, arith, length, Err}
+use Rattle.std.proofs.Common.{◌≡◌, ◌≤◌, ◌∙◌, arith, length, refl, Err}
 use Rattle.std.specs.Option.{option_map}
 use Rattle.binfarce_macho.specs.MachoAll.{symbols_by}
 use Rattle.binfarce_tables.specs.MachoAllReading.{all_view, all_located_answer, symbols_view}

@@ -1,4 +1,4 @@
-use Rattle.std.proofs.Common.{Err}
+use Rattle.std.proofs.Common.{ℕ, Vec, Global, Err}
 use Rattle.binfarce_pe.specs.PeParts.{places_view, headers_alone}
 use Rattle.binfarce_tables.specs.PeAllReading.{all_view, all_file_answer}
 use Rattle.binfarce_tables.specs.Reading.{Known}
@@ -15,7 +15,7 @@ returns-in_err-headers-clause-parts g c = λ file known.
     let e = c.in_err-headers.field-0.0 in
     passed fails all_view _ e c.from_residual-in_err-headers.result c.from_residual-in_err-headers.ensures
     (instead fails all_view (all_file_answer file) (after_places file places) (Err e) (from_places file places (c.in_ok-places.ensures file told))
-    (after_err fails _ all_view (whole_at file places) (after_sections file places) e (c.in_err-headers.ensures.headers file told)))
+    (after_err fails (λ (v : Vec ℕ Global). headers_alone v.items places.section_count) all_view (whole_at file places) (after_sections file places) e (c.in_err-headers.ensures.headers file told)))
 
 pub returns-in_err-records-clause-parts : goal.returns-in_err-records-clause-parts
 returns-in_err-records-clause-parts g c = λ file known.

@@ -1,5 +1,4 @@
 mod all;
-mod all_elf;
 mod changed;
 mod faults;
 mod files;

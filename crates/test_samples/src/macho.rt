@@ -5,7 +5,7 @@
 use crate::Patch;
 
 /// Offsets of the header's fields (loader.h, `mach_header_64`), and of the segment's count of sections.
-pub const CPUTYPE: usize = 4;
+pub const FILETYPE: usize = 12;
 
 pub const NCMDS: usize = 16;
 

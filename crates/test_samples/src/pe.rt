@@ -8,8 +8,6 @@ use crate::Patch;
 pub const SIGNATURE: usize = 60;
 
 /// Offsets of the file header's fields (PE format, "COFF File Header").
-pub const MACHINE: usize = 68;
-
 pub const SECTIONS: usize = 70;
 
 pub const SYMBOL_TABLE: usize = 76;

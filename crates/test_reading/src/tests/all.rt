@@ -1,116 +1,102 @@
-//! All sections of Mach-O and PE files by both fronts: every prefix, other bytes everywhere, sources that fail, and names.
+//! All sections: every prefix, other bytes everywhere, sources that fail, and names.
 
 use super::changed::BYTES;
 use super::faults::{ERRORS, Failing};
+use super::samples;
 use crate::all;
 use crate::fronts::Given;
-use crate::macho::SAID;
+use binfarce_bytes::source::Source;
+use binfarce_reading::ReadError;
+use binfarce_tools::SymbolTable;
+use binfarce_tools::all::{AllTables, read_all};
 use std::alloc::{AllocError, Global};
 use std::io::ErrorKind;
 use std::test::Fail;
-use test_samples::macho::MACHO;
-use test_samples::pe::PE;
+use test_samples::files::File;
+use test_samples::macho::{MACHO, SECTNAME};
+use test_samples::pe::{NAME, PE};
 use test_samples::{first_bytes, patched};
 
-#[derive(Debug, Clone, Copy)]
-enum Format {
-    Macho,
-    Pe,
-}
-
-fn given(alloc: Global, format: Format, file: &[u8]) -> Given {
-    match format {
-        Format::Macho => all::macho(alloc, file, &file),
-        Format::Pe => all::pe(alloc, file, &file),
+// Of an ELF file the parts alone are read, as they are for one section.
+fn given<S: Source>(alloc: Global, kind: File, file: &[u8], source: &S) -> Given {
+    match kind {
+        File::Macho => all::macho(alloc, file, source),
+        File::Pe => all::pe(alloc, file, source),
+        File::Elf(_) => match read_all(alloc, source, SymbolTable::Symtab) {
+            Ok(AllTables::Elf32(_) | AllTables::Elf64(_)) => Given::Same,
+            Err(ReadError::Unreadable) => Given::Unreadable,
+            Err(ReadError::OutOfMemory) => Given::OutOfMemory,
+            _ => Given::Other,
+        },
     }
 }
-
-fn failing(alloc: Global, format: Format, file: &[u8], source: &Failing<'_>) -> Given {
-    match format {
-        Format::Macho => all::macho(alloc, file, source),
-        Format::Pe => all::pe(alloc, file, source),
-    }
-}
-
-// The bytes of a sample; of Mach-O with the size of its load commands.
-fn sample(alloc: Global, format: Format) -> Result<Vec<u8>, AllocError> {
-    match format {
-        Format::Macho => patched(alloc, &MACHO, &[SAID]),
-        Format::Pe => patched(alloc, &PE, &[]),
-    }
-}
-
-const FORMATS: [Format; 2] = [Format::Macho, Format::Pe];
 
 // The first number of bytes of which a part gives another answer.
-fn other_prefix(alloc: Global, format: Format) -> Result<Option<usize>, AllocError> {
-    let file = sample(alloc, format)?;
+fn other_prefix(alloc: Global, kind: File, file: &[u8]) -> Option<usize> {
     for count in 0..file.len().saturating_add(1) {
-        if given(alloc, format, first_bytes(&file, count)) != Given::Same {
-            return Ok(Some(count));
+        let part = first_bytes(file, count);
+        if given(alloc, kind, part, &part) != Given::Same {
+            return Some(count);
         }
     }
-    Ok(None)
-}
-
-#[test]
-fn prefixes(rt: HostRuntime) -> Result<(), Fail> {
-    for format in FORMATS {
-        let other = other_prefix(rt.alloc(), format)?;
-        assert!(rt; other.is_none(), "{format:?}: {other:?}");
-    }
-    Ok(())
+    None
 }
 
 // The first offset at which these bytes give another answer.
-fn other_offset(alloc: Global, format: Format, bytes: &[u8]) -> Result<Option<usize>, AllocError> {
-    let file = sample(alloc, format)?;
+fn other_offset(
+    alloc: Global,
+    kind: File,
+    file: &[u8],
+    bytes: &[u8],
+) -> Result<Option<usize>, AllocError> {
     for offset in 0..file.len() {
-        let changed = patched(alloc, &file, &[(offset, bytes)])?;
-        if given(alloc, format, &changed) != Given::Same {
+        let changed = patched(alloc, file, &[(offset, bytes)])?;
+        let whole = changed.as_slice();
+        if given(alloc, kind, whole, &whole) != Given::Same {
             return Ok(Some(offset));
         }
     }
     Ok(None)
 }
 
+// The Mach-O sample whose header says how long its load commands are, and the PE sample with strings, follow the others.
 #[test]
-fn other_bytes_everywhere(rt: HostRuntime) -> Result<(), Fail> {
-    for format in FORMATS {
+fn prefixes_and_other_bytes(rt: HostRuntime) -> Result<(), Fail> {
+    for sample in samples(rt.alloc())?.iter().skip(5) {
+        let other = other_prefix(rt.alloc(), sample.kind, &sample.bytes);
+        assert!(rt; other.is_none(), "{:?}: {other:?}", sample.kind);
         for bytes in BYTES {
-            let other = other_offset(rt.alloc(), format, bytes)?;
-            assert!(rt; other.is_none(), "{format:?}, {bytes:?}: {other:?}");
+            let other = other_offset(rt.alloc(), sample.kind, &sample.bytes, bytes)?;
+            assert!(rt; other.is_none(), "{:?}, {bytes:?}: {other:?}", sample.kind);
         }
     }
     Ok(())
 }
 
-// Of a Mach-O file the length, the header, the commands, the strings, the symbols; of a PE file the length, the signature's
-// offset, the file header, the section headers, the symbols, the strings.
-fn calls(format: Format) -> usize {
-    match format {
-        Format::Macho => 5,
-        Format::Pe => 6,
-    }
-}
-
-#[test]
-fn each_call_fails_in_turn(rt: HostRuntime) -> Result<(), Fail> {
-    for format in FORMATS {
-        let file = sample(rt.alloc(), format)?;
-        for (error, wanted) in ERRORS {
-            for call in 0..calls(format) {
-                let source = Failing::new(&file, call, error);
-                let got = failing(rt.alloc(), format, &file, &source);
-                assert!(rt;
-                    got == wanted,
-                    "{format:?}, {error:?}, call {call}: {got:?}"
-                );
+// Whether each of so many calls fails in turn, and no more are made; and how many bytes are read.
+fn read_of(alloc: Global, kind: File, file: &[u8], calls: usize) -> Option<usize> {
+    for (error, wanted) in ERRORS {
+        for call in 0..calls {
+            if given(alloc, kind, file, &Failing::new(file, call, error)) != wanted {
+                return None;
             }
         }
-        let source = Failing::new(&file, calls(format), ErrorKind::Other);
-        assert_eq!(rt; failing(rt.alloc(), format, &file, &source), Given::Same);
-        assert_eq!(rt; source.left.get(), 0);
+    }
+    let source = Failing::new(file, calls, ErrorKind::Other);
+    let is_read = given(alloc, kind, file, &source) == Given::Same && source.left.get() == 0;
+    is_read.then_some(source.given.get())
+}
+
+// In an ELF file the length and the magic number come before what is read of one section.
+#[test]
+fn each_call_fails_in_turn(rt: HostRuntime) -> Result<(), Fail> {
+    for sample in &samples(rt.alloc())? {
+        let (calls, read) = match sample.kind {
+            File::Elf(_) => (sample.calls + 2, sample.read + 8),
+            _ => (sample.calls, sample.read),
+        };
+        let got = read_of(rt.alloc(), sample.kind, &sample.bytes, calls);
+        assert!(rt; got == Some(read), "{:?}: {got:?}", sample.kind);
     }
     Ok(())
 }
@@ -144,10 +130,10 @@ fn is_pe_of(alloc: Global, file: &[u8], name: Option<&str>) -> bool {
 #[test]
 fn names_of_sections(rt: HostRuntime) -> Result<(), Fail> {
     assert!(rt; is_macho_of(rt.alloc(), &MACHO, Some("__TEXT,__text"), false));
-    let object = patched(rt.alloc(), &MACHO, &[(12, &[1]), (104, &[0xFF])])?;
+    let object = patched(rt.alloc(), &MACHO, &[(12, &[1]), (SECTNAME, &[0xFF])])?;
     assert!(rt; is_macho_of(rt.alloc(), &object, None, true));
     assert!(rt; is_pe_of(rt.alloc(), &PE, Some(".text")));
-    let unnamed = patched(rt.alloc(), &PE, &[(88, &[0xFF])])?;
+    let unnamed = patched(rt.alloc(), &PE, &[(NAME, &[0xFF])])?;
     assert!(rt; is_pe_of(rt.alloc(), &unnamed, None));
     Ok(())
 }

@@ -173,7 +173,7 @@ fn is_written(alloc: Global, call: All, text: &str) -> Row {
         Err(ReadError::OutOfMemory) => return Err(AllocError),
         Err(_) => return Ok(false),
     };
-    let mut out = Out::new(Expected::new(text));
+    let mut out = Out::new(Expected::new(text.as_bytes()));
     let result = match call {
         All::List => list_all(alloc, &tables, &mut out).map_err(ReportError::from),
         All::Report => report_all(alloc, &tables, &mut out),

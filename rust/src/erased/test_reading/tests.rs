@@ -1,7 +1,6 @@
 // From crates/test_reading/src/tests.rt, by tools/erase.
 
 mod all;
-mod all_elf;
 mod changed;
 mod faults;
 mod files;

@@ -1,4 +1,4 @@
-//! What stands at addresses: all lines, or `OutOfMemory` and nothing or a beginning of them written.
+//! Symbolized addresses: all lines, or `OutOfMemory` and nothing or a beginning of them written.
 
 use crate::expected::Expected;
 use binfarce_addresses::at::{Places, at};

@@ -3,7 +3,7 @@
 use std::fmt;
 use std::io::{self, Write};
 
-/// Compares what is written with a text, and keeps nothing.
+/// Compares the written bytes with a text, and keeps nothing.
 #[derive(Drop)]
 pub(crate) struct Expected<'a> {
     // What of the text wasn't written yet.

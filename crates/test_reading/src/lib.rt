@@ -1,4 +1,4 @@
-//! Tests of sections and of files read at offsets, and what `test_memory` too asks of them while one allocation fails.
+//! Tests of sections and of files read at offsets, some of which `test_memory` also runs while one allocation fails.
 #![tactic(auto)]
 
 mod expected;

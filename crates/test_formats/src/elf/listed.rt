@@ -7,7 +7,7 @@ use std::test::Fail;
 use test_samples::elf::Layout;
 use test_samples::{Patch, first_bytes, patched};
 
-// What one section tells: type, address, offset, size, name, and how many bytes it has, or the words of a refusal.
+// The fields of one section: type, address, offset, size, name, and how many bytes it has, or the words of a refusal.
 fn push_32(
     alloc: Global,
     lines: &mut String,

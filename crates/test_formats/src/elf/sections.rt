@@ -9,7 +9,7 @@ use test_samples::Patch;
 use test_samples::elf::Layout;
 use test_samples::question::{Question, wrong_despite, wrong_with};
 
-// Which section is asked for: of this name, the first, the first that begins at this offset, or past the last.
+// The requested section: of this name, the first, the first that begins at this offset, or past the last.
 #[derive(Clone, Copy, Debug)]
 pub(crate) enum Ask {
     Named(&'static str),
@@ -18,7 +18,7 @@ pub(crate) enum Ask {
     PastTheLast,
 }
 
-// What a section of either class tells.
+// The fields of a section of either class.
 #[derive(Drop)]
 struct Found<'a> {
     name: Option<&'a str>,
@@ -93,7 +93,7 @@ impl Question for Sections {
     }
 }
 
-// Which section is asked for, and what is found: the name, the range, and the number of entries.
+// The requested section, and the answer: the name, the range, and the number of entries.
 const INTACT: [(Layout, Ask, &str); 24] = [
     (
         Layout::Elf32Little,
@@ -190,7 +190,7 @@ type Row = (
     &'static str,
 );
 
-// What is changed, which section is asked for, and what is found.
+// The patches, the requested section, and the answer.
 const CHANGED: [Row; 32] = [
     (
         "65,535 sections",
@@ -440,7 +440,7 @@ fn changed_files(rt: HostRuntime) -> Result<(), Fail> {
     Ok(())
 }
 
-// What is changed and must not matter; the same patches are asked of in `CHANGED`.
+// Patches that must not matter; `CHANGED` has rows with the same patches.
 const UNCHANGED: [Row; 8] = [
     (
         "65,535 sections",

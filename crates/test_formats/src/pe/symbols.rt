@@ -56,7 +56,7 @@ fn refused_files(rt: HostRuntime) -> Result<(), Fail> {
     Ok(())
 }
 
-// What is changed, and what is listed.
+// The patches, and the listing.
 const CHANGED: [(&str, &[Patch<'static>], &str); 9] = [
     (
         "one auxiliary record after the first row",

@@ -1,4 +1,4 @@
-//! Sources that fail at a call, that end early, and that count what is read of them.
+//! Sources that fail at a call, that end early, and that count the bytes that are read.
 
 use crate::fronts::{Given, LAYOUTS, compared};
 use binfarce_bytes::source::Source;
@@ -119,7 +119,7 @@ impl<'a> Source for Shrunk<'a> {
     }
 }
 
-// The first number of bytes left of a file that is answered, since its length was told, though a part is cut off.
+// The least length of a file with an answer although it was cut off: the source had stated its whole length.
 fn answered(alloc: Global, layout: Layout) -> Option<usize> {
     let file = layout.bytes();
     for count in 0..file.len() {

@@ -1,6 +1,6 @@
 // From crates/test_reading/src/lib.rt, by tools/erase.
 
-//! Tests of sections and of files read at offsets, and what `test_memory` too asks of them while one allocation fails.
+//! Tests of sections and of files read at offsets, some of which `test_memory` also runs while one allocation fails.
 
 mod expected;
 pub mod fronts;

@@ -79,7 +79,7 @@ fn functions() -> Result<(), Fail> {
     Ok(())
 }
 
-// The names of what addresses are shown by, and a point for each that is shown by none.
+// The names of the symbols that addresses symbolize to, and a point for each without a symbol.
 fn shown(alloc: Global, file: &[u8], addresses: &[u64]) -> Result<String, Fail> {
     let (functions, _size) = parse(file)?.functions(alloc)?;
     let mut names = String::new(alloc);
@@ -92,7 +92,7 @@ fn shown(alloc: Global, file: &[u8], addresses: &[u64]) -> Result<String, Fail> 
     Ok(names)
 }
 
-// Two symbols stand at 0x1000.
+// Two symbols are at 0x1000.
 #[test]
 fn symbols_at_addresses() -> Result<(), Fail> {
     let rt = HostRuntime::new();

@@ -75,7 +75,7 @@ fn functions() -> Result<(), Fail> {
     Ok(())
 }
 
-// The names of what offsets in the section are shown by, and a point for each that is shown by none.
+// The names of the symbols that offsets in the section symbolize to, and a point for each without a symbol.
 fn shown(alloc: Global, file: &[u8], offsets: &[u64]) -> Result<String, Fail> {
     let (functions, _size) = pe::parse(file)?.functions(alloc)?;
     let mut names = String::new(alloc);
@@ -88,7 +88,7 @@ fn shown(alloc: Global, file: &[u8], offsets: &[u64]) -> Result<String, Fail> {
     Ok(names)
 }
 
-// Two symbols stand at 0, and the last one has no size.
+// Two symbols are at 0, and the last one has no size.
 #[test]
 fn symbols_at_offsets() -> Result<(), Fail> {
     let rt = HostRuntime::new();

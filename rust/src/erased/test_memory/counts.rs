@@ -1,6 +1,6 @@
 // From crates/test_memory/src/counts.rt, by tools/erase.
 
-//! The greatest numbers of sections and of load commands: what a search finds comes whichever allocation fails.
+//! The greatest numbers of sections and of load commands: a search has the same answer, whichever allocation fails.
 
 use crate::erased::test_memory::readers::{File, bytes_of};
 use crate::erased::binfarce::{ByteOrder, ParseError, elf32, elf64, macho, pe};
@@ -43,7 +43,7 @@ fn past_the_last(format: File, file: &[u8]) -> Searched {
     }
 }
 
-// A sample, where its number of sections or load commands stands, and what is found when that is the greatest.
+// A sample, the offset of its number of sections or load commands, and the answer when that is the greatest number.
 const COUNTS: [(&str, File, Patch<'static>, Searched); 7] = [
     (
         "65,535 sections in ELF32, little endian",

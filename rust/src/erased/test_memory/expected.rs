@@ -5,7 +5,7 @@
 use std::fmt;
 use crate::shim::io::{self, Write};
 
-/// Compares what is written with a text, and keeps nothing.
+/// Compares the written bytes with a text, and keeps nothing.
 pub(crate) struct Expected<'a> {
     // What of the text wasn't written yet.
     left: &'a [u8],

@@ -53,7 +53,7 @@ fn order_of(layout: Layout) -> ByteOrder {
     }
 }
 
-/// What the source gives of this section, beside what the whole file does.
+/// The answer of the source for this section, beside that of the whole file.
 pub fn compared<S: Source>(
     alloc: Global,
     layout: Layout,

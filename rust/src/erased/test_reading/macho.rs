@@ -17,7 +17,7 @@ pub const SAID: Patch<'static> = (20, &[0xB0]);
 
 type Answer<'a, E> = Result<(Vec<FunctionSymbol<'a>>, u64), E>;
 
-/// What the source gives, beside what the whole file does.
+/// The answer of the source, beside that of the whole file.
 pub fn compared<S: Source>(alloc: Global, file: &[u8], source: &S) -> Given {
     let whole = match crate::erased::binfarce::macho::parse(file) {
         Ok(macho) => macho.functions(alloc),

@@ -9,5 +9,5 @@ mod parts;
 mod pe;
 mod prefixes;
 
-/// The sections that are asked for: one with functions, one with none, and none.
+/// The requested sections: one with functions, one without, and a missing one.
 const SECTIONS: [&str; 3] = [".text", ".shstrtab", "nope"];

@@ -84,7 +84,7 @@ fn first_layout(
     Ok(None)
 }
 
-// The section that is asked for, and what is read of the sample in all layouts.
+// The requested section, and the answer for the sample in all layouts.
 const INTACT: [(&str, Counted); 3] = [
     (".text", Ok((1, 32))),
     (".shstrtab", Ok((0, 33))),
@@ -102,7 +102,7 @@ fn reads_back_in_every_layout() -> Result<(), ImageError> {
     Ok(())
 }
 
-// The link of the table, and what is read of `.text` in all layouts, and with the sample's link in none.
+// The link of the table, and the answer for `.text` in all layouts, which no layout gives with the sample's link.
 const LINKS: [(u32, Counted); 2] = [
     (
         1,

@@ -21,7 +21,7 @@ const TRUNCATED: &str = "unexpected end of file";
 
 const UNKNOWN: &str = "unknown file format";
 
-// A row of a picture: the name as it stands in the document, the length of its bar in per cent, and the size.
+// A row of a picture: the name as in the document, the length of its bar in per cent, and the size.
 type Row = (&'static str, &'static str, u64);
 
 // The document that shows these rows, the sum of all sizes, and the section's size.
@@ -88,7 +88,7 @@ fn push_row(
     )
 }
 
-// What is drawn of a file's section, and behind it the words of a refusal.
+// The picture of a file's section, and after it the words of a refusal.
 fn drawn(alloc: Global, data: &[u8], section: &str) -> Result<String, AllocError> {
     let mut out = Out::new(Vec::new(alloc));
     let refusal = match map(alloc, data, section, &mut out) {

@@ -62,7 +62,7 @@ fn reported(alloc: Global, data: &[u8], section: &str) -> Result<String, AllocEr
     answered(alloc, out.into_inner(), refusal.as_str())
 }
 
-// Who is asked, and of which section.
+// The call, and its section.
 #[derive(Clone, Copy, Debug)]
 struct Ask {
     call: Call,

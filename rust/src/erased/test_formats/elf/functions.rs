@@ -49,7 +49,7 @@ fn functions() -> Result<(), Fail> {
     Ok(())
 }
 
-// The name of what an address is shown by among the function symbols of `.text`.
+// The name of the function symbol of `.text` that an address symbolizes to.
 fn shown(layout: Layout, address: u64) -> Result<Option<&'static str>, ParseError> {
     let shown = match class_of(layout) {
         Class::Elf32 => {
@@ -69,7 +69,7 @@ fn shown(layout: Layout, address: u64) -> Result<Option<&'static str>, ParseErro
     }
 }
 
-// The symbol stands at 0x1000 and has 16 bytes.
+// The symbol is at 0x1000 and has 16 bytes.
 #[test]
 fn symbol_at() -> Result<(), Fail> {
     let rt = HostRuntime::new();

@@ -10,7 +10,7 @@ use crate::shim::test::Fail;
 use crate::erased::test_samples::elf::Layout;
 use crate::erased::test_samples::{Patch, first_bytes, patched};
 
-// What one section tells: type, address, offset, size, name, and how many bytes it has, or the words of a refusal.
+// The fields of one section: type, address, offset, size, name, and how many bytes it has, or the words of a refusal.
 fn push_32(
     alloc: Global,
     lines: &mut String,

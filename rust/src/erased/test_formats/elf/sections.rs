@@ -12,7 +12,7 @@ use crate::erased::test_samples::Patch;
 use crate::erased::test_samples::elf::Layout;
 use crate::erased::test_samples::question::{Question, wrong_despite, wrong_with};
 
-// Which section is asked for: of this name, the first, the first that begins at this offset, or past the last.
+// The requested section: of this name, the first, the first that begins at this offset, or past the last.
 #[derive(Clone, Copy, Debug)]
 pub(crate) enum Ask {
     Named(&'static str),
@@ -21,7 +21,7 @@ pub(crate) enum Ask {
     PastTheLast,
 }
 
-// What a section of either class tells.
+// The fields of a section of either class.
 struct Found<'a> {
     name: Option<&'a str>,
     range: Result<Range<usize>, ParseError>,
@@ -93,7 +93,7 @@ impl Question for Sections {
     }
 }
 
-// Which section is asked for, and what is found: the name, the range, and the number of entries.
+// The requested section, and the answer: the name, the range, and the number of entries.
 const INTACT: [(Layout, Ask, &str); 24] = [
     (
         Layout::Elf32Little,
@@ -191,7 +191,7 @@ type Row = (
     &'static str,
 );
 
-// What is changed, which section is asked for, and what is found.
+// The patches, the requested section, and the answer.
 const CHANGED: [Row; 32] = [
     (
         "65,535 sections",
@@ -442,7 +442,7 @@ fn changed_files() -> Result<(), Fail> {
     Ok(())
 }
 
-// What is changed and must not matter; the same patches are asked of in `CHANGED`.
+// Patches that must not matter; `CHANGED` has rows with the same patches.
 const UNCHANGED: [Row; 8] = [
     (
         "65,535 sections",

@@ -63,7 +63,7 @@ impl Question for Listed {
     }
 }
 
-// The section that is asked for, and the answer in each layout.
+// The requested section, and the answer in each layout.
 const SECTIONS: [(&str, &str); 3] = [
     (".text", LISTING),
     (".shstrtab", "section of 33"),
@@ -117,8 +117,8 @@ type Row = (
     &'static str,
 );
 
-// What is changed, the section that is asked for, and the answer: a walk to the end of the greatest count of sections, a
-// table of strings that lies over another, and each row that isn't listed, made one that is.
+// The patches, the requested section, and the answer: a walk to the end of the greatest count of sections, a string
+// table that overlaps another, and each row that isn't listed, changed to one that is.
 const CHANGED: [Row; 25] = [
     (
         "65,535 sections",

@@ -29,7 +29,7 @@ fn listed(alloc: Global, file: &[u8]) -> Result<String, Fail> {
     Ok(lines)
 }
 
-// Address, size and offset of the section, no two alike; `llvm-readobj --sections` shows such a file's so.
+// Address, size and offset of the section, all different, as `llvm-readobj --sections` shows them.
 const FIELDS: [Patch<'static>; 3] = [
     (136, &[0x88, 0x77, 0x66, 0x55, 0x44, 0x33, 0x22, 0x11]),
     (144, &[0x20]),

@@ -13,7 +13,7 @@ use crate::erased::test_samples::Patch;
 use crate::erased::test_samples::macho::MACHO;
 use crate::erased::test_samples::question::{Question, wrong_despite, wrong_with};
 
-// Which section is asked for: by the names of its segment and its own, the first, or past the last.
+// The requested section: by the names of its segment and its own, the first, or past the last.
 #[derive(Clone, Copy, Debug)]
 pub(crate) enum Ask {
     Named(&'static str, &'static str),
@@ -49,7 +49,7 @@ impl Question for Ask {
     }
 }
 
-// Which section is asked for, and its range.
+// The requested section, and its range.
 const INTACT: [(&str, Ask, &str); 5] = [
     ("the first", Ask::First, "0..256"),
     ("by its names", Ask::Named("__TEXT", "__text"), "0..256"),
@@ -81,7 +81,7 @@ type Row = (&'static str, &'static [Patch<'static>], Ask, &'static str);
 // A section name of 16 bytes, before the segment name.
 const LONG_NAME: Patch<'static> = (104, b"__objc_classlist");
 
-// What is changed, which section is asked for, and its range.
+// The patches, the requested section, and its range.
 const CHANGED: [Row; 10] = [
     ("its offset 512", &[(152, &[0, 2])], Ask::First, "512..768"),
     (
@@ -116,7 +116,7 @@ const CHANGED: [Row; 10] = [
         Ask::Named("__DATA_CONST_ABC", "__objc_classlist"),
         "0..256",
     ),
-    // What the same file isn't found by stands below.
+    // Below are names that don't find it in the same file.
     (
         "a section name that ends at the segment name",
         &[LONG_NAME],

@@ -61,7 +61,7 @@ fn refused_files() -> Result<(), Fail> {
     Ok(())
 }
 
-// What is changed, and what is listed.
+// The patches, and the listing.
 const CHANGED: [(&str, &[Patch<'static>], &str); 8] = [
     (
         "a greater address in another section",

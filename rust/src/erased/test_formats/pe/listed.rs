@@ -30,7 +30,7 @@ fn listed(alloc: Global, file: &[u8]) -> Result<String, Fail> {
     Ok(lines)
 }
 
-// Size and address in memory, size and offset in the file, no two alike; `objdump -h` shows such a file's so.
+// Size and address in memory, size and offset in the file, all different, as `objdump -h` shows them.
 const FIELDS: [Patch<'static>; 4] = [
     (96, &[0x34, 0x12]),
     (100, &[0, 0x50]),

@@ -13,7 +13,7 @@ use crate::erased::test_samples::Patch;
 use crate::erased::test_samples::pe::PE;
 use crate::erased::test_samples::question::{Question, wrong_despite, wrong_with};
 
-// Which section is asked for: of this name, the first, or past the last.
+// The requested section: of this name, the first, or past the last.
 #[derive(Clone, Copy, Debug)]
 pub(crate) enum Ask {
     Named(&'static str),
@@ -49,7 +49,7 @@ impl Question for Ask {
     }
 }
 
-// Which section is asked for, and its range.
+// The requested section, and its range.
 const INTACT: [(&str, Ask, &str); 4] = [
     ("by its name", Ask::Named(".text"), "0..256"),
     ("by an empty name", Ask::Named(""), "none"),
@@ -69,7 +69,7 @@ fn intact_file() -> Result<(), Fail> {
 
 type Row = (&'static str, &'static [Patch<'static>], Ask, &'static str);
 
-// What is changed, which section is asked for, and its range.
+// The patches, the requested section, and its range.
 const CHANGED: [Row; 6] = [
     (
         "its raw pointer 512",

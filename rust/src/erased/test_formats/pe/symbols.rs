@@ -59,7 +59,7 @@ fn refused_files() -> Result<(), Fail> {
     Ok(())
 }
 
-// What is changed, and what is listed.
+// The patches, and the listing.
 const CHANGED: [(&str, &[Patch<'static>], &str); 9] = [
     (
         "one auxiliary record after the first row",

@@ -14,7 +14,7 @@ use crate::erased::test_samples::elf::{ELF64_LITTLE, Layout};
 use crate::erased::test_samples::streams::Target;
 use crate::erased::test_samples::{Patch, first_bytes, macho, patched, pe};
 
-// What is wrong, the file, what is changed in it, the section's name, and the words of the refusal.
+// The fault, the file, its patches, the section's name, and the words of the refusal.
 type Refused = (
     &'static str,
     File,
@@ -185,7 +185,7 @@ fn words(alloc: Global, file: &[u8], name: &str) -> Result<String, Fail> {
     }
 }
 
-// What is told of a file's section once the file is changed so.
+// The answer for a section of the patched file.
 fn told_of(alloc: Global, file: File, patches: &[Patch<'_>], name: &str) -> Result<String, Fail> {
     let changed = patched(alloc, file.bytes(), patches)?;
     words(alloc, &changed, name)
@@ -230,7 +230,7 @@ type Given = (
     &'static str,
 );
 
-// Of PE's two sizes, VirtualSize stands at 96 and SizeOfRawData at 104.
+// Of PE's two sizes, VirtualSize is at 96 and SizeOfRawData at 104.
 const GIVEN: [Given; 9] = [
     (
         "nothing",

@@ -13,7 +13,7 @@ use crate::shim::alloc::{AllocError, Global};
 use crate::shim::test::Fail;
 use crate::erased::test_samples::{first_bytes, patched};
 
-// Whether these are what a file that is cut off may give: its section's bytes, or that they can't be had.
+// Whether a truncated file may have this answer: its section's bytes, or a refusal.
 fn is_part_of(row: &Row, found: Result<&[u8], SectionError>) -> bool {
     match found {
         Ok(bytes) => bytes == row.5,
@@ -23,7 +23,7 @@ fn is_part_of(row: &Row, found: Result<&[u8], SectionError>) -> bool {
     }
 }
 
-// What stands before a name.
+// The text before a name.
 const HEAD: usize = 39;
 
 // Whether these are the first of the lines, each with its name, or all without, where the header of the section of names is

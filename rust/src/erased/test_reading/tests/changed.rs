@@ -10,7 +10,7 @@ use crate::shim::test::Fail;
 use crate::erased::test_samples::elf::Layout;
 use crate::erased::test_samples::{Patch, patched};
 
-/// Bytes that stand in place of others: none, the least, and the greatest of each width.
+/// Bytes that replace others: none, the least, and the greatest of each width.
 pub(super) const BYTES: [&[u8]; 5] = [&[0], &[1], &[0xFF; 2], &[0xFF; 4], &[0xFF; 8]];
 
 // The first offset at which these bytes give another answer.

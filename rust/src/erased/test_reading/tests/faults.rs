@@ -1,6 +1,6 @@
 // From crates/test_reading/src/tests/faults.rt, by tools/erase.
 
-//! Sources that fail at a call, that end early, and that count what is read of them.
+//! Sources that fail at a call, that end early, and that count the bytes that are read.
 
 use crate::shim::HostRuntime;
 use crate::erased::test_reading::fronts::{Given, LAYOUTS, compared};
@@ -123,7 +123,7 @@ impl<'a> Source for Shrunk<'a> {
     }
 }
 
-// The first number of bytes left of a file that is answered, since its length was told, though a part is cut off.
+// The least length of a file with an answer although it was cut off: the source had stated its whole length.
 fn answered(alloc: Global, layout: Layout) -> Option<usize> {
     let file = layout.bytes();
     for count in 0..file.len() {

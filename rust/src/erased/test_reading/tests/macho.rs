@@ -74,7 +74,7 @@ fn each_size_of_commands() -> Result<(), Fail> {
     Ok(())
 }
 
-// Bytes that stand in place of others: none, the least, and the greatest of each width.
+// Bytes that replace others: none, the least, and the greatest of each width.
 const BYTES: [&[u8]; 5] = [&[0], &[1], &[0xFF; 2], &[0xFF; 4], &[0xFF; 8]];
 
 // The first offset at which these bytes give another answer.

@@ -1,6 +1,6 @@
 // From crates/test_reading/src/tests/macho_faults.rt, by tools/erase.
 
-//! Mach-O files of sources that fail at a call, that end early, and that count what is read of them.
+//! Mach-O files of sources that fail at a call, that end early, and that count the bytes that are read.
 
 use crate::shim::HostRuntime;
 use super::faults::{ERRORS, Failing, Shrunk};
@@ -57,7 +57,7 @@ fn the_whole_is_read_once_where_commands_go_on() -> Result<(), Fail> {
     Ok(())
 }
 
-// The first number of bytes left of a file that is answered, since its length was told, though a part is cut off.
+// The least length of a file with an answer although it was cut off: the source had stated its whole length.
 fn answered(alloc: Global, file: &[u8]) -> Option<usize> {
     for count in 0..file.len() {
         let source = Shrunk {

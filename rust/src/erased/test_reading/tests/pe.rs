@@ -225,7 +225,7 @@ fn no_byte_is_read_for_a_count() -> Result<(), Fail> {
     Ok(())
 }
 
-// The first number of bytes left of a file that is answered, since its length was told, though a part is cut off.
+// The least length of a file with an answer although it was cut off: the source had stated its whole length.
 fn answered(alloc: Global, file: &[u8]) -> Option<usize> {
     for count in 0..file.len() {
         let source = Shrunk {

@@ -58,12 +58,12 @@ fn draws_the_sums_of_crates() -> Result<(), Fail> {
     Ok(())
 }
 
-// A file, the section that is asked for, and the rows, their sum and the section's size.
+// A file, the requested section, and the rows, their sum and the section's size.
 type Drawn = (File, &'static str, &'static [Row], u64, u64);
 
 const FOO: &[Row] = &[("foo", "100.00", 16)];
 
-// A Mach-O or PE file has one section of code, whichever is asked for.
+// A Mach-O or PE file has one section of code, whichever is requested.
 const FILES: [Drawn; 7] = [
     (File::Elf(Layout::Elf32Little), ".text", FOO, 16, 32),
     (File::Elf(Layout::Elf32Big), ".text", FOO, 16, 32),
@@ -95,7 +95,7 @@ fn draws_each_format() -> Result<(), Fail> {
     Ok(())
 }
 
-// The first function's size stands at 112 in the file, and the second one's is 16.
+// The first function's size is at offset 112 of the file, and the second one's is 16.
 #[test]
 fn sizes_may_be_too_large() -> Result<(), Fail> {
     let rt = HostRuntime::new();

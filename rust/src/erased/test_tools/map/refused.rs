@@ -54,7 +54,7 @@ fn refuses_truncated_files() -> Result<(), Fail> {
     Ok(())
 }
 
-// What is changed of a file, the section that is asked for, and the words.
+// The patches of a file, the requested section, and the words.
 const CHANGED: [(Layout, Patch<'static>, &str, &str); 4] = [
     (Layout::Elf64Little, (5, &[3]), ".text", UNKNOWN),
     (Layout::Elf64Little, (0, b"ELF\x7F0000"), ".text", UNKNOWN),

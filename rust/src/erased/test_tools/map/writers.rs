@@ -1,6 +1,6 @@
 // From crates/test_tools/src/map/writers.rt, by tools/erase.
 
-//! Writers that fail or take little: what they took is a beginning of the picture, and the call tells that it is.
+//! Writers that fail or take little: they took a beginning of the picture, and the call reports a failed write.
 
 use crate::shim::{HostRuntime, Vec};
 use super::{Row, document};
@@ -24,7 +24,8 @@ const LIMITS: [Limits; 4] = [
     (usize::MAX, None),
 ];
 
-// Whether a writer that takes so many bytes gets the first ones of the text, and the call tells whether these are all.
+// Whether a writer that takes so many bytes gets the first ones of the text, and the call reports whether these are
+// all.
 fn takes_a_beginning(alloc: Global, file: &[u8], text: &str, left: usize, limits: Limits) -> bool {
     let (most, end) = limits;
     let mut out = Out::new(Target {

@@ -11,7 +11,7 @@ use crate::erased::test_samples::macho::{LISTING as MACHO_LISTING, MAGIC as MACH
 use crate::erased::test_samples::pe::{LISTING as PE_LISTING, MAGIC as PE_MAGIC};
 use crate::erased::test_samples::question::wrong_with;
 
-// Who is asked, of which file and section, and the answer.
+// The call, its file and section, and the answer.
 const INTACT: [(Call, Layout, &str, &str); 12] = [
     (Call::List, Layout::Elf32Little, ".text", LISTING),
     (Call::Report, Layout::Elf32Little, ".text", REPORT),
@@ -55,8 +55,8 @@ type Row = (
     &'static str,
 );
 
-// What is changed, the section that is asked for, and what `list` and `report` answer. Mach-O and PE have one section
-// of code, whichever is asked for.
+// The patches, the requested section, and the answers of `list` and `report`. Mach-O and PE have one section of code,
+// whichever is requested.
 const CHANGED: [Row; 8] = [
     (
         "the magic number",

@@ -27,7 +27,7 @@ fn first_layout(
     Ok(None)
 }
 
-// The section that is asked for, and what is answered in all layouts.
+// The requested section, and the answer in all layouts.
 const INTACT: [(&str, &str); 2] = [(".text", LISTING), ("text", NO_SECTION)];
 
 #[test]
@@ -41,7 +41,8 @@ fn lists_the_sample() -> Result<(), Fail> {
     Ok(())
 }
 
-// The link of the symbol table, and what is answered for `.text` in all layouts, and with the sample's link in none.
+// The link of the symbol table, and the answer for `.text` in all layouts, which no layout gives with the sample's
+// link.
 const LINKS: [(u32, &str); 2] = [
     (1, "expected section type 3 but found 1"),
     (5, "section .strtab is missing"),

@@ -46,7 +46,7 @@ fn other_answer(
     Ok(None)
 }
 
-// A file, and what is written of it by `list` and by `report`.
+// A file, and the output of `list` and of `report`.
 const FILES: [(File, &str, &str); 6] = [
     (File::Elf(Layout::Elf32Little), LISTING, REPORT),
     (File::Elf(Layout::Elf32Big), LISTING, REPORT),

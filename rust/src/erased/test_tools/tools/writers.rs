@@ -1,6 +1,6 @@
 // From crates/test_tools/src/tools/writers.rt, by tools/erase.
 
-//! Writers that fail: what they took is a beginning of the text, and the call tells that it is.
+//! Writers that fail: they took a beginning of the text, and the call reports a failed write.
 
 use crate::shim::{HostRuntime, Vec};
 use super::{Call, File, REPORT, file_of};
@@ -29,7 +29,7 @@ const LIMITS: [Limits; 9] = [
     (100, Some(ErrorKind::Interrupted)),
 ];
 
-// Whether the call tells that all was written, or that a write failed; `None` where it refuses otherwise.
+// Whether the call reports that all was written, or that a write failed; `None` for any other refusal.
 fn all_written(alloc: Global, call: Call, file: &[u8], out: &mut Out<Target>) -> Option<bool> {
     match call {
         Call::List => match list(alloc, file, ".text", out) {
@@ -51,7 +51,8 @@ fn all_written(alloc: Global, call: Call, file: &[u8], out: &mut Out<Target>) ->
     }
 }
 
-// Whether a writer that takes so many bytes gets the first ones of the text, and the call tells whether these are all.
+// Whether a writer that takes so many bytes gets the first ones of the text, and the call reports whether these are
+// all.
 fn takes_a_beginning(
     alloc: Global,
     call: Call,
@@ -114,7 +115,7 @@ fn bytes_of_source(alloc: Global, source: Source) -> Result<Vec<u8>, Fail> {
     }
 }
 
-// Who writes, of what, and the text.
+// The call, its file and section, and the text.
 const ROWS: [(Call, Source, &str); 5] = [
     (
         Call::List,

@@ -31,7 +31,7 @@ fn ends_with_2_for_the_usage() {
     assert!(status(&Fault::File) == 1);
 }
 
-// Whether the work ended without a fault, and this text was written.
+// Whether there was no fault, and this text was written.
 fn is_written(ended: Result<(), Fault>, out: Out<Vec<u8>>, text: &str) -> bool {
     ended.is_ok() && out.into_inner().as_slice() == text.as_bytes()
 }

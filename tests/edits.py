@@ -9,7 +9,6 @@ import os
 import re
 
 TOP = os.path.dirname(os.path.dirname(os.path.abspath(__file__)))
-PARTS = ("src", "specs", "proofs")
 ITEM = re.compile(r"(?:pub(?:\([a-z]+\))? )?(?:const )?(?:extern .C. )?(fn|const|static|struct|enum|trait|impl)\b(?:<.*?>)? ?(\w*)")
 
 

@@ -96,6 +96,6 @@ for name in list size command; do
 done
 part tests/programs.sh "$scratch/proved"
 part tests/programs.sh "$built"
-part tests/erased.sh "$scratch/proved" "$built"
+part tests/erased.py "$scratch/proved" "$built"
 sed -n 's/^tests: \([0-9]*\) passed, 0 failed$/\1/p; s/^wrong bodies: \([0-9]*\) refused, 0 not$/\1/p; s/^test result: ok[.] \([0-9]*\) passed.*/\1/p' "$scratch"/logs/* |
     awk -v gate="${last%% *}" '{ gate += $1 } END { print gate " passed, 0 failed" }'

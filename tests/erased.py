@@ -24,15 +24,12 @@ PROGRAMS = {"binfarce": "binfarce_command", "binfarce-list": "binfarce_list", "b
 CALLS = {name: [name] for name in PROGRAMS} | {name: ["binfarce", name] for name in ("list", "size", "map", "filter", "at", "section")}
 ON_FILES = ["binfarce-list", "binfarce-size", "list", "size", "map", "at", "section"]
 
-
 def program(folder, name):
     for path in filter(pathlib.Path.is_file, (pathlib.Path(folder) / PROGRAMS[name], pathlib.Path(folder) / name)):
         return str(path.resolve())
     sys.exit(f"tests/erased.py: {folder} has no {name}")
 
-
 PROVED, ERASED = ({name: program(folder, name) for name in PROGRAMS} for folder in sys.argv[1:3])
-
 
 def ended(path, arguments, given, streams):
     """How a program ends: its status, and what it writes. `streams` is how a shell changes them, as `>/dev/full`."""
@@ -40,7 +37,6 @@ def ended(path, arguments, given, streams):
     run = subprocess.run(call, input=given, stdin=None if given is not None else subprocess.DEVNULL,
                          capture_output=True, timeout=120)
     return run.returncode, run.stdout, run.stderr
-
 
 def differs(row):
     name, arguments, given, streams = row
@@ -51,7 +47,6 @@ def differs(row):
     call = " ".join(map(repr, arguments))
     return f"{name} {call} {streams}: proved {str(proved)[:200]}, erased {str(erased)[:200]}"
 
-
 def compare(what, rows):
     with concurrent.futures.ThreadPoolExecutor(os.cpu_count()) as pool:
         different = [line for line in pool.map(differs, rows) if line]
@@ -59,7 +54,6 @@ def compare(what, rows):
         print(line)
     print(f"{what}: {len(rows) - len(different)} passed, {len(different)} failed", flush=True)
     return len(different)
-
 
 def samples():
     """The small files of the tests, as their sources write them, and the stored ones."""
@@ -69,7 +63,6 @@ def samples():
             numbers = re.findall(r"0x[0-9A-F]{2}", re.sub(r"//.*", "", body))
             found.add(bytes(int(number, 16) for number in numbers))
     return sorted(found)
-
 
 def changed(rng, data, values, times):
     """A file or a name with some bytes or parts changed, added or missing."""
@@ -90,12 +83,10 @@ def changed(rng, data, values, times):
             data[at] ^= 1 << rng.randrange(8)
     return bytes(data)
 
-
 def numbers(rng, length):
     """Numbers that a file of this length may take badly, in all widths and orders."""
     some = [0, 1, 2, 3, 64, 0x7F, 0x80, 0xFF, length - 1, length, 2**31, 2**63, 2**64 - 1, *(rng.randrange(2 * length) for _ in range(4))]
     return [struct.pack(form, it % 256 ** struct.calcsize(form)) for it in some for form in ("B", "<H", "<I", "<Q", ">H", ">I", ">Q")]
-
 
 def names(rng):
     """Mangled names of the tests and random ones, most of them changed."""
@@ -107,7 +98,6 @@ def names(rng):
     found = [changed(rng, rng.choice(real), letters, [0, 1, 1, 2, 3, 8]) or b"_R" for _ in range(NAMES)]
     found += [b"_RMC1a" + b"R" * levels + b"u" for levels in (200, 497, 498, 499, 500, 501, 3000)]
     return [*found, b"_RNvC1a" + b"B3_" * 5]
-
 
 def elf_of(found):
     """An ELF file of 64 bits with a function symbol for each name."""
@@ -125,7 +115,6 @@ def elf_of(found):
     head = b"\x7fELF\x02\x01\x01" + bytes(9) + struct.pack("<HHIQQQIHHHHHH", 1, 62, 1, 0, 0, 64 + len(data), 0, 64, 0, 0, 64, 5, 4)
     return head + data + headers
 
-
 def on_file(rng, path):
     section = rng.choice([[], [], [".text"], [".symtab"], ["__text"], [".data"], [""], ["é"]])
     addresses = [rng.choice(["1000", "0x1005", "100f", "1010", "fff", "0", "180", "1040", "ffffffffffffffff"]) for _ in range(4)]
@@ -133,7 +122,6 @@ def on_file(rng, path):
     return [(rng.choice(["binfarce-list", "binfarce-size"]), [path, *section], None, ""),
             (rng.choice(["list", "list", "size"]), [path, *option], None, ""), (rng.choice(["size", "map"]), [*option, path], None, ""),
             ("section", [path, *section], None, ""), ("at", [*rng.choice([[], ["--base", "40"]]), path, *addresses], None, "")]
-
 
 def main(scratch):
     def file(name, data):
@@ -183,7 +171,6 @@ def main(scratch):
     rows += [("at", [good], given, "") for given in lines] + [("at", [good], b"", f"<{folder}"), ("at", ["--base=f", good], lines[0], "")]
     failed += compare("arguments and streams", rows)
     return failed
-
 
 with tempfile.TemporaryDirectory() as scratch:
     sys.exit(1 if main(pathlib.Path(scratch)) else 0)

@@ -36,17 +36,14 @@ pub {name}_spec : {{M : Type 1}} → statement M
 {name}_spec = ?
 """
 
-
 def below(crate, uses):
     """A crate and all crates of the repository below it, lowest first."""
     return [*dict.fromkeys(at for it in uses[crate] if it in uses for at in below(it, uses)), crate]
-
 
 def function_of(folder, goal):
     """The function that an answer belongs to. Those of a cycle share a folder `+NAME`; a goal's name begins with its function's."""
     *path, name = folder.split("/")
     return "::".join([*path, goal.split("-", 1)[0] if name.startswith("+") else name])
-
 
 def with_holes(room, crate, kept):
     """Gives each function but those kept, and those of cycles, a hole for its proof, and an empty loop of as many lines for its body."""
@@ -62,7 +59,6 @@ def with_holes(room, crate, kept):
             if found:
                 without = found[0] + "loop {}" + "\n" * item.count("\n", found.end()) + end
                 source.write_text(source.read_text().replace(item, without, 1))
-
 
 class Prover:
     """Checks crates over the libraries that `rt ci` has proved. This alone knows how the toolchain is laid out and called."""
@@ -147,7 +143,6 @@ class Prover:
             print(f"must-fail {crate}/{edit.name}.edit: {verdict[:200]}\n", end="", flush=True)
         return refused, len(these) - refused
 
-
 def in_sets(these):
     """Those edits of one crate together that change different functions, and can be made at once."""
     sets = []
@@ -163,11 +158,9 @@ def in_sets(these):
             sets.append([edit])
     return sets
 
-
 def has_room():
     """Whether there is memory for one more check beside those of `rt ci`."""
     return int(re.search(r"MemAvailable: +(\d+)", pathlib.Path("/proc/meminfo").read_text())[1]) > 5_000_000
-
 
 def main(every, crates, log):
     os.nice(19)
@@ -194,7 +187,6 @@ def main(every, crates, log):
     refused, kept = map(sum, zip(*counts))
     print(f"wrong bodies: {refused} refused, {kept} not")
     return 1 if kept else 0
-
 
 if __name__ == "__main__":
     sys.exit(main(sys.argv[1] == "--whole", *sys.argv[-2:]))

@@ -1,14 +1,13 @@
 #!/usr/bin/env python3
 """Tries wrong bodies, those of different functions in one check.
 
-    tests/try_wrong_bodies.py [--whole] CRATES LOG
+    tests/try_wrong_bodies.py CRATES LOG     the crates that `rt ci` proves; what it prints, with `ended` as its last line
 
-The edits that are always tried, or with --whole all. CRATES are the crates that `rt ci` proves; LOG is what it prints, with
-`ended` as its last line. What the prover has to show of a function is made of its own body and of the contracts of what it
-calls, and of no other function's body. So the bodies of several functions can be wrong in one check: each is refused by goals of
-its own function, and no other function may have an open goal. The functions that no edit changes have a hole for their proof and
-no body: the prover takes their contracts, and searches for the goals of the others alone. A hole refuses nothing. An edit that
-isn't refused so is tried alone, and then alone with all bodies and proofs.
+What the prover has to show of a function is made of its own body and of the contracts of what it calls, and of no other
+function's body. So the bodies of several functions can be wrong in one check: each is refused by goals of its own function, and
+no other function may have an open goal. The functions that no edit changes have a hole for their proof and no body: the prover
+takes their contracts, and searches for the goals of the others alone. A hole refuses nothing. An edit that isn't refused so is
+tried alone, and then alone with all bodies and proofs.
 
 A crate's edits are tried as soon as the libraries below it are proved, in time that `rt ci` leaves over. A line for each edit
 has the first goal that refuses it; the last line counts them. The status is 1 if one wasn't refused.
@@ -162,10 +161,10 @@ def has_room():
     """Whether there is memory for one more check beside those of `rt ci`."""
     return int(re.search(r"MemAvailable: +(\d+)", pathlib.Path("/proc/meminfo").read_text())[1]) > 5_000_000
 
-def main(every, crates, log):
+def main(crates, log):
     os.nice(19)
     prover, left = Prover(crates), []
-    these = [it for it in edits() if every or it.always]
+    these = [it for it in edits() if it.always]
     for crate in sorted({it.crate for it in these}):
         under = below(crate, prover.uses)[:-1]
         left += [(crate, under, it) for it in in_sets([it for it in these if it.crate == crate])]
@@ -189,4 +188,4 @@ def main(every, crates, log):
     return 1 if kept else 0
 
 if __name__ == "__main__":
-    sys.exit(main(sys.argv[1] == "--whole", *sys.argv[-2:]))
+    sys.exit(main(*sys.argv[1:]))

@@ -94,9 +94,6 @@ class Edit:
         self.kind, self.function, self.own = item_at(crate, self.file, text.split("\n"), text.count("\n", 0, start))
         self.refused_in = self.says.get("in", self.own)
 
-    def label(self):
-        return f"must-fail {self.crate}/{self.name}.edit"
-
     def is_alone(self):
         """Whether it may change what other functions rely on, so that it is tried alone."""
         return "in" in self.says or not self.file.startswith("src/")
@@ -114,6 +111,6 @@ def changed(these):
         for file, old, new in edit.pairs:
             text = texts.get(file) or read(f"crates/{edit.crate}/{file}")
             if text.count(old) != 1:
-                raise ValueError(f"{edit.label()}: an old text is in {file} {text.count(old)} times, and not once")
+                raise ValueError(f"{edit.path}: an old text is in {file} {text.count(old)} times, and not once")
             texts[file] = text.replace(old, new)
     return texts

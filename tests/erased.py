@@ -24,34 +24,30 @@ PROGRAMS = {"binfarce": "binfarce_command", "binfarce-list": "binfarce_list", "b
 CALLS = {name: [name] for name in PROGRAMS} | {name: ["binfarce", name] for name in ("list", "size", "map", "filter", "at", "section")}
 ON_FILES = ["binfarce-list", "binfarce-size", "list", "size", "map", "at", "section"]
 
-def program(folder, name):
-    for path in filter(pathlib.Path.is_file, (pathlib.Path(folder) / PROGRAMS[name], pathlib.Path(folder) / name)):
-        return str(path.resolve())
-    sys.exit(f"tests/erased.py: {folder} has no {name}")
+def programs(folder):
+    """The paths of a folder's programs, under either name."""
+    named = {name: (pathlib.Path(folder, made), pathlib.Path(folder, name)) for name, made in PROGRAMS.items()}
+    return {name: str(next(filter(pathlib.Path.is_file, paths)).resolve()) for name, paths in named.items()}
 
-PROVED, ERASED = ({name: program(folder, name) for name in PROGRAMS} for folder in sys.argv[1:3])
+PROVED, ERASED = map(programs, sys.argv[1:3])
 
 def ended(path, arguments, given, streams):
     """How a program ends: its status, and what it writes. `streams` is how a shell changes them, as `>/dev/full`."""
     call = [path, *arguments] if not streams else ["sh", "-c", f'exec "$0" "$@" {streams}', path, *arguments]
-    run = subprocess.run(call, input=given, stdin=None if given is not None else subprocess.DEVNULL,
-                         capture_output=True, timeout=120)
+    source = {"stdin": subprocess.DEVNULL} if given is None else {"input": given}
+    run = subprocess.run(call, capture_output=True, timeout=120, **source)
     return run.returncode, run.stdout, run.stderr
 
 def differs(row):
     name, arguments, given, streams = row
     first, *words = CALLS[name]
-    proved, erased = (ended(programs[first], [*words, *arguments], given, streams) for programs in (PROVED, ERASED))
-    if proved == erased:
-        return None
-    call = " ".join(map(repr, arguments))
-    return f"{name} {call} {streams}: proved {str(proved)[:200]}, erased {str(erased)[:200]}"
+    proved, erased = (ended(it[first], [*words, *arguments], given, streams) for it in (PROVED, ERASED))
+    return "" if proved == erased else f"{name} {arguments} {streams}: proved {str(proved)[:200]}, erased {str(erased)[:200]}"
 
 def compare(what, rows):
     with concurrent.futures.ThreadPoolExecutor(os.cpu_count()) as pool:
         different = [line for line in pool.map(differs, rows) if line]
-    for line in different[:10]:
-        print(line)
+    print(*(f"{line}\n" for line in different[:10]), sep="", end="")
     print(f"{what}: {len(rows) - len(different)} passed, {len(different)} failed", flush=True)
     return len(different)
 
@@ -132,13 +128,11 @@ def main(scratch):
     intact = samples()
     assert len(intact) >= 6
     failed = compare("samples", [row for at, data in enumerate(intact) for _ in range(8) for row in on_file(rng, file(f"s{at}", data))])
-    rows = []
-    for at in range(FILES):
-        data = rng.choice(intact)
-        rows += on_file(rng, file(f"h{at}", changed(rng, data, numbers(rng, len(data)), [1, 1, 1, 2, 3, 6])))
+    hostile = [changed(rng, it, numbers(rng, len(it)), [1, 1, 1, 2, 3, 6]) for it in rng.choices(intact, k=FILES)]
+    rows = [row for at, data in enumerate(hostile) for row in on_file(rng, file(f"h{at}", data))]
     failed += compare("hostile files", rows)
-    whole = [programs["binfarce"] for programs in (PROVED, ERASED)]
-    failed += compare("the programs' own files", [row for path in whole for _ in range(3) for row in on_file(rng, path)])
+    own = [path for it in (PROVED, ERASED) for path in [it["binfarce"]] * 3]
+    failed += compare("the programs' own files", [row for path in own for row in on_file(rng, path)])
 
     found = names(rng)
     text = b"".join(name + rng.choice([b"\n", b" ", b"()", b". ", b"\n", b"\xff"]) for name in found)

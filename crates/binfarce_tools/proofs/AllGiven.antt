@@ -110,6 +110,9 @@ module _ (which : SymbolTable) (file : List ℕ) (found : macho.AllLocated)
       got which file formats.Macho (macho.all_symbols found) result is.0 (is.1 ∙ ap Some same)
       (not_listed SomeEnd (HasSections formats.Macho file) (macho_all.name_of found.names) found.is_object (macho.all_entries found) e result (told_all_of found.ends found.symbols) needs answers err)
 
+located_same : {a b : macho.AllLocated} → Path (Result macho.AllLocated Refusal) (Ok a) (Ok b) → b ≡ a
+located_same e = cc
+
 -- a Mach-O file with an end of a section has a section
 pub macho_needs : (file : List ℕ) (found : macho.AllLocated) → macho.all_located_answer file ≡ Ok found → found.ends ≢ [] → HasSections formats.Macho file
 unfolding HasSections
@@ -125,10 +128,7 @@ macho_needs file found is some = by_length (ltb (length file) least_length) is
             → (symbols >>= λ symbols. Ok (record { ends = map (macho_all.end_at file) starts; names = map (macho_all.name_at file) starts; symbols = symbols; is_object = nat_eq (macho_file.header_of file).filetype 1 })) ≡ Ok found
             → found.ends ≡ map (macho_all.end_at file) starts
         by_symbols (Err refusal) e = absurd cc
-        by_symbols (Ok symbols) e = ap (λ (l : macho.AllLocated). l.ends) (of_ok e)
-
-        of_ok : {a b : macho.AllLocated} → Path (Result macho.AllLocated Refusal) (Ok a) (Ok b) → b ≡ a
-        of_ok e = cc
+        by_symbols (Ok symbols) e = ap (λ (l : macho.AllLocated). l.ends) (located_same e)
 
     by_length : (short : Bool) → cond short (Err unexpected_eof) (macho.all_located file) ≡ Ok found → macho_all.HasSection file
     by_length true e = absurd cc

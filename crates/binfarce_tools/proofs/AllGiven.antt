@@ -1,8 +1,7 @@
 -- What the parts of a file give is what the file answers for all sections.
-use Rattle.std.proofs.Common.{◌≡◌, ℕ, Bool, true, false, cond, ltb, length, List, [], ◌++◌, map, Vec, Global, Option, Some, None, Result, Ok, Err, refl, sym, ap, subst, ◌∙◌, inl, inr}
+use Rattle.std.proofs.Common.{◌≡◌, ℕ, Bool, true, false, cond, ltb, length, List, [], map, Vec, Global, Option, Some, None, Result, Ok, Err, refl, sym, ap, subst, ◌∙◌, inl, inr}
 use Rattle.std.specs.Prelude.{◌≢◌, codes, nat_eq}
-use Rattle.std.specs.List.{AllZip, concat}
-use Rattle.std.specs.Result.{IsErr, IsErrAnd}
+use Rattle.std.specs.Result.{IsErrAnd}
 use Rattle.binfarce_bytes.specs.declared.error.ParseError.{ParseError}
 use Rattle.binfarce_bytes.specs.declared.format.Format.{Format}
 use Rattle.binfarce_bytes.specs.declared.format.Format.TheVariants as formats
@@ -19,7 +18,7 @@ use Rattle.binfarce_macho.specs.Macho.{least_length}
 use Rattle.binfarce_macho.specs.MachoAll as macho_all
 use Rattle.binfarce_macho.proofs.AllRows.{has_start}
 use Rattle.binfarce_pe.specs.Pe as pe_file
-use Rattle.binfarce_tables.specs.ElfAllReading.{all_file_answer, all_view}
+use Rattle.binfarce_tables.specs.ElfAllReading.{all_file_answer}
 use Rattle.binfarce_tables.specs.MachoAllReading as macho
 use Rattle.binfarce_tables.specs.PeAllReading as pe
 use Rattle.binfarce_tools.specs.declared.all.AllTables.{AllTables}

@@ -4,7 +4,6 @@ ghost use Rattle.std.specs.Prelude.{◌≡◌, ◌≢◌, ◌++◌, ℕ, List, m
 ghost use Rattle.std.specs.Iterator.{YieldsFirstBy};
 ghost use Rattle.std.specs.Option.{option_map};
 ghost use Rattle.std.specs.String.{string_bytes};
-ghost use Rattle.binfarce_bytes.specs.Format.{format_of};
 ghost use Rattle.binfarce_bytes.specs.SectionEntries.{AllSymbols};
 ghost use Rattle.binfarce_bytes.specs.SymbolViews.{section_function_view};
 ghost use Rattle.binfarce_elf.specs.declared.symbol_table.SymbolTable.{SymbolTable};

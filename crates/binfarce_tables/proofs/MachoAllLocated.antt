@@ -97,11 +97,11 @@ in_memory fails view answer (Refused p) reads = reads
 in_memory fails view answer Unreadable reads = absurd cc
 in_memory fails view answer OutOfMemory reads = tt
 
--- a refusal, or a failed allocation, as it is told
-pub as_told : {X Y : Type 0} (view : X → Y) (answer : Result Y Refusal) (p : ParseError) (e : ReadError) → ((refusal_of p ≡ out_of_memory) × (e ≡ OutOfMemory)) ⊎ ((refusal_of p ≢ out_of_memory) × (e ≡ Refused p))
+-- a refusal, or a failed allocation
+pub with_memory : {X Y : Type 0} (view : X → Y) (answer : Result Y Refusal) (p : ParseError) (e : ReadError) → ((refusal_of p ≡ out_of_memory) × (e ≡ OutOfMemory)) ⊎ ((refusal_of p ≢ out_of_memory) × (e ≡ Refused p))
     → (refusal_of p ≢ out_of_memory → answer ≡ Err (refusal_of p)) → Reads false view answer (Err e)
-as_told view answer p e (inl memory) refused = subst (λ (error : ReadError). Reads false view answer (Err error)) (sym memory.1) tt
-as_told view answer p e (inr other) refused = subst (λ (error : ReadError). Reads false view answer (Err error)) (sym other.1) (refused other.0)
+with_memory view answer p e (inl memory) refused = subst (λ (error : ReadError). Reads false view answer (Err error)) (sym memory.1) tt
+with_memory view answer p e (inr other) refused = subst (λ (error : ReadError). Reads false view answer (Err error)) (sym other.1) (refused other.0)
 
 -- another refusal
 pub not_memory : {A : Type 0} {answer : Result A Refusal} {why memory : Refusal} {N : Type 0} → (answer ≡ Err why) ⊎ ((why ≡ memory) × N) → (why ≢ memory) → answer ≡ Err why

@@ -135,7 +135,7 @@ fn found_in(alloc: Global, commands: &[u8]) -> Result<Found, ReadError>
     let header = header_in(commands)?;
     let starts = match section_starts(alloc, commands, header) {
         Ok(starts) => starts,
-        Err(e) => return Err(told(e)),
+        Err(e) => return Err(error_of(e)),
     };
     let table = symbol_table(commands, header)?;
     let extents = extents_at(alloc, commands, &starts)?;
@@ -148,8 +148,8 @@ fn found_in(alloc: Global, commands: &[u8]) -> Result<Found, ReadError>
     })
 }
 
-// A refusal, or a failed allocation.
-fn told(e: ParseError) -> ReadError
+// A failed allocation is returned as such, and any other error as a refusal.
+fn error_of(e: ParseError) -> ReadError
     ensures { ((refusal_of e ≡ out_of_memory) × (result ≡ OutOfMemory))
         ⊎ ((refusal_of e ≢ out_of_memory) × (result ≡ Refused e)) }
 {

@@ -73,9 +73,9 @@ impl AllParts {
         )?)
     }
 
-    /// The name of the section of this number, which is one more than its index, as its header has it: in an object file a
-    /// name of more than 8 bytes is as `/4`. It is a part of what was read; nothing is copied. `None` where there is no such
-    /// section, and where its name isn't UTF-8.
+    /// The name of the section of this number, which is one more than its index, as its header has it: as `/4` for a name of
+    /// more than 8 bytes, which is in the string table. It is a part of what was read; nothing is copied. `None` where there
+    /// is no such section, and where its name isn't UTF-8.
     pub fn section_name(&self, number: u32) -> Option<&str>
         ensures { option_map (λ t. t.now) result ≡ (all_view self.entry.now).section_name number }
     {

@@ -3,13 +3,13 @@ use Rattle.binfarce_bytes.specs.Refusal.{refusal_of}
 use Rattle.binfarce_macho.specs.Macho.{Header}
 use Rattle.binfarce_macho.specs.MachoAll.{end_at, name_at}
 use Rattle.binfarce_tables.specs.machine.MachoPlaces.{all_commands, found_view}
-use Rattle.binfarce_tables.proofs.MachoAllLocated.{starts_refused, table_refused, all_found, as_told, not_memory}
+use Rattle.binfarce_tables.proofs.MachoAllLocated.{starts_refused, table_refused, all_found, with_memory, not_memory}
 use Rattle.binfarce_tables.proofs.Readings.{converted}
 use Rattle.binfarce_tables.proofs.macho_all.found_in.Goals as goal
 
 pub returns-in-Err : goal.returns-in-Err
 returns-in-Err c = λ file inside are.
-    as_told found_view (all_commands file) c.in-Err.e c.told.result c.told.ensures (λ other. starts_refused file c.args.commands.now inside are (refusal_of c.in-Err.e) (not_memory c.in-Err.ensures other))
+    with_memory found_view (all_commands file) c.in-Err.e c.error_of.result c.error_of.ensures (λ other. starts_refused file c.args.commands.now inside are (refusal_of c.in-Err.e) (not_memory c.in-Err.ensures other))
 
 pub returns-in_err-table : goal.returns-in_err-table
 returns-in_err-table c = λ file inside are.

@@ -1,8 +1,7 @@
 -- What the parts of a file give is what the file answers for all sections.
-use Rattle.std.proofs.Common.{◌≡◌, ℕ, Bool, true, false, cond, ltb, length, List, [], ◌++◌, map, Vec, Global, Option, Some, None, Result, Ok, Err, refl, sym, ap, subst, ◌∙◌, inl, inr}
+use Rattle.std.proofs.Common.{◌≡◌, ℕ, Bool, true, false, cond, ltb, length, List, [], map, Vec, Global, Option, Some, None, Result, Ok, Err, refl, sym, ap, subst, ◌∙◌, inl, inr}
 use Rattle.std.specs.Prelude.{◌≢◌, codes, nat_eq}
-use Rattle.std.specs.List.{AllZip, concat}
-use Rattle.std.specs.Result.{IsErr, IsErrAnd}
+use Rattle.std.specs.Result.{IsErrAnd}
 use Rattle.binfarce.specs.declared.ParseError.{ParseError}
 use Rattle.binfarce.specs.declared.Format.{Format}
 use Rattle.binfarce.specs.declared.Format.TheVariants as formats
@@ -19,7 +18,7 @@ use Rattle.binfarce.specs.Macho.{least_length}
 use Rattle.binfarce.specs.MachoAll as macho_all
 use Rattle.binfarce_macho.proofs.AllRows.{has_start}
 use Rattle.binfarce.specs.Pe as pe_file
-use Rattle.binfarce_tables.specs.ElfAllReading.{all_file_answer, all_view}
+use Rattle.binfarce_tables.specs.ElfAllReading.{all_file_answer}
 use Rattle.binfarce_tables.specs.MachoAllReading as macho
 use Rattle.binfarce_tables.specs.PeAllReading as pe
 use Rattle.binfarce_tools.specs.declared.all.AllTables.{AllTables}
@@ -110,6 +109,9 @@ module _ (which : SymbolTable) (file : List ℕ) (found : macho.AllLocated)
       got which file formats.Macho (macho.all_symbols found) result is.0 (is.1 ∙ ap Some same)
       (not_listed SomeEnd (HasSections formats.Macho file) (macho_all.name_of found.names) found.shares_addresses (macho.all_entries found) e result (told_all_of found.ends found.symbols) needs answers err)
 
+located_same : {a b : macho.AllLocated} → Path (Result macho.AllLocated Refusal) (Ok a) (Ok b) → b ≡ a
+located_same e = cc
+
 -- a Mach-O file with an end of a section has a section
 pub macho_needs : (file : List ℕ) (found : macho.AllLocated) → macho.all_located_answer file ≡ Ok found → found.ends ≢ [] → HasSections formats.Macho file
 unfolding HasSections
@@ -125,10 +127,7 @@ macho_needs file found is some = by_length (ltb (length file) least_length) is
             → (symbols >>= λ symbols. Ok (record { ends = map (macho_all.end_at file) starts; names = map (macho_all.name_at file) starts; symbols = symbols; shares_addresses = nat_eq (macho_file.header_of file).filetype 1 })) ≡ Ok found
             → found.ends ≡ map (macho_all.end_at file) starts
         by_symbols (Err refusal) e = absurd cc
-        by_symbols (Ok symbols) e = ap (λ (l : macho.AllLocated). l.ends) (of_ok e)
-
-        of_ok : {a b : macho.AllLocated} → Path (Result macho.AllLocated Refusal) (Ok a) (Ok b) → b ≡ a
-        of_ok e = cc
+        by_symbols (Ok symbols) e = ap (λ (l : macho.AllLocated). l.ends) (located_same e)
 
     by_length : (short : Bool) → cond short (Err unexpected_eof) (macho.all_located file) ≡ Ok found → macho_all.HasSection file
     by_length true e = absurd cc

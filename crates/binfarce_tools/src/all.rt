@@ -4,7 +4,6 @@ ghost use Rattle.std.specs.Prelude.{◌≡◌, ◌≢◌, ◌++◌, ℕ, List, m
 ghost use Rattle.std.specs.Iterator.{YieldsFirstBy};
 ghost use Rattle.std.specs.Option.{option_map};
 ghost use Rattle.std.specs.String.{string_bytes};
-ghost use Rattle.binfarce.specs.Format.{format_of};
 ghost use Rattle.binfarce.specs.SectionEntries.{AllSymbols};
 ghost use Rattle.binfarce.specs.SymbolViews.{section_function_view};
 ghost use Rattle.binfarce.specs.declared.SymbolTable.{SymbolTable};
@@ -28,8 +27,9 @@ use crate::map::picture;
 use crate::report::{CrateSums, ReportError, crate_sums, sums_text};
 use crate::tables::{has_table, read_format};
 use crate::writing::write_whole;
-use binfarce::{Format, SectionFunction, SymbolTable};
+use binfarce::SectionFunction;
 use binfarce_bytes::source::Source;
+use binfarce::SymbolTable;
 use binfarce_names::demangle::Demangler;
 use binfarce_tables::{ReadError, elf32, elf64, macho, pe};
 use std::alloc::{AllocError, Global};

@@ -1,5 +1,5 @@
--- Entries with their sections: the function symbols of all sections of a file.
-use Rattle.std.specs.Prelude.{◌≡◌, ◌⊎◌, ℕ, List, map, filter, nat_eq, Option, Some, None, Result, Ok, Err}
+-- Entries with their sections: the function symbols of all sections of a file, and the sections' names.
+use Rattle.std.specs.Prelude.{◌≡◌, ◌⊎◌, ℕ, Bool, List, map, filter, nat_eq, Option, Some, None, Result, Ok, Err}
 use Rattle.binfarce_bytes.specs.declared.error.ParseError.{ParseError}
 use Rattle.binfarce_bytes.specs.Refusal.{Refusal, refusal_of, out_of_memory}
 use Rattle.binfarce_bytes.specs.Entries.{Entry}
@@ -8,6 +8,12 @@ use Rattle.binfarce_bytes.specs.Entries.{Entry}
 pub record SectionEntry : Type 0 where
   pub section : ℕ
   pub entry : Entry
+
+-- the function symbols of all sections of a file; the name of the section of each number, where it has one; and whether the file is an object file, whose sections share addresses
+pub record AllSymbols : Type 0 where
+  pub entries : List SectionEntry
+  pub section_name : ℕ → Option (List ℕ)
+  pub is_object : Bool
 
 -- these entries, as those of the section of this number
 abbrev pub in_section : ℕ → List Entry → List SectionEntry

@@ -5,3 +5,4 @@ pub mod RowsLeft
 pub mod RowParts
 pub mod SectionsLeft
 pub mod Steps
+pub mod Numbered

@@ -1,11 +1,12 @@
 -- The function symbols of all sections of an ELF file.
-use Rattle.std.specs.Prelude.{ℕ, ◌-◌, ◌*◌, ◌/◌, Bool, ◌&&◌, List, length, Option, None, Result, Ok, nat_lt, if◌then◌else◌}
-use Rattle.std.specs.Option.{option_map}
+use Rattle.std.specs.Prelude.{ℕ, ◌-◌, ◌*◌, ◌/◌, Bool, ◌&&◌, List, length, slice_get, Option, None, Result, Ok, nat_lt, if◌then◌else◌}
+use Rattle.std.specs.Option.{option_map, option_and_then}
 use Rattle.std.specs.List.{range_with_len, filter_map}
 use Rattle.binfarce_bytes.specs.declared.ByteOrder.{ByteOrder}
 use Rattle.binfarce_bytes.specs.Refusal.{◌>>=◌, Refusal}
 use Rattle.binfarce_bytes.specs.SectionEntries.{SectionEntry, unless}
-use Rattle.binfarce_elf.specs.Elf.{ElfClass, SectionTable, SymbolRow, walk}
+use Rattle.binfarce_bytes.specs.Walk.{Walk}
+use Rattle.binfarce_elf.specs.Elf.{ElfClass, SectionTable, Section, SymbolRow, walk, name_among}
 use Rattle.binfarce_elf.specs.ElfSymbols.{symbol_at, entry_of, rows_in}
 use Rattle.binfarce_elf.specs.declared.all.AllFunctions.{AllFunctions}
 use Rattle.binfarce_elf.specs.declared.symbol_table.SymbolTable.{SymbolTable}
@@ -30,6 +31,10 @@ all_answer which class table = do
   count ← unless (walk class table).refusal table.shnum
   found ← rows_in which class table
   Ok (section_entries_from class table.order found.strings count found.rows 0)
+
+-- the name of the section of this index, where there is one and it has a name among these
+abbrev pub name_of_index : Option (List ℕ) → Walk Section → ℕ → Option (List ℕ)
+name_of_index names sections index = option_and_then (λ s. name_among names s.name_offset) (slice_get sections.items index)
 
 -- the entries that an iterator of the function symbols of all sections has left
 abbrev pub all_left : {C : Type 0} → ElfClass → AllFunctions C → List SectionEntry

@@ -1,8 +1,10 @@
--- What the symbols of a section need, found in the section headers and the section names.
+-- What the symbols of a section, and those of all sections, need, found in the section headers and the section names.
 use Rattle.std.specs.Prelude.{ℕ, List, Option, Result, Ok, nat_eq}
 use Rattle.binfarce_bytes.specs.declared.ByteOrder.{ByteOrder}
 use Rattle.binfarce_bytes.specs.Refusal.{◌>>=◌, Refusal, symbols_section_is_missing, section_is_missing}
+use Rattle.binfarce_bytes.specs.SectionEntries.{unless}
 use Rattle.binfarce_elf.specs.declared.parts.Needed.{Needed}
+use Rattle.binfarce_elf.specs.declared.parts.NeededTable.{NeededTable}
 use Rattle.binfarce_elf.specs.Elf.{ElfClass, Section, SectionTable, walk, name_among}
 use Rattle.binfarce_elf.specs.ElfSymbols.{sought, is_named, string_table_kind}
 use Rattle.binfarce_elf.specs.ElfViews.{section_view}
@@ -31,3 +33,21 @@ needed which class table names wanted = do
 -- a `Needed`
 abbrev pub needed_view : {C : Type 0} → (C → ℕ) → Needed C → NeededSections
 needed_view number n = record { section = section_view number n.section; symbols = section_view number n.symbols; strings = section_view number n.strings }
+
+-- the symbol table, and the section of its strings
+pub record TableSections : Type 0 where
+  pub symbols : Section
+  pub strings : Section
+
+-- what the symbols of all sections need: the refusals in order, that of the walk over all sections first; else the sections
+unfoldable pub needed_of_all : SymbolTable → ElfClass → SectionTable → Result TableSections Refusal
+needed_of_all which class table = do
+  count ← unless (walk class table).refusal table.shnum
+  symbols ← sought (section_is_missing (table_name which)) (λ s. nat_eq s.kind (section_type which)) (walk class table)
+  linked ← sought (section_is_missing (strings_name which)) (λ s. nat_eq s.index symbols.link) (walk class table)
+  strings ← string_table_kind linked
+  Ok (record { symbols = symbols; strings = strings })
+
+-- a `NeededTable`
+abbrev pub needed_table_view : {C : Type 0} → (C → ℕ) → NeededTable C → TableSections
+needed_table_view number n = record { symbols = section_view number n.symbols; strings = section_view number n.strings }

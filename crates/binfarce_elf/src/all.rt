@@ -32,7 +32,7 @@ pub fn all_functions<'a, C: Class>(
 
 // How many sections there are; refused where a section header is truncated.
 #[tactic(auto, unfolding(crate::specs::Elf::walk))]
-fn whole_sections<C: Class>(table: Table<'_>) -> Result<Half, UnexpectedEof>
+pub(crate) fn whole_sections<C: Class>(table: Table<'_>) -> Result<Half, UnexpectedEof>
     ensures { let end = (walk C.table (table_view table.entry)).refusal in MatchResult result
         (λ n. (end ≡ None) × (n ≡ table.entry.shnum)) (λ _. end ≡ Some unexpected_eof) }
 {

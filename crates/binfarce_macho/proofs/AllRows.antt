@@ -1,5 +1,5 @@
 -- The entries of all sections, from the rows and the ends of the sections.
-use Rattle.std.proofs.Common.{◌≡◌, ◌≢◌, ℕ, zero, suc, ◌+◌, ◌-◌, ◌<◌, ◌≤◌, Bool, true, false, cond, List, [], ◌∷◌, length, map, slice_get, take, All, Option, Some, None, Result, Ok, Err, IsErrAnd, inl, inr, refl, sym, ap, subst, ◌∙◌, arith, nat_eq, nat_cmp, IsPermutation}
+use Rattle.std.proofs.Common.{◌≡◌, ◌≢◌, ℕ, zero, suc, ◌+◌, ◌-◌, ◌<◌, ◌≤◌, Bool, true, false, cond, List, [], ◌∷◌, length, map, slice_get, take, All, Option, Some, None, Result, Ok, Err, IsErrAnd, MatchResult, ◌⊎◌, inl, inr, refl, sym, ap, subst, ◌∙◌, arith, nat_eq, nat_cmp, IsPermutation}
 use Rattle.std.specs.Global.{Vec}
 use Rattle.std.specs.List.Sorted.{IsSortedByKey, IsStableByKey}
 use Rattle.std.proofs.lemmas.Bool.{cases_eq, eq-eqb, ne_eqb}
@@ -13,7 +13,7 @@ use Rattle.binfarce_bytes.specs.SymbolViews.{section_function_view, HoldsSection
 use Rattle.binfarce_bytes.specs.Sizes.{RowAddress, arranged, addresses_of}
 use Rattle.binfarce_macho.specs.declared.all.Extent.{Extent}
 use Rattle.binfarce_macho.specs.Macho.{commands, walk}
-use Rattle.binfarce_macho.specs.MachoAll.{Symbols, section_ends, ends_among, HasSection, symbols_of, all_answer, is_defined, end_of, checked_end, entry_in, section_entry, by_section, all_of, numbered, extent_end}
+use Rattle.binfarce_macho.specs.MachoAll.{Symbols, end_at, section_starts, section_ends, starts_among, HasSection, symbols_of, all_answer, is_defined, end_of, checked_end, entry_in, section_entry, by_section, all_of, numbered, extent_end}
 use Rattle.binfarce_macho.specs.MachoSymbols.{SymbolRow, symbol_of, row_addresses, macho_size, sized_entry, kept}
 use Rattle.binfarce_macho.proofs.BySection.{InOne, sorted_by_section}
 use Rattle.binfarce_macho.proofs.MachoLaws.{kept_each}
@@ -162,16 +162,44 @@ module _ (file : List ℕ) where
   unfolding all_of
   no_table N ends functions at is none = listed N (all_answer file) functions (answer_at ends None at is ∙ ap (λ (fs : List SectionFunction). Ok (map section_function_view fs)) (sym none))
 
+  -- without a start there is no end
+  pub starts_refused : (why : Refusal) → section_starts file ≡ Err why → section_ends file ≡ Err why
+  unfolding section_ends
+  starts_refused why at = rw at refl
+
+  -- the ends are those of the sections that begin there
+  pub ends_at : (starts ends : List ℕ) → section_starts file ≡ Ok starts → ends ≡ map (end_at file) starts → section_ends file ≡ Ok ends
+  unfolding section_ends
+  ends_at starts ends at is = rw at (ap Ok (sym is))
+
+  -- why there are no ends
+  pub no_ends : {X : Type 0} (result : Result X ParseError) (Q : X → Type 0) (error : ParseError) → IsErrAnd result (λ e. e ≡ error)
+      → (section_ends file ≡ Err (refusal_of error)) ⊎ ((refusal_of error ≡ out_of_memory) × HasSection file)
+      → MatchResult result Q (λ e. (section_ends file ≡ Err (refusal_of e)) ⊎ ((refusal_of e ≡ out_of_memory) × HasSection file))
+  no_ends (Ok x) Q error is p = absurd is
+  no_ends (Err e) Q error is p = subst (λ (e : ParseError). (section_ends file ≡ Err (refusal_of e)) ⊎ ((refusal_of e ≡ out_of_memory) × HasSection file)) (sym is) p
+
+  -- where there is a start there is a section
+  pub has_start : (starts : List ℕ) → section_starts file ≡ Ok starts → starts ≢ [] → HasSection file
+  unfolding section_starts
+  has_start starts at some none = by_refusal (walk file).refusal at
+    where
+      by_refusal : (o : Option Refusal) → unless o (take 255 (starts_among file (commands file).items)) ≡ Ok starts → ⊥
+      by_refusal (Some why) at = absurd cc
+      by_refusal None at =
+          let same : take 255 (starts_among file (commands file).items) ≡ starts = cc in
+          some (sym same ∙ ap (take 255) none)
+
   -- where there is an end there is a section
   pub some_section : (ends : List ℕ) → section_ends file ≡ Ok ends → ends ≢ [] → HasSection file
   unfolding section_ends
-  some_section ends at some none = by_refusal (walk file).refusal at
+  some_section ends at some = by_starts (section_starts file) refl at
     where
-      by_refusal : (o : Option Refusal) → unless o (take 255 (ends_among file (commands file).items)) ≡ Ok ends → ⊥
-      by_refusal (Some why) at = absurd cc
-      by_refusal None at =
-          let same : take 255 (ends_among file (commands file).items) ≡ ends = cc in
-          some (sym same ∙ ap (take 255) none)
+      by_starts : (r : Result (List ℕ) Refusal) → section_starts file ≡ r → (r >>= λ starts. Ok (map (end_at file) starts)) ≡ Ok ends → HasSection file
+      by_starts (Err why) is at = absurd cc
+      by_starts (Ok starts) is at =
+          let same : map (end_at file) starts ≡ ends = cc in
+          has_start starts is (λ none. some (sym same ∙ ap (map (end_at file)) none))
 
 pub no_extents : (sections : List Extent) → map extent_end sections ≡ [] → sections ≡ []
 no_extents [] e = refl

@@ -1,5 +1,5 @@
 -- The function symbols of all sections of a Mach-O file.
-use Rattle.std.specs.Prelude.{◌≡◌, ◌≢◌, ℕ, ◌+◌, ◌-◌, ◌*◌, ◌^◌, Bool, ◌&&◌, List, [], length, map, filter, take, slice_get, bit_and, not, nat_eq, nat_lt, Option, Some, None, Result, Ok, Err, if◌then◌else◌}
+use Rattle.std.specs.Prelude.{◌≡◌, ◌≢◌, ℕ, ◌+◌, ◌-◌, ◌*◌, ◌^◌, Bool, ◌&&◌, List, [], ◌∷◌, ◌++◌, length, map, filter, take, slice_get, unwrap_or, bit_and, not, nat_eq, nat_lt, Option, Some, None, Result, Ok, Err, if◌then◌else◌}
 use Rattle.std.specs.Option.{option_map}
 use Rattle.std.specs.List.{range_with_len, flat_map}
 use Rattle.binfarce_bytes.specs.Text.{text_at}
@@ -10,7 +10,7 @@ use Rattle.binfarce_bytes.specs.SectionEntries.{SectionEntry, of_section, unless
 use Rattle.binfarce_bytes.specs.Sizes.{RowAddress, arranged, addresses_of}
 use Rattle.binfarce_macho.specs.declared.all.Extent.{Extent}
 use Rattle.binfarce_macho.specs.declared.all.SymbolBytes as code
-use Rattle.binfarce_macho.specs.Macho.{Command, commands, body_of, is_segment, section_count, section_offset, section_fields, walk}
+use Rattle.binfarce_macho.specs.Macho.{Command, commands, body_of, is_segment, Section, section_at, section_count, section_offset, section_fields, walk}
 use Rattle.binfarce_macho.specs.MachoParts.{named_table}
 use Rattle.binfarce_macho.specs.MachoSymbols.{SymbolTable, SymbolRow, symbol_of, symbol_length, symbol_command, slice_at, row_addresses, macho_size, sized_entry, kept, Located, located, macho_answer}
 
@@ -18,29 +18,45 @@ use Rattle.binfarce_macho.specs.MachoSymbols.{SymbolTable, SymbolRow, symbol_of,
 abbrev pub greatest_section : ℕ
 greatest_section = 255
 
+-- where the structures of the first sections of a segment command with this body begin, as many as that
+abbrev pub first_starts : ℕ → ℕ → List ℕ
+first_starts body count = map (λ i. section_offset body i) (range_with_len 0 count)
+
+-- of all its sections
+abbrev pub starts_in : List ℕ → ℕ → List ℕ
+starts_in file body = first_starts body (section_count file body)
+
+-- those of the segments among these commands
+abbrev pub starts_among : List ℕ → List Command → List ℕ
+starts_among file commands = flat_map (λ command. if is_segment command then starts_in file (body_of command) else []) commands
+
+-- those of the file, which numbers its sections from 1 on, also a section whose name isn't valid: the first 255. Refused as the walk over the sections is
+unfoldable pub section_starts : List ℕ → Result (List ℕ) Refusal
+section_starts file = unless (walk file).refusal (take greatest_section (starts_among file (commands file).items))
+
+-- the file has a section
+abbrev pub HasSection : List ℕ → Type 0
+HasSection file = starts_among file (commands file).items ≢ []
+
 -- the end in memory of the section whose structure begins at start
 unfoldable pub end_at : List ℕ → ℕ → ℕ
 end_at file start = number_in file start section_fields.address + number_in file start section_fields.size
 
--- the ends of the first sections of a segment command with this body, as many as that
-abbrev pub first_ends : List ℕ → ℕ → ℕ → List ℕ
-first_ends file body count = map (λ i. end_at file (section_offset body i)) (range_with_len 0 count)
-
--- of all its sections
-abbrev pub ends_in : List ℕ → ℕ → List ℕ
-ends_in file body = first_ends file body (section_count file body)
-
--- those of the segments among these commands
-abbrev pub ends_among : List ℕ → List Command → List ℕ
-ends_among file commands = flat_map (λ command. if is_segment command then ends_in file (body_of command) else []) commands
-
--- those of the file, which numbers its sections from 1 on, also a section whose name isn't valid: the first 255. Refused as the walk over the sections is
+-- the ends of the file's sections, in the order of their numbers
 unfoldable pub section_ends : List ℕ → Result (List ℕ) Refusal
-section_ends file = unless (walk file).refusal (take greatest_section (ends_among file (commands file).items))
+section_ends file = section_starts file >>= λ starts. Ok (map (end_at file) starts)
 
--- the file has a section
-abbrev pub HasSection : List ℕ → Type 0
-HasSection file = ends_among file (commands file).items ≢ []
+-- a section's name behind its segment's, as `otool` and `ld` have it: `SEGMENT,SECTION`
+abbrev pub full_name : Section → List ℕ
+full_name section = section.segment_name ++ 44 ∷ section.section_name
+
+-- that of the section whose structure begins at start; none where one of its two names isn't valid
+abbrev pub name_at : List ℕ → ℕ → Option (List ℕ)
+name_at file start = option_map full_name (section_at file start)
+
+-- the name of the section of this number, where these are the names of all sections
+abbrev pub name_of : List (Option (List ℕ)) → ℕ → Option (List ℕ)
+name_of names number = if nat_eq number 0 then None else unwrap_or (slice_get names (number - 1)) None
 
 -- the string table, and the rows of the symbol table
 pub record Symbols : Type 0 where

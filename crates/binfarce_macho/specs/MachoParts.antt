@@ -18,6 +18,10 @@ abbrev pub named_table : List ℕ → Option Command → Result (Option (SymbolT
 named_table file None = Ok None
 named_table file (Some command) = whole_table file command >>= λ table. Ok (Some table)
 
+-- what the command of the symbol table names, where there is one
+abbrev pub table_of : List ℕ → Result (Option (SymbolTable ℕ)) Refusal
+table_of file = symbol_command file >>= named_table file
+
 -- the refusals in order; else what is needed
 unfoldable pub needed : List ℕ → Result NeededTables Refusal
 needed file = do

@@ -1,22 +1,21 @@
 //! The function symbols of all sections.
 
-ghost use Rattle.std.specs.Prelude.{◌≡◌, ◌≢◌, ℕ, ◌+◌, ◌*◌, ◌<◌, ◌≤◌, ◌^◌, ◌++◌, ◌⊎◌, [], length, map, take, slice_get, All, Some, None, Ok, Err, IfOk, OnErr, MatchResult, MatchOption};
+ghost use Rattle.std.specs.Prelude.{◌≡◌, ◌≢◌, ℕ, ◌+◌, ◌*◌, ◌<◌, ◌≤◌, ◌^◌, ◌⊎◌, [], length, map, slice_get, All, Some, None, Ok, Err, IfOk, OnErr, MatchResult, MatchOption};
 ghost use Rattle.std.specs.Option.{option_map};
-ghost use Rattle.binfarce_bytes.specs.Refusal.{Gives, refusal_of, out_of_memory, unexpected_eof};
+ghost use Rattle.binfarce_bytes.specs.Refusal.{Gives, refusal_of, out_of_memory};
 ghost use Rattle.binfarce_bytes.specs.RowViews.{row_view, rows_view};
 ghost use Rattle.binfarce_bytes.specs.SectionEntries.{AnswersAll};
 ghost use Rattle.binfarce_bytes.specs.Sizes.{addresses_of, least_above};
 ghost use Rattle.binfarce_bytes.specs.SymbolViews.{function_view, section_function_view, HoldsSectionFunctions};
-ghost use Rattle.binfarce_macho.specs.Macho.{header_of, segment, whole_headers};
-ghost use Rattle.binfarce_macho.specs.MachoAll.{greatest_section, end_at, end_of, ends_in, first_ends, section_ends, HasSection, symbols_of, symbols_by, symbols_view, extent_end, checked_end, numbered, section_entry, all_of, all_answer};
+ghost use Rattle.binfarce_macho.specs.Macho.{header_of};
+ghost use Rattle.binfarce_macho.specs.MachoAll.{end_at, end_of, section_ends, HasSection, symbols_of, symbols_by, symbols_view, extent_end, checked_end, numbered, section_entry, all_of, all_answer};
 ghost use Rattle.binfarce_macho.specs.MachoParts.{table_view};
 ghost use Rattle.binfarce_macho.specs.MachoSymbols.{kept, row_addresses};
 ghost use Rattle.binfarce_macho.specs.MachoViews.{header_view};
 
-use crate::commands::{LC_SEGMENT_64, commands};
 use crate::header::MachoHeader;
-use crate::parts::{holds_sections, named_table};
-use crate::sections::SECTION_LENGTH;
+use crate::numbered::section_starts;
+use crate::parts::named_table;
 use crate::symbols::{
     SYMBOL_LENGTH, SymbolTable, is_defined, row_addresses, size_up_to, sized_entry, symbol_at,
     symbol_command,
@@ -26,9 +25,6 @@ use binfarce_bytes::parser::{number_at, parse_null_string, slice_at};
 use binfarce_bytes::sizes::{RowAddress, arrange};
 use binfarce_bytes::{ByteOrder, ParseError};
 use std::alloc::{AllocError, Global};
-
-// The greatest number of a section that a row can state (`MAX_SECT`).
-const MAX_SECT: usize = 255;
 
 /// Where a section is in memory: the address of its first byte, and its size in bytes.
 #[derive(Clone, Copy)]
@@ -61,60 +57,28 @@ pub fn functions_of_sections<'a>(
     }
 }
 
-/// Where the sections of a file are in memory, in the order of their numbers, up to number 255. Refused as `find_section` of
-/// a reader is with a callback that accepts none; `OutOfMemory` comes only where the file has a section.
-pub fn extents(alloc: Global, file: &[u8], header: MachoHeader) -> Result<Vec<Extent>, ParseError>
+// Where the sections of a file are in memory, in the order of their numbers. `OutOfMemory` comes only where it has a section.
+fn extents(alloc: Global, file: &[u8], header: MachoHeader) -> Result<Vec<Extent>, ParseError>
     requires { header_view header ≡ header_of file.now }
     ensures { MatchResult result
         (λ v. section_ends file.now ≡ Ok (map extent_end v.items))
         (λ e. (section_ends file.now ≡ Err (refusal_of e)) ⊎ ((refusal_of e ≡ out_of_memory) × HasSection file.now)) }
 {
+    let starts = section_starts(alloc, file, header)?;
+    Ok(extents_at(alloc, file, &starts)?)
+}
+
+/// Where the sections are in memory whose structures begin there. `OutOfMemory` comes only where there is one.
+pub fn extents_at(alloc: Global, file: &[u8], starts: &[usize]) -> Result<Vec<Extent>, AllocError>
+    requires { All (λ start. start + 52 ≤ length file.now) starts.now }
+    ensures extents { IfOk result (λ v. map extent_end v.items ≡ map (end_at file.now) starts.now) }
+    ensures memory { OnErr result (starts.now ≢ []) }
+{
     let mut sections = Vec::new(alloc);
-    for item in commands(file, header) {
-        let command = item?;
-        if command.kind == LC_SEGMENT_64 {
-            push_sections(&mut sections, file, command.offset + 8)?;
-        }
+    for start in starts {
+        sections.push(extent_at(file, *start))?;
     }
     Ok(sections)
-}
-
-// Adds the sections of a segment command, up to number 255; refused where one is truncated.
-fn push_sections(sections: &mut Vec<Extent>, file: &[u8], body: usize) -> Result<(), ParseError>
-    requires few { length sections.old.items ≤ greatest_section }
-    requires inside { body ≤ length file.now }
-    ensures { MatchResult result
-        (λ _. ((segment file.now body).refusal ≡ None)
-        × (map extent_end sections.new.items
-        ≡ take greatest_section (map extent_end sections.old.items ++ ends_in file.now body)))
-        (λ e. ((segment file.now body).refusal ≡ Some (refusal_of e))
-        ⊎ ((refusal_of e ≡ out_of_memory) × (ends_in file.now body ≢ []))) }
-{
-    if !holds_sections(file, body) {
-        return Err(ParseError::UnexpectedEof);
-    }
-    let count: u32 = number_at(file, body + 56, ByteOrder::LittleEndian)?;
-    let room = MAX_SECT - sections.len();
-    push_extents(sections, file, body, room.min(count as usize))?;
-    Ok(())
-}
-
-// Adds as many sections of a segment command, none of which is truncated.
-fn push_extents(
-    sections: &mut Vec<Extent>,
-    file: &[u8],
-    body: usize,
-    count: usize,
-) -> Result<(), AllocError>
-    requires { count ≤ whole_headers file.now body }
-    ensures pushed { IfOk result
-        (λ _. map extent_end sections.new.items ≡ map extent_end sections.old.items ++ first_ends file.now body count) }
-    ensures memory { OnErr result (0 < count) }
-{
-    for index in 0..count {
-        sections.push(extent_at(file, body + 64 + index * SECTION_LENGTH))?;
-    }
-    Ok(())
 }
 
 // Where the section is whose structure begins at `start`.

@@ -16,7 +16,7 @@ pub struct MachoHeader {
     cputype: u32,
     cpusubtype: u32,
     /// The type of the file: an object, a program, a library.
-    filetype: u32,
+    pub(crate) filetype: u32,
     /// How many load commands there are.
     pub(crate) ncmds: u32,
     /// How many bytes they have together.

@@ -6,6 +6,7 @@ pub mod all;
 mod commands;
 pub mod header;
 mod laws;
+pub mod numbered;
 pub mod parts;
 pub mod sections;
 pub mod symbols;

@@ -4,7 +4,7 @@ ghost use Rattle.std.specs.Prelude.{◌≡◌, ◌+◌, ◌≤◌, ◌&&◌, len
 ghost use Rattle.std.specs.Option.{option_map};
 ghost use Rattle.binfarce_bytes.specs.Refusal.{Gives, refusal_of};
 ghost use Rattle.binfarce_macho.specs.Macho.{header_of, header_length, segment_read, section_count, whole_headers};
-ghost use Rattle.binfarce_macho.specs.MachoParts.{needed, named_table, needed_view, table_view, holds_body, holds_commands};
+ghost use Rattle.binfarce_macho.specs.MachoParts.{needed, named_table, table_of, needed_view, table_view, holds_body, holds_commands};
 ghost use Rattle.binfarce_macho.specs.MachoViews.{header_view};
 ghost use Rattle.binfarce_macho.specs.machine.RawMacho.{command_view};
 
@@ -35,6 +35,16 @@ pub fn needed_tables(file: &[u8], header: MachoHeader) -> Result<Needed<'_>, Par
     let command = symbol_command(file, header)?;
     let table = named_table(file, command)?;
     Ok(Needed { text, table })
+}
+
+/// What the command of the symbol table names, of a file that has this header; `None` without such a command. Refused as
+/// `functions` of a reader is, up to there.
+pub fn symbol_table(file: &[u8], header: MachoHeader) -> Result<Option<SymbolTable>, ParseError>
+    requires { header_view header ≡ header_of file.now }
+    ensures { Gives refusal_of (option_map table_view) (table_of file.now) result }
+{
+    let command = symbol_command(file, header)?;
+    named_table(file, command)
 }
 
 pub(crate) fn named_table(

@@ -299,7 +299,7 @@ fn first_in_segment<'a, F: Fn(Section<'_>) -> bool>(
 
 // The section whose structure begins at `start`, where both its names are valid; refused where a field is truncated.
 #[tactic(auto, unfolding(crate::specs::Macho::section_at, crate::specs::Macho::section_fields))]
-fn section_at(bytes: &[u8], start: usize) -> Result<Option<Section<'_>>, UnexpectedEof>
+pub(crate) fn section_at(bytes: &[u8], start: usize) -> Result<Option<Section<'_>>, UnexpectedEof>
     ensures { MatchResult result
         (λ s. (start + 52 ≤ length bytes.now) × (option_map section_view s ≡ section_at bytes.now start))
         (λ _. length bytes.now < start + 52) }

@@ -1,12 +1,13 @@
 -- The function symbols of all sections of a PE file.
-use Rattle.std.specs.Prelude.{◌≡◌, ◌≢◌, ℕ, ◌+◌, ◌*◌, List, Result, Ok}
+use Rattle.std.specs.Prelude.{◌≡◌, ◌≢◌, ℕ, ◌+◌, ◌-◌, ◌*◌, List, Option, None, Result, Ok, nat_eq, nat_le, if◌then◌else◌}
+use Rattle.std.specs.Option.{option_map}
 use Rattle.std.specs.List.{range_with_len, flat_map}
 use Rattle.binfarce_bytes.specs.Refusal.{◌>>=◌, Refusal}
 use Rattle.binfarce_bytes.specs.Field.{number_in}
 use Rattle.binfarce_bytes.specs.Entries.{Listed}
 use Rattle.binfarce_bytes.specs.SectionEntries.{SectionEntry, in_section, of_section, unless}
 use Rattle.binfarce_pe.specs.Pe.{Section, header_of, section_fields, section_length}
-use Rattle.binfarce_pe.specs.PeParts.{SectionTable, section_table, table_walk}
+use Rattle.binfarce_pe.specs.PeParts.{SectionTable, section_table, section_in, table_walk}
 use Rattle.binfarce_pe.specs.PeSymbols.{SymbolTable, symbol_table, text_section, pe_answer, entries_of}
 
 -- how many bytes the section of this index has in the file
@@ -20,6 +21,13 @@ section_entries sections symbols index = in_section (index + 1) (entries_of symb
 -- the entries of all sections, in the order of their numbers; also of a section whose name isn't UTF-8
 abbrev pub all_entries : SectionTable → SymbolTable → List SectionEntry
 all_entries sections symbols = flat_map (section_entries sections symbols) (range_with_len 0 sections.count)
+
+-- the name of the section of this number, where there is one and its name is UTF-8
+abbrev pub name_of : SectionTable → ℕ → Option (List ℕ)
+name_of sections number =
+    if nat_eq number 0 then None
+    else if nat_le number sections.count then option_map (λ section. section.name) (section_in sections (number - 1))
+    else None
 
 -- the section headers, of which none is truncated: else refused as the walk over the sections is
 abbrev pub whole_sections : SectionTable → Result SectionTable Refusal

@@ -1,15 +1,17 @@
 //! The function symbols of all sections.
 
-ghost use Rattle.std.specs.Prelude.{◌≡◌, ◌≢◌, ℕ, ◌+◌, ◌<◌, ◌≤◌, ◌++◌, [], ◌∷◌, length, map, All, IfOk, OnErr, MatchOption};
+ghost use Rattle.std.specs.Prelude.{◌≡◌, ◌≢◌, ℕ, ◌+◌, ◌*◌, ◌<◌, ◌≤◌, ◌++◌, [], ◌∷◌, length, map, All, IfOk, OnErr, MatchOption};
+ghost use Rattle.std.specs.Option.{option_map};
 ghost use Rattle.binfarce_bytes.specs.Refusal.{Gives, refusal_of};
 ghost use Rattle.binfarce_bytes.specs.SectionEntries.{AnswersAll, in_section};
 ghost use Rattle.binfarce_bytes.specs.SymbolViews.{function_view, section_function_view, HoldsSectionFunctions};
-ghost use Rattle.binfarce_pe.specs.PeAll.{size_in, all_entries, whole_sections, all_answer, HasSection};
-ghost use Rattle.binfarce_pe.specs.PeParts.{places_of, places_view, whole_in};
+ghost use Rattle.binfarce_pe.specs.Pe.{section_at};
+ghost use Rattle.binfarce_pe.specs.PeAll.{size_in, name_of, all_entries, whole_sections, all_answer, HasSection};
+ghost use Rattle.binfarce_pe.specs.PeParts.{places_of, places_view, headers_alone, whole_in};
 ghost use Rattle.binfarce_pe.specs.machine.RawPe.{headers_view, table_view, symbol_view, HoldsSections};
 
 use crate::parts::{Places, SECTION_LENGTH};
-use crate::sections::{Table, section_table};
+use crate::sections::{Table, section_at, section_table};
 use crate::symbols::{
     Kept, SYMBOL_LENGTH, SymbolRow, SymbolTable, function_name, kept_functions, symbol_of,
     symbol_table,
@@ -35,6 +37,63 @@ pub fn functions_of_sections<'a>(
     let sections = whole_sections(section_table(file, places))?;
     let symbols = symbol_table(file, places)?;
     Ok(functions_in(alloc, sections, symbols)?)
+}
+
+/// The function symbols of all sections, which have these headers, in these records, whose long names are in these strings.
+/// `OutOfMemory` comes only where there is a section.
+pub fn functions_of_headers<'a>(
+    alloc: Global,
+    headers: &[u8],
+    count: u16,
+    rows: &'a [u8],
+    strings: &'a [u8],
+) -> Result<Vec<SectionFunction<'a>>, AllocError>
+    requires { count ≤ whole_in (headers_alone headers.now count) }
+    ensures functions { IfOk result
+        (λ v. map section_function_view v.items
+        ≡ all_entries (headers_alone headers.now count)
+        (record { rows = rows.entry.now; strings = strings.entry.now })) }
+    ensures memory { OnErr result (count ≢ 0) }
+{
+    functions_in(
+        alloc,
+        table_of(headers, count),
+        SymbolTable { rows, strings },
+    )
+}
+
+fn table_of(headers: &[u8], count: u16) -> Table<'_>
+    ensures { headers_view result ≡ headers_alone headers.entry.now count }
+{
+    Table {
+        bytes: headers,
+        offset: 0,
+        count,
+    }
+}
+
+/// The name of the section of this number, where there is one and its name is UTF-8; a part of these headers.
+pub fn section_name(headers: &[u8], count: u16, number: u32) -> Option<&str>
+    requires { count ≤ whole_in (headers_alone headers.now count) }
+    ensures { option_map (λ t. t.now) result ≡ name_of (headers_alone headers.entry.now count) number }
+{
+    let index = number.checked_sub(1)?;
+    if index < u32::from(count) {
+        name_at(headers, index as u16)
+    } else {
+        None
+    }
+}
+
+fn name_at(headers: &[u8], index: u16) -> Option<&str>
+    requires { index * 40 + 24 ≤ length headers.now }
+    ensures { option_map (λ t. t.now) result
+        ≡ option_map (λ s. s.name) (section_at headers.entry.now (index * 40) index) }
+{
+    match section_at(headers, index as usize * SECTION_LENGTH, index).unwrap() {
+        None => None,
+        Some(section) => Some(section.name),
+    }
 }
 
 // The section headers, of which none is truncated.

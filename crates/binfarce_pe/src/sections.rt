@@ -236,7 +236,11 @@ fn is_accepted<'a, F: Fn(Section<'a>) -> bool>(callback: &F, section: Section<'a
 
 // The section whose header begins at `start`, where its name is UTF-8; refused where a field is truncated.
 #[tactic(auto, unfolding(crate::specs::Pe::section_fields, crate::specs::Pe::section_at))]
-fn section_at(data: &[u8], start: usize, index: u16) -> Result<Option<Section<'_>>, UnexpectedEof>
+pub(crate) fn section_at(
+    data: &[u8],
+    start: usize,
+    index: u16,
+) -> Result<Option<Section<'_>>, UnexpectedEof>
     ensures { MatchResult result
         (λ o. (start + 24 ≤ length data.now) × (option_map section_view o ≡ section_at data.now start index))
         (λ _. length data.now < start + 24) }

@@ -37,6 +37,7 @@ Within len f = f.offset + f.width ≤ len
 
 -- the fields that are read lie within their structures
 pub record HasWithin (class : ElfClass) : Type 0 where
+  pub elf_type : Within class.header_length class.header.elf_type
   pub shoff : Within class.header_length class.header.shoff
   pub shnum : Within class.header_length class.header.shnum
   pub shstrndx : Within class.header_length class.header.shstrndx
@@ -50,6 +51,7 @@ pub record HasWithin (class : ElfClass) : Type 0 where
 
 pub within_class : (class : ElfClass) (w : ℕ) → class.header ≡ fields_of_header w → class.header_length ≡ 40 + 3 * w → class.section ≡ fields_of_section w → class.section_length ≡ 16 + 6 * w → HasWithin class
 within_class class w header_fields header_len fields len = record {
+  elf_type = rw (header_fields, header_len) (omega arith);
   shoff = rw (header_fields, header_len) (omega arith);
   shnum = rw (header_fields, header_len) (omega arith);
   shstrndx = rw (header_fields, header_len) (omega arith);
@@ -87,6 +89,13 @@ place_is class order file size header within is same = cc (
   value_in order file 0 size 0 class.header.shnum (omega (arith, is, within.shnum)),
   value_in order file 0 size 0 class.header.shstrndx (omega (arith, is, within.shstrndx)),
 )
+
+-- the file's type, as the file header alone states it
+pub type_is : (class : ElfClass) (order : ByteOrder) (file : List ℕ) (size : ℕ) (header : Header ℕ) → HasWithin class → size ≡ class.header_length
+    → header ≡ header_of class order (bytes_at file 0 size) → header.elf_type ≡ (header_of class order file).elf_type
+unfolding header_of
+type_is class order file size header within is same =
+    ap (λ (h : Header ℕ). h.elf_type) same ∙ value_in order file 0 size 0 class.header.elf_type (omega (arith, is, within.elf_type))
 
 -- functions that agree on so many numbers
 map_same : {X : Type 0} (f g : ℕ → X) (a n : ℕ) → ((i : ℕ) → i < a + n → f i ≡ g i) → map f (range_with_len a n) ≡ map g (range_with_len a n)

@@ -9,3 +9,6 @@ mod MachoLocated
 pub mod SomeAddress
 mod SectionsRead
 mod PeBeginning
+mod AllRead
+mod MachoAllLocated
+mod PeAllLocated

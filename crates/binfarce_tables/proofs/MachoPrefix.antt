@@ -1,24 +1,27 @@
 -- What bytes that a Mach-O file begins with tell of it, where they hold its load commands.
-use Rattle.std.proofs.Common.{◌≡◌, ℕ, zero, suc, ◌+◌, ◌-◌, ◌<◌, ◌≤◌, Bool, true, false, cond, ltb, leb, eqb, ◌&&◌, List, [], ◌∷◌, length, drop, min, find, codes, Option, Some, None, Result, Ok, Err, refl, sym, ap, ap₂, ◌∙◌, arith}
+use Rattle.std.proofs.Common.{◌≡◌, ℕ, zero, suc, ◌+◌, ◌-◌, ◌<◌, ◌≤◌, Bool, true, false, cond, ltb, leb, eqb, ◌&&◌, List, [], ◌∷◌, ◌++◌, length, drop, take, min, find, codes, Option, Some, None, Result, Ok, Err, refl, sym, ap, ap₂, ◌∙◌, arith}
 use Rattle.std.proofs.Math.Nat.{div-mul-le_self}
 use Rattle.std.proofs.lemmas.Bool.{and_parts, ltb-false, ltb-true, leb-true, eqb-true, le-ltb, le-leb}
 use Rattle.std.proofs.lemmas.List.{length-take-le, take_all}
 use Rattle.std.proofs.lemmas.Nat.{le-div}
 use Rattle.std.specs.List.{range_with_len, filter_map, cons_option}
+use Rattle.std.specs.Option.{option_map}
 use Rattle.binfarce_bytes.specs.declared.ByteOrder.TheVariants.{LittleEndian}
 use Rattle.binfarce_bytes.specs.Field.{Field, field, number_in}
 use Rattle.binfarce_bytes.specs.Number.{bytes_at, number}
 use Rattle.binfarce_bytes.specs.Refusal.{◌>>=◌, Refusal, required, symbols_section_is_missing}
+use Rattle.binfarce_bytes.specs.SectionEntries.{unless}
 use Rattle.binfarce_bytes.specs.Walk.{Walk, first, found_or_end, ahead_of, and_then}
 use Rattle.binfarce_macho.specs.Macho.{Command, Section, header_of, header_fields, header_length, command_at, body_of, commands_from, commands, section_at, section_fields, section_offset, section_count, whole_headers, sections_below, segment, is_segment, sections_of, walk, is_named}
 use Rattle.binfarce_macho.specs.MachoSymbols.{SymbolTable, symbol_table_at, symbol_table_fields, text_section, some_size, symbol_command, whole_table}
-use Rattle.binfarce_macho.specs.MachoParts.{NeededTables, needed, named_table, holds_body, holds_from, holds_commands}
+use Rattle.binfarce_macho.specs.MachoAll.{first_starts, starts_in, starts_among, section_starts, end_at, full_name, name_at}
+use Rattle.binfarce_macho.specs.MachoParts.{NeededTables, needed, named_table, table_of, holds_body, holds_from, holds_commands}
 use Rattle.binfarce_macho.proofs.CommandWalks.{bad, given}
 use Rattle.binfarce_tables.specs.BeginningReading.{Begins, macho_sections}
 use Rattle.binfarce_tables.specs.machine.MachoPlaces.{said_end, command_bytes}
 use Rattle.binfarce_tables.proofs.HeadersAlone.{bytes_in}
 
-assoc : {A B C : Type 0} (r : Result A Refusal) (f : A → Result B Refusal) (g : B → Result C Refusal) → ((r >>= f) >>= g) ≡ (r >>= λ x. f x >>= g)
+pub assoc : {A B C : Type 0} (r : Result A Refusal) (f : A → Result B Refusal) (g : B → Result C Refusal) → ((r >>= f) >>= g) ≡ (r >>= λ x. f x >>= g)
 assoc (Ok x) f g = refl
 assoc (Err e) f g = refl
 
@@ -206,6 +209,30 @@ module _ (file bytes : List ℕ) (short : length bytes ≤ length file) (same : 
   named_same None (Some refusal) each = refl
   named_same (Some command) end each = ap (λ (r : Result (SymbolTable ℕ) Refusal). r >>= λ table. Ok (Some table)) (each command refl)
 
+  -- where its sections begin
+  count_held : (command : Command) → is_segment command ≡ true → holds_body bytes command ≡ true → section_count bytes (body_of command) ≡ section_count file (body_of command)
+  count_held command is held =
+      let fits = and_parts (leb (body_of command + 60) (length bytes)) (leb (section_count bytes (body_of command)) (whole_headers bytes (body_of command))) (rw is at held) in
+      number_same (body_of command) (field 56 4) (omega (arith, leb-true (body_of command + 60) (length bytes) fits.0))
+
+  starts_held : (commands : List Command) → AreHeld commands → starts_among bytes commands ≡ starts_among file commands
+  unfolding AreHeld
+  starts_held [] held = refl
+  starts_held (command ∷ others) held = by_kind (is_segment command) refl (starts_held others held.1)
+    where
+      by_kind : (b : Bool) → is_segment command ≡ b → starts_among bytes others ≡ starts_among file others
+          → (cond b (starts_in bytes (body_of command)) [] ++ starts_among bytes others) ≡ (cond b (starts_in file (body_of command)) [] ++ starts_among file others)
+      by_kind true is rest = ap₂ (λ (xs ys : List ℕ). xs ++ ys) (ap (λ (n : ℕ). first_starts (body_of command) n) (count_held command is held.0)) rest
+      by_kind false is rest = rest
+
+  -- what is read of a section
+  pub end_same : (start : ℕ) → start + 52 ≤ length bytes → end_at bytes start ≡ end_at file start
+  unfolding end_at section_fields
+  end_same start h = ap₂ (λ (a b : ℕ). a + b) (number_same start section_fields.address (omega (arith, h))) (number_same start section_fields.size (omega (arith, h)))
+
+  pub name_same : (start : ℕ) → start + 52 ≤ length bytes → name_at bytes start ≡ name_at file start
+  name_same start h = ap (option_map full_name) (section_same start h)
+
   -- where they hold all commands of the header, the same is needed
   module _ (whole : 28 ≤ length bytes) (held : holds_commands bytes ≡ true) where
     agrees : Agrees (header_of bytes).ncmds header_length
@@ -227,6 +254,19 @@ module _ (file bytes : List ℕ) (short : length bytes ≤ length file) (same : 
 
     pub needed_held : needed bytes ≡ needed file
     needed_held = needed_as bytes ∙ ap₂ needed_by (ap text_in walk_same) named_held ∙ sym (needed_as file)
+
+    pub starts_same : section_starts bytes ≡ section_starts file
+    unfolding section_starts
+    starts_same =
+        ap₂ (λ (end : Option Refusal) (starts : List ℕ). unless end (take 255 starts)) (ap (λ (w : Walk Section). w.refusal) walk_same)
+        (starts_held (commands bytes).items agrees.1 ∙ ap (λ (w : Walk Command). starts_among file w.items) commands_same)
+
+    pub table_held : table_of bytes ≡ table_of file
+    table_held = named_held
+
+  pub filetype_same : 28 ≤ length bytes → (header_of bytes).filetype ≡ (header_of file).filetype
+  unfolding header_of header_fields
+  filetype_same whole = number_same 0 header_fields.filetype (omega (arith, whole))
 
   -- where the header says that its commands end
   pub said_same : 28 ≤ length bytes → (header_of bytes).sizeofcmds ≡ (header_of file).sizeofcmds
@@ -286,3 +326,29 @@ begins_with_commands file bytes is = by_held (holds_commands (bytes_at file 0 (s
     by_held : (b : Bool) → bytes ≡ cond b (bytes_at file 0 (said_end file)) file → Begins file bytes
     by_held true is = (said_end file, is)
     by_held false is = (length file, is ∙ sym (take_all (length file) file (omega arith)))
+
+-- what the bytes that its commands are in say of a file's sections and of its symbol table
+pub record SameSections (file bytes : List ℕ) : Type 0 where
+  pub starts : section_starts bytes ≡ section_starts file
+  pub table : table_of bytes ≡ table_of file
+  pub filetype : (header_of bytes).filetype ≡ (header_of file).filetype
+  pub ends : (start : ℕ) → start + 52 ≤ length bytes → end_at bytes start ≡ end_at file start
+  pub names : (start : ℕ) → start + 52 ≤ length bytes → name_at bytes start ≡ name_at file start
+
+pub same_sections : (file bytes : List ℕ) → 28 ≤ length file → bytes ≡ command_bytes file → SameSections file bytes
+same_sections file bytes inside is = rw is (by_held (holds_commands (bytes_at file 0 (said_end file))) refl)
+  where
+    by_held : (b : Bool) → holds_commands (bytes_at file 0 (said_end file)) ≡ b → SameSections file (cond b (bytes_at file 0 (said_end file)) file)
+    by_held true held =
+        let begins = bytes_at file 0 (said_end file) in
+        let long = prefix_long file (said_end file) (omega arith) in
+        let short : length begins ≤ length file = omega (arith, long) in
+        let whole : 28 ≤ length begins = omega (arith, long, inside) in
+        record {
+          starts = starts_same file begins short (λ k width h. prefix_same file (said_end file) k width (omega arith) h) whole held;
+          table = table_held file begins short (λ k width h. prefix_same file (said_end file) k width (omega arith) h) whole held;
+          filetype = filetype_same file begins short (λ k width h. prefix_same file (said_end file) k width (omega arith) h) whole;
+          ends = end_same file begins short (λ k width h. prefix_same file (said_end file) k width (omega arith) h);
+          names = name_same file begins short (λ k width h. prefix_same file (said_end file) k width (omega arith) h);
+        }
+    by_held false held = record { starts = refl; table = refl; filetype = refl; ends = λ start h. refl; names = λ start h. refl }

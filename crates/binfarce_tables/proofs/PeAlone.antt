@@ -89,7 +89,7 @@ module _ (file : List ℕ) (places : TablePlaces) (inside : places.sections < le
         )
   ]
 
-  same_header : (i : ℕ) → i < min count (whole_in table) → section_in alone i ≡ section_in table i
+  pub same_header : (i : ℕ) → i < min count (whole_in table) → section_in alone i ≡ section_in table i
   same_header i lt =
       let short : (i + 1) * 40 ≤ length file + 16 - places.sections = fits i (length file + 16 - places.sections) (omega (arith, lt)) in
       ap (λ k. section_at (headers_of file places) k i) (from_start (i * 40)) ∙ section_part file places.sections size (i * 40) i (omega (arith, lt, short, inside))

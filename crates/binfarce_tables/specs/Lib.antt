@@ -1,7 +1,10 @@
 pub mod BeginningReading
+pub mod ElfAllReading
 pub mod Errors
 pub mod PeReading
 pub mod Reading
 pub mod SectionReading
 pub mod MachoReading
+pub mod MachoAllReading
+pub mod PeAllReading
 pub mod machine

@@ -1,6 +1,6 @@
 //! The parts of an ELF file of either class that the function symbols of a section are read from.
 
-ghost use Rattle.std.specs.Prelude.{◌≡◌, ◌⊎◌, ◌+◌, ◌<◌, ◌≤◌, List, ℕ, Ok, Some, length, MatchResult, IfErr};
+ghost use Rattle.std.specs.Prelude.{◌≡◌, ◌⊎◌, ◌+◌, ◌<◌, ◌≤◌, List, ℕ, Ok, Some, length, MatchResult, IfOk, IfErr};
 ghost use Rattle.std.specs.Result.{IsErr};
 ghost use Rattle.std.specs.Option.{option_map};
 ghost use Rattle.binfarce_bytes.specs.Number.{bytes_at};
@@ -43,13 +43,14 @@ impl<C: Class> Parts<C> {
     }
 }
 
-// Where the section headers of a file are, as its header says, and the order of its numbers' bytes.
+// Where the section headers of a file are, and the file's type, as its header says, and the order of its numbers' bytes.
 #[derive(Clone, Copy)]
 pub(crate) struct Place {
     pub(crate) byte_order: ByteOrder,
     pub(crate) shoff: usize,
     pub(crate) shnum: Half,
     pub(crate) shstrndx: Half,
+    pub(crate) elf_type: Half,
 }
 
 /// The parts of the section with this name, by this symbol table. Refused as `functions` and `dynamic_functions` of a
@@ -85,8 +86,10 @@ pub(crate) fn read_place<C: Class, S: Source>(
     len: usize,
     byte_order: ByteOrder,
 ) -> Result<Place, ReadError>
-    ensures { (file : List ℕ) → Known (S.bytes source.now) len file
+    ensures table { (file : List ℕ) → Known (S.bytes source.now) len file
         → Reads (S.may_fail source.now) (table_at file) (table_step C.table byte_order file) result }
+    ensures type_is { (file : List ℕ) → Known (S.bytes source.now) len file
+        → IfOk result (λ p. p.elf_type ≡ (header_of C.table byte_order file).elf_type) }
 {
     let size = 40 + 3 * C::SIZE;
     if len < size {
@@ -99,6 +102,7 @@ pub(crate) fn read_place<C: Class, S: Source>(
         shoff: header.shoff.widened() as usize,
         shnum: header.shnum,
         shstrndx: header.shstrndx,
+        elf_type: header.elf_type,
     })
 }
 
@@ -224,7 +228,7 @@ fn read_contents<C: Class, S: Source>(
 }
 
 // The section's bytes; refused as those of a file in memory.
-fn read_section<C: Class, S: Source>(
+pub(crate) fn read_section<C: Class, S: Source>(
     alloc: Global,
     source: &S,
     len: usize,
@@ -255,6 +259,7 @@ pub fn part<S: Source>(
     ensures part { (file : List ℕ) → S.bytes source.now ≡ Some file → offset + size ≤ length file
         → Reads (S.may_fail source.now) (λ v. v.items) (Ok (bytes_at file offset size)) result }
     ensures past_end { (file : List ℕ) → S.bytes source.now ≡ Some file → length file < offset + size → IsErr result }
+    ensures size { IfOk result (λ v. length v.items ≡ size) }
     ensures failed { IfErr result (λ e. (e ≡ Unreadable) ⊎ (e ≡ OutOfMemory)) }
 {
     Ok(read_part(alloc, source, offset as u64, size)?)

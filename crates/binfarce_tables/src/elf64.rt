@@ -2,11 +2,12 @@
 
 ghost use Rattle.std.specs.Prelude.{◌≡◌, List, ℕ, Some};
 ghost use Rattle.binfarce_elf.specs.Elf.{elf64};
+ghost use Rattle.binfarce_tables.specs.ElfAllReading.{all_file_answer, all_view};
 ghost use Rattle.binfarce_tables.specs.Reading.{Reads, file_answer, file_answer_in, parts_view};
 ghost use Rattle.binfarce_tables.specs.SectionReading.{file_sections, sections_view};
 
 use crate::error::ReadError;
-use crate::{elf, sections};
+use crate::{elf, elf_all, sections};
 use binfarce_bytes::ByteOrder;
 use binfarce_bytes::source::Source;
 use binfarce_elf::symbol_table::SymbolTable;
@@ -14,6 +15,9 @@ use std::alloc::Global;
 
 /// The parts of a 64-bit file that the function symbols of a section are read from, in memory.
 pub type Parts = elf::Parts<u64>;
+
+/// The parts of a 64-bit file that the function symbols of all sections are read from, in memory.
+pub type AllParts = elf_all::AllParts<u64>;
 
 /// The section headers of a 64-bit file and the section names, in memory.
 pub type SectionParts = sections::SectionParts<u64>;
@@ -79,4 +83,27 @@ pub fn read_sections<S: Source>(
         → Reads (S.may_fail source.now) (sections_view elf64) (file_sections elf64 byte_order file) result }
 {
     sections::read_sections::<u64, S>(alloc, source, byte_order)
+}
+
+/// Reads the parts of a file that the function symbols of all sections are read from by this symbol table, and the
+/// section names, numbers in the given order, without a look at the magic number: the file header of 64 bytes, the header of
+/// the section names' own section, the section names, all section headers, the symbol table and its strings. Each is read
+/// once, into memory of its size, which is never more than what the file holds of it. No other byte is read, but the first
+/// byte of a section header table without headers.
+///
+/// # Errors
+///
+/// `Refused` with what `parse` and `all_functions` of a reader of the whole file refuse; `Unreadable` where the source
+/// can't be read at offsets, or a read of it fails, and never of a source that can't fail, as bytes in memory are;
+/// `OutOfMemory` where an allocation fails.
+pub fn read_all<S: Source>(
+    alloc: Global,
+    source: &S,
+    byte_order: ByteOrder,
+    which: SymbolTable,
+) -> Result<AllParts, ReadError>
+    ensures { (file : List ℕ) → S.bytes source.now ≡ Some file
+        → Reads (S.may_fail source.now) (all_view elf64) (all_file_answer which elf64 byte_order file) result }
+{
+    elf_all::read_all::<u64, S>(alloc, source, byte_order, which)
 }

@@ -1,6 +1,7 @@
 //! Why a file's parts were not read.
 
 use binfarce_bytes::ParseError;
+use std::alloc::AllocError;
 use std::io::{self, ErrorKind};
 
 /// Why a file's parts were not read.
@@ -38,5 +39,16 @@ impl From<ParseError> for ReadError {
 
     fn from(e: ParseError) -> Self {
         ReadError::Refused(e)
+    }
+}
+
+impl From<AllocError> for ReadError {
+    ghost use Rattle.std.specs.Prelude.{◌≡◌};
+    ghost use Rattle.binfarce_tables.specs.declared.error.ReadError.TheVariants.{OutOfMemory};
+
+    ghost from_gives = { λ _ e. e ≡ OutOfMemory };
+
+    fn from(_: AllocError) -> Self {
+        ReadError::OutOfMemory
     }
 }

@@ -16,6 +16,7 @@ ghost use Rattle.binfarce_tables.specs.machine.MachoPlaces.{said_end, command_by
 use crate::beginning::Beginning;
 use crate::elf::part;
 use crate::error::ReadError;
+pub use crate::macho_all::{AllParts, read_all};
 use binfarce_bytes::ParseError;
 use binfarce_bytes::functions::FunctionSymbol;
 use binfarce_bytes::source::Source;
@@ -25,7 +26,7 @@ use binfarce_macho::sections::Section;
 use std::alloc::Global;
 
 // The header's bytes that are read.
-const HEADER: usize = 28;
+pub(crate) const HEADER: usize = 28;
 
 /// The parts of a file that its function symbols are read from, in memory.
 #[derive(Drop)]
@@ -120,7 +121,11 @@ pub fn read_sections<S: Source>(alloc: Global, source: &S) -> Result<Beginning, 
 }
 
 // The bytes that the load commands are in, from the file's first on.
-fn read_commands<S: Source>(alloc: Global, source: &S, len: usize) -> Result<Vec<u8>, ReadError>
+pub(crate) fn read_commands<S: Source>(
+    alloc: Global,
+    source: &S,
+    len: usize,
+) -> Result<Vec<u8>, ReadError>
     requires { least_length ≤ len }
     ensures { (file : List ℕ) → Known (S.bytes source.now) len file
         → Reads (S.may_fail source.now) (λ v. v.items) (Ok (command_bytes file)) result }
@@ -146,7 +151,7 @@ fn read_end<S: Source>(alloc: Global, source: &S, len: usize) -> Result<usize, R
 }
 
 // The header in a file's first bytes; refused where it is truncated.
-fn header_in(bytes: &[u8]) -> Result<MachoHeader, ParseError>
+pub(crate) fn header_in(bytes: &[u8]) -> Result<MachoHeader, ParseError>
     ensures { MatchResult result
         (λ h. (28 ≤ length bytes.now) × (header_view h ≡ header_of bytes.now))
         (λ _. length bytes.now < 28) }
@@ -215,7 +220,7 @@ fn read_located<S: Source>(
 }
 
 // The bytes of a table; refused where they don't lie in the file.
-fn read_table<S: Source>(
+pub(crate) fn read_table<S: Source>(
     alloc: Global,
     source: &S,
     len: usize,

@@ -12,6 +12,7 @@ ghost use Rattle.binfarce_tables.specs.machine.PePlaces.{signature_step, places_
 use crate::beginning::Beginning;
 use crate::elf::part;
 use crate::error::ReadError;
+pub use crate::pe_all::{AllParts, read_all};
 use binfarce_bytes::ParseError;
 use binfarce_bytes::functions::FunctionSymbol;
 use binfarce_bytes::source::Source;
@@ -93,7 +94,11 @@ pub fn read_sections<S: Source>(alloc: Global, source: &S) -> Result<Beginning, 
     Ok(Beginning { bytes, file_length })
 }
 
-fn read_places<S: Source>(alloc: Global, source: &S, len: usize) -> Result<Places, ReadError>
+pub(crate) fn read_places<S: Source>(
+    alloc: Global,
+    source: &S,
+    len: usize,
+) -> Result<Places, ReadError>
     ensures { (file : List ℕ) → Known (S.bytes source.now) len file
         → Reads (S.may_fail source.now) places_view (places_step file) result }
 {

@@ -79,7 +79,7 @@ pub(crate) fn read_sections<C: Class, S: Source>(
 
 // Bytes whose sections are the file's: the section headers that are whole, up to the count. Of a table without headers they
 // are its first byte, where the file has one, and of a table that begins past the file's end none.
-fn read_table<C: Class, S: Source>(
+pub(crate) fn read_table<C: Class, S: Source>(
     alloc: Global,
     source: &S,
     len: usize,

@@ -11,3 +11,5 @@ pub mod TablesRead
 pub mod TablesGive
 pub mod Totals
 pub mod Maps
+pub mod AllGiven
+pub mod AllSums

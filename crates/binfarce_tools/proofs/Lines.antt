@@ -5,69 +5,71 @@ use Rattle.std.specs.Result.{IsErrAnd}
 use Rattle.std.specs.List.{AllZip, concat}
 use Rattle.binfarce_bytes.specs.Refusal.{Refusal}
 use Rattle.binfarce_bytes.specs.Entries.{Entry, Listed}
-use Rattle.binfarce_tools.specs.declared.functions.Functions.{Functions}
 use Rattle.binfarce_tools.specs.declared.list.ListError.{ListError}
 use Rattle.binfarce_tools.specs.declared.list.ListError.TheVariants.{Unknown, Parse, OutOfMemory, Write}
 use Rattle.binfarce_tools.specs.Listing.{IsLineOf, IsListingOf, size_line}
 use Rattle.binfarce_tools.specs.ListWords.{outcome_of, Writes}
 use Rattle.binfarce_tools.specs.Writing as writing
-use Rattle.binfarce_tools.specs.Entries.{HoldsLeft, Gets}
+use Rattle.binfarce_tools.specs.Entries.{GetsAs}
 
--- all is the lines of these entries
-abbrev pub AreLines : List Entry → List ℕ → Type 0
-AreLines entries all = (lines : List (List ℕ)) × AllZip IsLineOf entries lines × (all ≡ concat lines)
+-- the lines of entries of any kind
+module _ {X : Type 0} (IsLine : X → List ℕ → Type 0) where
+  -- all is the lines of these entries
+  abbrev pub AreLines : List X → List ℕ → Type 0
+  AreLines entries all = (lines : List (List ℕ)) × AllZip IsLine entries lines × (all ≡ concat lines)
 
--- with the lines of what is left after it, the text is the lines of all
-abbrev pub Completes : List Entry → List Entry → List ℕ → Type 0
-Completes all left text = (others : List ℕ) → AreLines left others → AreLines all (text ++ others)
+  -- with the lines of what is left after it, the text is the lines of all
+  abbrev pub Completes : List X → List X → List ℕ → Type 0
+  Completes all left text = (others : List ℕ) → AreLines left others → AreLines all (text ++ others)
 
-pub begun : (all : List Entry) → Completes all all []
-begun all others are = are
+  pub begun : (all : List X) → Completes all all []
+  begun all others are = are
 
-one_more : (entry : Entry) (left : List Entry) (line others : List ℕ) → IsLineOf entry line → AreLines left others → AreLines (entry ∷ left) (line ++ others)
-one_more entry left line others is are = (line ∷ are.0, (is, are.1), ap (λ (x : List ℕ). line ++ x) are.2)
+  one_more : (entry : X) (left : List X) (line others : List ℕ) → IsLine entry line → AreLines left others → AreLines (entry ∷ left) (line ++ others)
+  one_more entry left line others is are = (line ∷ are.0, (is, are.1), ap (λ (x : List ℕ). line ++ x) are.2)
 
--- the line of the first entry that was left was written
-pub one_line : (all before left : List Entry) (entry : Entry) (line text new : List ℕ) → before ≡ entry ∷ left → IsLineOf entry line → new ≡ text ++ line → Completes all before text → Completes all left new
-one_line all before left entry line text new first is grown w others are =
-    let P : List ℕ → Type 0 = λ x. AreLines all x in
-    let Q : List Entry → Type 0 = λ x. Completes all x text in
-    subst P (sym (ap (λ (x : List ℕ). x ++ others) grown ∙ append_assoc text line others)) (subst Q first w (line ++ others) (one_more entry left line others is are))
+  -- the line of the first entry that was left was written
+  pub one_line : (all before left : List X) (entry : X) (line text new : List ℕ) → before ≡ entry ∷ left → IsLine entry line → new ≡ text ++ line → Completes all before text → Completes all left new
+  one_line all before left entry line text new first is grown w others are =
+      let P : List ℕ → Type 0 = λ x. AreLines all x in
+      let Q : List X → Type 0 = λ x. Completes all x text in
+      subst P (sym (ap (λ (x : List ℕ). x ++ others) grown ∙ append_assoc text line others)) (subst Q first w (line ++ others) (one_more entry left line others is are))
 
--- no entry is left
-pub whole : (all left : List Entry) (text : List ℕ) → left ≡ [] → Completes all left text → AreLines all text
-whole all left text none w =
-    let P : List ℕ → Type 0 = λ x. AreLines all x in
-    let Q : List Entry → Type 0 = λ x. Completes all x text in
-    subst P (append-nil text) (subst Q none w [] ([], tt, refl))
+  -- no entry is left
+  pub whole : (all left : List X) (text : List ℕ) → left ≡ [] → Completes all left text → AreLines all text
+  whole all left text none w =
+      let P : List ℕ → Type 0 = λ x. AreLines all x in
+      let Q : List X → Type 0 = λ x. Completes all x text in
+      subst P (append-nil text) (subst Q none w [] ([], tt, refl))
 
-pub is_listing : (all : List Entry) (size : ℕ) (lines text : List ℕ) (listed : Listed) → AreLines all lines → text ≡ lines ++ size_line size → all ≡ listed.entries → size ≡ listed.section_size → IsListingOf listed text
+pub is_listing : (all : List Entry) (size : ℕ) (lines text : List ℕ) (listed : Listed) → AreLines IsLineOf all lines → text ≡ lines ++ size_line size → all ≡ listed.entries → size ≡ listed.section_size → IsListingOf listed text
 is_listing all size lines text listed are is same sizes =
-    let P : List Entry → Type 0 = λ x. AreLines x lines in
-    let of_listed : AreLines listed.entries lines = subst P same are in
+    let P : List Entry → Type 0 = λ x. AreLines IsLineOf x lines in
+    let of_listed : AreLines IsLineOf listed.entries lines = subst P same are in
     (of_listed.0, of_listed.1, is ∙ ap (λ (x : List ℕ). x ++ size_line size) of_listed.2 ∙ ap (λ (n : ℕ). concat of_listed.0 ++ size_line n) sizes)
-
--- what was taken, by what `list` answers
-abbrev pub Takes : Option (Result Listed Refusal) → Option (List ℕ) → Option (List ℕ) → Result (Unit {0}) ListError → Type 0
-Takes answer old new result = writing.Takes IsListingOf answer old new (outcome_of result)
-
--- the listing of what a file holds was written, or a beginning of it
-pub takes : (memory : Result Listed Refusal → Type 0) (answer : Option (Result Listed Refusal)) (functions : Functions) (size : ℕ) (text : List ℕ) (old new : Option (List ℕ)) (result : Result (Unit {0}) ListError)
-    → Gets memory answer (Ok (functions, size)) → ((listed : Listed) → HoldsLeft listed (functions, size) → IsListingOf listed text) → Writes old new text result → Takes answer old new result
-takes memory None functions size text old new result gets is wrote = absurd gets
-takes memory (Some (Err refusal)) functions size text old new result gets is wrote = absurd gets
-takes memory (Some (Ok listed)) functions size text old new (Ok x) gets is wrote = (text, is listed gets, wrote)
-takes memory (Some (Ok listed)) functions size text old new (Err Write) gets is wrote = (text, is listed gets, wrote.1)
-takes memory (Some (Ok listed)) functions size text old new (Err Unknown) gets is wrote = let e = wrote.0 in absurd cc
-takes memory (Some (Ok listed)) functions size text old new (Err (Parse p)) gets is wrote = let e = wrote.0 in absurd cc
-takes memory (Some (Ok listed)) functions size text old new (Err OutOfMemory) gets is wrote = let e = wrote.0 in absurd cc
 
 pub nothing : (old : Option (List ℕ)) → Appends old old []
 nothing None = tt
 nothing (Some taken) = sym (append-nil taken)
 
--- nothing was written where an allocation failed
-pub takes_nothing : (answer : Option (Result Listed Refusal)) (old : Option (List ℕ)) (result : Result (Unit {0}) ListError) → IsErrAnd result (λ e. e ≡ OutOfMemory) → Takes answer old old result
-takes_nothing answer old (Ok x) is = absurd is
-takes_nothing answer old (Err e) is =
-    let P : ListError → Type 0 = λ e. Takes answer old old (Err e) in subst P (sym is) (nothing old)
+-- what was taken of a text of any kind, by what a listing answers
+module _ {L : Type 0} (IsText : L → List ℕ → Type 0) where
+  abbrev pub Takes : Option (Result L Refusal) → Option (List ℕ) → Option (List ℕ) → Result (Unit {0}) ListError → Type 0
+  Takes answer old new result = writing.Takes IsText answer old new (outcome_of result)
+
+  -- the text of what a file holds was written, or a beginning of it
+  pub takes : {V : Type 0} (Holds : L → V → Type 0) (memory : Result L Refusal → Type 0) (answer : Option (Result L Refusal)) (value : V) (text : List ℕ) (old new : Option (List ℕ)) (result : Result (Unit {0}) ListError)
+      → GetsAs Holds memory answer (Ok value) → ((all : L) → answer ≡ Some (Ok all) → Holds all value → IsText all text) → Writes old new text result → Takes answer old new result
+  takes Holds memory None value text old new result gets is wrote = absurd gets
+  takes Holds memory (Some (Err refusal)) value text old new result gets is wrote = absurd gets
+  takes Holds memory (Some (Ok all)) value text old new (Ok x) gets is wrote = (text, is all refl gets, wrote)
+  takes Holds memory (Some (Ok all)) value text old new (Err Write) gets is wrote = (text, is all refl gets, wrote.1)
+  takes Holds memory (Some (Ok all)) value text old new (Err Unknown) gets is wrote = let e = wrote.0 in absurd cc
+  takes Holds memory (Some (Ok all)) value text old new (Err (Parse p)) gets is wrote = let e = wrote.0 in absurd cc
+  takes Holds memory (Some (Ok all)) value text old new (Err OutOfMemory) gets is wrote = let e = wrote.0 in absurd cc
+
+  -- nothing was written where an allocation failed
+  pub takes_nothing : (answer : Option (Result L Refusal)) (old : Option (List ℕ)) (result : Result (Unit {0}) ListError) → IsErrAnd result (λ e. e ≡ OutOfMemory) → Takes answer old old result
+  takes_nothing answer old (Ok x) is = absurd is
+  takes_nothing answer old (Err e) is =
+      let P : ListError → Type 0 = λ e. Takes answer old old (Err e) in subst P (sym is) (nothing old)

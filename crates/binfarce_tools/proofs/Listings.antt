@@ -28,7 +28,7 @@ as_memory errors.UnexpectedEof is = absurd cc
 as_memory errors.OutOfMemory is = refl
 
 -- any other refusal is told with its words
-parse : (e : ParseError) → is_told (refusal_of e) ≡ true → list_error_of e ≡ Parse e
+pub parse : (e : ParseError) → is_told (refusal_of e) ≡ true → list_error_of e ≡ Parse e
 parse errors.SymbolsSectionIsMissing told = refl
 parse (errors.SectionIsMissing name) told = refl
 parse (errors.UnexpectedSectionType expected actual) told = refl

@@ -11,7 +11,7 @@ use Rattle.binfarce_tools.specs.declared.list.ListError.TheVariants as errors
 use Rattle.binfarce_tools.specs.declared.report.CrateSums.{CrateSums}
 use Rattle.binfarce_tools.specs.declared.report.ReportError.{ReportError}
 use Rattle.binfarce_tools.specs.declared.report.ReportError.TheVariants.{OutOfMemory, TooLarge}
-use Rattle.binfarce_tools.specs.Report.{Share, IsShareOf, IsReportOf, IsReportOfShares, ReportFits}
+use Rattle.binfarce_tools.specs.Report.{Share, IsShareOf, IsReportOf, IsReportOfShares, IsSumsOf, IsSumsOfShares, ReportFits}
 use Rattle.binfarce_tools.specs.ReportWords.{report_error_of, outcome_of}
 use Rattle.binfarce_tools.specs.Sums.{AreSumsOf, AreSumsOfFile, GetsSums}
 use Rattle.binfarce_tools.specs.Writing as writing
@@ -121,3 +121,7 @@ of_listed listed sums text are is =
     let shares = are.1 in
     let P : ℕ → Type 0 = λ n. IsReportOfShares shares.0 n text in
     (shares.0, shares.1, subst P are.0 (is shares.0 shares.2))
+
+-- and their lines alone
+pub sums_of_listed : (listed : Listed) (sums : CrateSums) (text : List ℕ) → AreSumsOfFile listed sums → ((shares : List Share) → AreSumsOf shares sums → IsSumsOfShares shares text) → IsSumsOf listed text
+sums_of_listed listed sums text are is = let shares = are.1 in (shares.0, shares.1, is shares.0 shares.2)

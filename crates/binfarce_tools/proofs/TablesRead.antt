@@ -24,7 +24,7 @@ use Rattle.binfarce_tools.specs.declared.list.ListError.TheVariants as errors
 use Rattle.binfarce_tools.specs.declared.tables.Tables.{Tables}
 use Rattle.binfarce_tools.specs.Answer.{elf_file_answer, macho_file_answer, pe_file_answer, symbols_answer, dynamic_symbols_answer, answer_of as answer, NeedsMemory}
 use Rattle.binfarce_tools.specs.Entries.{Gets}
-use Rattle.binfarce_tools.specs.Tables.{ReadsTables}
+use Rattle.binfarce_tools.specs.Tables.{AreTablesOf, ReadsAs, ReadsTables}
 
 -- the first eight bytes name the format
 pub format_of_first : (file : List ℕ) → format_of (take 8 file) ≡ format_of file
@@ -85,30 +85,34 @@ unfolding macho_answer
 macho_is file = by_length (ltb (length file) 28) (located file)
 
 -- why a file's parts weren't read is why its tables weren't
-not_read : {X : Type 0} (may_fail : Bool) (view : X → Listed) (given : Result Listed Refusal) (which : SymbolTable) (file section : List ℕ) (e : ReadError)
-    → answer which file section ≡ Some given → Reads may_fail view given (Err e) → ReadsTables (may_fail ≡ true) which file section (Err e)
-not_read may_fail view given which file section (Refused p) is reads = is ∙ ap Some reads
-not_read may_fail view given which file section Unreadable is reads = reads
-not_read may_fail view given which file section OutOfMemory is reads = tt
+module _ {L T : Type 0} (AreTables : T → Type 0) (may_fail : Bool) (answered : Option (Result L Refusal)) where
+  not_read : {X : Type 0} (view : X → L) (given : Result L Refusal) (e : ReadError) → answered ≡ Some given → Reads may_fail view given (Err e) → ReadsAs AreTables (may_fail ≡ true) answered (Err e)
+  not_read view given (Refused p) is reads = is ∙ ap Some reads
+  not_read view given Unreadable is reads = reads
+  not_read view given OutOfMemory is reads = tt
 
--- and as `?` passes it on
+  -- and as `?` passes it on
+  pub unread_as : {X : Type 0} (view : X → L) (given : Result L Refusal) (e : ReadError) (r : Result T ReadError)
+      → answered ≡ Some given → Reads may_fail view given (Err e) → (IsErr r × IsErrAnd r (λ x. x ≡ e)) → ReadsAs AreTables (may_fail ≡ true) answered r
+  unread_as view given e (Ok x) is reads err = let never : false ≡ true = err.0 in absurd cc
+  unread_as view given e (Err x) is reads err =
+      subst (λ (error : ReadError). ReadsAs AreTables (may_fail ≡ true) answered (Err error)) (sym err.1) (not_read view given e is reads)
+
 pub unread : {X : Type 0} (may_fail : Bool) (view : X → Listed) (given : Result Listed Refusal) (which : SymbolTable) (file section : List ℕ) (e : ReadError) (r : Result Tables ReadError)
     → answer which file section ≡ Some given → Reads may_fail view given (Err e) → (IsErr r × IsErrAnd r (λ x. x ≡ e)) → ReadsTables (may_fail ≡ true) which file section r
-unread may_fail view given which file section e (Ok x) is reads err = let never : false ≡ true = err.0 in absurd cc
-unread may_fail view given which file section e (Err x) is reads err =
-    subst (λ (error : ReadError). ReadsTables (may_fail ≡ true) which file section (Err error)) (sym err.1) (not_read may_fail view given which file section e is reads)
+unread may_fail view given which file section e r is reads err = unread_as (AreTablesOf which file section) may_fail (answer which file section) view given e r is reads err
 
 -- so for a Mach-O file, of which it is read where its symbols are
-of_answer : {X : Type 0} (may_fail : Bool) (view : X → Option Located) (found : Result (Option Located) Refusal) (e : ReadError) → Reads may_fail view found (Err e) → Reads may_fail (λ (l : Listed). l) (found >>= answer_of) (Err e)
-of_answer may_fail view found (Refused p) reads = ap (λ (r : Result (Option Located) Refusal). r >>= answer_of) reads
-of_answer may_fail view found Unreadable reads = reads
-of_answer may_fail view found OutOfMemory reads = tt
+pub of_answer : {X Y L : Type 0} (may_fail : Bool) (view : X → Y) (found : Result Y Refusal) (f : Y → Result L Refusal) (e : ReadError) → Reads may_fail view found (Err e) → Reads may_fail (λ (l : L). l) (found >>= f) (Err e)
+of_answer may_fail view found f (Refused p) reads = ap (λ r. r >>= f) reads
+of_answer may_fail view found f Unreadable reads = reads
+of_answer may_fail view found f OutOfMemory reads = tt
 
 pub unread_macho : (may_fail : Bool) (which : SymbolTable) (file section : List ℕ) (e : ReadError) (r : Result Tables ReadError)
     → which ≡ Symtab → format_of file ≡ formats.Macho → Reads may_fail macho.parts_view (located_answer file) (Err e) → (IsErr r × IsErrAnd r (λ x. x ≡ e)) → ReadsTables (may_fail ≡ true) which file section r
 unread_macho may_fail which file section e r table format reads err =
     unread may_fail (λ (l : Listed). l) (located_answer file >>= answer_of) which file section e r (answer_macho which file section (located_answer file >>= answer_of) table format (macho_is file))
-    (of_answer may_fail macho.parts_view (located_answer file) e reads) err
+    (of_answer may_fail macho.parts_view (located_answer file) answer_of e reads) err
 
 -- a Mach-O or PE file has no dynamic symbol table
 abbrev pub IsWithout : List ℕ → List ℕ → Type 0
@@ -123,12 +127,16 @@ unfolding dynamic_symbols_answer
 pe_without file section format = ap (λ (f : Format). dynamic_symbols_answer f file section) format
 
 -- so it is refused
+pub refused_as : {L T : Type 0} (AreTables : T → Type 0) (may : Type 0) (answered : Option (Result L Refusal)) (p : ParseError) (r : Result T ReadError)
+    → answered ≡ Some (Err (refusal_of p)) → (IsErr r × IsErrAnd r (λ x. x ≡ Refused p)) → ReadsAs AreTables may answered r
+refused_as AreTables may answered p (Ok x) is err = let never : false ≡ true = err.0 in absurd cc
+refused_as AreTables may answered p (Err x) is err = subst (λ (e : ReadError). ReadsAs AreTables may answered (Err e)) (sym err.1) is
+
 pub no_table : (may : Type 0) (which : SymbolTable) (file section : List ℕ) (p : ParseError) (r : Result Tables ReadError)
     → IsWithout file section → (which ≡ Dynsym) × (refusal_of p ≡ section_is_missing (codes ".dynsym")) → (IsErr r × IsErrAnd r (λ x. x ≡ Refused p)) → ReadsTables may which file section r
-no_table may which file section p (Ok x) without told err = let never : false ≡ true = err.0 in absurd cc
-no_table may which file section p (Err x) without told err =
-    subst (λ (w : SymbolTable). ReadsTables may w file section (Err x)) (sym told.0)
-    (subst (λ (e : ReadError). ReadsTables may Dynsym file section (Err e)) (sym err.1) (without ∙ ap (λ (r : Refusal). Some (Err r)) (sym told.1)))
+no_table may which file section p r without told err =
+    refused_as (AreTablesOf which file section) may (answer which file section) p r
+    (ap (λ (w : SymbolTable). answer w file section) told.0 ∙ without ∙ ap (λ (r : Refusal). Some (Err r)) (sym told.1)) err
 
 -- a file of an unknown format
 pub of_unknown : (which : SymbolTable) (file section : List ℕ) → format_of file ≡ formats.Unknown → Gets (NeedsMemory (format_of file) file) (answer which file section) (Err errors.Unknown)

@@ -11,13 +11,14 @@ use Rattle.binfarce_elf.specs.declared.symbol_table.SymbolTable.{SymbolTable}
 use Rattle.binfarce_elf.specs.declared.symbol_table.SymbolTable.TheVariants.{Symtab}
 use Rattle.std.specs.Str.{bytes_eq}
 use Rattle.binfarce_bytes.specs.Number.{bytes_at}
-use Rattle.binfarce_bytes.specs.Sizes.{arranged, least_above}
+use Rattle.binfarce_bytes.specs.Sizes.{RowAddress, arranged, least_above}
 use Rattle.binfarce_pe.specs.Pe as pe_file
 use Rattle.binfarce_pe.specs.Pe.{least_length, walk as pe_walk}
 use Rattle.binfarce_pe.specs.PeSymbols as pe
 use Rattle.binfarce_pe.specs.PeSymbols.{pe_answer}
 use Rattle.binfarce_macho.specs.Macho as macho_file
 use Rattle.binfarce_macho.specs.Macho.{Command, command_at, commands_from, commands, body_of, header_of, segment, is_segment, sections_of, walk as macho_walk}
+use Rattle.binfarce_macho.specs.MachoAll as all
 use Rattle.binfarce_macho.specs.MachoSymbols as macho
 use Rattle.binfarce_macho.specs.MachoSymbols.{size_up_to, macho_size, whole_table, slice_at, text_end_of, symbol_table_at, some_size, symbol_command, located_by, row_addresses, kept, answer_of, macho_answer}
 use Rattle.binfarce_tools.specs.Answer.{elf_file_answer, macho_file_answer, pe_file_answer}
@@ -205,3 +206,17 @@ told_answer_of (Some found) = told_step (kept (macho.entry_of found) (arranged (
 pub told_macho : (file : List ℕ) → Told (macho_file_answer file)
 unfolding macho_answer
 told_macho file = told_if (ltb (length file) 28) (Err unexpected_eof) _ refl (told_step (macho.located file) answer_of (told_macho_located file) told_answer_of)
+
+-- all sections of a Mach-O file
+told_entry_in : (symbols : all.Symbols) (at : RowAddress) (row : macho.SymbolRow ℕ) (end : Option ℕ) → Told (all.entry_in symbols at row end)
+told_entry_in symbols at row None = tt
+told_entry_in symbols at row (Some end) = told_step _ _ (told_if (ltb end (2 ^ 64)) (Ok end) (Err malformed_input) tt refl) (λ e. told_step _ _ (told_size _ e at.address) (λ size. tt))
+
+pub told_all_of : (ends : List ℕ) (symbols : Option all.Symbols) → Told (all.all_of ends symbols)
+unfolding all.all_of all.section_entry
+told_all_of ends None = tt
+told_all_of ends (Some symbols) =
+    told_step (kept (all.section_entry ends symbols) (arranged (row_addresses symbols.rows))) _
+    (told_kept (all.section_entry ends symbols) (arranged (row_addresses symbols.rows)) (λ at.
+    told_if _ _ (Ok None) (told_entry_in symbols at (macho.symbol_of symbols.rows at.row) (all.end_of ends (macho.symbol_of symbols.rows at.row).section)) tt))
+    (λ entries. tt)

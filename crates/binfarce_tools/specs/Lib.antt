@@ -1,3 +1,6 @@
+pub mod AllAnswer
+pub mod AllListing
+pub mod AllTables
 pub mod Answer
 pub mod Entries
 pub mod Writing

@@ -58,6 +58,18 @@ crate_lines shares names = flat_map (λ name. crate_line name (sum_of shares nam
 abbrev pub report : List Share → List (List ℕ) → ℕ → List ℕ
 report shares names size = crate_lines shares names ++ (total_line (total shares) ++ size_line size)
 
+-- the lines of the crates, and then that of the sum of all sizes
+abbrev pub sums : List Share → List (List ℕ) → List ℕ
+sums shares names = crate_lines shares names ++ total_line (total shares)
+
+-- text is that of these shares
+abbrev pub IsSumsOfShares : List Share → List ℕ → Type 0
+IsSumsOfShares shares text = (names : List (List ℕ)) × AreCratesOf shares names × (text ≡ sums shares names)
+
+-- text is that of what a file holds: each entry adds its share
+abbrev pub IsSumsOf : Listed → List ℕ → Type 0
+IsSumsOf listed text = (shares : List Share) × AllZip IsShareOf listed.entries shares × IsSumsOfShares shares text
+
 -- text is the report of these shares and of their section's size
 abbrev pub IsReportOfShares : List Share → ℕ → List ℕ → Type 0
 IsReportOfShares shares size text = (names : List (List ℕ)) × AreCratesOf shares names × (text ≡ report shares names size)

@@ -1,9 +1,9 @@
 -- What was read of a file to list its function symbols, and what such a reading gives.
-use Rattle.std.specs.Prelude.{◌≡◌, ℕ, List, Some, Result, Ok, Err}
+use Rattle.std.specs.Prelude.{◌≡◌, ℕ, List, Option, Some, Result, Ok, Err}
 use Rattle.binfarce_bytes.specs.declared.format.Format.TheVariants as formats
 use Rattle.binfarce_elf.specs.Elf.{elf32, elf64}
 use Rattle.binfarce_bytes.specs.Format.{format_of}
-use Rattle.binfarce_bytes.specs.Refusal.{refusal_of}
+use Rattle.binfarce_bytes.specs.Refusal.{Refusal, refusal_of}
 use Rattle.binfarce_tables.specs.MachoReading as macho
 use Rattle.binfarce_tables.specs.PeReading as pe
 use Rattle.binfarce_tables.specs.Reading.{parts_view}
@@ -22,9 +22,13 @@ AreTablesOf which file section (Macho parts) = (format_of file ≡ formats.Macho
 AreTablesOf which file section (Pe parts) = answer_of which file section ≡ Some (Ok (pe.parts_view parts))
 AreTablesOf which file section Unknown = format_of file ≡ formats.Unknown
 
--- what a reading of this file gives: its tables, or its refusal; or a read failed, which it may only where MayFail says so; or an allocation failed
+-- what a reading of a file with this answer gives: tables that are its own, or its refusal; or a read failed, which it may only where MayFail says so; or an allocation failed
+abbrev pub ReadsAs : {L T : Type 0} → (T → Type 0) → Type 0 → Option (Result L Refusal) → Result T ReadError → Type 0
+ReadsAs AreTables MayFail answer (Ok tables) = AreTables tables
+ReadsAs AreTables MayFail answer (Err (Refused e)) = answer ≡ Some (Err (refusal_of e))
+ReadsAs AreTables MayFail answer (Err Unreadable) = MayFail
+ReadsAs AreTables MayFail answer (Err OutOfMemory) = Unit {0}
+
+-- so for the function symbols of a section
 abbrev pub ReadsTables : Type 0 → SymbolTable → List ℕ → List ℕ → Result Tables ReadError → Type 0
-ReadsTables MayFail which file section (Ok tables) = AreTablesOf which file section tables
-ReadsTables MayFail which file section (Err (Refused e)) = answer_of which file section ≡ Some (Err (refusal_of e))
-ReadsTables MayFail which file section (Err Unreadable) = MayFail
-ReadsTables MayFail which file section (Err OutOfMemory) = Unit {0}
+ReadsTables MayFail which file section result = ReadsAs (AreTablesOf which file section) MayFail (answer_of which file section) result

@@ -9,6 +9,7 @@ ghost use Rattle.binfarce_bytes.specs.SymbolViews.{function_view};
 ghost use Rattle.binfarce_tools.specs.Answer.{elf_file_answer, macho_file_answer, pe_file_answer, symbols_answer, NeedsMemory};
 ghost use Rattle.binfarce_tools.specs.Entries.{arranged_left, HoldsLeft, IsArranged, Gets};
 
+use crate::all::AllFunctions;
 use crate::list::ListError;
 use binfarce_bytes::format::{Format, detect_format};
 use binfarce_bytes::functions::FunctionSymbol;
@@ -26,6 +27,7 @@ pub enum Functions<'a> {
     Elf32(symbols::Functions<'a, u32>),
     Elf64(symbols::Functions<'a, u64>),
     Arranged(Arranged<'a>),
+    All(AllFunctions<'a>),
 }
 
 /// Function symbols that stand in a list, from a place on.
@@ -51,6 +53,7 @@ impl<'a> Iterator for Functions<'a> {
             Functions::Elf32(functions) => functions.next(),
             Functions::Elf64(functions) => functions.next(),
             Functions::Arranged(functions) => functions.next(),
+            Functions::All(functions) => Some(functions.next()?.function),
         }
     }
 }

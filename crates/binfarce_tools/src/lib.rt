@@ -1,6 +1,7 @@
 //! What the programs are made of: listings of the function symbols of executables, and reports of their sizes by crate.
 #![tactic(auto)]
 
+pub mod all;
 pub mod functions;
 mod head;
 pub mod list;

@@ -69,7 +69,7 @@ pub fn map_tables<S: Sink>(alloc: Global, tables: &Tables, out: &mut S) -> Resul
 }
 
 // The whole picture.
-fn picture(alloc: Global, sums: &CrateSums) -> Result<String, AllocError>
+pub(crate) fn picture(alloc: Global, sums: &CrateSums) -> Result<String, AllocError>
     requires { (shares : List Share) × AreSumsOf shares sums.now }
     ensures { IfOk result
         (λ t. (shares : List Share) → AreSumsOf shares sums.now

@@ -9,7 +9,7 @@ ghost use Rattle.binfarce_names.specs.Named.{IsNamed};
 ghost use Rattle.binfarce_bytes.specs.SymbolViews.{function_view};
 ghost use Rattle.binfarce_elf.specs.declared.symbol_table.SymbolTable.{SymbolTable};
 ghost use Rattle.binfarce_tools.specs.Answer.{symbols_answer, answer_of, NeedsMemory};
-ghost use Rattle.binfarce_tools.specs.Report.{Share, IsShareOf, IsReportOf, IsReportOfShares, ReportFits, crate_text, crate_line};
+ghost use Rattle.binfarce_tools.specs.Report.{Share, IsShareOf, IsReportOf, IsReportOfShares, IsSumsOfShares, ReportFits, crate_text, crate_line};
 ghost use Rattle.binfarce_tools.specs.ReportWords.{outcome_of};
 ghost use Rattle.binfarce_tools.specs.Writing.{Tells, Takes, Fails, Leaves};
 ghost use Rattle.binfarce_tools.specs.declared.report.ReportError.TheVariants.{OutOfMemory, TooLarge, Write};
@@ -187,7 +187,7 @@ pub fn sums_of_tables(alloc: Global, tables: &Tables) -> Result<CrateSums, Repor
 }
 
 // The sums of the functions, beside the section's size. `TooLarge` where the sum of all doesn't fit.
-fn crate_sums(
+pub(crate) fn crate_sums(
     alloc: Global,
     functions: Functions<'_>,
     section_size: u64,
@@ -266,12 +266,21 @@ fn report_text(alloc: Global, sums: &CrateSums) -> Result<String, AllocError>
         (λ t. (shares : List Share) → AreSumsOf shares sums.now
         → IsReportOfShares shares sums.now.section_size (string_bytes t)) }
 {
+    let mut text = sums_text(alloc, sums)?;
+    writeln!(text, "text {}", sums.section_size)?;
+    Ok(text)
+}
+
+// The lines of the crates, and that of the sum of all sizes.
+pub(crate) fn sums_text(alloc: Global, sums: &CrateSums) -> Result<String, AllocError>
+    ensures { IfOk result
+        (λ t. (shares : List Share) → AreSumsOf shares sums.now → IsSumsOfShares shares (string_bytes t)) }
+{
     let mut text = String::new(alloc);
     for (name, sum) in sums.crates.iter() {
         push_crate_line(&mut text, name.as_str(), *sum)?;
     }
     writeln!(text, "sum {}", sums.total)?;
-    writeln!(text, "text {}", sums.section_size)?;
     Ok(text)
 }
 

@@ -131,7 +131,7 @@ pub fn read_by<S: Source>(
 }
 
 // Whether a Mach-O or PE file has this symbol table: none has a dynamic one.
-fn has_table(which: SymbolTable) -> Result<(), ParseError>
+pub(crate) fn has_table(which: SymbolTable) -> Result<(), ParseError>
     ensures { MatchResult result
         (λ _. which ≡ Symtab)
         (λ e. (which ≡ Dynsym) × (refusal_of e ≡ section_is_missing (codes ".dynsym"))) }

@@ -1,3 +1,5 @@
+mod all;
+mod all_elf;
 mod changed;
 mod faults;
 mod files;

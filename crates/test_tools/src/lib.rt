@@ -4,6 +4,8 @@
 #[cfg(test)]
 mod addresses;
 #[cfg(test)]
+mod all;
+#[cfg(test)]
 mod image;
 #[cfg(test)]
 mod map;

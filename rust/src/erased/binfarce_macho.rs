@@ -6,6 +6,7 @@ mod accessors;
 pub mod all;
 mod commands;
 pub mod header;
+pub mod numbered;
 pub mod parts;
 pub mod sections;
 pub mod symbols;

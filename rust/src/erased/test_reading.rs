@@ -2,6 +2,7 @@
 
 //! Tests of sections and of files read at offsets, and what `test_memory` too asks of them while one allocation fails.
 
+pub mod all;
 mod expected;
 pub mod fronts;
 pub mod macho;

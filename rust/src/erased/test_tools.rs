@@ -5,6 +5,8 @@
 #[cfg(test)]
 mod addresses;
 #[cfg(test)]
+mod all;
+#[cfg(test)]
 mod image;
 #[cfg(test)]
 mod map;

@@ -1,11 +1,13 @@
 -- What private clauses see of a reading of a PE file's parts.
-use Rattle.std.specs.Prelude.{ℕ, ◌+◌, List, length, drop, Result, Ok, Err, nat_lt, nat_le, if◌then◌else◌}
+use Rattle.std.specs.Prelude.{ℕ, ◌+◌, ◌-◌, ◌*◌, List, length, drop, min, Result, Ok, Err, nat_lt, nat_le, if◌then◌else◌}
 use Rattle.binfarce_bytes.specs.Number.{bytes_at}
 use Rattle.binfarce_bytes.specs.Refusal.{◌>>=◌, Refusal, unexpected_eof}
 use Rattle.binfarce_bytes.specs.Entries.{Listed}
-use Rattle.binfarce_pe.specs.Pe.{least_length, signature_offset}
-use Rattle.binfarce_pe.specs.PeParts.{TablePlaces, places_of, SectionTable, TextPlace, text_place}
+use Rattle.binfarce_bytes.specs.SectionEntries.{unless}
+use Rattle.binfarce_pe.specs.Pe.{least_length, signature_offset, section_length}
+use Rattle.binfarce_pe.specs.PeParts.{TablePlaces, places_of, SectionTable, headers_alone, table_walk, TextPlace, text_place}
 use Rattle.binfarce_pe.specs.PeSymbols.{SymbolTable, entries_of}
+use Rattle.binfarce_tables.specs.declared.pe_all.Records.{Records}
 
 -- the signature's offset, where the file has the stub that states it
 abbrev pub signature_step : List ℕ → Result ℕ Refusal
@@ -32,3 +34,15 @@ table_at file places =
 -- the answer, where the text is this
 abbrev pub answer_at : List ℕ → TablePlaces → TextPlace → Result Listed Refusal
 answer_at file places text = table_at file places >>= λ table. Ok (record { entries = entries_of table text.index text.size; section_size = text.size })
+
+-- the section headers alone, as many bytes of them as the file has
+abbrev pub alone_at : List ℕ → TablePlaces → SectionTable
+alone_at file places = headers_alone (bytes_at file places.sections (min (places.section_count * section_length) (length file - places.sections))) places.section_count
+
+-- of which none is truncated
+abbrev pub whole_at : List ℕ → TablePlaces → Result SectionTable Refusal
+whole_at file places = unless (table_walk (headers_at file places)).refusal (alone_at file places)
+
+-- the symbol table that was read
+abbrev pub records_view : Records → SymbolTable
+records_view r = record { rows = r.rows.items; strings = r.strings.items }

@@ -2,8 +2,12 @@
 use Rattle.std.specs.Prelude.{ℕ, ◌*◌, List, length, min, Result, Ok, Err, nat_lt, if◌then◌else◌}
 use Rattle.binfarce_bytes.specs.declared.ByteOrder.{ByteOrder}
 use Rattle.binfarce_bytes.specs.Number.{bytes_at}
-use Rattle.binfarce_bytes.specs.Refusal.{Refusal, unexpected_eof}
-use Rattle.binfarce_elf.specs.Elf.{ElfClass, SectionTable, section_table, whole_headers}
+use Rattle.binfarce_bytes.specs.Refusal.{◌>>=◌, Refusal, unexpected_eof}
+use Rattle.binfarce_bytes.specs.SectionEntries.{unless}
+use Rattle.binfarce_elf.specs.Elf.{ElfClass, SectionTable, section_table, walk, whole_headers}
+use Rattle.binfarce_elf.specs.ElfSymbols.{TableRows, rows_in}
+use Rattle.binfarce_elf.specs.declared.symbol_table.SymbolTable.{SymbolTable}
+use Rattle.binfarce_tables.specs.declared.elf_all.TableParts.{TableParts}
 use Rattle.binfarce_tables.specs.declared.elf.Place.{Place}
 
 -- the table at this place of a file
@@ -17,3 +21,11 @@ table_step class order file = if nat_lt (length file) class.header_length then E
 -- the section headers that are whole and below the count
 abbrev pub headers_of : ElfClass → SectionTable → List ℕ
 headers_of class table = bytes_at table.file table.shoff (min table.shnum (whole_headers class table) * class.section_length)
+
+-- the rows and the strings of a symbol table, where all section headers are whole
+abbrev pub rows_of_all : SymbolTable → ElfClass → SectionTable → Result TableRows Refusal
+rows_of_all which class table = unless (walk class table).refusal table.shnum >>= λ count. rows_in which class table
+
+-- a `TableParts`
+abbrev pub rows_view : TableParts → TableRows
+rows_view t = record { strings = t.strings.items; rows = t.rows.items }

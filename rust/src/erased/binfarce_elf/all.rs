@@ -22,7 +22,7 @@ pub fn all_functions<'a, C: Class>(
 }
 
 // How many sections there are; refused where a section header is truncated.
-fn whole_sections<C: Class>(table: Table<'_>) -> Result<Half, UnexpectedEof> {
+pub(crate) fn whole_sections<C: Class>(table: Table<'_>) -> Result<Half, UnexpectedEof> {
     let room = table.data.len().saturating_sub(table.shoff) / C::SECTION_LENGTH;
     if table.shoff < table.data.len() && usize::from(table.shnum) <= room {
         Ok(table.shnum)

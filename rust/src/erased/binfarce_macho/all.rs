@@ -3,10 +3,9 @@
 //! The function symbols of all sections.
 
 use crate::shim::Vec;
-use crate::erased::binfarce_macho::commands::{LC_SEGMENT_64, commands};
 use crate::erased::binfarce_macho::header::MachoHeader;
-use crate::erased::binfarce_macho::parts::{holds_sections, named_table};
-use crate::erased::binfarce_macho::sections::SECTION_LENGTH;
+use crate::erased::binfarce_macho::numbered::section_starts;
+use crate::erased::binfarce_macho::parts::named_table;
 use crate::erased::binfarce_macho::symbols::{
     SYMBOL_LENGTH, SymbolTable, is_defined, row_addresses, size_up_to, sized_entry, symbol_at,
     symbol_command,
@@ -16,9 +15,6 @@ use crate::erased::binfarce_bytes::parser::{number_at, parse_null_string, slice_
 use crate::erased::binfarce_bytes::sizes::{RowAddress, arrange};
 use crate::erased::binfarce_bytes::{ByteOrder, ParseError};
 use crate::shim::alloc::{AllocError, Global};
-
-// The greatest number of a section that a row can state (`MAX_SECT`).
-const MAX_SECT: usize = 255;
 
 /// Where a section is in memory: the address of its first byte, and its size in bytes.
 #[derive(Clone, Copy)]
@@ -48,41 +44,19 @@ pub fn functions_of_sections<'a>(
     }
 }
 
-/// Where the sections of a file are in memory, in the order of their numbers, up to number 255. Refused as `find_section` of
-/// a reader is with a callback that accepts none; `OutOfMemory` comes only where the file has a section.
-pub fn extents(alloc: Global, file: &[u8], header: MachoHeader) -> Result<Vec<Extent>, ParseError> {
+// Where the sections of a file are in memory, in the order of their numbers. `OutOfMemory` comes only where it has a section.
+fn extents(alloc: Global, file: &[u8], header: MachoHeader) -> Result<Vec<Extent>, ParseError> {
+    let starts = section_starts(alloc, file, header)?;
+    Ok(extents_at(alloc, file, &starts)?)
+}
+
+/// Where the sections are in memory whose structures begin there. `OutOfMemory` comes only where there is one.
+pub fn extents_at(alloc: Global, file: &[u8], starts: &[usize]) -> Result<Vec<Extent>, AllocError> {
     let mut sections = Vec::new(alloc);
-    for item in commands(file, header) {
-        let command = item?;
-        if command.kind == LC_SEGMENT_64 {
-            push_sections(&mut sections, file, command.offset + 8)?;
-        }
+    for start in starts {
+        sections.push(extent_at(file, *start))?;
     }
     Ok(sections)
-}
-
-// Adds the sections of a segment command, up to number 255; refused where one is truncated.
-fn push_sections(sections: &mut Vec<Extent>, file: &[u8], body: usize) -> Result<(), ParseError> {
-    if !holds_sections(file, body) {
-        return Err(ParseError::UnexpectedEof);
-    }
-    let count: u32 = number_at(file, body + 56, ByteOrder::LittleEndian)?;
-    let room = MAX_SECT - sections.len();
-    push_extents(sections, file, body, room.min(count as usize))?;
-    Ok(())
-}
-
-// Adds as many sections of a segment command, none of which is truncated.
-fn push_extents(
-    sections: &mut Vec<Extent>,
-    file: &[u8],
-    body: usize,
-    count: usize,
-) -> Result<(), AllocError> {
-    for index in 0..count {
-        sections.push(extent_at(file, body + 64 + index * SECTION_LENGTH))?;
-    }
-    Ok(())
 }
 
 // Where the section is whose structure begins at `start`.

@@ -33,6 +33,13 @@ pub fn needed_tables(file: &[u8], header: MachoHeader) -> Result<Needed<'_>, Par
     Ok(Needed { text, table })
 }
 
+/// What the command of the symbol table names, of a file that has this header; `None` without such a command. Refused as
+/// `functions` of a reader is, up to there.
+pub fn symbol_table(file: &[u8], header: MachoHeader) -> Result<Option<SymbolTable>, ParseError> {
+    let command = symbol_command(file, header)?;
+    named_table(file, command)
+}
+
 pub(crate) fn named_table(
     bytes: &[u8],
     command: Option<Command>,

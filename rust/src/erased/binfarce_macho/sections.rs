@@ -222,7 +222,7 @@ fn first_in_segment<'a, F: Fn(Section<'_>) -> bool>(
 }
 
 // The section whose structure begins at `start`, where both its names are valid; refused where a field is truncated.
-fn section_at(bytes: &[u8], start: usize) -> Result<Option<Section<'_>>, UnexpectedEof> {
+pub(crate) fn section_at(bytes: &[u8], start: usize) -> Result<Option<Section<'_>>, UnexpectedEof> {
     let mut s = Stream::new_at(bytes, start, ByteOrder::LittleEndian)?;
     let section_name = s.read_bytes(16)?;
     let segment_name = s.read_bytes(16)?;

@@ -4,7 +4,7 @@
 
 use crate::shim::Vec;
 use crate::erased::binfarce_pe::parts::{Places, SECTION_LENGTH};
-use crate::erased::binfarce_pe::sections::{Table, section_table};
+use crate::erased::binfarce_pe::sections::{Table, section_at, section_table};
 use crate::erased::binfarce_pe::symbols::{
     Kept, SYMBOL_LENGTH, SymbolRow, SymbolTable, function_name, kept_functions, symbol_of,
     symbol_table,
@@ -26,6 +26,47 @@ pub fn functions_of_sections<'a>(
     let sections = whole_sections(section_table(file, places))?;
     let symbols = symbol_table(file, places)?;
     Ok(functions_in(alloc, sections, symbols)?)
+}
+
+/// The function symbols of all sections, which have these headers, in these records, whose long names are in these strings.
+/// `OutOfMemory` comes only where there is a section.
+pub fn functions_of_headers<'a>(
+    alloc: Global,
+    headers: &[u8],
+    count: u16,
+    rows: &'a [u8],
+    strings: &'a [u8],
+) -> Result<Vec<SectionFunction<'a>>, AllocError> {
+    functions_in(
+        alloc,
+        table_of(headers, count),
+        SymbolTable { rows, strings },
+    )
+}
+
+fn table_of(headers: &[u8], count: u16) -> Table<'_> {
+    Table {
+        bytes: headers,
+        offset: 0,
+        count,
+    }
+}
+
+/// The name of the section of this number, where there is one and its name is UTF-8; a part of these headers.
+pub fn section_name(headers: &[u8], count: u16, number: u32) -> Option<&str> {
+    let index = number.checked_sub(1)?;
+    if index < u32::from(count) {
+        name_at(headers, index as u16)
+    } else {
+        None
+    }
+}
+
+fn name_at(headers: &[u8], index: u16) -> Option<&str> {
+    match section_at(headers, index as usize * SECTION_LENGTH, index).unwrap() {
+        None => None,
+        Some(section) => Some(section.name),
+    }
 }
 
 // The section headers, of which none is truncated.

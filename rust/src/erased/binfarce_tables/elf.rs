@@ -30,13 +30,14 @@ impl<C: Class> Parts<C> {
     }
 }
 
-// Where the section headers of a file are, as its header says, and the order of its numbers' bytes.
+// Where the section headers of a file are, and the file's type, as its header says, and the order of its numbers' bytes.
 #[derive(Clone, Copy)]
 pub(crate) struct Place {
     pub(crate) byte_order: ByteOrder,
     pub(crate) shoff: usize,
     pub(crate) shnum: Half,
     pub(crate) shstrndx: Half,
+    pub(crate) elf_type: Half,
 }
 
 /// The parts of the section with this name, by this symbol table. Refused as `functions` and `dynamic_functions` of a
@@ -79,6 +80,7 @@ pub(crate) fn read_place<C: Class, S: Source>(
         shoff: header.shoff.widened() as usize,
         shnum: header.shnum,
         shstrndx: header.shstrndx,
+        elf_type: header.elf_type,
     })
 }
 
@@ -178,7 +180,7 @@ fn read_contents<C: Class, S: Source>(
 }
 
 // The section's bytes; refused as those of a file in memory.
-fn read_section<C: Class, S: Source>(
+pub(crate) fn read_section<C: Class, S: Source>(
     alloc: Global,
     source: &S,
     len: usize,

@@ -3,7 +3,7 @@
 //! 32-bit ELF files of either byte order, read where their tables are (System V gABI).
 
 use crate::erased::binfarce_tables::error::ReadError;
-use crate::erased::binfarce_tables::{elf, sections};
+use crate::erased::binfarce_tables::{elf, elf_all, sections};
 use crate::erased::binfarce_bytes::ByteOrder;
 use crate::erased::binfarce_bytes::source::Source;
 use crate::erased::binfarce_elf::symbol_table::SymbolTable;
@@ -11,6 +11,9 @@ use crate::shim::alloc::Global;
 
 /// The parts of a 32-bit file that the function symbols of a section are read from, in memory.
 pub type Parts = elf::Parts<u32>;
+
+/// The parts of a 32-bit file that the function symbols of all sections are read from, in memory.
+pub type AllParts = elf_all::AllParts<u32>;
 
 /// The section headers of a 32-bit file and the section names, in memory.
 pub type SectionParts = sections::SectionParts<u32>;
@@ -64,4 +67,24 @@ pub fn read_sections<S: Source>(
     byte_order: ByteOrder,
 ) -> Result<SectionParts, ReadError> {
     sections::read_sections::<u32, S>(alloc, source, byte_order)
+}
+
+/// Reads the parts of a file that the function symbols of all sections are read from by this symbol table, and the
+/// section names, numbers in the given order, without a look at the magic number: the file header of 52 bytes, the header of
+/// the section names' own section, the section names, all section headers, the symbol table and its strings. Each is read
+/// once, into memory of its size, which is never more than what the file holds of it. No other byte is read, but the first
+/// byte of a section header table without headers.
+///
+/// # Errors
+///
+/// `Refused` with what `parse` and `all_functions` of a reader of the whole file refuse; `Unreadable` where the source
+/// can't be read at offsets, or a read of it fails, and never of a source that can't fail, as bytes in memory are;
+/// `OutOfMemory` where an allocation fails.
+pub fn read_all<S: Source>(
+    alloc: Global,
+    source: &S,
+    byte_order: ByteOrder,
+    which: SymbolTable,
+) -> Result<AllParts, ReadError> {
+    elf_all::read_all::<u32, S>(alloc, source, byte_order, which)
 }

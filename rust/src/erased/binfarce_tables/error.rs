@@ -3,6 +3,7 @@
 //! Why a file's parts were not read.
 
 use crate::erased::binfarce_bytes::ParseError;
+use crate::shim::alloc::AllocError;
 use crate::shim::io::{self, ErrorKind};
 
 /// Why a file's parts were not read.
@@ -29,5 +30,11 @@ impl From<io::Error> for ReadError {
 impl From<ParseError> for ReadError {
     fn from(e: ParseError) -> Self {
         ReadError::Refused(e)
+    }
+}
+
+impl From<AllocError> for ReadError {
+    fn from(_: AllocError) -> Self {
+        ReadError::OutOfMemory
     }
 }

@@ -6,6 +6,7 @@ use crate::shim::Vec;
 use crate::erased::binfarce_tables::beginning::Beginning;
 use crate::erased::binfarce_tables::elf::part;
 use crate::erased::binfarce_tables::error::ReadError;
+pub use crate::erased::binfarce_tables::macho_all::{AllParts, read_all};
 use crate::erased::binfarce_bytes::ParseError;
 use crate::erased::binfarce_bytes::functions::FunctionSymbol;
 use crate::erased::binfarce_bytes::source::Source;
@@ -15,7 +16,7 @@ use crate::erased::binfarce_macho::sections::Section;
 use crate::shim::alloc::Global;
 
 // The header's bytes that are read.
-const HEADER: usize = 28;
+pub(crate) const HEADER: usize = 28;
 
 /// The parts of a file that its function symbols are read from, in memory.
 pub struct Parts {
@@ -96,7 +97,11 @@ pub fn read_sections<S: Source>(alloc: Global, source: &S) -> Result<Beginning, 
 }
 
 // The bytes that the load commands are in, from the file's first on.
-fn read_commands<S: Source>(alloc: Global, source: &S, len: usize) -> Result<Vec<u8>, ReadError> {
+pub(crate) fn read_commands<S: Source>(
+    alloc: Global,
+    source: &S,
+    len: usize,
+) -> Result<Vec<u8>, ReadError> {
     let end = read_end(alloc, source, len)?;
     let commands = part(alloc, source, 0, end)?;
     if end == len || are_held(&commands) {
@@ -114,7 +119,7 @@ fn read_end<S: Source>(alloc: Global, source: &S, len: usize) -> Result<usize, R
 }
 
 // The header in a file's first bytes; refused where it is truncated.
-fn header_in(bytes: &[u8]) -> Result<MachoHeader, ParseError> {
+pub(crate) fn header_in(bytes: &[u8]) -> Result<MachoHeader, ParseError> {
     Ok(parse_header(bytes)?)
 }
 
@@ -168,7 +173,7 @@ fn read_located<S: Source>(
 }
 
 // The bytes of a table; refused where they don't lie in the file.
-fn read_table<S: Source>(
+pub(crate) fn read_table<S: Source>(
     alloc: Global,
     source: &S,
     len: usize,

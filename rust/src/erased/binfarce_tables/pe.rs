@@ -6,6 +6,7 @@ use crate::shim::Vec;
 use crate::erased::binfarce_tables::beginning::Beginning;
 use crate::erased::binfarce_tables::elf::part;
 use crate::erased::binfarce_tables::error::ReadError;
+pub use crate::erased::binfarce_tables::pe_all::{AllParts, read_all};
 use crate::erased::binfarce_bytes::ParseError;
 use crate::erased::binfarce_bytes::functions::FunctionSymbol;
 use crate::erased::binfarce_bytes::source::Source;
@@ -78,7 +79,11 @@ pub fn read_sections<S: Source>(alloc: Global, source: &S) -> Result<Beginning, 
     Ok(Beginning { bytes, file_length })
 }
 
-fn read_places<S: Source>(alloc: Global, source: &S, len: usize) -> Result<Places, ReadError> {
+pub(crate) fn read_places<S: Source>(
+    alloc: Global,
+    source: &S,
+    len: usize,
+) -> Result<Places, ReadError> {
     let signature = read_signature(alloc, source, len)?;
     let offset = signature as usize;
     if len < offset + HEADERS_LENGTH {

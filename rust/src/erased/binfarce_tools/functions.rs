@@ -3,6 +3,7 @@
 //! The function symbols of a file of any format.
 
 use crate::shim::Vec;
+use crate::erased::binfarce_tools::all::AllFunctions;
 use crate::erased::binfarce_tools::list::ListError;
 use crate::erased::binfarce_bytes::format::{Format, detect_format};
 use crate::erased::binfarce_bytes::functions::FunctionSymbol;
@@ -19,6 +20,7 @@ pub enum Functions<'a> {
     Elf32(symbols::Functions<'a, u32>),
     Elf64(symbols::Functions<'a, u64>),
     Arranged(Arranged<'a>),
+    All(AllFunctions<'a>),
 }
 
 /// Function symbols that stand in a list, from a place on.
@@ -35,6 +37,7 @@ impl<'a> Iterator for Functions<'a> {
             Functions::Elf32(functions) => functions.next(),
             Functions::Elf64(functions) => functions.next(),
             Functions::Arranged(functions) => functions.next(),
+            Functions::All(functions) => Some(functions.next()?.function),
         }
     }
 }

@@ -45,7 +45,7 @@ pub fn map_tables<S: Sink>(alloc: Global, tables: &Tables, out: &mut S) -> Resul
 }
 
 // The whole picture.
-fn picture(alloc: Global, sums: &CrateSums) -> Result<String, AllocError> {
+pub(crate) fn picture(alloc: Global, sums: &CrateSums) -> Result<String, AllocError> {
     let bars = bars_of(alloc, sums)?;
     chart(alloc, bars.as_slice(), sums.section_size)
 }

@@ -137,7 +137,7 @@ pub fn sums_of_tables(alloc: Global, tables: &Tables) -> Result<CrateSums, Repor
 }
 
 // The sums of the functions, beside the section's size. `TooLarge` where the sum of all doesn't fit.
-fn crate_sums(
+pub(crate) fn crate_sums(
     alloc: Global,
     functions: Functions<'_>,
     section_size: u64,
@@ -198,12 +198,18 @@ fn put_crate(alloc: Global, text: &mut String, name: &str) -> Result<(), AllocEr
 
 // The whole report.
 fn report_text(alloc: Global, sums: &CrateSums) -> Result<String, AllocError> {
+    let mut text = sums_text(alloc, sums)?;
+    writeln!(text, "text {}", sums.section_size)?;
+    Ok(text)
+}
+
+// The lines of the crates, and that of the sum of all sizes.
+pub(crate) fn sums_text(alloc: Global, sums: &CrateSums) -> Result<String, AllocError> {
     let mut text = String::new(alloc);
     for (name, sum) in sums.crates.iter() {
         push_crate_line(&mut text, name.as_str(), *sum)?;
     }
     writeln!(text, "sum {}", sums.total)?;
-    writeln!(text, "text {}", sums.section_size)?;
     Ok(text)
 }
 

@@ -110,7 +110,7 @@ pub fn read_by<S: Source>(
 }
 
 // Whether a Mach-O or PE file has this symbol table: none has a dynamic one.
-fn has_table(which: SymbolTable) -> Result<(), ParseError> {
+pub(crate) fn has_table(which: SymbolTable) -> Result<(), ParseError> {
     match which {
         SymbolTable::Symtab => Ok(()),
         SymbolTable::Dynsym => Err(ParseError::SectionIsMissing(which.name())),

@@ -6,6 +6,9 @@ use crate::erased::test_memory::expected::Expected;
 use crate::erased::test_memory::readers::{FILES, File, bytes_of, magic_of};
 use crate::erased::binfarce::ParseError;
 use crate::erased::binfarce_image::image::ImageError;
+use crate::erased::binfarce_reading::ReadError;
+use crate::erased::binfarce_tools::SymbolTable;
+use crate::erased::binfarce_tools::all::{list_all, map_all, read_all, report_all};
 use crate::erased::binfarce_tools::list::{ListError, Out, list};
 use crate::erased::binfarce_tools::map::map;
 use crate::erased::binfarce_tools::report::{ReportError, report};
@@ -55,6 +58,9 @@ pub(crate) fn add_listings(alloc: Global, tally: &mut Tally) {
         tally.add(name, is_listed(alloc, *file, listing));
     }
     tally.add("a symbol past the text", is_past_the_text(alloc));
+    for (name, call, text) in &ALL {
+        tally.add(name, is_written(alloc, *call, text));
+    }
 }
 
 // The text of a report or of its picture, or the refusal of both.
@@ -132,5 +138,51 @@ pub(crate) fn add_reports(alloc: Global, tally: &mut Tally) {
     }
     for (name, expected) in &REPORTS {
         tally.add(name, is_reported_beside(alloc, name, *expected));
+    }
+}
+
+// What is written of all sections.
+#[derive(Clone, Copy)]
+enum All {
+    List,
+    Report,
+    Map,
+}
+
+const ALL: [(&str, All, &str); 3] = [
+    (
+        "a listing of all sections",
+        All::List,
+        "0000000000001000         16 .text foo\n0000000000001010         16 .symtab bad\n",
+    ),
+    (
+        "a report of all sections",
+        All::Report,
+        "        16 [unknown]\n        16 foo\nsum 32\n",
+    ),
+    ("a picture of all sections", All::Map, ALL_PICTURE),
+];
+
+const ALL_PICTURE: &str =
+    "<svg xmlns=\"http://www.w3.org/2000/svg\" width=\"800\" height=\"96\" viewBox=\"0 0 800 96\" font-family=\"sans-serif\" font-size=\"14\">\n<title>Size by crate</title>\n<rect width=\"800\" height=\"100%\" fill=\"#fff\"/>\n<text x=\"8\" y=\"25\">sum 32, text 32: bytes and share of the sum by crate</text>\n<svg y=\"40\" height=\"24\"><svg width=\"236\"><text x=\"8\" y=\"17\">[unknown]</text></svg><svg x=\"240\" width=\"360\"><rect y=\"3\" width=\"100%\" height=\"18\" fill=\"#e6e6e6\"/><rect y=\"3\" width=\"50.00%\" height=\"18\" fill=\"#245\"/></svg><text x=\"672\" y=\"17\" text-anchor=\"end\">50.00%</text><text x=\"792\" y=\"17\" text-anchor=\"end\">16</text></svg>\n<svg y=\"64\" height=\"24\"><svg width=\"236\"><text x=\"8\" y=\"17\">foo</text></svg><svg x=\"240\" width=\"360\"><rect y=\"3\" width=\"100%\" height=\"18\" fill=\"#e6e6e6\"/><rect y=\"3\" width=\"50.00%\" height=\"18\" fill=\"#245\"/></svg><text x=\"672\" y=\"17\" text-anchor=\"end\">50.00%</text><text x=\"792\" y=\"17\" text-anchor=\"end\">16</text></svg>\n</svg>\n";
+
+fn is_written(alloc: Global, call: All, text: &str) -> Row {
+    let file = elf::ELF64_LITTLE.as_slice();
+    let tables = match read_all(alloc, &file, SymbolTable::Symtab) {
+        Ok(tables) => tables,
+        Err(ReadError::OutOfMemory) => return Err(AllocError),
+        Err(_) => return Ok(false),
+    };
+    let mut out = Out::new(Expected::new(text));
+    let result = match call {
+        All::List => list_all(alloc, &tables, &mut out).map_err(ReportError::from),
+        All::Report => report_all(alloc, &tables, &mut out),
+        All::Map => map_all(alloc, &tables, &mut out),
+    };
+    let written = out.into_inner();
+    match result {
+        Ok(()) => Ok(written.is_whole()),
+        Err(ReportError::OutOfMemory) if written.is_empty => Err(AllocError),
+        Err(_) => Ok(false),
     }
 }

@@ -7,7 +7,7 @@ use crate::shim::alloc::{AllocError, Global};
 use crate::shim::fs::File;
 use crate::erased::test_image_samples::tally::{Row, Tally};
 use crate::erased::test_reading::fronts::{Given, LAYOUTS, compared};
-use crate::erased::test_reading::{macho, pe};
+use crate::erased::test_reading::{all, macho, pe};
 use crate::erased::test_samples::elf::Layout;
 use crate::erased::test_samples::macho::MACHO;
 use crate::erased::test_samples::pe::PE;
@@ -35,6 +35,12 @@ pub(crate) fn add_readings(alloc: Global, tally: &mut Tally) {
     let file = MACHO.as_slice();
     tally.add("all of Mach-O", row_of(macho::compared(alloc, file, &file)));
     tally.add("parts of Mach-O", row_of(macho::compared_with_parts(alloc)));
+    tally.add(
+        "all sections of Mach-O",
+        row_of(all::macho(alloc, file, &file)),
+    );
+    let file = PE.as_slice();
+    tally.add("all sections of PE", row_of(all::pe(alloc, file, &file)));
 }
 
 /// Whether the file gives what the sample does. No clause says what an opened file gives, so this run alone refuses a `fill_at`

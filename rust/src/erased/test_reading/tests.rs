@@ -1,5 +1,7 @@
 // From crates/test_reading/src/tests.rt, by tools/erase.
 
+mod all;
+mod all_elf;
 mod changed;
 mod faults;
 mod files;

@@ -18,7 +18,7 @@ returns-in_err-needed g c = λ file known.
     let table = table_at file c.in_ok-place.place in
     let e = c.in_err-needed.field-0.0 in
     passed (g.S.Source.may_fail c.args.source.now) next _ e c.from_residual-in_err-needed.result c.from_residual-in_err-needed.ensures
-    (from_table (g.S.Source.may_fail c.args.source.now) next c.args.which class c.args.byte_order file c.args.section_name.now table (Err e) (c.in_ok-place.ensures file told)
+    (from_table (g.S.Source.may_fail c.args.source.now) next c.args.which class c.args.byte_order file c.args.section_name.now table (Err e) (c.in_ok-place.ensures.table file told)
     (after_err (g.S.Source.may_fail c.args.source.now) (needed_view g.C.Class.number_of) next (needed c.args.which class table (names_bytes class table) c.args.section_name.now) (answer_of class table.order file) e (c.in_err-needed.ensures file told)))
 
 pub returns-in_err-strings : goal.returns-in_err-strings
@@ -30,7 +30,7 @@ returns-in_err-strings g c = λ file known.
     let n = needed_view g.C.Class.number_of c.in_ok-needed.needed in
     let e = c.in_err-strings.field-0.0 in
     passed (g.S.Source.may_fail c.args.source.now) next _ e c.from_residual-in_err-strings.result c.from_residual-in_err-strings.ensures
-    (from_needed (g.S.Source.may_fail c.args.source.now) next c.args.which class c.args.byte_order file c.args.section_name.now table (Err e) (c.in_ok-place.ensures file told) (needed_view g.C.Class.number_of c.in_ok-needed.needed) (c.in_ok-needed.ensures file told)
+    (from_needed (g.S.Source.may_fail c.args.source.now) next c.args.which class c.args.byte_order file c.args.section_name.now table (Err e) (c.in_ok-place.ensures.table file told) (needed_view g.C.Class.number_of c.in_ok-needed.needed) (c.in_ok-needed.ensures file told)
     (after_err (g.S.Source.may_fail c.args.source.now) (λ (v : Vec ℕ Global). v.items) next (section_data file n.strings) (after_strings class table.order file n) e (c.in_err-strings.ensures file told)))
 
 pub returns-in_err-rows : goal.returns-in_err-rows
@@ -42,7 +42,7 @@ returns-in_err-rows g c = λ file known.
     let n = needed_view g.C.Class.number_of c.in_ok-needed.needed in
     let e = c.in_err-rows.field-0.0 in
     passed (g.S.Source.may_fail c.args.source.now) next _ e c.from_residual-in_err-rows.result c.from_residual-in_err-rows.ensures
-    (from_strings (g.S.Source.may_fail c.args.source.now) next c.args.which class c.args.byte_order file c.args.section_name.now table (Err e) (c.in_ok-place.ensures file told) (needed_view g.C.Class.number_of c.in_ok-needed.needed) (c.in_ok-needed.ensures file told) c.in_ok-strings.strings.items (c.in_ok-strings.ensures file told)
+    (from_strings (g.S.Source.may_fail c.args.source.now) next c.args.which class c.args.byte_order file c.args.section_name.now table (Err e) (c.in_ok-place.ensures.table file told) (needed_view g.C.Class.number_of c.in_ok-needed.needed) (c.in_ok-needed.ensures file told) c.in_ok-strings.strings.items (c.in_ok-strings.ensures file told)
     (after_err (g.S.Source.may_fail c.args.source.now) (λ (v : Vec ℕ Global). v.items) next (section_data file n.symbols) (after_rows class table.order n c.in_ok-strings.strings.items) e (c.in_err-rows.ensures file told)))
 
 pub returns-in_err-whole_rows : goal.returns-in_err-whole_rows
@@ -55,7 +55,7 @@ returns-in_err-whole_rows g c = λ file known.
     let p = c.in_err-whole_rows.field-0.0 in
     let r = c.from_residual-in_err-whole_rows.result in
     let truncated : whole_rows class c.in_ok-rows.rows.items ≡ Err (refusal_of p) = ap (whole_rows class) (sym c.deref.ensures.value) ∙ c.in_err-whole_rows.ensures in
-    from_rows (g.S.Source.may_fail c.args.source.now) next c.args.which class c.args.byte_order file c.args.section_name.now table r (c.in_ok-place.ensures file told) (needed_view g.C.Class.number_of c.in_ok-needed.needed) (c.in_ok-needed.ensures file told) c.in_ok-strings.strings.items (c.in_ok-strings.ensures file told) c.in_ok-rows.rows.items (c.in_ok-rows.ensures file told)
+    from_rows (g.S.Source.may_fail c.args.source.now) next c.args.which class c.args.byte_order file c.args.section_name.now table r (c.in_ok-place.ensures.table file told) (needed_view g.C.Class.number_of c.in_ok-needed.needed) (c.in_ok-needed.ensures file told) c.in_ok-strings.strings.items (c.in_ok-strings.ensures file told) c.in_ok-rows.rows.items (c.in_ok-rows.ensures file told)
     (converted (g.S.Source.may_fail c.args.source.now) next (after_rows class table.order n c.in_ok-strings.strings.items c.in_ok-rows.rows.items) p r c.from_residual-in_err-whole_rows.ensures
     (ap (λ (w : Result (List ℕ) Refusal). w >>= λ rows. Ok (record { entries = entries_from class table.order c.in_ok-strings.strings.items n.section.index rows 0; section_size = n.section.size })) truncated))
 
@@ -68,6 +68,6 @@ returns g c = λ file known.
     let n = needed_view g.C.Class.number_of c.in_ok-needed.needed in
     let parts : Parts g.row.C.Denot = record { rows = c.in_ok-rows.rows; strings = c.in_ok-strings.strings; byte_order = c.in_ok-place.place.byte_order; section = c.in_ok-needed.needed.section } in
     let read : whole_rows class c.in_ok-rows.rows.items ≡ Ok c.in_ok-whole_rows.field-0.now = ap (whole_rows class) (sym c.deref.ensures.value) ∙ c.in_ok-whole_rows.ensures in
-    from_rows (g.S.Source.may_fail c.args.source.now) next c.args.which class c.args.byte_order file c.args.section_name.now table (Ok parts) (c.in_ok-place.ensures file told) (needed_view g.C.Class.number_of c.in_ok-needed.needed) (c.in_ok-needed.ensures file told) c.in_ok-strings.strings.items (c.in_ok-strings.ensures file told) c.in_ok-rows.rows.items (c.in_ok-rows.ensures file told)
+    from_rows (g.S.Source.may_fail c.args.source.now) next c.args.which class c.args.byte_order file c.args.section_name.now table (Ok parts) (c.in_ok-place.ensures.table file told) (needed_view g.C.Class.number_of c.in_ok-needed.needed) (c.in_ok-needed.ensures file told) c.in_ok-strings.strings.items (c.in_ok-strings.ensures file told) c.in_ok-rows.rows.items (c.in_ok-rows.ensures file told)
     (ap (λ (w : Result (List ℕ) Refusal). w >>= λ rows. Ok (record { entries = entries_from class table.order c.in_ok-strings.strings.items n.section.index rows 0; section_size = n.section.size }))
     (rows_are class c.in_ok-rows.rows.items c.in_ok-whole_rows.field-0.now read))

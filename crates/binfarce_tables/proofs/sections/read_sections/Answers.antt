@@ -13,4 +13,4 @@ returns g c = λ file known.
     let place = c.in_ok-place.place in
     let told : Known (g.S.Source.bytes c.args.source.now) c.in_ok-len.len file = (known, length_told _ file c.in_ok-len.len known c.in_ok-len.ensures.length) in
     sections_read class c.args.byte_order file (table_at file place) (walk class (headers_alone place.byte_order c.in_ok-headers.headers.items place.shnum)) (option_map (λ v. v.items) c.in_ok-names.names) c.in_ok-len.len
-    (c.in_ok-place.ensures file told) (taken (c.in_ok-headers.ensures file told)) (taken (c.in_ok-names.ensures file told)) told.1
+    (c.in_ok-place.ensures.table file told) (taken (c.in_ok-headers.ensures file told)) (taken (c.in_ok-names.ensures file told)) told.1

@@ -1,18 +1,7 @@
-use Rattle.std.proofs.Common.{◌≡◌, ℕ, List, ◌++◌, String, sym, ap, ◌∙◌, append_assoc, append-nil}
-use Rattle.std.specs.Global.{Global}
 use Rattle.std.specs.String.{string_bytes}
-use Rattle.binfarce_tools.specs.Listing.{size_line}
-use Rattle.binfarce_tools.specs.Report.{total_line}
-use Rattle.binfarce_tools.proofs.CrateLines.{entry_lines, is_report}
+use Rattle.binfarce_tools.proofs.CrateLines.{is_report}
 use Rattle.binfarce_tools.proofs.report.report_text.Goals as goal
 
 pub returns : goal.returns
 returns c = λ shares are.
-    let sums = c.args.sums.now in
-    let text = string_bytes c.loop-name.text in
-    let lines : text ≡ entry_lines sums.crates.entries =
-    sym (append-nil text) ∙ ap (λ (es : List (String Global × ℕ)). text ++ entry_lines es) (sym c.in-None.ensures.steps.0) ∙ c.loop-name.invariant in
-    is_report shares sums are c.iter-name-items.ensures.ordered sums.section_size (string_bytes c.writeln-2.new.self)
-    (c.in_ok-writeln-2.ensures.bytes ∙ ap (λ (xs : List ℕ). xs ++ size_line sums.section_size) c.in_ok-writeln.ensures.bytes
-    ∙ append_assoc text (total_line sums.total) (size_line sums.section_size)
-    ∙ ap (λ (xs : List ℕ). xs ++ (total_line sums.total ++ size_line sums.section_size)) lines)
+    is_report shares c.args.sums.now.section_size (string_bytes c.in_ok-text.text) (string_bytes c.writeln.new.self) (c.in_ok-text.ensures shares are) c.in_ok-writeln.ensures.bytes

@@ -1,0 +1,114 @@
+-- Where the symbols of all sections of a Mach-O file are, by what was read of it.
+use Rattle.std.proofs.Common.{◌≡◌, ◌⊎◌, ◌≢◌, ℕ, ◌+◌, ◌*◌, ◌≤◌, Bool, false, nat_eq, List, [], ◌∷◌, length, map, All, Option, None, Some, Result, Ok, Err, inl, inr, refl, sym, ap, ap₂, subst, ◌∙◌}
+use Rattle.std.specs.Global.{Vec}
+use Rattle.std.proofs.lemmas.Bool.{le-ltb}
+use Rattle.std.proofs.lemmas.List.Elements.{All-head, All-tail}
+use Rattle.binfarce_bytes.specs.declared.error.ParseError.{ParseError}
+use Rattle.binfarce_bytes.specs.Refusal.{◌>>=◌, Refusal, refusal_of, out_of_memory}
+use Rattle.binfarce_bytes.specs.declared.functions.SectionFunction.{SectionFunction}
+use Rattle.binfarce_bytes.specs.SectionEntries.{AnswersAll}
+use Rattle.binfarce_bytes.specs.SymbolViews.{HoldsSectionFunctions}
+use Rattle.binfarce_macho.specs.Macho.{header_of}
+use Rattle.binfarce_macho.specs.MachoAll.{Symbols, section_starts, end_at, name_at, symbols_by, symbols_of, all_of}
+use Rattle.binfarce_macho.specs.MachoParts.{named_table, table_of}
+use Rattle.binfarce_macho.specs.MachoSymbols.{SymbolTable, slice_at, symbol_command, symbol_length}
+use Rattle.binfarce_tables.specs.declared.error.ReadError.{ReadError}
+use Rattle.binfarce_tables.specs.declared.error.ReadError.TheVariants.{Refused, Unreadable, OutOfMemory}
+use Rattle.binfarce_tables.specs.MachoAllReading.{AllLocated, all_located, all_located_answer, all_entries}
+use Rattle.binfarce_tables.specs.Reading.{Reads}
+use Rattle.binfarce_tables.specs.machine.MachoPlaces.{CommandParts, all_commands, command_bytes}
+use Rattle.binfarce_tables.proofs.MachoPrefix.{assoc, same_sections}
+
+-- functions that agree on what is held
+map_held : {X : Type 0} (f g : ℕ → X) (len : ℕ) (starts : List ℕ) → ((start : ℕ) → start + 52 ≤ len → f start ≡ g start) → All (λ start. start + 52 ≤ len) starts → map f starts ≡ map g starts
+map_held f g len [] same held = refl
+map_held f g len (start ∷ starts) same held =
+    ap₂ (λ y ys. y ∷ ys) (same start (All-head (λ start. start + 52 ≤ len) start starts held))
+    (map_held f g len starts same (All-tail (λ start. start + 52 ≤ len) start starts held))
+
+-- a file, by the bytes that its commands are in
+module _ (file bytes : List ℕ) (inside : 28 ≤ length file) (are : bytes ≡ command_bytes file) where
+  pub starts_refused : (why : Refusal) → section_starts bytes ≡ Err why → all_commands file ≡ Err why
+  starts_refused why at =
+      let same = same_sections file bytes inside are in
+      rw (sym same.starts ∙ at) refl
+
+  pub table_refused : (starts : List ℕ) (why : Refusal) → section_starts bytes ≡ Ok starts → table_of bytes ≡ Err why → all_commands file ≡ Err why
+  table_refused starts why at is =
+      let same = same_sections file bytes inside are in
+      rw (sym same.starts ∙ at, sym same.table ∙ is) refl
+
+  pub all_found : (starts : List ℕ) (found : CommandParts) → section_starts bytes ≡ Ok starts → All (λ start. start + 52 ≤ length bytes) starts
+      → found.ends ≡ map (end_at bytes) starts → found.names ≡ map (name_at bytes) starts → table_of bytes ≡ Ok found.table → found.is_object ≡ nat_eq (header_of bytes).filetype 1 → all_commands file ≡ Ok found
+  all_found starts found at held ends names table object =
+      let same = same_sections file bytes inside are in
+      let ends_are : map (end_at file) starts ≡ found.ends = sym (map_held (end_at bytes) (end_at file) (length bytes) starts same.ends held) ∙ sym ends in
+      let names_are : map (name_at file) starts ≡ found.names = sym (map_held (name_at bytes) (name_at file) (length bytes) starts same.names held) ∙ sym names in
+      let object_is : nat_eq (header_of file).filetype 1 ≡ found.is_object = sym (object ∙ ap (λ (n : ℕ). nat_eq n 1) same.filetype) in
+      rw (sym same.starts ∙ at, sym same.table ∙ table, ends_are, names_are, object_is) refl
+
+-- what follows the commands
+abbrev pub after_commands : List ℕ → CommandParts → Result AllLocated Refusal
+after_commands file found = symbols_by file found.table >>= λ symbols. Ok (record { ends = found.ends; names = found.names; symbols = symbols; is_object = found.is_object })
+
+symbols_are : (file : List ℕ) → symbols_of file ≡ (table_of file >>= symbols_by file)
+unfolding symbols_of
+symbols_are file = sym (assoc (symbol_command file) (named_table file) (symbols_by file))
+
+located_by : List ℕ → Result (List ℕ) Refusal → Result (Option Symbols) Refusal → Result AllLocated Refusal
+located_by file starts symbols = do
+  starts ← starts
+  symbols ← symbols
+  Ok (record { ends = map (end_at file) starts; names = map (name_at file) starts; symbols = symbols; is_object = nat_eq (header_of file).filetype 1 })
+
+by_steps : (file : List ℕ) (starts : Result (List ℕ) Refusal) (table : Result (Option (SymbolTable ℕ)) Refusal) → located_by file starts (table >>= symbols_by file)
+    ≡ ((starts >>= λ starts. table >>= λ table. Ok (record { ends = map (end_at file) starts; names = map (name_at file) starts; table = table; is_object = nat_eq (header_of file).filetype 1 })) >>= after_commands file)
+unfolding located_by
+by_steps file (Err why) table = refl
+by_steps file (Ok starts) (Err why) = refl
+by_steps file (Ok starts) (Ok table) = refl
+
+located_is : (file : List ℕ) → all_located file ≡ located_by file (section_starts file) (symbols_of file)
+unfolding located_by
+located_is file = refl
+
+pub steps_are : (file : List ℕ) → 28 ≤ length file → all_located_answer file ≡ (all_commands file >>= after_commands file)
+steps_are file inside =
+    rw (le-ltb (length file) 28 inside)
+    (located_is file ∙ ap (located_by file (section_starts file)) (symbols_are file) ∙ by_steps file (section_starts file) (table_of file))
+
+pub from_found : (file : List ℕ) (found : CommandParts) → 28 ≤ length file → all_commands file ≡ Ok found → all_located_answer file ≡ after_commands file found
+from_found file found inside is = steps_are file inside ∙ ap (λ (r : Result CommandParts Refusal). r >>= after_commands file) is
+
+-- what follows the bytes of the string table
+abbrev pub after_strings : List ℕ → SymbolTable ℕ → List ℕ → Result (Option Symbols) Refusal
+after_strings file table strings = slice_at file table.symbol_offset (symbol_length * table.row_count) >>= λ rows. Ok (Some (record { strings = strings; rows = rows }))
+
+pub from_strings : (file : List ℕ) (table : SymbolTable ℕ) (strings : List ℕ) → slice_at file table.strings_offset table.strings_size ≡ Ok strings → symbols_by file (Some table) ≡ after_strings file table strings
+from_strings file table strings at = ap (λ (r : Result (List ℕ) Refusal). r >>= after_strings file table) at
+
+pub both_read : (file : List ℕ) (table : SymbolTable ℕ) (strings rows : List ℕ) → slice_at file table.strings_offset table.strings_size ≡ Ok strings → slice_at file table.symbol_offset (symbol_length * table.row_count) ≡ Ok rows
+    → symbols_by file (Some table) ≡ Ok (Some (record { strings = strings; rows = rows }))
+both_read file table strings rows at lists = from_strings file table strings at ∙ ap (λ (r : Result (List ℕ) Refusal). r >>= λ rows. Ok (Some (record { strings = strings; rows = rows }))) lists
+
+-- a reading of bytes in memory
+pub in_memory : {X Y : Type 0} (fails : Bool) (view : X → Y) (answer : Result Y Refusal) (e : ReadError) → Reads false view answer (Err e) → Reads fails view answer (Err e)
+in_memory fails view answer (Refused p) reads = reads
+in_memory fails view answer Unreadable reads = absurd cc
+in_memory fails view answer OutOfMemory reads = tt
+
+-- a refusal, or a failed allocation
+pub with_memory : {X Y : Type 0} (view : X → Y) (answer : Result Y Refusal) (p : ParseError) (e : ReadError) → ((refusal_of p ≡ out_of_memory) × (e ≡ OutOfMemory)) ⊎ ((refusal_of p ≢ out_of_memory) × (e ≡ Refused p))
+    → (refusal_of p ≢ out_of_memory → answer ≡ Err (refusal_of p)) → Reads false view answer (Err e)
+with_memory view answer p e (inl memory) refused = subst (λ (error : ReadError). Reads false view answer (Err error)) (sym memory.1) tt
+with_memory view answer p e (inr other) refused = subst (λ (error : ReadError). Reads false view answer (Err error)) (sym other.1) (refused other.0)
+
+-- another refusal
+pub not_memory : {A : Type 0} {answer : Result A Refusal} {why memory : Refusal} {N : Type 0} → (answer ≡ Err why) ⊎ ((why ≡ memory) × N) → (why ≢ memory) → answer ≡ Err why
+not_memory (inl refused) other = refused
+not_memory (inr out) other = absurd (other out.0)
+
+-- without a symbol table nothing is listed
+pub nothing_listed : (N : Type 0) (found : AllLocated) (functions : Vec SectionFunction) → found.symbols ≡ None → functions.items ≡ [] → AnswersAll HoldsSectionFunctions N (all_entries found) (Ok functions)
+unfolding all_of
+nothing_listed N found functions none empty = rw (none, empty) refl

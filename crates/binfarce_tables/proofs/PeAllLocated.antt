@@ -1,0 +1,170 @@
+-- The entries of all sections of a PE file, by what was read of it.
+use Rattle.std.proofs.Common.{◌≡◌, ℕ, zero, suc, ◌+◌, ◌*◌, ◌-◌, ◌/◌, ◌<◌, ◌≤◌, Bool, true, false, cond, ltb, leb, ◌&&◌, List, ◌++◌, length, min, Vec, Global, Option, Some, None, Result, Ok, Err, inl, inr, refl, sym, ap, ap₂, ◌∙◌, arith}
+use Rattle.std.proofs.Math.Path.{fun_ext}
+use Rattle.std.proofs.lemmas.Bool.{cases_lt, cases_eq, eq-eqb, ne_eqb, lt-ltb, le-ltb, lt-leb, le-leb, ltb-true, leb-true}
+use Rattle.std.proofs.lemmas.Nat.{le-div, div_below}
+use Rattle.std.specs.List.{range_with_len, flat_map}
+use Rattle.std.specs.Option.{option_map}
+use Rattle.binfarce_bytes.specs.declared.ByteOrder.TheVariants.{LittleEndian}
+use Rattle.binfarce_bytes.specs.Field.{value_at}
+use Rattle.binfarce_bytes.specs.Number.{bytes_at}
+use Rattle.binfarce_bytes.specs.Refusal.{◌>>=◌, Refusal, unexpected_eof}
+use Rattle.binfarce_bytes.specs.SectionEntries.{SectionEntry, AllSymbols, in_section, unless}
+use Rattle.binfarce_pe.specs.Pe.{Section, header_of, least_length, section_fields}
+use Rattle.binfarce_pe.specs.PeAll.{size_in, section_entries, all_entries, name_of, whole_sections, all_answer}
+use Rattle.binfarce_pe.specs.PeParts.{TablePlaces, SectionTable, headers_alone, places_of, section_table, whole_in, table_walk}
+use Rattle.binfarce_pe.specs.PeSymbols.{SymbolTable, symbol_table, entries_of}
+use Rattle.binfarce_tables.specs.PeAllReading.{all_view, all_file_answer}
+use Rattle.binfarce_tables.specs.machine.PePlaces.{places_step, headers_at, alone_at, whole_at, table_at}
+use Rattle.binfarce_tables.specs.declared.error.ReadError.{ReadError}
+use Rattle.binfarce_tables.specs.declared.error.ReadError.TheVariants.{Refused, Unreadable, OutOfMemory}
+use Rattle.binfarce_tables.specs.Reading.{Reads}
+use Rattle.binfarce_tables.proofs.HeadersAlone.{value_in}
+use Rattle.binfarce_tables.proofs.PeAlone.{same_header}
+use Rattle.binfarce_tables.proofs.Readings.{taken}
+
+-- functions that agree on so many numbers
+flat_map_same : {X : Type 0} (f g : ℕ → List X) (a n : ℕ) → ((i : ℕ) → i < a + n → f i ≡ g i) → flat_map f (range_with_len a n) ≡ flat_map g (range_with_len a n)
+flat_map_same f g a zero agree = refl
+flat_map_same f g a (suc n) agree = ap₂ (λ xs ys. xs ++ ys) (agree a (omega arith)) (flat_map_same f g (a + 1) n (λ i lt. agree i (omega arith)))
+
+module _ (file : List ℕ) (places : TablePlaces) where
+  abbrev table : SectionTable
+  table = headers_at file places
+
+  abbrev alone : SectionTable
+  alone = alone_at file places
+
+  -- what is refused, and what isn't
+  pub outside : length file ≤ places.sections → whole_at file places ≡ Err unexpected_eof
+  unfolding table_walk
+  outside past = rw (le-ltb places.sections (length file) past) refl
+
+  pub truncated : places.sections < length file → length file - places.sections < places.section_count * 40 - 16 → whole_at file places ≡ Err unexpected_eof
+  unfolding table_walk
+  truncated begins cut =
+      let few : whole_in table < places.section_count = div_below (length file + 16 - places.sections) 40 places.section_count (omega arith) (omega arith) in
+      rw (lt-ltb places.sections (length file) begins, lt-leb places.section_count (whole_in table) few) refl
+
+  room : places.sections < length file → places.section_count * 40 - 16 ≤ length file - places.sections → places.section_count ≤ whole_in table
+  room begins fits = le-div places.section_count (length file + 16 - places.sections) 40 (omega arith) (omega arith)
+
+  pub whole : places.sections < length file → places.section_count * 40 - 16 ≤ length file - places.sections → whole_at file places ≡ Ok alone
+  unfolding table_walk
+  whole begins fits = rw (lt-ltb places.sections (length file) begins, le-leb places.section_count (whole_in table) (room begins fits)) refl
+
+  -- where none is truncated, the section headers alone say the same
+  module _ (begins : places.sections < length file) (all : places.section_count ≤ whole_in table) where
+    fits : (i : ℕ) → i < places.section_count → i * 40 + 24 ≤ min (places.section_count * 40) (length file - places.sections)
+    fits i lt = let least : places.section_count * 40 ≤ length file + 16 - places.sections = most places.section_count (length file + 16 - places.sections) all in omega (arith, least, lt, begins)
+      where
+        most : (n len : ℕ) → n ≤ len / 40 → n * 40 ≤ len
+        most n len le = grind arith
+
+    size_same : (i : ℕ) → i < places.section_count → size_in alone i ≡ size_in table i
+    unfolding size_in section_fields
+    size_same i lt =
+        ap (λ (k : ℕ). value_at LittleEndian alone.bytes k section_fields.size_of_raw_data) (from_start (i * 40))
+        ∙ value_in LittleEndian file places.sections (min (places.section_count * 40) (length file - places.sections)) (i * 40) section_fields.size_of_raw_data (omega (arith, fits i lt))
+      where
+        from_start : (n : ℕ) → 0 + n ≡ n
+        from_start n = omega arith
+
+    entries_same : (symbols : SymbolTable) → all_entries alone symbols ≡ all_entries table symbols
+    entries_same symbols =
+        flat_map_same (section_entries alone symbols) (section_entries table symbols) 0 places.section_count
+        (λ i lt. ap (λ (size : ℕ). in_section (i + 1) (entries_of symbols i size)) (size_same i (omega (arith, lt))))
+
+    name_same : (number : ℕ) → name_of alone number ≡ name_of table number
+    name_same number = elim (cases_eq number 0) [
+      | inl none ↦ rw (eq-eqb number 0 none) refl
+      | inr some ↦ elim (cases_lt places.section_count number) [
+        | inl past ↦ rw (ne_eqb number 0 some, lt-leb number places.section_count past) refl
+        | inr le ↦ rw (ne_eqb number 0 some, le-leb number places.section_count le) (ap (option_map (λ (section : Section). section.name)) (same_header file places begins (number - 1) (omega (arith, some, le, all))))
+      ]
+    ]
+
+    pub view_same : (symbols : SymbolTable) → all_view (record { sections = alone; symbols = symbols }) ≡ record { entries = all_entries table symbols; section_name = name_of table; is_object = false }
+    view_same symbols = ap₂ (λ (es : List SectionEntry) (names : ℕ → Option (List ℕ)). record { entries = es; section_name = names; is_object = false }) (entries_same symbols) (fun_ext name_same)
+
+  -- where nothing is refused, none is truncated
+  held : (table_walk table).refusal ≡ None → (places.sections < length file) × (places.section_count ≤ whole_in table)
+  unfolding table_walk
+  held none =
+      let both = parts (ltb places.sections (length file)) (leb places.section_count (whole_in table)) none in
+      (ltb-true places.sections (length file) both.0, leb-true places.section_count (whole_in table) both.1)
+    where
+      parts : (a b : Bool) → cond (a && b) None (Some unexpected_eof) ≡ None → (a ≡ true) × (b ≡ true)
+      parts true true e = (refl, refl)
+      parts true false e = absurd cc
+      parts false true e = absurd cc
+      parts false false e = absurd cc
+
+-- what follows the places
+abbrev pub after_sections : List ℕ → TablePlaces → SectionTable → Result AllSymbols Refusal
+after_sections file places sections = table_at file places >>= λ symbols. Ok (all_view (record { sections = sections; symbols = symbols }))
+
+abbrev pub after_places : List ℕ → TablePlaces → Result AllSymbols Refusal
+after_places file places = whole_at file places >>= after_sections file places
+
+table_is : (file : List ℕ) → symbol_table file ≡ table_at file (places_of file)
+unfolding symbol_table
+table_is file = refl
+
+answer_by : SectionTable → Result SectionTable Refusal → Result SymbolTable Refusal → Result AllSymbols Refusal
+answer_by table sections symbols =
+    (sections >>= λ sections. symbols >>= λ symbols. Ok (all_entries sections symbols)) >>= λ entries. Ok (record { entries = entries; section_name = name_of table; is_object = false })
+
+answer_is : (file : List ℕ) → (all_answer file >>= λ entries. Ok (record { entries = entries; section_name = name_of (section_table file); is_object = false })) ≡ answer_by (section_table file) (whole_sections (section_table file)) (symbol_table file)
+unfolding all_answer answer_by
+answer_is file = refl
+
+by_refusal : (file : List ℕ) (places : TablePlaces) (o : Option Refusal) (symbols : Result SymbolTable Refusal) → (table_walk (headers_at file places)).refusal ≡ o
+    → answer_by (headers_at file places) (unless o (headers_at file places)) symbols ≡ (unless o (alone_at file places) >>= λ sections. symbols >>= λ symbols. Ok (all_view (record { sections = sections; symbols = symbols })))
+unfolding answer_by
+by_refusal file places (Some why) symbols is = refl
+by_refusal file places None (Err why) is = refl
+by_refusal file places None (Ok symbols) is = let none = held file places is in ap Ok (sym (view_same file places none.0 none.1 symbols))
+
+after_is : (file : List ℕ) → answer_by (section_table file) (whole_sections (section_table file)) (symbol_table file) ≡ after_places file (places_of file)
+after_is file =
+    ap (answer_by (section_table file) (whole_sections (section_table file))) (table_is file)
+    ∙ by_refusal file (places_of file) (table_walk (section_table file)).refusal (table_at file (places_of file)) refl
+
+pub steps_are : (file : List ℕ) → all_file_answer file ≡ (places_step file >>= after_places file)
+steps_are file = by_test (ltb (length file) (least_length file))
+  where
+    by_test : (b : Bool) → cond b (Err unexpected_eof) (all_answer file >>= λ entries. Ok (record { entries = entries; section_name = name_of (section_table file); is_object = false }))
+        ≡ (cond b (Err unexpected_eof) (Ok (places_of file)) >>= after_places file)
+    by_test true = refl
+    by_test false = answer_is file ∙ after_is file
+
+pub from_places : (file : List ℕ) (places : TablePlaces) → places_step file ≡ Ok places → all_file_answer file ≡ after_places file places
+from_places file places is = steps_are file ∙ ap (λ (r : Result TablePlaces Refusal). r >>= after_places file) is
+
+pub from_sections : (file : List ℕ) (places : TablePlaces) (sections : SectionTable) → places_step file ≡ Ok places → whole_at file places ≡ Ok sections → all_file_answer file ≡ after_sections file places sections
+from_sections file places sections is whole = from_places file places is ∙ ap (λ (r : Result SectionTable Refusal). r >>= after_sections file places) whole
+
+pub all_read : (file : List ℕ) (places : TablePlaces) (sections : SectionTable) (symbols : SymbolTable) → places_step file ≡ Ok places → whole_at file places ≡ Ok sections → table_at file places ≡ Ok symbols
+    → all_file_answer file ≡ Ok (all_view (record { sections = sections; symbols = symbols }))
+all_read file places sections symbols is whole table =
+    from_sections file places sections is whole ∙ ap (λ (r : Result SymbolTable Refusal). r >>= λ symbols. Ok (all_view (record { sections = sections; symbols = symbols }))) table
+
+-- the count that the file header states
+pub count_is : (file : List ℕ) (places : TablePlaces) → places_step file ≡ Ok places → places.section_count ≡ (header_of file).number_of_sections
+count_is file places is = by_test (ltb (length file) (least_length file)) is
+  where
+    by_test : (short : Bool) → cond short (Err unexpected_eof) (Ok (places_of file)) ≡ Ok places → places.section_count ≡ (header_of file).number_of_sections
+    by_test true e = absurd cc
+    by_test false e = ap (λ (p : TablePlaces). p.section_count) (taken e)
+
+-- the section headers that were read
+pub headers_read : (fails : Bool) (file : List ℕ) (places : TablePlaces) (size : ℕ) (r : Result (Vec ℕ Global) ReadError) → size ≡ min (places.section_count * 40) (length file - places.sections) → whole_at file places ≡ Ok (alone_at file places)
+    → Reads fails (λ v. v.items) (Ok (bytes_at file places.sections size)) r → Reads fails (λ v. headers_alone v.items places.section_count) (whole_at file places) r
+headers_read fails file places size r is whole reads = rw whole (by_result r (rw is at reads))
+  where
+    by_result : (r : Result (Vec ℕ Global) ReadError) → Reads fails (λ v. v.items) (Ok (alone_at file places).bytes) r → Reads fails (λ v. headers_alone v.items places.section_count) (Ok (alone_at file places)) r
+    by_result (Ok v) read = ap (λ (bytes : List ℕ). Ok (headers_alone bytes places.section_count)) (sym (taken read))
+    by_result (Err (Refused p)) read = absurd cc
+    by_result (Err Unreadable) read = read
+    by_result (Err OutOfMemory) read = read

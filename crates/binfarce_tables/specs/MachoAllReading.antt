@@ -1,0 +1,54 @@
+-- What a reading of a Mach-O file's parts gives that the function symbols of all sections are read from.
+use Rattle.std.specs.Prelude.{List, ℕ, Bool, length, map, nat_eq, nat_lt, Option, Result, Ok, Err, if◌then◌else◌}
+use Rattle.std.specs.Option.{option_map}
+use Rattle.std.specs.String.{string_bytes}
+use Rattle.binfarce_bytes.specs.Refusal.{◌>>=◌, Refusal, unexpected_eof}
+use Rattle.binfarce_bytes.specs.SectionEntries.{SectionEntry, AllSymbols}
+use Rattle.binfarce_macho.specs.Macho.{header_of, least_length}
+use Rattle.binfarce_macho.specs.MachoAll.{Symbols, section_starts, end_at, name_at, name_of, symbols_of, all_of, extent_end}
+use Rattle.binfarce_tables.specs.declared.macho_all.AllParts.{AllParts}
+use Rattle.binfarce_tables.specs.declared.macho_all.SymbolParts.{SymbolParts}
+
+-- the ends and the names of a file's sections, in the order of their numbers; its symbols, where it has a symbol table; and whether it is an object file
+pub record AllLocated : Type 0 where
+  pub ends : List ℕ
+  pub names : List (Option (List ℕ))
+  pub symbols : Option Symbols
+  pub is_object : Bool
+
+-- those of a file; an object file is of the type MH_OBJECT (1)
+abbrev pub all_located : List ℕ → Result AllLocated Refusal
+all_located file = do
+  starts ← section_starts file
+  symbols ← symbols_of file
+  Ok (record { ends = map (end_at file) starts; names = map (name_at file) starts; symbols = symbols; is_object = nat_eq (header_of file).filetype 1 })
+
+-- a file too short for its header ends before what it should hold
+abbrev pub all_located_answer : List ℕ → Result AllLocated Refusal
+all_located_answer file = if nat_lt (length file) least_length then Err unexpected_eof else all_located file
+
+-- the entries of all sections, made of that
+abbrev pub all_entries : AllLocated → Result (List SectionEntry) Refusal
+all_entries found = all_of found.ends found.symbols
+
+abbrev pub all_symbols : AllLocated → Result AllSymbols Refusal
+all_symbols found = do
+  entries ← all_entries found
+  Ok (record { entries = entries; section_name = name_of found.names; is_object = found.is_object })
+
+-- the answer of a file
+abbrev pub all_file_answer : List ℕ → Result AllSymbols Refusal
+all_file_answer file = all_located_answer file >>= all_symbols
+
+-- the symbols that were read
+abbrev pub symbols_view : SymbolParts → Symbols
+symbols_view s = record { strings = s.strings.items; rows = s.rows.items }
+
+-- what a file's parts hold
+abbrev pub all_view : AllParts → AllLocated
+all_view p = record {
+  ends = map extent_end p.extents.items;
+  names = map (option_map string_bytes) p.names.items;
+  symbols = option_map symbols_view p.symbols;
+  is_object = p.is_object;
+}

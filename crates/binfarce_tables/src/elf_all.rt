@@ -1,0 +1,124 @@
+//! The parts of an ELF file of either class that the function symbols of all sections are read from.
+
+ghost use Rattle.std.specs.Prelude.{◌≡◌, List, ℕ, Some};
+ghost use Rattle.std.specs.Option.{option_map};
+ghost use Rattle.binfarce_elf.specs.Elf.{walk};
+ghost use Rattle.binfarce_elf.specs.ElfAll.{all_left};
+ghost use Rattle.binfarce_elf.specs.ElfParts.{headers_alone};
+ghost use Rattle.binfarce_tables.specs.Reading.{Reads, Known};
+ghost use Rattle.binfarce_tables.specs.ElfAllReading.{all_file_answer, all_view};
+ghost use Rattle.binfarce_tables.specs.machine.Places.{table_at, rows_of_all, rows_view};
+
+use crate::elf::{Place, read_names, read_place, read_section, slice_of};
+use crate::error::ReadError;
+use crate::sections::read_table;
+use binfarce_bytes::ByteOrder;
+use binfarce_bytes::source::Source;
+use binfarce_elf::all::AllFunctions;
+use binfarce_elf::class::{Class, Half};
+use binfarce_elf::parts::{all_functions_in, name_of_index, needed_table};
+use binfarce_elf::symbol_table::SymbolTable;
+use binfarce_elf::symbols::whole_rows;
+use std::alloc::Global;
+use std::marker::PhantomData;
+
+/// `ET_REL`, the type of an object file.
+const RELOCATABLE: Half = 1;
+
+/// The parts of a file that the function symbols of all sections are read from, and the sections' names.
+#[derive(Drop)]
+pub struct AllParts<C> {
+    headers: Vec<u8>,
+    names: Option<Vec<u8>>,
+    rows: Vec<u8>,
+    strings: Vec<u8>,
+    byte_order: ByteOrder,
+    count: Half,
+    elf_type: Half,
+    class: PhantomData<C>,
+}
+
+impl<C: Class> AllParts<C> {
+    /// The function symbols of all sections as the file stores them, each with the index of its section, in the order of
+    /// the symbol table. Nothing is read or allocated: names are parts of what was read.
+    pub fn functions(&self) -> AllFunctions<'_, C>
+        ensures { all_left C.table result ≡ (all_view C.table self.entry.now).entries }
+    {
+        all_functions_in::<C>(&self.rows, &self.strings, self.byte_order, self.count)
+    }
+
+    /// The name of the section of this index, a part of what was read; nothing is copied. `None` where there is no such
+    /// section, and where `name` of the section gives none.
+    pub fn section_name(&self, number: u32) -> Option<&str>
+        ensures { option_map (λ t. t.now) result ≡ (all_view C.table self.entry.now).section_name number }
+    {
+        name_of_index::<C>(
+            &self.headers,
+            slice_of(&self.names),
+            self.byte_order,
+            self.count,
+            number,
+        )
+    }
+
+    /// Whether the file is an object file (`ET_REL`), whose sections share addresses.
+    pub fn is_object(&self) -> bool
+        ensures { result ≡ (all_view C.table self.now).is_object }
+    {
+        self.elf_type == RELOCATABLE
+    }
+}
+
+/// The parts of all sections, by this symbol table. Refused as `all_functions` of a reader is.
+pub(crate) fn read_all<C: Class, S: Source>(
+    alloc: Global,
+    source: &S,
+    byte_order: ByteOrder,
+    which: SymbolTable,
+) -> Result<AllParts<C>, ReadError>
+    ensures { (file : List ℕ) → S.bytes source.now ≡ Some file
+        → Reads (S.may_fail source.now) (all_view C.table) (all_file_answer which C.table byte_order file) result }
+{
+    let len = source.length()? as usize;
+    let place = read_place::<C, S>(alloc, source, len, byte_order)?;
+    let names = read_names::<C, S>(alloc, source, len, place)?;
+    let headers = read_table::<C, S>(alloc, source, len, place)?;
+    let table = read_rows::<C, S>(alloc, source, len, place, &headers, which)?;
+    Ok(AllParts {
+        headers,
+        names,
+        rows: table.rows,
+        strings: table.strings,
+        byte_order: place.byte_order,
+        count: place.shnum,
+        elf_type: place.elf_type,
+        class: PhantomData,
+    })
+}
+
+// The strings and the rows of a symbol table.
+#[derive(Drop)]
+struct TableParts {
+    strings: Vec<u8>,
+    rows: Vec<u8>,
+}
+
+// The strings and the rows of this symbol table, by section headers whose sections are the file's.
+fn read_rows<C: Class, S: Source>(
+    alloc: Global,
+    source: &S,
+    len: usize,
+    place: Place,
+    headers: &[u8],
+    which: SymbolTable,
+) -> Result<TableParts, ReadError>
+    ensures { (file : List ℕ) → Known (S.bytes source.now) len file
+        → walk C.table (headers_alone place.byte_order headers.now place.shnum) ≡ walk C.table (table_at file place)
+        → Reads (S.may_fail source.now) rows_view (rows_of_all which C.table (table_at file place)) result }
+{
+    let needed = needed_table::<C>(headers, place.byte_order, place.shnum, which)?;
+    let strings = read_section::<C, S>(alloc, source, len, needed.strings)?;
+    let rows = read_section::<C, S>(alloc, source, len, needed.symbols)?;
+    let _ = whole_rows::<C>(&rows)?;
+    Ok(TableParts { strings, rows })
+}

@@ -1,0 +1,156 @@
+//! The parts of a PE file that the function symbols of all sections are read from.
+
+ghost use Rattle.std.specs.Prelude.{◌≡◌, ◌≢◌, ◌≤◌, List, ℕ, Ok, Some, IfOk};
+ghost use Rattle.std.specs.Option.{option_map};
+ghost use Rattle.binfarce_bytes.specs.SectionEntries.{AnswersAll};
+ghost use Rattle.binfarce_bytes.specs.SymbolViews.{HoldsSectionFunctions};
+ghost use Rattle.binfarce_pe.specs.Pe.{header_of};
+ghost use Rattle.binfarce_pe.specs.PeParts.{headers_alone, places_view, whole_in};
+ghost use Rattle.binfarce_tables.specs.PeAllReading.{all_file_answer, all_view};
+ghost use Rattle.binfarce_tables.specs.Reading.{Reads, Known};
+ghost use Rattle.binfarce_tables.specs.machine.PePlaces.{whole_at, table_at, records_view};
+
+use crate::elf::part;
+use crate::error::ReadError;
+use crate::pe::read_places;
+use binfarce_bytes::ParseError;
+use binfarce_bytes::functions::SectionFunction;
+use binfarce_bytes::source::Source;
+use binfarce_pe::all::{functions_of_headers, section_name};
+use binfarce_pe::parts::{Places, SECTION_LENGTH};
+use std::alloc::Global;
+use std::marker::Model;
+
+// How many bytes at the end of the last section header may be missing.
+const SECTION_UNREAD: usize = 16;
+
+/// The parts of a file that the function symbols of all sections are read from, and the section headers.
+#[derive(Drop)]
+pub struct AllParts {
+    headers: Vec<u8>,
+    section_count: u16,
+    records: Records,
+}
+
+// The records of the symbol table, and the strings, which follow them.
+#[derive(Drop)]
+struct Records {
+    rows: Vec<u8>,
+    strings: Vec<u8>,
+}
+
+impl Model for AllParts {
+    ghost use Rattle.std.specs.Prelude.{◌≤◌};
+    ghost use Rattle.binfarce_pe.specs.PeParts.{headers_alone, whole_in};
+    ghost use Rattle.binfarce_tables.specs.PeAllReading.{AllTables};
+    ghost use Rattle.binfarce_tables.specs.machine.PePlaces.{records_view};
+
+    ghost Value = { AllTables };
+
+    ghost view = { λ p. record { sections = headers_alone p.headers.items p.section_count; symbols = records_view p.records } };
+
+    ghost invariant = { λ p. p.section_count ≤ whole_in (headers_alone p.headers.items p.section_count) };
+}
+
+impl AllParts {
+    /// The function symbols that `all_functions` of a reader of the whole file gives, in its order. Nothing is read: names are
+    /// parts of what was read.
+    ///
+    /// # Errors
+    ///
+    /// `OutOfMemory`, only where the file has a section.
+    pub fn functions(&self, alloc: Global) -> Result<Vec<SectionFunction<'_>>, ParseError>
+        ensures { AnswersAll HoldsSectionFunctions (self.now.sections.count ≢ 0) (Ok (all_view self.now).entries)
+            result }
+    {
+        let records = &self.records;
+        Ok(functions_of_headers(
+            alloc,
+            &self.headers,
+            self.section_count,
+            &records.rows,
+            &records.strings,
+        )?)
+    }
+
+    /// The name of the section of this number, which is one more than its index, as its header has it: as `/4` for a name of
+    /// more than 8 bytes, which is in the string table. It is a part of what was read; nothing is copied. `None` where there
+    /// is no such section, and where its name isn't UTF-8.
+    pub fn section_name(&self, number: u32) -> Option<&str>
+        ensures { option_map (λ t. t.now) result ≡ (all_view self.entry.now).section_name number }
+    {
+        section_name(&self.headers, self.section_count, number)
+    }
+}
+
+/// Reads the parts of a file that the function symbols of all sections are read from, without a look at the signature: the
+/// offset of the signature, the signature and the file header, which are 24 bytes, the section headers, the symbol table,
+/// and the strings, which are what follows it. Each is read once, into memory of its size, which is never more than what the
+/// file holds of it. No other byte is read.
+///
+/// # Errors
+///
+/// `Refused` with what `parse` and `all_functions` of a reader of the whole file refuse; `Unreadable` where the source can't
+/// be read at offsets, or a read of it fails, and never of a source that can't fail, as bytes in memory are; `OutOfMemory`
+/// where an allocation fails.
+pub fn read_all<S: Source>(alloc: Global, source: &S) -> Result<AllParts, ReadError>
+    ensures parts { (file : List ℕ) → S.bytes source.now ≡ Some file
+        → Reads (S.may_fail source.now) all_view (all_file_answer file) result }
+    ensures count { (file : List ℕ) → S.bytes source.now ≡ Some file
+        → IfOk result (λ p. p.sections.count ≡ (header_of file).number_of_sections) }
+{
+    let len = source.length()? as usize;
+    let places = read_places(alloc, source, len)?;
+    let headers = read_headers(alloc, source, len, places)?;
+    let records = read_records(alloc, source, len, places)?;
+    Ok(AllParts {
+        headers,
+        section_count: places.section_count,
+        records,
+    })
+}
+
+// The section headers, of which none is truncated.
+fn read_headers<S: Source>(
+    alloc: Global,
+    source: &S,
+    len: usize,
+    places: Places,
+) -> Result<Vec<u8>, ReadError>
+    ensures headers { (file : List ℕ) → Known (S.bytes source.now) len file
+        → Reads (S.may_fail source.now) (λ v. headers_alone v.items places.section_count)
+        (whole_at file (places_view places)) result }
+    ensures whole { IfOk result
+        (λ v. places.section_count ≤ whole_in (headers_alone v.items places.section_count)) }
+{
+    let offset = places.sections;
+    if offset >= len {
+        return Err(ReadError::Refused(ParseError::UnexpectedEof));
+    }
+    let rest = len - offset;
+    let size = places.section_count as usize * SECTION_LENGTH;
+    if size.saturating_sub(SECTION_UNREAD) > rest {
+        return Err(ReadError::Refused(ParseError::UnexpectedEof));
+    }
+    part(alloc, source, offset, size.min(rest))
+}
+
+// The symbol table and its strings.
+fn read_records<S: Source>(
+    alloc: Global,
+    source: &S,
+    len: usize,
+    places: Places,
+) -> Result<Records, ReadError>
+    ensures { (file : List ℕ) → Known (S.bytes source.now) len file
+        → Reads (S.may_fail source.now) records_view (table_at file (places_view places)) result }
+{
+    let offset = places.symbols;
+    if offset >= len || places.symbols_size > len - offset {
+        return Err(ReadError::Refused(ParseError::UnexpectedEof));
+    }
+    let end = offset + places.symbols_size;
+    let rows = part(alloc, source, offset, places.symbols_size)?;
+    let strings = part(alloc, source, end, len - end)?;
+    Ok(Records { rows, strings })
+}

@@ -1,0 +1,193 @@
+-- What the parts of a file give is what the file answers for all sections.
+use Rattle.std.proofs.Common.{◌≡◌, ℕ, Bool, true, false, cond, ltb, length, List, [], map, Vec, Global, Option, Some, None, Result, Ok, Err, refl, sym, ap, subst, ◌∙◌, inl, inr}
+use Rattle.std.specs.Prelude.{◌≢◌, codes, nat_eq}
+use Rattle.std.specs.Result.{IsErrAnd}
+use Rattle.binfarce_bytes.specs.declared.error.ParseError.{ParseError}
+use Rattle.binfarce_bytes.specs.declared.format.Format.{Format}
+use Rattle.binfarce_bytes.specs.declared.format.Format.TheVariants as formats
+use Rattle.binfarce_bytes.specs.declared.functions.SectionFunction.{SectionFunction}
+use Rattle.binfarce_bytes.specs.Format.{format_of}
+use Rattle.binfarce_bytes.specs.Refusal.{◌>>=◌, Refusal, refusal_of, section_is_missing, unexpected_eof}
+use Rattle.binfarce_bytes.specs.SectionEntries.{SectionEntry, AllSymbols, AnswersAll}
+use Rattle.binfarce_bytes.specs.SymbolViews.{section_function_view, HoldsSectionFunctions}
+use Rattle.binfarce_elf.specs.Elf.{elf32, elf64}
+use Rattle.binfarce_elf.specs.declared.symbol_table.SymbolTable.{SymbolTable}
+use Rattle.binfarce_elf.specs.declared.symbol_table.SymbolTable.TheVariants.{Dynsym}
+use Rattle.binfarce_macho.specs.Macho as macho_file
+use Rattle.binfarce_macho.specs.Macho.{least_length}
+use Rattle.binfarce_macho.specs.MachoAll as macho_all
+use Rattle.binfarce_macho.proofs.AllRows.{has_start}
+use Rattle.binfarce_pe.specs.Pe as pe_file
+use Rattle.binfarce_tables.specs.ElfAllReading.{all_file_answer}
+use Rattle.binfarce_tables.specs.MachoAllReading as macho
+use Rattle.binfarce_tables.specs.PeAllReading as pe
+use Rattle.binfarce_tools.specs.declared.all.AllTables.{AllTables}
+use Rattle.binfarce_tools.specs.declared.all.AllTables.TheVariants as tables
+use Rattle.binfarce_tools.specs.declared.all.AllFunctions.{AllFunctions}
+use Rattle.binfarce_tools.specs.declared.list.ListError.{ListError}
+use Rattle.binfarce_tools.specs.declared.list.ListError.TheVariants as errors
+use Rattle.binfarce_tools.specs.AllAnswer.{all_symbols_answer, all_answer_of, by_symbol_table, HasSections, AllNeedsMemory}
+use Rattle.binfarce_tools.specs.AllListing.{IsLineIn, IsAllListingOf}
+use Rattle.binfarce_tools.specs.AllTables.{AreAllTablesOf, section_names, is_object_of}
+use Rattle.binfarce_tools.specs.Entries.{GetsAs, HoldsAll, all_left}
+use Rattle.binfarce_tools.specs.ListWords.{list_error_of}
+use Rattle.binfarce_tools.proofs.Lines.{AreLines}
+use Rattle.binfarce_tools.proofs.Listings.{as_memory, parse}
+use Rattle.binfarce_tools.proofs.Told.{Told, is_told, told_all_of}
+
+-- the answer of a file is that of its format
+pub answer_32 : (which : SymbolTable) (order : _) (file : List ℕ) (given : Result AllSymbols Refusal) → format_of file ≡ formats.Elf32 order → all_file_answer which elf32 order file ≡ given → all_answer_of which file ≡ Some given
+unfolding all_symbols_answer
+answer_32 which order file given format is = ap (λ (f : Format). all_symbols_answer which f file) format ∙ ap Some is
+
+pub answer_64 : (which : SymbolTable) (order : _) (file : List ℕ) (given : Result AllSymbols Refusal) → format_of file ≡ formats.Elf64 order → all_file_answer which elf64 order file ≡ given → all_answer_of which file ≡ Some given
+unfolding all_symbols_answer
+answer_64 which order file given format is = ap (λ (f : Format). all_symbols_answer which f file) format ∙ ap Some is
+
+pub answer_macho : (which : SymbolTable) (file : List ℕ) → format_of file ≡ formats.Macho → all_answer_of which file ≡ Some (by_symbol_table which (macho.all_file_answer file))
+unfolding all_symbols_answer
+answer_macho which file format = ap (λ (f : Format). all_symbols_answer which f file) format
+
+pub answer_pe : (which : SymbolTable) (file : List ℕ) → format_of file ≡ formats.PE → all_answer_of which file ≡ Some (by_symbol_table which (pe.all_file_answer file))
+unfolding all_symbols_answer
+answer_pe which file format = ap (λ (f : Format). all_symbols_answer which f file) format
+
+-- a Mach-O or PE file has no dynamic symbol table
+pub no_dynamic_table : (which : SymbolTable) (answer : Result AllSymbols Refusal) (p : ParseError) → (which ≡ Dynsym) × (refusal_of p ≡ section_is_missing (codes ".dynsym")) → Some (by_symbol_table which answer) ≡ Some (Err (refusal_of p))
+no_dynamic_table which answer p told = ap (λ (w : SymbolTable). Some (by_symbol_table w answer)) told.0 ∙ ap (λ (r : Refusal). Some (Err r)) (sym told.1)
+
+-- a file of an unknown format
+pub of_unknown : (which : SymbolTable) (file : List ℕ) → format_of file ≡ formats.Unknown → GetsAs HoldsAll (AllNeedsMemory file) (all_answer_of which file) (Err errors.Unknown)
+unfolding all_symbols_answer
+of_unknown which file is = subst (λ (f : Format). GetsAs HoldsAll (λ _. HasSections f file) (all_symbols_answer which f file) (Err errors.Unknown)) (sym is) refl
+
+-- what is made of entries that a call lists
+module _ (A B : Type 0) (names : ℕ → Option (List ℕ)) (is_object : Bool) where
+  abbrev pub with_entries : Result (List SectionEntry) Refusal → Result AllSymbols Refusal
+  with_entries entries = entries >>= λ e. Ok (record { entries = e; section_name = names; is_object = is_object })
+
+  pub listed : (entries : Result (List SectionEntry) Refusal) (functions : Vec SectionFunction Global) (value : AllFunctions)
+      → AnswersAll HoldsSectionFunctions A entries (Ok functions) → all_left value ≡ map section_function_view functions.items → GetsAs HoldsAll (λ _. B) (Some (with_entries entries)) (Ok value)
+  listed (Ok entries) functions value answers is = is ∙ answers
+  listed (Err refusal) functions value answers is = absurd answers
+
+  pub not_listed : (entries : Result (List SectionEntry) Refusal) (e : ParseError) (result : Result AllFunctions ListError) → Told entries → (A → B)
+      → AnswersAll HoldsSectionFunctions A entries (Err e) → IsErrAnd result (λ f. f ≡ list_error_of e) → GetsAs HoldsAll (λ _. B) (Some (with_entries entries)) result
+  not_listed entries e (Ok value) told needs answers is = absurd is
+  not_listed entries e (Err f) told needs answers is =
+      subst (λ (f : ListError). GetsAs HoldsAll (λ _. B) (Some (with_entries entries)) (Err f)) (sym is) (by_entries entries told answers)
+    where
+      by_entries : (entries : Result (List SectionEntry) Refusal) → Told entries → AnswersAll HoldsSectionFunctions A entries (Err e) → GetsAs HoldsAll (λ _. B) (Some (with_entries entries)) (Err (list_error_of e))
+      by_entries (Ok entries) told answers = (needs answers.1, as_memory e answers.0)
+      by_entries (Err refusal) told (inl is) = inl (e, is, parse e (ap is_told is ∙ told))
+      by_entries (Err refusal) told (inr h) = inr (needs h.1, as_memory e h.0)
+
+-- what is got of a file of this format
+got : (which : SymbolTable) (file : List ℕ) (format : Format) (answer : Result AllSymbols Refusal) (result : Result AllFunctions ListError) → format_of file ≡ format → all_answer_of which file ≡ Some answer
+    → GetsAs HoldsAll (λ _. HasSections format file) (Some answer) result → GetsAs HoldsAll (AllNeedsMemory file) (all_answer_of which file) result
+got which file format answer result is answered gets =
+    subst (λ (a : Option (Result AllSymbols Refusal)). GetsAs HoldsAll (AllNeedsMemory file) a result) (sym answered)
+    (subst (λ (f : Format). GetsAs HoldsAll (λ _. HasSections f file) (Some answer) result) (sym is) gets)
+
+module _ (which : SymbolTable) (file : List ℕ) (found : macho.AllLocated)
+    (is : (format_of file ≡ formats.Macho) × (all_answer_of which file ≡ Some (macho.all_file_answer file)) × (macho.all_located_answer file ≡ Ok found)) where
+  same : macho.all_file_answer file ≡ macho.all_symbols found
+  same = ap (λ (l : Result macho.AllLocated Refusal). l >>= macho.all_symbols) is.2
+
+  abbrev SomeEnd : Type 0
+  SomeEnd = found.ends ≢ []
+
+  pub given_macho : (functions : Vec SectionFunction Global) (value : AllFunctions) → AnswersAll HoldsSectionFunctions SomeEnd (macho.all_entries found) (Ok functions) → all_left value ≡ map section_function_view functions.items
+      → GetsAs HoldsAll (AllNeedsMemory file) (all_answer_of which file) (Ok value)
+  given_macho functions value answers left =
+      got which file formats.Macho (macho.all_symbols found) (Ok value) is.0 (is.1 ∙ ap Some same)
+      (listed SomeEnd (HasSections formats.Macho file) (macho_all.name_of found.names) found.is_object (macho.all_entries found) functions value answers left)
+
+  pub not_given_macho : (e : ParseError) (result : Result AllFunctions ListError) → (SomeEnd → HasSections formats.Macho file) → AnswersAll HoldsSectionFunctions SomeEnd (macho.all_entries found) (Err e) → IsErrAnd result (λ f. f ≡ list_error_of e)
+      → GetsAs HoldsAll (AllNeedsMemory file) (all_answer_of which file) result
+  not_given_macho e result needs answers err =
+      got which file formats.Macho (macho.all_symbols found) result is.0 (is.1 ∙ ap Some same)
+      (not_listed SomeEnd (HasSections formats.Macho file) (macho_all.name_of found.names) found.is_object (macho.all_entries found) e result (told_all_of found.ends found.symbols) needs answers err)
+
+located_same : {a b : macho.AllLocated} → Path (Result macho.AllLocated Refusal) (Ok a) (Ok b) → b ≡ a
+located_same e = cc
+
+-- a Mach-O file with an end of a section has a section
+pub macho_needs : (file : List ℕ) (found : macho.AllLocated) → macho.all_located_answer file ≡ Ok found → found.ends ≢ [] → HasSections formats.Macho file
+unfolding HasSections
+macho_needs file found is some = by_length (ltb (length file) least_length) is
+  where
+    by_starts : (starts : Result (List ℕ) Refusal) → macho_all.section_starts file ≡ starts
+        → (starts >>= λ s. macho_all.symbols_of file >>= λ symbols. Ok (record { ends = map (macho_all.end_at file) s; names = map (macho_all.name_at file) s; symbols = symbols; is_object = nat_eq (macho_file.header_of file).filetype 1 })) ≡ Ok found
+        → macho_all.HasSection file
+    by_starts (Err refusal) at e = absurd cc
+    by_starts (Ok starts) at e = has_start file starts at (λ none. some (by_symbols (macho_all.symbols_of file) e ∙ ap (map (macho_all.end_at file)) none))
+      where
+        by_symbols : (symbols : Result (Option macho_all.Symbols) Refusal)
+            → (symbols >>= λ symbols. Ok (record { ends = map (macho_all.end_at file) starts; names = map (macho_all.name_at file) starts; symbols = symbols; is_object = nat_eq (macho_file.header_of file).filetype 1 })) ≡ Ok found
+            → found.ends ≡ map (macho_all.end_at file) starts
+        by_symbols (Err refusal) e = absurd cc
+        by_symbols (Ok symbols) e = ap (λ (l : macho.AllLocated). l.ends) (located_same e)
+
+    by_length : (short : Bool) → cond short (Err unexpected_eof) (macho.all_located file) ≡ Ok found → macho_all.HasSection file
+    by_length true e = absurd cc
+    by_length false e = by_starts (macho_all.section_starts file) refl e
+
+module _ (which : SymbolTable) (file : List ℕ) (read : pe.AllTables)
+    (is : (format_of file ≡ formats.PE) × (all_answer_of which file ≡ Some (Ok (pe.all_view read))) × (read.sections.count ≡ (pe_file.header_of file).number_of_sections)) where
+  pub given_pe : (functions : Vec SectionFunction Global) (value : AllFunctions) → AnswersAll HoldsSectionFunctions (read.sections.count ≢ 0) (Ok (pe.all_view read).entries) (Ok functions) → all_left value ≡ map section_function_view functions.items
+      → GetsAs HoldsAll (AllNeedsMemory file) (all_answer_of which file) (Ok value)
+  given_pe functions value answers left = got which file formats.PE (Ok (pe.all_view read)) (Ok value) is.0 is.1 (left ∙ answers)
+
+  needs : read.sections.count ≢ 0 → HasSections formats.PE file
+  unfolding HasSections
+  needs some none = some (is.2 ∙ none)
+
+  pub not_given_pe : (e : ParseError) (result : Result AllFunctions ListError) → AnswersAll HoldsSectionFunctions (read.sections.count ≢ 0) (Ok (pe.all_view read).entries) (Err e) → IsErrAnd result (λ f. f ≡ list_error_of e)
+      → GetsAs HoldsAll (AllNeedsMemory file) (all_answer_of which file) result
+  not_given_pe e result answers err =
+      got which file formats.PE (Ok (pe.all_view read)) result is.0 is.1
+      (not_listed (read.sections.count ≢ 0) (HasSections formats.PE file) (pe.all_view read).section_name false (Ok (pe.all_view read).entries) e result tt needs answers err)
+
+some_ok : {a b : AllSymbols} → Path (Option (Result AllSymbols Refusal)) (Some (Ok a)) (Some (Ok b)) → a ≡ b
+some_ok e = cc
+
+some_same : {a b : Result AllSymbols Refusal} → Path (Option (Result AllSymbols Refusal)) (Some a) (Some b) → a ≡ b
+some_same e = cc
+
+-- what was read beside the entries of a Mach-O file is the file's
+macho_all_is : (entries : Result (List SectionEntry) Refusal) (names : ℕ → Option (List ℕ)) (is_object : Bool) (all : AllSymbols)
+    → (entries >>= λ e. Ok (record { entries = e; section_name = names; is_object = is_object })) ≡ Ok all → (names ≡ all.section_name) × (is_object ≡ all.is_object)
+macho_all_is (Ok entries) names is_object all is = let same : (record { entries = entries; section_name = names; is_object = is_object }) ≡ all = of_ok is in
+    (ap (λ (a : AllSymbols). a.section_name) same, ap (λ (a : AllSymbols). a.is_object) same)
+  where
+    of_ok : {a b : AllSymbols} → Path (Result AllSymbols Refusal) (Ok a) (Ok b) → a ≡ b
+    of_ok e = cc
+macho_all_is (Err refusal) names is_object all is = absurd cc
+
+-- and so for any file: the names, and whether it is an object file
+all_is : (which : SymbolTable) (file : List ℕ) (read : AllTables) (all : AllSymbols) → AreAllTablesOf which file read → all_answer_of which file ≡ Some (Ok all)
+    → (section_names read ≡ all.section_name) × (is_object_of read ≡ all.is_object)
+unfolding AreAllTablesOf all_symbols_answer
+all_is which file (tables.Elf32 parts) all are is = (ap (λ (a : AllSymbols). a.section_name) (some_ok (sym are ∙ is)), ap (λ (a : AllSymbols). a.is_object) (some_ok (sym are ∙ is)))
+all_is which file (tables.Elf64 parts) all are is = (ap (λ (a : AllSymbols). a.section_name) (some_ok (sym are ∙ is)), ap (λ (a : AllSymbols). a.is_object) (some_ok (sym are ∙ is)))
+all_is which file (tables.Macho parts) all are is =
+    let found = macho.all_view parts in
+    macho_all_is (macho.all_entries found) (macho_all.name_of found.names) found.is_object all
+    (sym (ap (λ (l : Result macho.AllLocated Refusal). l >>= macho.all_symbols) are.2) ∙ some_same (sym are.1 ∙ is))
+all_is which file (tables.Pe parts) all are is = (ap (λ (a : AllSymbols). a.section_name) (some_ok (sym are.1 ∙ is)), ap (λ (a : AllSymbols). a.is_object) (some_ok (sym are.1 ∙ is)))
+all_is which file tables.Unknown all are is =
+    let e : Path (Option (Result AllSymbols Refusal)) None (Some (Ok all)) = sym (ap (λ (f : Format). all_symbols_answer which f file) are) ∙ is in absurd cc
+
+pub names_are : (which : SymbolTable) (file : List ℕ) (read : AllTables) (all : AllSymbols) → AreAllTablesOf which file read → all_answer_of which file ≡ Some (Ok all) → section_names read ≡ all.section_name
+names_are which file read all are is = (all_is which file read all are is).0
+
+pub object_is : (which : SymbolTable) (file : List ℕ) (read : AllTables) (all : AllSymbols) → AreAllTablesOf which file read → all_answer_of which file ≡ Some (Ok all) → is_object_of read ≡ all.is_object
+object_is which file read all are is = (all_is which file read all are is).1
+
+-- the lines of what a file holds are its listing
+pub is_all_listing : (names : ℕ → Option (List ℕ)) (entries : List SectionEntry) (text : List ℕ) (all : AllSymbols) → AreLines (IsLineIn names) entries text → entries ≡ all.entries → names ≡ all.section_name → IsAllListingOf all text
+is_all_listing names entries text all are same named =
+    let P : (ℕ → Option (List ℕ)) → Type 0 = λ n. AreLines (IsLineIn n) all.entries text in
+    let Q : List SectionEntry → Type 0 = λ es. AreLines (IsLineIn names) es text in
+    subst P named (subst Q same are)

@@ -1,0 +1,58 @@
+-- The function symbols of all sections of a file of any format, and the sections' names.
+use Rattle.std.specs.Prelude.{ℕ, List, codes, map, Option, Some, None, Result, Ok, Err}
+use Rattle.std.specs.List.{sum_by}
+use Rattle.binfarce_bytes.specs.declared.format.Format.{Format}
+use Rattle.binfarce_bytes.specs.declared.format.Format.TheVariants.{Elf32, Elf64, Macho, PE, Unknown}
+use Rattle.binfarce_bytes.specs.Entries.{Listed}
+use Rattle.binfarce_bytes.specs.Format.{format_of}
+use Rattle.binfarce_bytes.specs.Refusal.{Refusal, section_is_missing}
+use Rattle.binfarce_bytes.specs.SectionEntries.{AllSymbols}
+use Rattle.binfarce_elf.specs.Elf.{elf32, elf64}
+use Rattle.binfarce_elf.specs.declared.symbol_table.SymbolTable.{SymbolTable}
+use Rattle.binfarce_elf.specs.declared.symbol_table.SymbolTable.TheVariants.{Symtab, Dynsym}
+use Rattle.binfarce_macho.specs.MachoAll as macho
+use Rattle.binfarce_pe.specs.PeAll as pe
+use Rattle.binfarce_tables.specs.ElfAllReading.{all_file_answer}
+use Rattle.binfarce_tables.specs.MachoAllReading as macho_reading
+use Rattle.binfarce_tables.specs.PeAllReading as pe_reading
+
+-- an answer by the symbol table: a Mach-O or PE file has no dynamic one
+abbrev pub by_symbol_table : SymbolTable → Result AllSymbols Refusal → Result AllSymbols Refusal
+by_symbol_table Symtab answer = answer
+by_symbol_table Dynsym answer = Err (section_is_missing (codes ".dynsym"))
+
+-- what the reader of the format answers by this symbol table; no reader reads an unknown format
+unfoldable pub all_symbols_answer : SymbolTable → Format → List ℕ → Option (Result AllSymbols Refusal)
+all_symbols_answer which (Elf32 order) file = Some (all_file_answer which elf32 order file)
+all_symbols_answer which (Elf64 order) file = Some (all_file_answer which elf64 order file)
+all_symbols_answer which Macho file = Some (by_symbol_table which (macho_reading.all_file_answer file))
+all_symbols_answer which PE file = Some (by_symbol_table which (pe_reading.all_file_answer file))
+all_symbols_answer which Unknown file = None
+
+-- what a file answers for all sections by this symbol table
+abbrev pub all_answer_of : SymbolTable → List ℕ → Option (Result AllSymbols Refusal)
+all_answer_of which file = all_symbols_answer which (format_of file) file
+
+-- the files that need memory, in place of whose answer alone an allocation may be refused: those of Mach-O and PE with a section
+unfoldable pub HasSections : Format → List ℕ → Type 0
+HasSections (Elf32 order) file = ⊥
+HasSections (Elf64 order) file = ⊥
+HasSections Macho file = macho.HasSection file
+HasSections PE file = pe.HasSection file
+HasSections Unknown file = ⊥
+
+-- so for each answer of the file
+abbrev pub AllNeedsMemory : {A : Type 0} → List ℕ → A → Type 0
+AllNeedsMemory file answer = HasSections (format_of file) file
+
+-- the entries of all sections as one list, and the sum of their sizes
+abbrev pub as_one : AllSymbols → Listed
+as_one all =
+    let entries = map (λ e. e.entry) all.entries in
+    record { entries = entries; section_size = sum_by (λ e. e.size) entries }
+
+-- an answer as that of one list
+abbrev pub one_answer : Option (Result AllSymbols Refusal) → Option (Result Listed Refusal)
+one_answer None = None
+one_answer (Some (Ok all)) = Some (Ok (as_one all))
+one_answer (Some (Err refusal)) = Some (Err refusal)

@@ -1,0 +1,29 @@
+-- The text of a listing of all sections: a line for each entry, with the name of its section.
+use Rattle.std.specs.Prelude.{◌≡◌, ℕ, List, [], ◌∷◌, ◌++◌, codes, Option, Some, None}
+use Rattle.std.specs.Fmt.{decimal}
+use Rattle.std.specs.List.{AllZip, concat}
+use Rattle.binfarce_names.specs.Name.{Name}
+use Rattle.binfarce_names.specs.Named.{IsNamed}
+use Rattle.binfarce_bytes.specs.SectionEntries.{SectionEntry, AllSymbols}
+use Rattle.binfarce_tools.specs.Listing.{line_head}
+
+-- a section in a line: its name as it is stored, or where it has none its number in brackets
+abbrev pub section_text : Option (List ℕ) → ℕ → List ℕ
+section_text (Some name) number = name
+section_text None number = codes "[" ++ (decimal number ++ codes "]")
+
+-- `{address:016x} {size:>10} {section} {trimmed}`, and a line feed
+abbrev pub section_line : SectionEntry → List ℕ → Name → List ℕ
+section_line e section name = line_head e.entry.address e.entry.size ++ (section ++ (codes " " ++ (name.trimmed ++ 10 ∷ [])))
+
+-- line is that of the entry, with the answer of its name, where these are the names of the sections
+abbrev pub IsLineIn : (ℕ → Option (List ℕ)) → SectionEntry → List ℕ → Type 0
+IsLineIn section_name e line = (name : Name) × IsNamed e.entry.name name × (line ≡ section_line e (section_text (section_name e.section) e.section) name)
+
+-- text is the listing of all sections: a line for each entry, in order
+abbrev pub IsAllListingOf : AllSymbols → List ℕ → Type 0
+IsAllListingOf all text = (lines : List (List ℕ)) × AllZip (IsLineIn all.section_name) all.entries lines × (text ≡ concat lines)
+
+-- it can always be made
+abbrev pub AllListingFits : AllSymbols → Type 0
+AllListingFits all = Unit {0}

@@ -1,0 +1,359 @@
+//! Listings, reports and pictures of the function symbols of all sections of an executable.
+
+ghost use Rattle.std.specs.Prelude.{◌≡◌, ◌≢◌, ◌++◌, ℕ, List, map, true, Ok, Some, IfErr, IfOk, OnOk};
+ghost use Rattle.std.specs.Iterator.{YieldsFirstBy};
+ghost use Rattle.std.specs.Option.{option_map};
+ghost use Rattle.std.specs.String.{string_bytes};
+ghost use Rattle.binfarce_bytes.specs.SectionEntries.{AllSymbols};
+ghost use Rattle.binfarce_bytes.specs.SymbolViews.{section_function_view};
+ghost use Rattle.binfarce_elf.specs.declared.symbol_table.SymbolTable.{SymbolTable};
+ghost use Rattle.binfarce_tools.specs.AllAnswer.{all_answer_of, AllNeedsMemory, one_answer};
+ghost use Rattle.binfarce_tools.specs.AllListing.{section_text, IsLineIn, IsAllListingOf, AllListingFits};
+ghost use Rattle.binfarce_tools.specs.AllTables.{AreAllTablesOf, ReadsAllTables, section_names, is_object_of};
+ghost use Rattle.binfarce_tools.specs.Entries.{GetsAs, HoldsAll, all_left, all_arranged_left};
+ghost use Rattle.binfarce_tools.specs.ListWords.{outcome_of};
+ghost use Rattle.binfarce_tools.specs.Map.{IsMapOf};
+ghost use Rattle.binfarce_tools.specs.Report.{Share, IsSumsOf, ReportFits};
+ghost use Rattle.binfarce_tools.specs.ReportWords as reporting;
+ghost use Rattle.binfarce_tools.specs.Sums.{AreSumsOf, GetsSums};
+ghost use Rattle.binfarce_tools.specs.Writing.{Tells, Takes, Fails, Leaves};
+ghost use Rattle.binfarce_tools.specs.declared.list.ListError.TheVariants.{Write};
+ghost use Rattle.binfarce_tools.specs.declared.report.ReportError.TheVariants as errors;
+
+use crate::functions::Functions;
+use crate::head::push_head;
+use crate::list::{ListError, Sink};
+use crate::map::picture;
+use crate::report::{CrateSums, ReportError, crate_sums, sums_text};
+use crate::tables::{has_table, read_format};
+use crate::writing::write_whole;
+use binfarce_bytes::format::Format;
+use binfarce_bytes::functions::SectionFunction;
+use binfarce_bytes::source::Source;
+use binfarce_elf::all as elf;
+use binfarce_elf::symbol_table::SymbolTable;
+use binfarce_names::demangle::Demangler;
+use binfarce_tables::{ReadError, elf32, elf64, macho, pe};
+use std::alloc::{AllocError, Global};
+
+/// What was read of a file to list the function symbols of all sections.
+#[derive(Drop)]
+pub enum AllTables {
+    /// The parts of an ELF file of 32 bits.
+    Elf32(elf32::AllParts),
+    /// The parts of an ELF file of 64 bits.
+    Elf64(elf64::AllParts),
+    /// The parts of a Mach-O file.
+    Macho(macho::AllParts),
+    /// The parts of a PE file.
+    Pe(pe::AllParts),
+    /// Nothing of a file whose first bytes name no format that is read.
+    Unknown,
+}
+
+impl AllTables {
+    /// The function symbols of all sections, each with its section's number, by the symbol table that the tables were read
+    /// by: what `all_functions` of a reader gives of the file.
+    ///
+    /// # Errors
+    ///
+    /// `Unknown` where the format isn't one that is read; `Parse` where a Mach-O file's rows are refused; `OutOfMemory`
+    /// where an allocation failed, which an ELF file never needs.
+    #[tactic(auto, unfolding(crate::specs::AllTables::AreAllTablesOf))]
+    pub fn functions(&self, alloc: Global) -> Result<AllFunctions<'_>, ListError>
+        ensures gets { (which : SymbolTable) (file : List ℕ) → AreAllTablesOf which file self.entry.now
+            → GetsAs HoldsAll (AllNeedsMemory file) (all_answer_of which file) result }
+        ensures unwritten { IfErr result (λ e. e ≢ Write) }
+    {
+        match self {
+            AllTables::Elf32(parts) => Ok(AllFunctions::Elf32(parts.functions())),
+            AllTables::Elf64(parts) => Ok(AllFunctions::Elf64(parts.functions())),
+            AllTables::Macho(parts) => {
+                let functions = parts.functions(alloc)?;
+                Ok(arranged_all(functions))
+            }
+            AllTables::Pe(parts) => {
+                let functions = parts.functions(alloc)?;
+                Ok(arranged_all(functions))
+            }
+            AllTables::Unknown => Err(ListError::Unknown),
+        }
+    }
+
+    /// The name of the section of this number, a part of what was read. `None` where there is no such section, and where it
+    /// has no valid name.
+    pub fn section_name(&self, number: u32) -> Option<&str>
+        ensures read { option_map (λ t. t.now) result ≡ section_names self.entry.now number }
+        ensures file { (which : SymbolTable) (file : List ℕ) (all : AllSymbols) → AreAllTablesOf which file self.entry.now
+            → all_answer_of which file ≡ Some (Ok all) → option_map (λ t. t.now) result ≡ all.section_name number }
+    {
+        self.name_read(number)
+    }
+
+    fn name_read(&self, number: u32) -> Option<&str>
+        ensures { option_map (λ t. t.now) result ≡ section_names self.entry.now number }
+    {
+        match self {
+            AllTables::Elf32(parts) => parts.section_name(number),
+            AllTables::Elf64(parts) => parts.section_name(number),
+            AllTables::Macho(parts) => parts.section_name(number),
+            AllTables::Pe(parts) => parts.section_name(number),
+            AllTables::Unknown => None,
+        }
+    }
+
+    /// Whether the file is an object file, whose sections share addresses: in ELF of the type `ET_REL`, in Mach-O
+    /// `MH_OBJECT`. A PE image is none.
+    pub fn is_object(&self) -> bool
+        ensures read { result ≡ is_object_of self.now }
+        ensures file { (which : SymbolTable) (file : List ℕ) (all : AllSymbols) → AreAllTablesOf which file self.now
+            → all_answer_of which file ≡ Some (Ok all) → result ≡ all.is_object }
+    {
+        self.object_read()
+    }
+
+    fn object_read(&self) -> bool
+        ensures { result ≡ is_object_of self.now }
+    {
+        match self {
+            AllTables::Elf32(parts) => parts.is_object(),
+            AllTables::Elf64(parts) => parts.is_object(),
+            AllTables::Macho(parts) => parts.is_object(),
+            AllTables::Pe(_) => false,
+            AllTables::Unknown => false,
+        }
+    }
+}
+
+/// The function symbols of all sections of a file that are left, in the order of its listing.
+#[derive(Drop)]
+pub enum AllFunctions<'a> {
+    Elf32(elf::AllFunctions<'a, u32>),
+    Elf64(elf::AllFunctions<'a, u64>),
+    Arranged(AllArranged<'a>),
+}
+
+/// Function symbols with their sections that stand in a list, from a place on.
+#[derive(Drop)]
+pub struct AllArranged<'a> {
+    functions: Vec<SectionFunction<'a>>,
+    next: usize,
+}
+
+impl<'a> Iterator for AllFunctions<'a> {
+    ghost use Rattle.std.specs.Iterator.{YieldsFirstBy, item_count};
+    ghost use Rattle.binfarce_bytes.specs.SymbolViews.{section_function_view};
+    ghost use Rattle.binfarce_tools.specs.Entries.{all_left};
+
+    type Item = SectionFunction<'a>;
+
+    ghost next_gives = { YieldsFirstBy section_function_view all_left };
+
+    ghost remaining = { item_count all_left };
+
+    fn next(&mut self) -> Option<SectionFunction<'a>> {
+        match self {
+            AllFunctions::Elf32(functions) => functions.next(),
+            AllFunctions::Elf64(functions) => functions.next(),
+            AllFunctions::Arranged(functions) => functions.next(),
+        }
+    }
+}
+
+impl<'a> AllArranged<'a> {
+    // The first of those that are left, which the others follow.
+    fn next(&mut self) -> Option<SectionFunction<'a>>
+        ensures { YieldsFirstBy section_function_view all_arranged_left self.old result self.new }
+    {
+        let function = *self.functions.get(self.next)?;
+        self.next += 1;
+        Some(function)
+    }
+}
+
+/// Reads of a file what the function symbols of all sections are made of, by this symbol table: its first 8 bytes, which
+/// name its format, and the parts that `binfarce_tables` reads of a file of that format. Of a file of an unknown format no
+/// other byte is read. Each part that is kept takes no more memory than what the file holds of it.
+///
+/// # Errors
+///
+/// `Refused` with what the reader of the file's format refuses, and `SectionIsMissing` of `.dynsym` for the dynamic symbol
+/// table of a Mach-O or PE file; `Unreadable` where the source can't be read at offsets, or a read of it fails, and never
+/// of a source that can't fail, as bytes in memory are; `OutOfMemory` where an allocation fails.
+#[tactic(auto, unfolding(crate::specs::AllTables::AreAllTablesOf))]
+pub fn read_all<S: Source>(
+    alloc: Global,
+    source: &S,
+    which: SymbolTable,
+) -> Result<AllTables, ReadError>
+    ensures { (file : List ℕ) → S.bytes source.now ≡ Some file
+        → ReadsAllTables (S.may_fail source.now ≡ true) which file result }
+{
+    let len = source.length()? as usize;
+    match read_format(alloc, source, len)? {
+        Format::Elf32 { byte_order } => {
+            let parts = elf32::read_all(alloc, source, byte_order, which)?;
+            Ok(AllTables::Elf32(parts))
+        }
+        Format::Elf64 { byte_order } => {
+            let parts = elf64::read_all(alloc, source, byte_order, which)?;
+            Ok(AllTables::Elf64(parts))
+        }
+        Format::Macho => {
+            has_table(which)?;
+            let parts = macho::read_all(alloc, source)?;
+            Ok(AllTables::Macho(parts))
+        }
+        Format::PE => {
+            has_table(which)?;
+            let parts = pe::read_all(alloc, source)?;
+            Ok(AllTables::Pe(parts))
+        }
+        Format::Unknown => Ok(AllTables::Unknown),
+    }
+}
+
+/// Lists the function symbols of all sections of a file: a line `{address:016x} {size:>10} {section} {trimmed}` for each,
+/// where the section is shown by its name, or by its number in brackets where it has none. The listing is made before its
+/// first byte is written.
+///
+/// # Errors
+///
+/// As `functions`, and `OutOfMemory` where any other allocation failed; `Write` where a write failed, which alone can leave
+/// a beginning of the listing written.
+pub fn list_all<S: Sink>(alloc: Global, tables: &AllTables, out: &mut S) -> Result<(), ListError>
+    ensures tells { (which : SymbolTable) (file : List ℕ) → AreAllTablesOf which file tables.now
+        → Tells AllListingFits (AllNeedsMemory file) (all_answer_of which file) (outcome_of result) }
+    ensures takes { (which : SymbolTable) (file : List ℕ) → AreAllTablesOf which file tables.now
+        → Takes IsAllListingOf (all_answer_of which file) (S.taken out.old) (S.taken out.new) (outcome_of result) }
+    ensures fails { Fails (S.has_failed out.old) (S.has_failed out.new) (outcome_of result) }
+    ensures leaves { Leaves out.old out.new (outcome_of result) }
+{
+    let functions = tables.functions(alloc)?;
+    let text = listing(alloc, functions, tables)?;
+    write_whole(out, text.as_bytes())
+}
+
+/// Reports how many bytes the function symbols of all sections of a file take: a line for each crate as in `report`, and
+/// then `sum {total}`, with the sum of all sizes. The report is made before its first byte is written.
+///
+/// # Errors
+///
+/// As `list_all`; `TooLarge` where the sum of all sizes is 2^64 or more. Only `Write` can leave a beginning of the report
+/// written.
+pub fn report_all<S: Sink>(
+    alloc: Global,
+    tables: &AllTables,
+    out: &mut S,
+) -> Result<(), ReportError>
+    ensures tells { (which : SymbolTable) (file : List ℕ) → AreAllTablesOf which file tables.now
+        → Tells ReportFits (AllNeedsMemory file) (one_answer (all_answer_of which file)) (reporting.outcome_of result) }
+    ensures takes { (which : SymbolTable) (file : List ℕ) → AreAllTablesOf which file tables.now
+        → Takes IsSumsOf (one_answer (all_answer_of which file)) (S.taken out.old) (S.taken out.new)
+        (reporting.outcome_of result) }
+    ensures fails { Fails (S.has_failed out.old) (S.has_failed out.new) (reporting.outcome_of result) }
+    ensures leaves { Leaves out.old out.new (reporting.outcome_of result) }
+{
+    let sums = sums_of_all(alloc, tables)?;
+    let text = sums_text(alloc, &sums)?;
+    write_whole(out, text.as_bytes())?;
+    Ok(())
+}
+
+/// Draws how many bytes the function symbols of all sections of a file take: the picture of `map`, with the sum of all sizes
+/// as the whole. The picture is made before its first byte is written.
+///
+/// # Errors
+///
+/// As `report_all`. Only `Write` can leave a beginning of the picture written.
+pub fn map_all<S: Sink>(alloc: Global, tables: &AllTables, out: &mut S) -> Result<(), ReportError>
+    ensures tells { (which : SymbolTable) (file : List ℕ) → AreAllTablesOf which file tables.now
+        → Tells ReportFits (AllNeedsMemory file) (one_answer (all_answer_of which file)) (reporting.outcome_of result) }
+    ensures takes { (which : SymbolTable) (file : List ℕ) → AreAllTablesOf which file tables.now
+        → Takes IsMapOf (one_answer (all_answer_of which file)) (S.taken out.old) (S.taken out.new)
+        (reporting.outcome_of result) }
+    ensures fails { Fails (S.has_failed out.old) (S.has_failed out.new) (reporting.outcome_of result) }
+    ensures leaves { Leaves out.old out.new (reporting.outcome_of result) }
+{
+    let sums = sums_of_all(alloc, tables)?;
+    let text = picture(alloc, &sums)?;
+    write_whole(out, text.as_bytes())?;
+    Ok(())
+}
+
+/// The sums that `report_all` shows; `section_size` is that of all sizes.
+///
+/// # Errors
+///
+/// As `report_all`, but for `Write`.
+pub fn sums_of_all(alloc: Global, tables: &AllTables) -> Result<CrateSums, ReportError>
+    ensures sums { (which : SymbolTable) (file : List ℕ) → AreAllTablesOf which file tables.now
+        → GetsSums (AllNeedsMemory file) (one_answer (all_answer_of which file)) result }
+    ensures made { IfOk result (λ s. (shares : List Share) × AreSumsOf shares s) }
+    ensures unwritten { IfErr result (λ e. e ≢ errors.Write) }
+{
+    let functions = tables.functions(alloc)?;
+    let sums = crate_sums(alloc, Functions::All(functions), 0)?;
+    Ok(CrateSums {
+        crates: sums.crates,
+        total: sums.total,
+        section_size: sums.total,
+    })
+}
+
+// The whole listing.
+fn listing(
+    alloc: Global,
+    functions: AllFunctions<'_>,
+    tables: &AllTables,
+) -> Result<String, AllocError>
+    ensures { IfOk result
+        (λ t. (all : AllSymbols) → HoldsAll all functions.entry → section_names tables.now ≡ all.section_name
+        → IsAllListingOf all (string_bytes t)) }
+{
+    let mut text = String::new(alloc);
+    let mut demangler = Demangler::new(alloc);
+    for function in functions {
+        push_line(&mut demangler, &mut text, tables, function)?;
+    }
+    Ok(text)
+}
+
+// Adds a function symbol's line.
+fn push_line(
+    demangler: &mut Demangler,
+    text: &mut String,
+    tables: &AllTables,
+    function: SectionFunction<'_>,
+) -> Result<(), AllocError>
+    ensures { OnOk result
+        ((line : List ℕ) × IsLineIn (section_names tables.now) (section_function_view function.entry) line
+        × (string_bytes text.new ≡ string_bytes text.old ++ line)) }
+{
+    push_head(text, function.function.address, function.function.size)?;
+    push_section(text, tables, function.section)?;
+    text.push_str(" ")?;
+    demangler.push_trimmed(text, function.function.name)?;
+    text.push_str("\n")
+}
+
+// Adds a section's name, or its number in brackets where it has none.
+fn push_section(text: &mut String, tables: &AllTables, number: u32) -> Result<(), AllocError>
+    ensures { OnOk result
+        (string_bytes text.new ≡ string_bytes text.old ++ section_text (section_names tables.now number) number) }
+{
+    match tables.section_name(number) {
+        Some(name) => text.push_str(name),
+        None => {
+            write!(text, "[{number}]")?;
+            Ok(())
+        }
+    }
+}
+
+// All functions of a list with their sections.
+fn arranged_all(functions: Vec<SectionFunction<'_>>) -> AllFunctions<'_>
+    ensures { all_left result ≡ map section_function_view functions.entry.items }
+{
+    AllFunctions::Arranged(AllArranged { functions, next: 0 })
+}

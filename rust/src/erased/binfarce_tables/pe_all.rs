@@ -1,0 +1,114 @@
+// From crates/binfarce_tables/src/pe_all.rt, by tools/erase.
+
+//! The parts of a PE file that the function symbols of all sections are read from.
+
+use crate::shim::Vec;
+use crate::erased::binfarce_tables::elf::part;
+use crate::erased::binfarce_tables::error::ReadError;
+use crate::erased::binfarce_tables::pe::read_places;
+use crate::erased::binfarce_bytes::ParseError;
+use crate::erased::binfarce_bytes::functions::SectionFunction;
+use crate::erased::binfarce_bytes::source::Source;
+use crate::erased::binfarce_pe::all::{functions_of_headers, section_name};
+use crate::erased::binfarce_pe::parts::{Places, SECTION_LENGTH};
+use crate::shim::alloc::Global;
+
+// How many bytes at the end of the last section header may be missing.
+const SECTION_UNREAD: usize = 16;
+
+/// The parts of a file that the function symbols of all sections are read from, and the section headers.
+pub struct AllParts {
+    headers: Vec<u8>,
+    section_count: u16,
+    records: Records,
+}
+
+// The records of the symbol table, and the strings, which follow them.
+struct Records {
+    rows: Vec<u8>,
+    strings: Vec<u8>,
+}
+
+impl AllParts {
+    /// The function symbols that `all_functions` of a reader of the whole file gives, in its order. Nothing is read: names are
+    /// parts of what was read.
+    ///
+    /// # Errors
+    ///
+    /// `OutOfMemory`, only where the file has a section.
+    pub fn functions(&self, alloc: Global) -> Result<Vec<SectionFunction<'_>>, ParseError> {
+        let records = &self.records;
+        Ok(functions_of_headers(
+            alloc,
+            &self.headers,
+            self.section_count,
+            &records.rows,
+            &records.strings,
+        )?)
+    }
+
+    /// The name of the section of this number, which is one more than its index, as its header has it: as `/4` for a name of
+    /// more than 8 bytes, which is in the string table. It is a part of what was read; nothing is copied. `None` where there
+    /// is no such section, and where its name isn't UTF-8.
+    pub fn section_name(&self, number: u32) -> Option<&str> {
+        section_name(&self.headers, self.section_count, number)
+    }
+}
+
+/// Reads the parts of a file that the function symbols of all sections are read from, without a look at the signature: the
+/// offset of the signature, the signature and the file header, which are 24 bytes, the section headers, the symbol table,
+/// and the strings, which are what follows it. Each is read once, into memory of its size, which is never more than what the
+/// file holds of it. No other byte is read.
+///
+/// # Errors
+///
+/// `Refused` with what `parse` and `all_functions` of a reader of the whole file refuse; `Unreadable` where the source can't
+/// be read at offsets, or a read of it fails, and never of a source that can't fail, as bytes in memory are; `OutOfMemory`
+/// where an allocation fails.
+pub fn read_all<S: Source>(alloc: Global, source: &S) -> Result<AllParts, ReadError> {
+    let len = source.length()? as usize;
+    let places = read_places(alloc, source, len)?;
+    let headers = read_headers(alloc, source, len, places)?;
+    let records = read_records(alloc, source, len, places)?;
+    Ok(AllParts {
+        headers,
+        section_count: places.section_count,
+        records,
+    })
+}
+
+// The section headers, of which none is truncated.
+fn read_headers<S: Source>(
+    alloc: Global,
+    source: &S,
+    len: usize,
+    places: Places,
+) -> Result<Vec<u8>, ReadError> {
+    let offset = places.sections;
+    if offset >= len {
+        return Err(ReadError::Refused(ParseError::UnexpectedEof));
+    }
+    let rest = len - offset;
+    let size = places.section_count as usize * SECTION_LENGTH;
+    if size.saturating_sub(SECTION_UNREAD) > rest {
+        return Err(ReadError::Refused(ParseError::UnexpectedEof));
+    }
+    part(alloc, source, offset, size.min(rest))
+}
+
+// The symbol table and its strings.
+fn read_records<S: Source>(
+    alloc: Global,
+    source: &S,
+    len: usize,
+    places: Places,
+) -> Result<Records, ReadError> {
+    let offset = places.symbols;
+    if offset >= len || places.symbols_size > len - offset {
+        return Err(ReadError::Refused(ParseError::UnexpectedEof));
+    }
+    let end = offset + places.symbols_size;
+    let rows = part(alloc, source, offset, places.symbols_size)?;
+    let strings = part(alloc, source, end, len - end)?;
+    Ok(Records { rows, strings })
+}

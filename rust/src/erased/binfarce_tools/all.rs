@@ -1,0 +1,267 @@
+// From crates/binfarce_tools/src/all.rt, by tools/erase.
+
+//! Listings, reports and pictures of the function symbols of all sections of an executable.
+
+use crate::shim::{String, Vec};
+use crate::erased::binfarce_tools::functions::Functions;
+use crate::erased::binfarce_tools::head::push_head;
+use crate::erased::binfarce_tools::list::{ListError, Sink};
+use crate::erased::binfarce_tools::map::picture;
+use crate::erased::binfarce_tools::report::{CrateSums, ReportError, crate_sums, sums_text};
+use crate::erased::binfarce_tools::tables::{has_table, read_format};
+use crate::erased::binfarce_tools::writing::write_whole;
+use crate::erased::binfarce_bytes::format::Format;
+use crate::erased::binfarce_bytes::functions::SectionFunction;
+use crate::erased::binfarce_bytes::source::Source;
+use crate::erased::binfarce_elf::all as elf;
+use crate::erased::binfarce_elf::symbol_table::SymbolTable;
+use crate::erased::binfarce_names::demangle::Demangler;
+use crate::erased::binfarce_tables::{ReadError, elf32, elf64, macho, pe};
+use crate::shim::alloc::{AllocError, Global};
+
+/// What was read of a file to list the function symbols of all sections.
+pub enum AllTables {
+    /// The parts of an ELF file of 32 bits.
+    Elf32(elf32::AllParts),
+    /// The parts of an ELF file of 64 bits.
+    Elf64(elf64::AllParts),
+    /// The parts of a Mach-O file.
+    Macho(macho::AllParts),
+    /// The parts of a PE file.
+    Pe(pe::AllParts),
+    /// Nothing of a file whose first bytes name no format that is read.
+    Unknown,
+}
+
+impl AllTables {
+    /// The function symbols of all sections, each with its section's number, by the symbol table that the tables were read
+    /// by: what `all_functions` of a reader gives of the file.
+    ///
+    /// # Errors
+    ///
+    /// `Unknown` where the format isn't one that is read; `Parse` where a Mach-O file's rows are refused; `OutOfMemory`
+    /// where an allocation failed, which an ELF file never needs.
+    pub fn functions(&self, alloc: Global) -> Result<AllFunctions<'_>, ListError> {
+        match self {
+            AllTables::Elf32(parts) => Ok(AllFunctions::Elf32(parts.functions())),
+            AllTables::Elf64(parts) => Ok(AllFunctions::Elf64(parts.functions())),
+            AllTables::Macho(parts) => {
+                let functions = parts.functions(alloc)?;
+                Ok(arranged_all(functions))
+            }
+            AllTables::Pe(parts) => {
+                let functions = parts.functions(alloc)?;
+                Ok(arranged_all(functions))
+            }
+            AllTables::Unknown => Err(ListError::Unknown),
+        }
+    }
+
+    /// The name of the section of this number, a part of what was read. `None` where there is no such section, and where it
+    /// has no valid name.
+    pub fn section_name(&self, number: u32) -> Option<&str> {
+        self.name_read(number)
+    }
+
+    fn name_read(&self, number: u32) -> Option<&str> {
+        match self {
+            AllTables::Elf32(parts) => parts.section_name(number),
+            AllTables::Elf64(parts) => parts.section_name(number),
+            AllTables::Macho(parts) => parts.section_name(number),
+            AllTables::Pe(parts) => parts.section_name(number),
+            AllTables::Unknown => None,
+        }
+    }
+
+    /// Whether the file is an object file, whose sections share addresses: in ELF of the type `ET_REL`, in Mach-O
+    /// `MH_OBJECT`. A PE image is none.
+    pub fn is_object(&self) -> bool {
+        self.object_read()
+    }
+
+    fn object_read(&self) -> bool {
+        match self {
+            AllTables::Elf32(parts) => parts.is_object(),
+            AllTables::Elf64(parts) => parts.is_object(),
+            AllTables::Macho(parts) => parts.is_object(),
+            AllTables::Pe(_) => false,
+            AllTables::Unknown => false,
+        }
+    }
+}
+
+/// The function symbols of all sections of a file that are left, in the order of its listing.
+pub enum AllFunctions<'a> {
+    Elf32(elf::AllFunctions<'a, u32>),
+    Elf64(elf::AllFunctions<'a, u64>),
+    Arranged(AllArranged<'a>),
+}
+
+/// Function symbols with their sections that stand in a list, from a place on.
+pub struct AllArranged<'a> {
+    functions: Vec<SectionFunction<'a>>,
+    next: usize,
+}
+
+impl<'a> Iterator for AllFunctions<'a> {
+    type Item = SectionFunction<'a>;
+
+    fn next(&mut self) -> Option<SectionFunction<'a>> {
+        match self {
+            AllFunctions::Elf32(functions) => functions.next(),
+            AllFunctions::Elf64(functions) => functions.next(),
+            AllFunctions::Arranged(functions) => functions.next(),
+        }
+    }
+}
+
+impl<'a> AllArranged<'a> {
+    // The first of those that are left, which the others follow.
+    fn next(&mut self) -> Option<SectionFunction<'a>> {
+        let function = *self.functions.get(self.next)?;
+        self.next += 1;
+        Some(function)
+    }
+}
+
+/// Reads of a file what the function symbols of all sections are made of, by this symbol table: its first 8 bytes, which
+/// name its format, and the parts that `binfarce_tables` reads of a file of that format. Of a file of an unknown format no
+/// other byte is read. Each part that is kept takes no more memory than what the file holds of it.
+///
+/// # Errors
+///
+/// `Refused` with what the reader of the file's format refuses, and `SectionIsMissing` of `.dynsym` for the dynamic symbol
+/// table of a Mach-O or PE file; `Unreadable` where the source can't be read at offsets, or a read of it fails, and never
+/// of a source that can't fail, as bytes in memory are; `OutOfMemory` where an allocation fails.
+pub fn read_all<S: Source>(
+    alloc: Global,
+    source: &S,
+    which: SymbolTable,
+) -> Result<AllTables, ReadError> {
+    let len = source.length()? as usize;
+    match read_format(alloc, source, len)? {
+        Format::Elf32 { byte_order } => {
+            let parts = elf32::read_all(alloc, source, byte_order, which)?;
+            Ok(AllTables::Elf32(parts))
+        }
+        Format::Elf64 { byte_order } => {
+            let parts = elf64::read_all(alloc, source, byte_order, which)?;
+            Ok(AllTables::Elf64(parts))
+        }
+        Format::Macho => {
+            has_table(which)?;
+            let parts = macho::read_all(alloc, source)?;
+            Ok(AllTables::Macho(parts))
+        }
+        Format::PE => {
+            has_table(which)?;
+            let parts = pe::read_all(alloc, source)?;
+            Ok(AllTables::Pe(parts))
+        }
+        Format::Unknown => Ok(AllTables::Unknown),
+    }
+}
+
+/// Lists the function symbols of all sections of a file: a line `{address:016x} {size:>10} {section} {trimmed}` for each,
+/// where the section is shown by its name, or by its number in brackets where it has none. The listing is made before its
+/// first byte is written.
+///
+/// # Errors
+///
+/// As `functions`, and `OutOfMemory` where any other allocation failed; `Write` where a write failed, which alone can leave
+/// a beginning of the listing written.
+pub fn list_all<S: Sink>(alloc: Global, tables: &AllTables, out: &mut S) -> Result<(), ListError> {
+    let functions = tables.functions(alloc)?;
+    let text = listing(alloc, functions, tables)?;
+    write_whole(out, text.as_bytes())
+}
+
+/// Reports how many bytes the function symbols of all sections of a file take: a line for each crate as in `report`, and
+/// then `sum {total}`, with the sum of all sizes. The report is made before its first byte is written.
+///
+/// # Errors
+///
+/// As `list_all`; `TooLarge` where the sum of all sizes is 2^64 or more. Only `Write` can leave a beginning of the report
+/// written.
+pub fn report_all<S: Sink>(
+    alloc: Global,
+    tables: &AllTables,
+    out: &mut S,
+) -> Result<(), ReportError> {
+    let sums = sums_of_all(alloc, tables)?;
+    let text = sums_text(alloc, &sums)?;
+    write_whole(out, text.as_bytes())?;
+    Ok(())
+}
+
+/// Draws how many bytes the function symbols of all sections of a file take: the picture of `map`, with the sum of all sizes
+/// as the whole. The picture is made before its first byte is written.
+///
+/// # Errors
+///
+/// As `report_all`. Only `Write` can leave a beginning of the picture written.
+pub fn map_all<S: Sink>(alloc: Global, tables: &AllTables, out: &mut S) -> Result<(), ReportError> {
+    let sums = sums_of_all(alloc, tables)?;
+    let text = picture(alloc, &sums)?;
+    write_whole(out, text.as_bytes())?;
+    Ok(())
+}
+
+/// The sums that `report_all` shows; `section_size` is that of all sizes.
+///
+/// # Errors
+///
+/// As `report_all`, but for `Write`.
+pub fn sums_of_all(alloc: Global, tables: &AllTables) -> Result<CrateSums, ReportError> {
+    let functions = tables.functions(alloc)?;
+    let sums = crate_sums(alloc, Functions::All(functions), 0)?;
+    Ok(CrateSums {
+        crates: sums.crates,
+        total: sums.total,
+        section_size: sums.total,
+    })
+}
+
+// The whole listing.
+fn listing(
+    alloc: Global,
+    functions: AllFunctions<'_>,
+    tables: &AllTables,
+) -> Result<String, AllocError> {
+    let mut text = String::new(alloc);
+    let mut demangler = Demangler::new(alloc);
+    for function in functions {
+        push_line(&mut demangler, &mut text, tables, function)?;
+    }
+    Ok(text)
+}
+
+// Adds a function symbol's line.
+fn push_line(
+    demangler: &mut Demangler,
+    text: &mut String,
+    tables: &AllTables,
+    function: SectionFunction<'_>,
+) -> Result<(), AllocError> {
+    push_head(text, function.function.address, function.function.size)?;
+    push_section(text, tables, function.section)?;
+    text.push_str(" ")?;
+    demangler.push_trimmed(text, function.function.name)?;
+    text.push_str("\n")
+}
+
+// Adds a section's name, or its number in brackets where it has none.
+fn push_section(text: &mut String, tables: &AllTables, number: u32) -> Result<(), AllocError> {
+    match tables.section_name(number) {
+        Some(name) => text.push_str(name),
+        None => {
+            write!(text, "[{number}]")?;
+            Ok(())
+        }
+    }
+}
+
+// All functions of a list with their sections.
+fn arranged_all(functions: Vec<SectionFunction<'_>>) -> AllFunctions<'_> {
+    AllFunctions::Arranged(AllArranged { functions, next: 0 })
+}

@@ -27,7 +27,7 @@ use crate::map::picture;
 use crate::report::{CrateSums, ReportError, crate_sums, sums_text};
 use crate::tables::{has_table, read_format};
 use crate::writing::write_whole;
-use binfarce::{SectionFunction, SymbolTable};
+use binfarce::{Format, SectionFunction, SymbolTable};
 use binfarce_bytes::source::Source;
 use binfarce_names::demangle::Demangler;
 use binfarce_tables::{ReadError, elf32, elf64, macho, pe};

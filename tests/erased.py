@@ -160,7 +160,7 @@ def main(scratch):
         rows += [(name, [good, *words], None, streams) for streams in (">/dev/full", "2>&-", "</dev/null", "<&-")]
         rows += [(name, [missing, *words], None, streams) for streams in (">/dev/full", "2>/dev/full", "2>&-", "<&-")]
     lines = [b"1000\n0x1005\n100f", b"1000\nno\n", b"\n", b"", b"1" * 10_000, b"0x\n", b"1000\n" * 5_000]
-    rows += [("binfarce", call, None, "") for call in ([], ["help"], ["help", "at"], ["help", "x"], ["--version"], ["-V"], ["lst"], ["--x"])]
+    rows += [("binfarce", call, None, "") for call in ([], ["help"], ["help", "at"], ["help", "x"], ["--version"], ["lst"], ["--x"])]
     rows += [("filter", call, None, "") for call in (["_RNvC1a1b", "x"], ["--full", "_RNvC1a1b", "--", "--full"])]
     rows += [("at", [good], given, "") for given in lines] + [("at", [good], b"", f"<{folder}"), ("at", ["--base=f", good], lines[0], "")]
     failed += compare("arguments and streams", rows)

@@ -160,7 +160,8 @@ sed 's/^000000000000/000000000040/' "$stdout" >"$scratch/moved"
 printf '401000\n401005\n40100f\n401010\n400fff\n' | ends 0 "$scratch/moved" "" binfarce at --base=400000 "$sample"
 ends 0 "$scratch/moved" "" binfarce at --base 400000 "$sample" 401000 401005 40100f 401010 400fff
 { head -n 1 "$stdout"; echo '??'; sed -n 2p "$stdout"; echo '??'; } >"$scratch/lines"
-{ printf '1000\nno\n1005\n'; head -c 100000 /dev/zero; } | ends 2 "$scratch/lines" "binfarce: 2 lines without an address" binfarce at "$sample"
+{ printf '1000\nno\n1005\n'; head -c 100000 /dev/zero; } |
+    ends 2 "$scratch/lines" "binfarce: 2 lines without an address" binfarce at "$sample"
 ends 1 /dev/null "binfarce: standard input: Is a directory" binfarce at "$sample" <"$scratch"
 call binfarce at "$sample" <"$scratch/in" >"$scratch/out" &
 exec 3>"$scratch/in" 4<"$scratch/out"
@@ -175,5 +176,6 @@ strip -o "$scratch/stripped" "$library"
 code=$(readelf -SW "$library" | sed -n 's/^ *\[ *\([0-9]*\)\] \.text .*/\1/p')
 readelf -W --dyn-syms "$library" | awk -v code="$code" '$4 == "FUNC" && $3 != "0" && $7 == code { print $2 }' >"$scratch/dynamic"
 call binfarce list --dynamic "$scratch/stripped" | sed '$d' | cut -c1-16 | cmp - "$scratch/dynamic"
-ends 1 /dev/null "binfarce: $scratch/stripped: no symbol table (.symtab); --dynamic lists its dynamic symbols" binfarce list "$scratch/stripped"
+lacks="binfarce: $scratch/stripped: no symbol table (.symtab); --dynamic lists its dynamic symbols"
+ends 1 /dev/null "$lacks" binfarce list "$scratch/stripped"
 echo "programs.sh: $folder: as they must be"

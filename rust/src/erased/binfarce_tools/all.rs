@@ -10,7 +10,7 @@ use crate::erased::binfarce_tools::map::picture;
 use crate::erased::binfarce_tools::report::{CrateSums, ReportError, crate_sums, sums_text};
 use crate::erased::binfarce_tools::tables::{has_table, read_format};
 use crate::erased::binfarce_tools::writing::write_whole;
-use crate::erased::binfarce::{SectionFunction, SymbolTable};
+use crate::erased::binfarce::{Format, SectionFunction, SymbolTable};
 use crate::erased::binfarce_bytes::source::Source;
 use crate::erased::binfarce_names::demangle::Demangler;
 use crate::erased::binfarce_tables::{ReadError, elf32, elf64, macho, pe};

@@ -1,18 +1,13 @@
 #!/bin/sh
 # Runs all tests; the last line is `N passed, 0 failed`.
 #
-# Usage: ./test.sh [--whole]
-#
 # First what takes seconds. Then the gate (`rt ci`), and beside it all that needs no proof; as soon as the libraries are proved,
 # the wrong bodies that are always tried. Last the programs, proved and erased.
 #
 # The gate runs in a copy without must-fail folders, since it would try each edit in a check of its own, and without tests, since
-# tests/crates.sh runs them with the checks that their proofs would make needless. With --whole the copy has the tests, and all
-# edits are tried.
+# tests/crates.sh runs them with the checks that their proofs would make needless. `rt ci` in the repository proves and tries all.
 set -eu
 cd "$(dirname "$0")"
-whole=$*
-[ -z "$whole" ] || [ "$whole" = --whole ] || { echo "usage: ./test.sh [--whole]" >&2; exit 2; }
 
 tools="rt python3 cargo gcc g++ nm readelf strip valgrind pkg-config groff tar pgrep"
 missing=$(for tool in $tools; do command -v "$tool" >/dev/null || echo "$tool"; done)
@@ -58,9 +53,8 @@ erased() {
 # The copy in which the gate runs.
 copy() {
     mkdir "$gate" "$gate/.git"
-    [ -n "$whole" ] || of_tests=$(sed '1,/^# Tests/d; s|^\([a-z_]*\):.*|--exclude=crates/\1|' crates.txt)
-    tar -c --exclude=.git --exclude=out --exclude=target --exclude=must-fail ${of_tests:-} . | tar -x -C "$gate"
-    [ -z "$whole" ] || return 0
+    of_tests=$(sed '1,/^# Tests/d; s|^\([a-z_]*\):.*|--exclude=crates/\1|' crates.txt)
+    tar -c --exclude=.git --exclude=out --exclude=target --exclude=must-fail $of_tests . | tar -x -C "$gate"
     sed -i '/^# Tests/,$d' "$gate/crates.txt"
     rm -f "$gate"/crates/binfarce_*/src/tests.rt
     sed -i '/^#\[cfg(test)\]$/,/^mod tests;$/d' "$gate"/crates/binfarce_*/src/main.rt
@@ -72,12 +66,12 @@ part tests/unreached
 part tests/documents
 part tests/wrong_bodies
 part tools/erase --check
-part python3 tests/compare_erased.py
+part tests/compare_erased.py
 copy
 : >"$scratch/gate.log"
 start beside beside_the_gate
 start erased erased
-start edits part tests/try_wrong_bodies.py $whole "$gate/crates" "$scratch/gate.log"
+start edits part tests/try_wrong_bodies.py "$gate/crates" "$scratch/gate.log"
 { cd "$gate" && rt ci || true; } 2>&1 | tee "$scratch/gate.log" | sed '$d'
 last=$(tail -n 1 "$scratch/gate.log")
 echo ended >>"$scratch/gate.log"
@@ -96,6 +90,6 @@ for name in list size command; do
 done
 part tests/programs.sh "$scratch/proved"
 part tests/programs.sh "$built"
-part tests/erased.sh "$scratch/proved" "$built"
+part tests/erased.py "$scratch/proved" "$built"
 sed -n 's/^tests: \([0-9]*\) passed, 0 failed$/\1/p; s/^wrong bodies: \([0-9]*\) refused, 0 not$/\1/p; s/^test result: ok[.] \([0-9]*\) passed.*/\1/p' "$scratch"/logs/* |
     awk -v gate="${last%% *}" '{ gate += $1 } END { print gate " passed, 0 failed" }'

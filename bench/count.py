@@ -17,13 +17,11 @@ CRATES = pathlib.Path(__file__).resolve().parent.parent / "crates"
 TOKENS = re.compile(r"""//[^\n]*|b?"(?:\\.|[^"\\])*"|b?'(?:\\[^']+|[^'\\])'""", re.S)
 CLOSING = {"{": "}", "[": "]", "(": ")"}
 
-
 def blank(text):
     """The text as long as it was, with spaces for comments, and for texts quotes and no other sign."""
     def instead(match):
         return re.sub(r"[^\n]", " ", match[0]) if match[0].startswith("//") else re.sub(r"\S", '"', match[0])
     return TOKENS.sub(instead, text)
-
 
 def end_of(text, at):
     """The position after the bracket that closes the one at this position."""
@@ -34,14 +32,12 @@ def end_of(text, at):
             return position + 1
     raise SystemExit("a bracket is not closed: " + text[at:at + 60])
 
-
 def without(text, pattern, ends):
     """The text with spaces from where the pattern matches to where `ends` says."""
     while match := pattern.search(text):
         end = ends(text, match)
         text = text[:match.start()] + re.sub(r"[^\n]", " ", text[match.start():end]) + text[end:]
     return text
-
 
 def end_of_item(text, match):
     """An item ends with its block, or with the semicolon where it has none."""
@@ -52,21 +48,17 @@ def end_of_item(text, match):
         return text.index(";", end_of(text, at)) + 1
     return at + 1 if text[at] == ";" else end_of(text, at)
 
-
 def end_of_attribute(text, match):
     return end_of(text, text.index("[", match.start()))
 
-
 def end_of_clause(text, match):
     return end_of(text, match.end() - 1)
-
 
 def code_of(text):
     """The text with spaces for what isn't counted."""
     text = without(blank(text), re.compile(r"#!?\[\s*(?:tactic|cycle|rattlefmt)\b"), end_of_attribute)
     text = without(text, re.compile(r"\bghost\b"), end_of_item)
     return without(text, re.compile(r"\b(?:requires|ensures)\b\*?\s*\w*\s*\{"), end_of_clause)
-
 
 def counted(file, folder):
     """Functions and lines of a file and of the modules that it names; their files are in the folder."""
@@ -77,7 +69,6 @@ def counted(file, folder):
         more = counted(folder / (name + ".rt"), folder / name)
         functions, lines = functions + more[0], lines + more[1]
     return functions, lines
-
 
 def main():
     names = sys.argv[1:] or sorted(folder.name for folder in CRATES.iterdir() if (folder / "src").is_dir())
@@ -91,7 +82,6 @@ def main():
         passed += [name] * over
         print("%-24s %9d %6d%s" % (name, functions, lines, "  not below the bound" if over else ""))
     sys.exit(1 if passed else 0)
-
 
 if __name__ == "__main__":
     main()

@@ -4,7 +4,7 @@
  * Every buffer ends right before a page that can't be read or written, so a byte too far ends the program. NAMES texts and
  * FILES files are made by a generator of numbers: bytes of any value, and mangled names and small files with bytes changed,
  * cut and repeated. Of each: a buffer of every length from 0 to the text's and one more gives the same beginning, the same
- * whole length, and leaves what stands behind it. Ten calls for each name keep no memory.
+ * whole length, and leaves the rest of the buffer unchanged. Ten calls for each name keep no memory.
  */
 #define _DEFAULT_SOURCE
 #include "binfarce.h"
@@ -29,7 +29,7 @@ static void fail(const char *what) {
     exit(1);
 }
 
-/* Memory of which the last byte stands before one that is out of reach. */
+/* Memory whose last byte is right before an inaccessible page. */
 struct edge {
     uint8_t *end;
     size_t room;
@@ -61,23 +61,23 @@ static struct binfarce_text ask(enum call call, const uint8_t *input, size_t len
     }
 }
 
-/* The answer to an input with a buffer of this length, held against the whole answer that stands before `kept`. */
+/* The answer to an input with a buffer of this length, compared with the whole answer, which is right before `kept`. */
 static void with_room(enum call call, const uint8_t *input, size_t length, struct binfarce_text whole, size_t room,
                       struct edge out, struct edge kept) {
     uint8_t *at = out.end - room;
     memset(at, 0xA5, room);
-    struct binfarce_text told = ask(call, input, length, at, room);
-    if (told.status != whole.status || told.length != whole.length)
+    struct binfarce_text shorter = ask(call, input, length, at, room);
+    if (shorter.status != whole.status || shorter.length != whole.length)
         fail("the answer depends on the buffer's length");
     if (memcmp(at, kept.end - whole.length, room < whole.length ? room : whole.length) != 0)
         fail("a short buffer has another beginning");
     if (room > whole.length && at[whole.length] != 0xA5)
-        fail("what stands behind the text was written");
+        fail("bytes after the text were written");
 }
 
 /* The answer to an input, with a buffer of each `step`th length, of the text's length and of one more. */
 static void lengths(enum call call, const uint8_t *input, size_t length, struct edge out, struct edge kept, size_t step) {
-    struct binfarce_text whole = ask(call, input, length, out.end, 0), told;
+    struct binfarce_text whole = ask(call, input, length, out.end, 0), shorter;
     if (whole.status != BINFARCE_OK) {
         if (whole.length != 0 || whole.status > BINFARCE_UNEXPECTED_EOF)
             fail("a refusal with a length, or with no number of its own");
@@ -85,8 +85,8 @@ static void lengths(enum call call, const uint8_t *input, size_t length, struct 
     }
     if (whole.length + 1 > out.room)
         fail("a text too long for this test");
-    told = ask(call, input, length, kept.end - whole.length, whole.length);
-    if (told.status != BINFARCE_OK || told.length != whole.length)
+    shorter = ask(call, input, length, kept.end - whole.length, whole.length);
+    if (shorter.status != BINFARCE_OK || shorter.length != whole.length)
         fail("two answers to one question");
     for (size_t room = 0; room < whole.length; room += step)
         with_room(call, input, length, whole, room, out, kept);

@@ -1,4 +1,4 @@
-/* kinds: tells of each name of standard input, one a line, how it is mangled, and the part that is kept. */
+/* kinds: prints for each name of standard input, one a line, how it is mangled, and the part that is kept. */
 #include "binfarce.h"
 
 #include <stdio.h>

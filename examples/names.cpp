@@ -16,21 +16,21 @@ inline const std::uint8_t *bytes(std::string_view text) {
 
 inline std::uint8_t *bytes(std::string &text) { return reinterpret_cast<std::uint8_t *>(text.data()); }
 
-// A call's text, whatever its length, in a string that owns it: `call` writes into a buffer and tells the whole length.
+// A call's text, whatever its length, in a string that owns it: `call` writes into a buffer and returns the whole length.
 template <typename Call> std::optional<std::string> text(Call call) {
     std::string out(256, '\0');
-    binfarce_text told = call(bytes(out), out.size());
-    if (told.status == BINFARCE_OK && told.length > out.size()) {
-        out.resize(told.length);
-        told = call(bytes(out), out.size());
+    binfarce_text result = call(bytes(out), out.size());
+    if (result.status == BINFARCE_OK && result.length > out.size()) {
+        out.resize(result.length);
+        result = call(bytes(out), out.size());
     }
-    switch (told.status) {
-    case BINFARCE_OK: out.resize(told.length); return out;
+    switch (result.status) {
+    case BINFARCE_OK: out.resize(result.length); return out;
     case BINFARCE_NONE: return std::nullopt;
     case BINFARCE_OUT_OF_MEMORY: throw std::bad_alloc();
     }
     std::string words(64, '\0');
-    words.resize(binfarce_status_text(told.status, bytes(words), words.size()));
+    words.resize(binfarce_status_text(result.status, bytes(words), words.size()));
     throw std::runtime_error(words);
 }
 
@@ -41,7 +41,7 @@ inline std::string trimmed(std::string_view name) {
     });
 }
 
-// The crate that a name tells.
+// The crate of a name.
 inline std::optional<std::string> crate_of(std::string_view name) {
     return text([&](std::uint8_t *out, std::size_t length) {
         return binfarce_crate_of(bytes(name), name.size(), out, length);

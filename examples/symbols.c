@@ -1,5 +1,5 @@
 /* symbols FILE [SECTION]: lists the function symbols of an ELF, Mach-O or PE file, as binfarce-list does: each name is made
-   readable where it stands in the file. */
+   readable from the file itself. */
 #include "read.h"
 
 /* The function symbols of a file of any format. */

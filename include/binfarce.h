@@ -52,23 +52,23 @@ extern "C" {
 /* How a call ended. binfarce_status_text has the words. */
 enum binfarce_status {
     BINFARCE_OK = 0,
-    BINFARCE_NONE = 1,           /* what was asked for isn't there: the name has no crate, the file has no such section */
+    BINFARCE_NONE = 1,           /* the name has no crate, or the file has no such section */
     BINFARCE_NOT_UTF8 = 2,       /* a name that was passed isn't UTF-8 */
     BINFARCE_OUT_OF_MEMORY = 3,  /* an allocation failed */
-    BINFARCE_UNKNOWN_FORMAT = 4, /* the file's first bytes name no format that is read */
+    BINFARCE_UNKNOWN_FORMAT = 4, /* the file's first bytes name no supported format */
     BINFARCE_TOO_LARGE = 5,      /* the sum of all sizes is 2^64 or more */
     /* Why a reader refuses a file. */
-    BINFARCE_SYMBOLS_SECTION_IS_MISSING = 6, /* no section has the name that was asked for */
+    BINFARCE_SYMBOLS_SECTION_IS_MISSING = 6, /* no section has the requested name */
     BINFARCE_SYMTAB_IS_MISSING = 7,          /* an ELF file has no symbol table */
     BINFARCE_STRTAB_IS_MISSING = 8,          /* its symbol table links to no section */
     BINFARCE_UNEXPECTED_SECTION_TYPE = 9,    /* that section's type isn't 3 (SHT_STRTAB): `detail` has it */
-    BINFARCE_MALFORMED_INPUT = 10,           /* a number in the file fits nothing that it could mean */
-    BINFARCE_UNEXPECTED_EOF = 11             /* the file ends before what it should hold */
+    BINFARCE_MALFORMED_INPUT = 10,           /* a number in the file is invalid */
+    BINFARCE_UNEXPECTED_EOF = 11             /* the file is truncated */
 };
 
 /* How a name is mangled. */
 enum binfarce_kind {
-    BINFARCE_KIND_UNKNOWN = 0, /* not at all, in a form that isn't read, or beyond the limits: the name stays unchanged */
+    BINFARCE_KIND_UNKNOWN = 0, /* not mangled, in a form that isn't read, or beyond the limits: the name stays unchanged */
     BINFARCE_KIND_LEGACY = 1,  /* _ZN and the elements of a path */
     BINFARCE_KIND_V0 = 2       /* _R and a path, as RFC 2603 says */
 };
@@ -125,7 +125,7 @@ struct binfarce_mangling {
 };
 
 /*
- * How a name is mangled, decided without printing it: a v0 name whose text would pass the limits is BINFARCE_KIND_V0 here, and
+ * How a name is mangled, without printing it: a v0 name whose text would exceed the limits is BINFARCE_KIND_V0 here, and
  * BINFARCE_KIND_UNKNOWN in binfarce_demangle. Returns BINFARCE_OK, or BINFARCE_NOT_UTF8 and leaves `out` as it was then.
  * Does not allocate.
  */
@@ -134,7 +134,7 @@ uint32_t binfarce_mangling(const uint8_t *name, size_t name_length, struct binfa
 /*
  * The listing of a file's function symbols: a line for each, `{address:016x} {size:>10} {trimmed name}`, and last
  * `text {size of the section}`. The section is that of an ELF file (usually ".text"); of a Mach-O or PE file it is the
- * text, whatever is asked for. BINFARCE_NOT_UTF8 for the section's name, BINFARCE_UNKNOWN_FORMAT, a reader's refusal, or
+ * text, whatever the caller passes. BINFARCE_NOT_UTF8 for the section's name, BINFARCE_UNKNOWN_FORMAT, a reader's refusal, or
  * BINFARCE_OUT_OF_MEMORY. Allocates, among other things twice the text's length.
  */
 struct binfarce_text binfarce_list(const uint8_t *file, size_t file_length,
@@ -161,7 +161,7 @@ enum binfarce_format {
     BINFARCE_FORMAT_PE = 6
 };
 
-/* Names the format of a file: enum binfarce_format. The readers below never look at a magic number. Does not allocate. */
+/* Names the format of a file: enum binfarce_format. The readers below don't check magic numbers. Does not allocate. */
 uint32_t binfarce_detect_format(const uint8_t *file, size_t file_length);
 
 /* The file header of an ELF file of either class, without its identification (System V gABI, "ELF Header"). */
@@ -234,7 +234,7 @@ struct binfarce_section {
     uint32_t kind;         /* in ELF its type (sh_type), in other formats 0 */
     uint32_t range_status; /* BINFARCE_OK; BINFARCE_MALFORMED_INPUT where its end passes 64 bits: start and end are 0 then */
     size_t start;          /* where its bytes begin in the file; nothing says that they lie in it */
-    size_t end;            /* the offset behind the last one */
+    size_t end;            /* the offset after the last one */
     uint64_t entries;      /* in ELF how many entries of its entry size it has, 0 where that is 0; in other formats 0 */
     bool has_name;         /* false for an ELF section whose name isn't in the file, or isn't UTF-8; a name may be empty too */
 };

@@ -48,7 +48,6 @@ ERROR = r"# \[ error \( (\S+) \) \] (\w+)"
 SHOWS = (r"impl std :: fmt :: Display for (\w+) \{ fn fmt \( & self , f : & mut std :: fmt :: Formatter < '_ > \) -> std :: fmt :: Result "
          r"\{ match self \{ ((?:\1 :: \w+ (?:\( e \) )?=> write ! \( f , \S+ \) , )*)\} \} \} impl std :: error :: Error for \1 \{ \}")
 
-
 def without(text, start, ends):
     """The text without what begins so."""
     while found := re.search(start, text):
@@ -59,7 +58,6 @@ def without(text, start, ends):
                 break
         text = text[:found.start()].rstrip() + text[at + 1:]
     return text
-
 
 def plain(path, own, rules):
     """The words of a file that are compared in order; its imports, and the texts of its errors."""
@@ -79,7 +77,6 @@ def plain(path, own, rules):
             others.add((path, short.strip() or path.split("::")[-1], public))
     return re.sub(USE, "", text).split(), others
 
-
 def difference(source, erased, own):
     """The first difference of two files, or None."""
     (a, wanted), (b, given) = plain(source, own, SOURCE), plain(erased, own, ERASED)
@@ -90,7 +87,6 @@ def difference(source, erased, own):
     for item in sorted(wanted ^ given):
         if item[0] not in (GHOSTS if item in wanted else PRELUDE):
             return f"{source if item in wanted else erased} alone has {' '.join(item).translate(SHOWN)}"
-
 
 def main():
     top = pathlib.Path(sys.argv[1] if sys.argv[1:] else pathlib.Path(__file__).resolve().parent.parent)
@@ -108,6 +104,5 @@ def main():
     differences = [*filter(None, differences), *(f"{path} is made of no source" for path in sorted(left))]
     print(*differences, f"{compared} files compared, {len(differences)} differences", sep="\n")
     sys.exit(1 if differences or not compared else 0)
-
 
 main()

@@ -1,7 +1,7 @@
 #!/bin/sh
 # Runs the tests that crates have (`#[test]`), as one program, which is built once, with checks, and not proved: in a copy of
 # the repository the modules of each crate with tests are modules of one crate, under its name. The last line counts them.
-# Status 1 where one fails, or where not all that stand in the sources have run.
+# Status 1 where one fails, or where not all of the sources have run.
 set -eu
 cd "$(dirname "$0")/.."
 scratch=$(mktemp -d)

@@ -11,15 +11,12 @@ import re
 TOP = os.path.dirname(os.path.dirname(os.path.abspath(__file__)))
 ITEM = re.compile(r"(?:pub(?:\([a-z]+\))? )?(?:const )?(?:extern .C. )?(fn|const|static|struct|enum|trait|impl)\b(?:<.*?>)? ?(\w*)")
 
-
 def read(path):
     with open(f"{TOP}/{path}", encoding="utf-8") as file:
         return file.read()
 
-
 def indent(line):
     return len(line) - len(line.lstrip(" "))
-
 
 def impl_name(impl):
     """What the prover calls an impl or a trait, of its first line: `impl From<io::Error> for ReadError {` is ReadErrorFromIoError."""
@@ -31,11 +28,9 @@ def impl_name(impl):
     name = re.sub(r"<.*>", "", name.replace("&", " Ref ").replace("[", " Slice "))
     return "".join(word[:1].upper() + word[1:] for word in re.findall(r"\w+", f"{name} {trait}"))
 
-
 def module_of(file):
     module = file.removeprefix("src/").removesuffix(".rt").replace("/", "::")
     return "" if module in ("lib", "main") else module
-
 
 def home(crate, file, impl):
     """The module that the prover counts an impl to: its own, or for an impl without a trait the one of the type."""
@@ -44,7 +39,6 @@ def home(crate, file, impl):
     top, defined = f"{TOP}/crates/{crate}", re.compile(rf"\b(struct|enum) {impl_name(impl)}\b")
     others = sorted(os.path.relpath(f"{folder}/{name}", top) for folder, _, names in os.walk(f"{top}/src") for name in names)
     return module_of(next((it for it in [file, *others] if defined.search(read(f"crates/{crate}/{it}"))), file))
-
 
 def item_at(crate, file, lines, at):
     """The item of a source file, as `rt fmt` lays it out, that holds a line: its kind, its name and its path."""
@@ -64,6 +58,16 @@ def item_at(crate, file, lines, at):
             break
     return kind, name, f"{holder}::{name}".removeprefix("::")
 
+def functions(crate):
+    """The functions with a body in a crate's sources, as `rt fmt` lays them out, but for tests and traits: each one's path, file and text."""
+    top = f"{TOP}/crates/{crate}"
+    for file in sorted(os.path.relpath(f"{folder}/{name}", top) for folder, _, names in os.walk(f"{top}/src") for name in names):
+        text = "" if file == "src/tests.rt" else read(f"crates/{crate}/{file}")
+        traits = {f"{module_of(file)}::{it}".removeprefix("::") for it in re.findall(r"^(?:pub )?trait (\w+)", text, re.M)}
+        for found in re.finditer(r'(?:^ *#\[.*\n)*^( *)(?:pub(?:\(\w+\))? )?(?:const )?(?:extern "C" )?fn \w', text, re.M):
+            path = item_at(crate, file, text.split("\n"), text.count("\n", 0, found.start()))[2]
+            if path.rpartition("::")[0] not in traits:
+                yield path, file, text[found.start() : re.compile(rf"^{found[1]}\}}$|\{{\}}$", re.M).search(text, found.end()).end()]
 
 class Edit:
     """One wrong body: what it says of itself, its replacements, and the function in which it is refused."""
@@ -90,20 +94,15 @@ class Edit:
         self.kind, self.function, self.own = item_at(crate, self.file, text.split("\n"), text.count("\n", 0, start))
         self.refused_in = self.says.get("in", self.own)
 
-    def label(self):
-        return f"must-fail {self.crate}/{self.name}.edit"
-
     def is_alone(self):
         """Whether it may change what other functions rely on, so that it is tried alone."""
         return "in" in self.says or not self.file.startswith("src/")
-
 
 def edits():
     for crate in sorted(os.listdir(f"{TOP}/crates")):
         folder = f"{TOP}/crates/{crate}/must-fail"
         for name in sorted(os.listdir(folder)) if os.path.isdir(folder) else ():
             yield Edit(crate, name.removesuffix(".edit"))
-
 
 def changed(these):
     """The texts of the files that these edits of one crate change, by path; a ValueError where one can't be made."""
@@ -112,6 +111,6 @@ def changed(these):
         for file, old, new in edit.pairs:
             text = texts.get(file) or read(f"crates/{edit.crate}/{file}")
             if text.count(old) != 1:
-                raise ValueError(f"{edit.label()}: an old text is in {file} {text.count(old)} times, and not once")
+                raise ValueError(f"{edit.path}: an old text is in {file} {text.count(old)} times, and not once")
             texts[file] = text.replace(old, new)
     return texts

@@ -1,4 +1,11 @@
-"""Compares the programs of two folders, as tests/erased.sh says. What is random is the same in every run."""
+#!/usr/bin/env python3
+"""Runs each program as it was proved and as cargo builds it side by side: on samples, on hostile files and names, with wrong arguments,
+and with full streams. Standard output, standard error and status must be the same byte for byte; the status is 1 where they
+aren't. Not compared is what a closed standard input or output does: Rust's runtime opens /dev/null in its place. What is random
+is the same in every run.
+
+    tests/erased.py PROVED ERASED     two folders with the programs, each as `binfarce_list` or as `binfarce-list`
+"""
 import concurrent.futures
 import os
 import pathlib
@@ -17,42 +24,32 @@ PROGRAMS = {"binfarce": "binfarce_command", "binfarce-list": "binfarce_list", "b
 CALLS = {name: [name] for name in PROGRAMS} | {name: ["binfarce", name] for name in ("list", "size", "map", "filter", "at", "section")}
 ON_FILES = ["binfarce-list", "binfarce-size", "list", "size", "map", "at", "section"]
 
+def programs(folder):
+    """The paths of a folder's programs, under either name."""
+    named = {name: (pathlib.Path(folder, made), pathlib.Path(folder, name)) for name, made in PROGRAMS.items()}
+    return {name: str(next(filter(pathlib.Path.is_file, paths)).resolve()) for name, paths in named.items()}
 
-def program(folder, name):
-    for path in filter(pathlib.Path.is_file, (pathlib.Path(folder) / PROGRAMS[name], pathlib.Path(folder) / name)):
-        return str(path.resolve())
-    sys.exit(f"tests/erased.sh: {folder} has no {name}")
-
-
-PROVED, ERASED = ({name: program(folder, name) for name in PROGRAMS} for folder in sys.argv[1:3])
-
+PROVED, ERASED = map(programs, sys.argv[1:3])
 
 def ended(path, arguments, given, streams):
     """How a program ends: its status, and what it writes. `streams` is how a shell changes them, as `>/dev/full`."""
     call = [path, *arguments] if not streams else ["sh", "-c", f'exec "$0" "$@" {streams}', path, *arguments]
-    run = subprocess.run(call, input=given, stdin=None if given is not None else subprocess.DEVNULL,
-                         capture_output=True, timeout=120)
+    source = {"stdin": subprocess.DEVNULL} if given is None else {"input": given}
+    run = subprocess.run(call, capture_output=True, timeout=120, **source)
     return run.returncode, run.stdout, run.stderr
-
 
 def differs(row):
     name, arguments, given, streams = row
     first, *words = CALLS[name]
-    proved, erased = (ended(programs[first], [*words, *arguments], given, streams) for programs in (PROVED, ERASED))
-    if proved == erased:
-        return None
-    call = " ".join(map(repr, arguments))
-    return f"{name} {call} {streams}: proved {str(proved)[:200]}, erased {str(erased)[:200]}"
-
+    proved, erased = (ended(it[first], [*words, *arguments], given, streams) for it in (PROVED, ERASED))
+    return "" if proved == erased else f"{name} {arguments} {streams}: proved {str(proved)[:200]}, erased {str(erased)[:200]}"
 
 def compare(what, rows):
     with concurrent.futures.ThreadPoolExecutor(os.cpu_count()) as pool:
         different = [line for line in pool.map(differs, rows) if line]
-    for line in different[:10]:
-        print(line)
+    print(*(f"{line}\n" for line in different[:10]), sep="", end="")
     print(f"{what}: {len(rows) - len(different)} passed, {len(different)} failed", flush=True)
     return len(different)
-
 
 def samples():
     """The small files of the tests, as their sources write them, and the stored ones."""
@@ -63,63 +60,40 @@ def samples():
             found.add(bytes(int(number, 16) for number in numbers))
     return sorted(found)
 
-
-def changed(rng, data):
-    """A file with some bytes, numbers or parts changed, or without its end."""
+def changed(rng, data, values, times):
+    """A file or a name with some bytes or parts changed, added or missing."""
     data = bytearray(data)
-    for _ in range(rng.choice([1, 1, 1, 2, 3, 6])):
-        at = rng.randrange(len(data))
-        kind = rng.randrange(6)
+    for _ in range(rng.choice(times)):
+        at, other, kind = rng.randrange(len(data) + 1), rng.randrange(len(data) + 1), rng.randrange(6)
         if kind == 0:
-            data[at] = rng.choice([0, 1, 2, 3, 0x7F, 0x80, 0xFF, rng.randrange(256)])
+            data[at:at + 1] = rng.choice(values)
         elif kind == 1:
-            data[at] ^= 1 << rng.randrange(8)
+            data[at:at] = rng.choice(values)
         elif kind == 2:
-            form = rng.choice(["<H", "<I", "<Q", ">H", ">I", ">Q"])
-            number = rng.choice([0, 1, 64, len(data), len(data) - 1, 2**31, 2**63, 2**64 - 1, rng.randrange(2 * len(data))])
-            number = struct.pack(form, number % 256 ** struct.calcsize(form))
-            data[at:at + len(number)] = number
+            del data[at:at + rng.choice([1, 2, 4, 8, len(data)])]
         elif kind == 3:
-            del data[rng.randrange(1, len(data) + 1):]
+            data[at:at] = data[other:other + rng.randrange(65)]
         elif kind == 4:
-            data[at:at] = data[at:at + rng.randrange(1, 65)]
-        else:
-            other = rng.randrange(len(data))
             data[at:at + 8] = data[other:other + 8]
+        elif at < len(data):
+            data[at] ^= 1 << rng.randrange(8)
     return bytes(data)
 
+def numbers(rng, length):
+    """Numbers that a file of this length may take badly, in all widths and orders."""
+    some = [0, 1, 2, 3, 64, 0x7F, 0x80, 0xFF, length - 1, length, 2**31, 2**63, 2**64 - 1, *(rng.randrange(2 * length) for _ in range(4))]
+    return [struct.pack(form, it % 256 ** struct.calcsize(form)) for it in some for form in ("B", "<H", "<I", "<Q", ">H", ">I", ">Q")]
 
 def names(rng):
     """Mangled names of the tests and random ones, most of them changed."""
-    real = []
+    real = subprocess.run([sys.executable, TOP / "bench/random-names.py", "2000", "7"], capture_output=True, check=True).stdout.split()
     for path in ("v0_real", "legacy_real"):
-        text = (TOP / f"crates/test_names/src/names/{path}.rt").read_text()
-        real += re.findall(r"^(_(?:R|ZN)[^|\n]*)\|", text, re.M)
-    made = subprocess.run([sys.executable, TOP / "bench/random-names.py", "2000", "7"], capture_output=True, check=True)
-    real += made.stdout.decode().split()
+        real += re.findall(rb"^(_(?:R|ZN)[^|\n]*)\|", (TOP / f"crates/test_names/src/names/{path}.rt").read_bytes(), re.M)
     assert len(real) > 2300
-    letters = "_RNCIMXYBTFGKSEDLQZ0123456789abcdefhijlmnopstuvxyzsu$.,{}<>éñ-\x7f"
-    found = []
-    for count in range(NAMES):
-        name = list(rng.choice(real))
-        for _ in range(rng.choice([0, 1, 1, 2, 3, 8])):
-            at = rng.randrange(len(name) + 1)
-            kind = rng.randrange(4)
-            if kind == 0:
-                name[at:at + 1] = rng.choice(letters)
-            elif kind == 1:
-                name[at:at] = rng.choice(letters)
-            elif kind == 2:
-                del name[at:at + rng.randrange(1, 6)]
-            else:
-                start = rng.randrange(len(name) + 1)
-                name[at:at] = name[start:start + rng.randrange(20)]
-        found.append("".join(name).encode() or b"_R")
-    for levels in (200, 497, 498, 499, 500, 501, 3000):
-        found.append(b"_RMC1a" + b"R" * levels + b"u")
-    found.append(b"_RNvC1a" + b"B3_" * 5)
-    return found
-
+    letters = [it.encode() for it in "_RNCIMXYBTFGKSEDLQZ0123456789abcdefhijlmnopstuvxyzsu$.,{}<>éñ-\x7f"]
+    found = [changed(rng, rng.choice(real), letters, [0, 1, 1, 2, 3, 8]) or b"_R" for _ in range(NAMES)]
+    found += [b"_RMC1a" + b"R" * levels + b"u" for levels in (200, 497, 498, 499, 500, 501, 3000)]
+    return [*found, b"_RNvC1a" + b"B3_" * 5]
 
 def elf_of(found):
     """An ELF file of 64 bits with a function symbol for each name."""
@@ -137,7 +111,6 @@ def elf_of(found):
     head = b"\x7fELF\x02\x01\x01" + bytes(9) + struct.pack("<HHIQQQIHHHHHH", 1, 62, 1, 0, 0, 64 + len(data), 0, 64, 0, 0, 64, 5, 4)
     return head + data + headers
 
-
 def on_file(rng, path):
     section = rng.choice([[], [], [".text"], [".symtab"], ["__text"], [".data"], [""], ["é"]])
     addresses = [rng.choice(["1000", "0x1005", "100f", "1010", "fff", "0", "180", "1040", "ffffffffffffffff"]) for _ in range(4)]
@@ -145,7 +118,6 @@ def on_file(rng, path):
     return [(rng.choice(["binfarce-list", "binfarce-size"]), [path, *section], None, ""),
             (rng.choice(["list", "list", "size"]), [path, *option], None, ""), (rng.choice(["size", "map"]), [*option, path], None, ""),
             ("section", [path, *section], None, ""), ("at", [*rng.choice([[], ["--base", "40"]]), path, *addresses], None, "")]
-
 
 def main(scratch):
     def file(name, data):
@@ -156,12 +128,11 @@ def main(scratch):
     intact = samples()
     assert len(intact) >= 6
     failed = compare("samples", [row for at, data in enumerate(intact) for _ in range(8) for row in on_file(rng, file(f"s{at}", data))])
-    rows = []
-    for at in range(FILES):
-        rows += on_file(rng, file(f"h{at}", changed(rng, rng.choice(intact))))
+    hostile = [changed(rng, it, numbers(rng, len(it)), [1, 1, 1, 2, 3, 6]) for it in rng.choices(intact, k=FILES)]
+    rows = [row for at, data in enumerate(hostile) for row in on_file(rng, file(f"h{at}", data))]
     failed += compare("hostile files", rows)
-    whole = [programs["binfarce"] for programs in (PROVED, ERASED)]
-    failed += compare("the programs' own files", [row for path in whole for _ in range(3) for row in on_file(rng, path)])
+    own = [path for it in (PROVED, ERASED) for path in [it["binfarce"]] * 3]
+    failed += compare("the programs' own files", [row for path in own for row in on_file(rng, path)])
 
     found = names(rng)
     text = b"".join(name + rng.choice([b"\n", b" ", b"()", b". ", b"\n", b"\xff"]) for name in found)
@@ -194,7 +165,6 @@ def main(scratch):
     rows += [("at", [good], given, "") for given in lines] + [("at", [good], b"", f"<{folder}"), ("at", ["--base=f", good], lines[0], "")]
     failed += compare("arguments and streams", rows)
     return failed
-
 
 with tempfile.TemporaryDirectory() as scratch:
     sys.exit(1 if main(pathlib.Path(scratch)) else 0)

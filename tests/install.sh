@@ -1,6 +1,6 @@
 #!/bin/sh
-# Tries `install` and `uninstall`: with what cargo builds, and with a stub of cargo for what goes wrong; and compares the
-# manual pages with the usage lines of the programs. Status 1 where anything is otherwise than it must be.
+# Compares the manual pages with the programs' usage lines, and tries `install` and `uninstall`: with what cargo builds, and with a
+# stub of cargo for what goes wrong. Status 1 where anything is otherwise than it must be.
 set -eu
 cd "$(dirname "$0")/.."
 scratch=$(mktemp -d)
@@ -13,9 +13,6 @@ fail() {
 }
 
 what="a page for each program"
-for needed in cargo gcc pkg-config readelf groff; do
-    command -v "$needed" >/dev/null || fail "$needed is missing"
-done
 programs=$(cd rust/src/bin && ls | sed 's/\.rs$//')
 for name in $programs; do
     page="man/$name.1"
@@ -34,10 +31,11 @@ done
 files() {
     for name in $programs; do
         printf '%s\n' "$1/bin/$name" "$1/share/man/man1/$name.1"
-        [ ! -e "man/$name.bash" ] || echo "$1/share/bash-completion/completions/$name"
     done >"$scratch/files"
-    printf '%s\n' "$1/include/binfarce.h" "$1/lib/libbinfarce.a" "$1/lib/libbinfarce.so" "$1/lib/libbinfarce.so.0" "$1/lib/pkgconfig/binfarce.pc" >>"$scratch/files"
-    LC_ALL=C sort "$scratch/files"
+    for name in include/binfarce.h lib/libbinfarce.a lib/libbinfarce.so lib/libbinfarce.so.0 lib/pkgconfig/binfarce.pc \
+        share/bash-completion/completions/binfarce; do
+        echo "$1/$name"
+    done | LC_ALL=C sort - "$scratch/files"
 }
 found() {
     find "$1" ! -type d | LC_ALL=C sort
@@ -49,9 +47,8 @@ runs() {
     shift 2
     ended=0
     "$@" >"$scratch/output" 2>"$scratch/error" || ended=$?
-    [ "$ended" -eq "$status" ] || fail "status $ended, and must be $status: $(cat "$scratch/error")"
-    [ "$(cat "$scratch/error")" = "$line" ] || fail "'$(cat "$scratch/error")', and must be '$line'"
-    [ ! -s "$scratch/output" ] || fail "writes to standard output"
+    [ "$ended: $(cat "$scratch/error" "$scratch/output")" = "$status: $line" ] ||
+        fail "ended with $ended and '$(cat "$scratch/error" "$scratch/output")', and must with $status and '$line'"
 }
 
 what="what cargo builds, by a link, from another folder, below a prefix with a space"

@@ -1,7 +1,7 @@
 #!/bin/sh
-# Runs the programs that the repository has built where no stored run can: with a full device or a closed pipe for standard
-# output, on a file of 4 MiB, on one of 8 GiB in little memory, on a path with blanks, on a pipe, on files of /proc and /sys,
-# on a folder, on a file that isn't there, on several files, and with wrong calls. Status 1 where one ends otherwise than it must.
+# Runs the programs where no stored run can: with a full device or a closed pipe for standard output, on large files (one of 8 GiB
+# in little memory), on a path with blanks, a pipe, files of /proc and /sys, a folder, a missing file, several files, and with
+# wrong calls. Status 1 where one ends otherwise than it must.
 #
 # Usage: tests/programs.sh FOLDER, which has the programs as `binfarce_list` or as `binfarce-list`
 set -eu
@@ -13,106 +13,87 @@ holder=
 trap '[ -z "$holder" ] || kill "$holder" 2>/dev/null || true; rm -rf "$scratch"' EXIT
 trap 'exit 130' HUP INT TERM
 
-sample=crates/binfarce_list/data/e-elf64-little.bin
+sample=crates/binfarce_list/data/e-elf64-little.bin blanks="$scratch/ a  file " missing="$scratch/missing"
+cp "$sample" "$blanks"
 { cat "$sample"; head -c 4194304 /dev/zero; } >"$scratch/large"
 cp "$sample" "$scratch/sparse"
 truncate -s 8G "$scratch/sparse"
-blanks="$scratch/ a  file "
-cp "$sample" "$blanks"
 head -c 395 "$sample" >"$scratch/truncated"
-missing="$scratch/missing"
-
 # Files whose length isn't the number of their bytes. One of /proc has length 0 and the sample's bytes: the words of a program
 # that waits, with a zero byte after each. One of /sys has length 4096 and a few digits.
-mkfifo "$scratch/never-read"
+mkfifo "$scratch/never-read" "$scratch/in" "$scratch/out"
 exec 5<>"$scratch/never-read"
 python3 -c 'import os, sys; os.execvp("yes", open(sys.argv[1], "rb").read().split(b"\0"))' "$sample" >&5 &
 holder=$!
 of_proc=/proc/$holder/cmdline of_sys=/sys/kernel/uevent_seqnum
 until head -c 4 "$of_proc" | grep -q ELF; do sleep 0.1; done
 
-# call PROGRAM ARGUMENT..: runs a program of the folder.
+fail() {
+    echo "programs.sh: $*" >&2
+    exit 1
+}
+# call PROGRAM ARGUMENT..: runs a program of the folder, which ends with the status $ended.
 call() {
-    for program_file in "$folder/$1" "$folder/$(echo "$1" | tr - _)" "$folder/$1_command"; do
-        [ ! -f "$program_file" ] || break
+    for called in "$folder/$1" "$folder/$(echo "$1" | tr - _)" "$folder/$1_command"; do
+        [ ! -f "$called" ] || break
     done
     shift
-    "$program_file" "$@"
+    ended=0
+    "$called" "$@" 2>"$scratch/error" || ended=$?
 }
-
-# told STATUS ENDED LINE PROGRAM ARGUMENT..: the program must have ended with this status, and have written the line, if
-# any, and nothing else to standard error.
-told() {
-    status=$1 ended=$2 line=$3
-    shift 3
-    if [ "$ended" -ne "$status" ] || [ "$(cat "$scratch/error")" != "$line" ]; then
-        echo "$*: ended with status $ended and '$(cat "$scratch/error")', and must with $status and '$line'"
-        exit 1
-    fi
-    echo "$*: status $status${line:+, $line}"
-}
-
-# ends STATUS OUTPUT LINE PROGRAM ARGUMENT..: the same, and to standard output what the file OUTPUT holds.
+# ends STATUS OUTPUT LINE PROGRAM ARGUMENT..: it must end with this status, and write what the file OUTPUT holds and, to standard
+# error, this line or nothing. Where OUTPUT is no file, standard output is where it is.
 ends() {
     status=$1 output=$2 line=$3
     shift 3
-    ended=0
-    call "$@" >"$scratch/output" 2>"$scratch/error" || ended=$?
-    told "$status" "$ended" "$line" "$@"
-    cmp "$output" "$scratch/output"
+    if [ -z "$output" ]; then
+        call "$@"
+    else
+        call "$@" >"$scratch/output"
+        cmp "$output" "$scratch/output" >&2 || fail "$*: other output"
+    fi
+    [ "$ended: $(cat "$scratch/error")" = "$status: $line" ] ||
+        fail "$*: ended with status $ended and '$(cat "$scratch/error")', and must with $status and '$line'"
 }
-
-# The program, with its standard output where it is; its status goes to a file.
-run() {
-    ended=0
-    call "$@" 2>"$scratch/error" || ended=$?
-    echo "$ended" >"$scratch/ended"
-}
-
 # fails LINE PIPE_STATUS PIPE_LINE PROGRAM ARGUMENT..: how it ends on a full device, and where no one reads a pipe.
 fails() {
     line=$1 pipe_status=$2 pipe_line=$3
     shift 3
-    run "$@" >/dev/full
-    told 1 "$(cat "$scratch/ended")" "$line" "$@"
-    { sleep 0.5; run "$@"; } | :
-    told "$pipe_status" "$(cat "$scratch/ended")" "$pipe_line" "$@"
+    ends 1 "" "$line" "$@" >/dev/full
+    { sleep 0.5; ends "$pipe_status" "" "$pipe_line" "$@" >&3 3>&- && echo >"$scratch/piped"; } 3>&1 >&2 | :
+    rm "$scratch/piped"
 }
-
-# reads OUTPUT PROGRAM ARGUMENT..: the program writes this of each file that holds the sample, which comes after the arguments.
+# reads OUTPUT PROGRAM ARGUMENT..: it writes this of each file that holds the sample, which comes after the arguments.
 reads() {
-    output=$1
+    of_sample=$1
     shift
-    for file in "$sample" "$scratch/large" "$blanks" "$of_proc"; do
-        ends 0 "$output" "" "$@" "$file"
+    for name in "$sample" "$scratch/large" "$blanks" "$of_proc"; do
+        ends 0 "$of_sample" "" "$@" "$name"
     done
-    cat "$scratch/large" | ends 0 "$output" "" "$@" /dev/stdin
-    (ulimit -v 65536 && call "$@" "$scratch/sparse") | cmp "$output" -
-    echo "$* $scratch/sparse: the same in 64 MiB"
+    ends 0 "$of_sample" "" "$@" /dev/stdin <"$scratch/large"
+    (ulimit -v 65536 && ends 0 "$of_sample" "" "$@" "$scratch/sparse")
 }
 
 for shown in binfarce-list binfarce-size; do
-    stdout=crates/$(echo "$shown" | tr - _)/stdout
     fails "$shown: write failed" 1 "$shown: write failed" "$shown" "$sample"
-    reads "$stdout" "$shown"
-    ends 1 /dev/null "$shown: unknown file format" "$shown" "$of_sys"
+    reads "crates/$(echo "$shown" | tr - _)/stdout" "$shown"
     ends 1 /dev/null "$shown: symbols section is missing" "$shown" "$scratch/large" .data
+    for file in "$of_sys" /dev/null; do
+        ends 1 /dev/null "$shown: unknown file format" "$shown" "$file"
+    done
     for file in "$scratch" "$missing"; do
         ends 1 /dev/null "$shown: cannot read file" "$shown" "$file"
     done
-    ends 1 /dev/null "$shown: unknown file format" "$shown" /dev/null
     ends 2 /dev/null "usage: $shown FILE [SECTION]" "$shown"
     ends 2 /dev/null "usage: $shown FILE [SECTION]" "$shown" "$sample" .text more
 done
 
-# The command: what it writes of a file, how it fails, and what it says.
 full="binfarce: standard output: No space left on device"
 for command in list size map section; do
     stdout=tests/runs/$command.stdout
     fails "$full" 0 "" binfarce "$command" "$sample"
     reads "$stdout" binfarce "$command"
-    cat "$sample" | ends 0 "$stdout" "" binfarce "$command" -
-    cat "$sample" | ends 0 "$stdout" "" binfarce "$command" -- -
+    ends 0 "$stdout" "" binfarce "$command" -- - <"$sample"
     ends 1 /dev/null "binfarce: $scratch: Is a directory" binfarce "$command" "$scratch"
     ends 1 /dev/null "binfarce: $missing: No such file or directory" binfarce "$command" "$missing"
     for file in "$of_sys" /dev/null /dev/zero; do
@@ -131,8 +112,8 @@ for command in list size map; do
     { echo; echo "$sample:"; cat "$stdout"; echo; echo "$blanks:"; cat "$stdout"; } >"$scratch/both"
     ends 1 "$scratch/both" "binfarce: $missing: No such file or directory" binfarce "$command" "$sample" "$missing" "$blanks"
 done
-version="binfarce $(sed -n 's/^version = "\(.*\)"$/\1/p' rust/Cargo.toml)"
-[ "$(call binfarce --version)" = "$version" ] || { echo "binfarce --version: $(call binfarce --version), and must be $version" && exit 1; }
+sed -n 's/^version = "\(.*\)"$/binfarce \1/p' rust/Cargo.toml >"$scratch/version"
+ends 0 "$scratch/version" "" binfarce --version
 call binfarce --help >"$scratch/help"
 ends 0 "$scratch/help" "" binfarce help
 ends 2 /dev/null "binfarce: no command; binfarce --help shows them" binfarce
@@ -146,13 +127,13 @@ printf '\0_ZN3foo3barE\0bad\0' >"$scratch/strings"
 for file in "$sample" "$scratch/large" "$of_proc"; do
     ends 0 "$scratch/strings" "" binfarce section "$file" .strtab
 done
-cat "$sample" | ends 0 "$scratch/strings" "" binfarce section - .strtab
+ends 0 "$scratch/strings" "" binfarce section - .strtab <"$sample"
 ends 1 /dev/null "binfarce: $sample: no section of this name" binfarce section "$sample" .data
 printf '%016x %10d %10d \n' 0 64 0 0 64 32 >"$scratch/lines"
 ends 1 "$scratch/lines" "binfarce: $scratch/truncated: unexpected end of file" binfarce section "$scratch/truncated"
 ends 2 /dev/null "binfarce: one argument too many: more" binfarce section "$sample" .text more
 
-# The filter: standard input, names, and a line that has to be there while its writer still waits.
+# The filter: standard input, names, and a line that must be there while its writer still waits.
 names=tests/runs/filter.stdin
 fails "$full" 0 "" binfarce filter <"$names"
 ends 0 tests/runs/filter.stdout "" binfarce filter <"$names"
@@ -161,8 +142,8 @@ ends 2 /dev/null "binfarce: no option --half of filter; the nearest is --help" b
 printf 'a[0]::b\nfoo::bar::h05af221e174051e9\n-x\n' >"$scratch/lines"
 ends 0 "$scratch/lines" "" binfarce filter _RNvC1a1b --full _ZN3foo3bar17h05af221e174051e9E -- -x
 echo 'in a::b' >"$scratch/line"
-{ echo 'in _RNvC1a1b'; sleep 2; cmp "$scratch/output" "$scratch/line" >"$scratch/told" 2>&1 || true; } | call binfarce filter >"$scratch/output"
-[ ! -s "$scratch/told" ] || { echo "binfarce filter: a line isn't written before the next is waited for" && exit 1; }
+{ echo 'in _RNvC1a1b'; sleep 2; cmp "$scratch/output" "$scratch/line" >&2 && rm "$scratch/line"; } | call binfarce filter >"$scratch/output"
+[ ! -e "$scratch/line" ] || fail "binfarce filter: a line isn't written before the next one is read"
 
 # Addresses as arguments and on standard input, where answers come as soon as their lines do.
 stdout=tests/runs/at.stdout
@@ -171,26 +152,23 @@ for file in "$sample" "$blanks" "$of_proc" "$scratch/large"; do
     ends 0 "$stdout" "" binfarce at "$file" 1000 0x1005 100f 1010 0fff
     printf '1000\n0X1005\r\n 100f\n1010\n0fff' | ends 0 "$stdout" "" binfarce at "$file"
 done
-cat "$sample" | ends 0 "$stdout" "" binfarce at - 1000 0x1005 100f 1010 0fff
+ends 0 "$stdout" "" binfarce at - 1000 0x1005 100f 1010 0fff <"$sample"
 ends 1 /dev/null "binfarce: $missing: No such file or directory" binfarce at "$missing" 1000
 ends 2 /dev/null "binfarce: not an address: 10g" binfarce at "$sample" 1000 10g
 ends 2 /dev/null "binfarce: not an address: $sample" binfarce at --base "$sample" 1000
-for base in --base=400000 "--base 400000"; do
-    printf '401000\n401005\n40100f\n401010\n400fff\n' | call binfarce at $base "$sample" | sed 's/^000000000040/000000000000/' | cmp "$stdout" -
-done
+sed 's/^000000000000/000000000040/' "$stdout" >"$scratch/moved"
+printf '401000\n401005\n40100f\n401010\n400fff\n' | ends 0 "$scratch/moved" "" binfarce at --base=400000 "$sample"
+ends 0 "$scratch/moved" "" binfarce at --base 400000 "$sample" 401000 401005 40100f 401010 400fff
 { head -n 1 "$stdout"; echo '??'; sed -n 2p "$stdout"; echo '??'; } >"$scratch/lines"
-printf '1000\nno\n1005\n' >"$scratch/asked"
-head -c 100000 /dev/zero | cat "$scratch/asked" - | ends 2 "$scratch/lines" "binfarce: 2 lines without an address" binfarce at "$sample"
+{ printf '1000\nno\n1005\n'; head -c 100000 /dev/zero; } | ends 2 "$scratch/lines" "binfarce: 2 lines without an address" binfarce at "$sample"
 ends 1 /dev/null "binfarce: standard input: Is a directory" binfarce at "$sample" <"$scratch"
-mkfifo "$scratch/in" "$scratch/out"
 call binfarce at "$sample" <"$scratch/in" >"$scratch/out" &
 exec 3>"$scratch/in" 4<"$scratch/out"
 echo 1000 >&3
 IFS= read -r line <&4
-[ "$line" = "$(head -n 1 "$stdout")" ] || { echo "binfarce at: a line is not answered as it comes" && exit 1; }
+[ "$line" = "$(head -n 1 "$stdout")" ] || fail "binfarce at: a line is not answered as it comes"
 exec 3>&-
 wait $!
-echo "binfarce at: a line is answered as it comes"
 # The dynamic symbols of a library's code, as readelf has them; stripped, it has no others.
 library=$(gcc -print-file-name=libc.so.6)
 strip -o "$scratch/stripped" "$library"
@@ -198,3 +176,4 @@ code=$(readelf -SW "$library" | sed -n 's/^ *\[ *\([0-9]*\)\] \.text .*/\1/p')
 readelf -W --dyn-syms "$library" | awk -v code="$code" '$4 == "FUNC" && $3 != "0" && $7 == code { print $2 }' >"$scratch/dynamic"
 call binfarce list --dynamic "$scratch/stripped" | sed '$d' | cut -c1-16 | cmp - "$scratch/dynamic"
 ends 1 /dev/null "binfarce: $scratch/stripped: no symbol table (.symtab); --dynamic lists its dynamic symbols" binfarce list "$scratch/stripped"
+echo "programs.sh: $folder: as they must be"

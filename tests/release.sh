@@ -1,11 +1,8 @@
 #!/bin/sh
-# Tries the files of a release as their users have them, on Debian, as root and without the kit. The last line is
-# `release: as it must be`.
+# Tries the files of a release, which tools/release made in FOLDER, as their users have them, on Debian, as root and without the
+# kit. The programs run in CHROOT, or in one of the oldest Debian that debootstrap can make here.
 #
 # Usage: tests/release.sh FOLDER [CHROOT]
-#
-# FOLDER is what tools/release made. The programs run in a chroot of the oldest Debian that debootstrap can make here, or in
-# CHROOT.
 set -eu
 case $# in 1 | 2) ;; *) echo "usage: tests/release.sh FOLDER [CHROOT]" >&2 && exit 2 ;; esac
 folder=$(cd "$1" && pwd)
@@ -45,36 +42,22 @@ place="$chroot/tmp/release"
 trap 'rm -rf "$scratch" "$place"' EXIT
 mkdir "$place" "$place/archive" "$place/package"
 
-# The stored run of a program's crate: in the chroot it must end and write as it does there. A line of `args` is an argument.
+cp "$sample" "$place/sample"
+# A program lists the sample in the chroot as its stored run does.
 runs() {
-    called=${1#"$chroot"} name=${1##*/} ended=0
-    case $name in binfarce) stored=crates/binfarce_command ;; *) stored=crates/$(echo "$name" | tr - _) ;; esac
-    rm -rf "$place/data" "$place/stored"
-    mkdir -p "$place/data" "$place/stored"
-    [ ! -d "$stored/data" ] || cp "$stored/data"/* "$place/data"
-    for file in args stdin status stdout; do
-        cat "$stored/$file" >"$place/stored/$file" 2>/dev/null || true
-    done
-    set --
-    while IFS= read -r word; do
-        set -- "$@" "$word"
-    done <"$place/stored/args"
-    chroot "$chroot" sh -c 'cd /tmp/release/data && exec "$@"' sh "$called" "$@" <"$place/stored/stdin" >"$place/output" || ended=$?
-    [ "$ended" = "$(grep . "$place/stored/status" || echo 0)" ] || fail "$name ended with status $ended"
-    cmp "$place/output" "$place/stored/stdout" || fail "$name wrote something else"
+    stored=crates/$(echo "${1##*/}" | tr - _)/stdout words=
+    [ "${1##*/}" != binfarce ] || stored=tests/runs/list.stdout words=list
+    chroot "$chroot" "${1#"$chroot"}" $words /tmp/release/sample | cmp - "$stored" || fail "$1 writes something else"
 }
 # The programs, pages, header and libraries below a prefix.
 tries() {
-    count=0
     for program in "$1"/bin/*; do
         ! readelf -lW "$program" | grep -q INTERP || fail "$program is linked dynamically"
         runs "$program"
         page=$(echo "$1/share/man/man1/${program##*/}".1*)
-        man -l "$page" >"$scratch/page" 2>"$scratch/log" || fail "man refuses $page"
-        [ -s "$scratch/page" ] && [ ! -s "$scratch/log" ] || fail "man complains of $page: $(cat "$scratch/log")"
-        count=$((count + 1))
+        [ -n "$(man -l "$page" 2>"$scratch/log")" ] && [ ! -s "$scratch/log" ] || fail "man complains of $page: $(cat "$scratch/log")"
     done
-    echo "$what: $count programs and their pages"
+    echo "$what: programs and their pages"
 }
 # A client in C by what pkg-config says, over the shared library here, and linked statically in the chroot.
 builds_c() {
@@ -84,9 +67,7 @@ builds_c() {
     LD_LIBRARY_PATH="$libraries" "$scratch/client" "$sample" | cmp - "$listing" || fail "another listing"
     eval "set -- $(pkg-config --static --cflags --libs binfarce)"
     gcc -static examples/symbols.c "$@" -o "$place/client" 2>"$scratch/log" || fail "$(cat "$scratch/log")"
-    cp "$sample" "$place/sample"
     chroot "$chroot" /tmp/release/client /tmp/release/sample | cmp - "$listing" || fail "another listing in the chroot"
-    rm "$place/client"
     echo "$what: clients in C"
 }
 
@@ -122,7 +103,6 @@ for program in "$chroot"/usr/bin/binfarce*; do
     runs "$program"
 done
 chroot "$chroot" dpkg --purge binfarce >"$scratch/log" 2>&1 || fail "$(cat "$scratch/log")"
-rm "$place/it.deb"
 files | diff "$scratch/before" - || fail "other files than before"
 echo "$what: nothing is left"
 

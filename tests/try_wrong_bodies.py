@@ -1,66 +1,77 @@
 #!/usr/bin/env python3
 """Tries wrong bodies, those of different functions in one check.
 
-    tests/try_wrong_bodies.py [--whole] CRATES LOG     CRATES: the folder of the crates that `rt ci` proves; LOG: what it prints, as it grows; a line `ended` comes last
+    tests/try_wrong_bodies.py CRATES LOG     the crates that `rt ci` proves; what it prints, with `ended` as its last line
 
-The edits that are always tried, or with --whole all. What the prover has to show of a function is made of its own body and of
-the contracts of what it calls, and of no other function's body. So the bodies of several functions can be wrong in one check,
-which loads the libraries once: each is refused by goals of its own function, and no other function may have an open goal.
-Only these functions are checked. An edit is tried alone where it has a line `in:`, and once more where the check before didn't
-refuse it.
+What the prover has to show of a function is made of its own body and of the contracts of what it calls, and of no other
+function's body. So the bodies of several functions can be wrong in one check: each is refused by goals of its own function, and
+no other function may have an open goal. The functions that no edit changes have a hole for their proof and no body: the prover
+takes their contracts, and searches for the goals of the others alone. A hole refuses nothing. An edit that isn't refused so is
+tried alone, and then alone with all bodies and proofs.
 
 A crate's edits are tried as soon as the libraries below it are proved, in time that `rt ci` leaves over. A line for each edit
 has the first goal that refuses it; the last line counts them. The status is 1 if one wasn't refused.
 """
 
 import os
+import pathlib
 import re
 import shutil
 import subprocess
 import sys
 import tempfile
-import threading
 import time
 from concurrent.futures import FIRST_COMPLETED, ThreadPoolExecutor, wait
 
 sys.dont_write_bytecode = True
-from edits import TOP, changed, edits, item_at, read
+from edits import TOP, changed, edits, functions, item_at, read
 
-PARTS = ("src", "specs", "proofs")
-# Words that say nothing of a contract: a text that can't be read, a proof that names what isn't there, or one that rests on a refused one.
-UNREAD = re.compile(r"is not in scope|has no field|has no `|was not admitted|was not checked|is no name|operand is missing|expected the end|cannot continue")
-printing = threading.Lock()
+# Words that say nothing of a contract: a text that can't be read, and a proof that names what isn't there or rests on a refused one.
+UNREAD = re.compile(r"is not in scope|has no field|has no `|was not admitted|was not checked|is no name|operand is missing"
+                    r"|expected the end|cannot continue")
+HOLE = """use Rattle.{crate}.proofs.{module}.Statement.{{statement}}
 
+pub {name}_spec : {{M : Type 1}} → statement M
+{name}_spec = ?
+"""
 
-def uses():
-    """The crates that each crate uses, by crates.txt."""
-    return {head.split()[0]: names.split() for head, names in re.findall(r"^([a-z]\w*(?: \w+)*):(.*)$", read("crates.txt"), re.M)}
-
-
-def below(crate, known):
+def below(crate, uses):
     """A crate and all crates of the repository below it, lowest first."""
-    return [*dict.fromkeys(at for it in known[crate] if it in known for at in below(it, known)), crate]
+    return [*dict.fromkeys(at for it in uses[crate] if it in uses for at in below(it, uses)), crate]
 
-
-def path_of_answer(folder, goal):
-    """The function that an answer belongs to. The functions of a cycle share a folder, whose name begins with `+`; a goal's name begins with its function's."""
+def function_of(folder, goal):
+    """The function that an answer belongs to. Those of a cycle share a folder `+NAME`; a goal's name begins with its function's."""
     *path, name = folder.split("/")
     return "::".join([*path, goal.split("-", 1)[0] if name.startswith("+") else name])
 
+def with_holes(room, crate, kept):
+    """Gives each function but those kept, and those of cycles, a hole for its proof, and an empty loop of as many lines for its body."""
+    for path, file, item in functions(crate):
+        if path not in kept and "#[cycle(" not in item:
+            folder, source, end = room / "proofs" / path.replace("::", "/"), room / file, item.split("\n")[-1]
+            folder.mkdir(parents=True, exist_ok=True)
+            for name in ("Invariants.antt", "Answers.antt"):
+                (folder / name).unlink(missing_ok=True)
+            (folder / "Proof.antt").write_text(HOLE.format(crate=crate, module=path.replace("::", "."), name=path.split("::")[-1]))
+            # The body begins behind a brace alone in its line or, with no clause, behind the signature.
+            found = re.match(rf"(?:.*\n)*?{end[:-1]}\{{\n|(?:.*\n)*?.* \{{\n", item) if end.strip() == "}" else None
+            if found:
+                without = found[0] + "loop {}" + "\n" * item.count("\n", found.end()) + end
+                source.write_text(source.read_text().replace(item, without, 1))
 
 class Prover:
     """Checks crates over the libraries that `rt ci` has proved. This alone knows how the toolchain is laid out and called."""
-
     def __init__(self, crates):
-        self.crates, self.uses = os.path.abspath(crates), uses()
+        rows = re.findall(r"^([a-z]\w*)( staticlib)?.*?:(.*)$", read("crates.txt"), re.M)
+        self.uses, self.static = {name: used.split() for name, _, used in rows}, [name for name, static, _ in rows if static]
+        self.crates = os.path.abspath(crates)
         self.kit = os.path.dirname(subprocess.run(["rt", "doc"], stdout=subprocess.PIPE, text=True, check=True).stdout.strip())
-        self.static = re.findall(r"^(\w+) staticlib", read("crates.txt"), re.M)
 
     def words(self, crate):
-        at = f"{TOP}/crates/{crate}"
-        words = ["src/main.rt" if os.path.exists(f"{at}/src/main.rt") else "src/lib.rt", "--crate-name", crate]
-        words += ["--logic-built", f"{self.kit}/logic_built", "--antt-project", f"{self.kit}/rattle/logic/antt-project.json"]
-        words += ["--extern", f"std={self.kit}/rlibs/std.rlib", "-L", f"dependency={self.kit}/rlibs", "--jobs", "1"]
+        root = "src/main.rt" if os.path.exists(f"{TOP}/crates/{crate}/src/main.rt") else "src/lib.rt"
+        words = [f"{self.kit}/bin/rattle", "check", root, "--crate-name", crate, "--logic-built", f"{self.kit}/logic_built"]
+        words += ["--antt-project", f"{self.kit}/rattle/logic/antt-project.json", "--jobs", "1"]
+        words += ["--extern", f"std={self.kit}/rlibs/std.rlib", "-L", f"dependency={self.kit}/rlibs"]
         words += ["--crate-type", "staticlib"] * (crate in self.static)
         for it in self.uses[crate]:
             folder = f"{self.crates}/{it}/out/rlib" if it in self.uses else f"{self.kit}/rlibs"
@@ -69,37 +80,39 @@ class Prover:
             words += ["-L", f"dependency={self.crates}/{it}/out/rlib"]
         return words
 
-    def check(self, crate, texts, only):
-        """The status of a check of the crate, or of these functions, with these texts in place of its own, and what it prints."""
+    def check(self, crate, these, over_holes):
+        """The status of a check of the functions that refuse these edits, and what it prints."""
+        words = [*self.words(crate), *(word for it in these for word in ("--only", it.refused_in))]
         with tempfile.TemporaryDirectory(prefix="edit-") as room:
-            for part in PARTS:
+            for part in ("src", "specs", "proofs"):
                 if os.path.isdir(f"{TOP}/crates/{crate}/{part}"):
                     shutil.copytree(f"{TOP}/crates/{crate}/{part}", f"{room}/{part}")
-            for path, text in texts.items():
-                with open(f"{room}/{path}", "w", encoding="utf-8") as file:
-                    file.write(text)
-            words = [f"{self.kit}/bin/rattle", "check", *self.words(crate), *(word for it in only for word in ("--only", it))]
+            for path, text in changed(these).items():
+                pathlib.Path(room, path).write_text(text)
+            if over_holes:
+                with_holes(pathlib.Path(room), crate, {path for it in these for path in (it.own, it.refused_in)})
+                words += ["--allow-holes", "--short-goals"]
             with open(f"{room}/printed", "w+", encoding="utf-8", errors="replace") as printed:
                 running = subprocess.Popen(words, cwd=room, stdin=subprocess.DEVNULL, stdout=printed, stderr=subprocess.STDOUT)
                 _, status, used = os.wait4(running.pid, 0)
                 printed.seek(0)
                 lines = printed.read().rstrip("\n").split("\n")
-        with printing:
-            print(f"{crate}: a check of {len(only)} functions, {used.ru_utime + used.ru_stime:.0f} processor seconds", flush=True)
+        how = f"{'over holes' if over_holes else 'with all proofs'}, {used.ru_utime + used.ru_stime:.0f} processor seconds"
+        print(f"{crate}: a check of {len(these)} edits {how}\n", end="", flush=True)
         return os.waitstatus_to_exitcode(status), lines
 
-    def goals(self, crate, texts, only=()):
+    def goals(self, crate, these, over_holes):
         """The first goal that a check finds open in each function, or why there is no verdict."""
-        status, lines = self.check(crate, texts, only)
-        if status < 0:
-            # Most likely for memory.
-            time.sleep(60)
-            status, lines = self.check(crate, texts, only)
-        if any(re.match(r"(\./)?(src|specs)/\S+:\d+:\d+: error: (?!`)", it) for it in lines):
+        for pause in (60, 0):
+            status, lines = self.check(crate, these, over_holes)
+            if status >= 0:
+                break
+            time.sleep(pause)  # It was killed, most likely for memory.
+        if any(re.match(r"(\./)?(src|specs)/\S+:\d+:\d+: error(\[|: (?!`))", it) for it in lines):
             return {}, "the edited text can't be read"
-        if status != 1 or not lines[-1].startswith(("logic=not-proved", "only=")):
+        if status != 1 or not lines[-1].startswith("only="):
             return {}, "it is still proved" if status == 0 else f"the prover ended with status {status}: {lines[-1]}"
-        found = {}
+        texts, found = changed(these), {}
         for line in (it for it in lines if not UNREAD.search(re.sub(r"`[^`]*`", "``", it))):
             source = re.match(r"note: (?:\./)?(src/\S+?\.rt):(\d+):\d+: |(?:\./)?(src/\S+?\.rt):(\d+):\d+: error", line)
             answer = re.match(r"(?:note: )?(?:\./)?proofs/(\S+)/[A-Z]\w*\.antt:\d+:\d+: error: `([^`]+)`", line)
@@ -108,40 +121,32 @@ class Prover:
                 text = texts.get(file) or read(f"crates/{crate}/{file}")
                 found.setdefault(item_at(crate, file, text.split("\n"), int(number) - 1)[2], line)
             elif answer:
-                found.setdefault(path_of_answer(*answer.groups()), line)
+                found.setdefault(function_of(*answer.groups()), line)
             elif re.match(r"(note: )?(\./)?(proofs|specs)/\S+:\d+:\d+: error", line):
                 found.setdefault("", line)
-        return found, "" if found else "no goal is false: a proof names what isn't there"
+        return found, "" if found else "no goal is false: a proof names what isn't there, or nothing is changed"
 
     def try_together(self, crate, these):
-        """What refuses each of these edits, by name; of the others why they aren't refused."""
-        texts = changed(these)
-        found, why = self.goals(crate, texts, [it.refused_in for it in these])
-        refused = {it.name: found[it.refused_in] for it in these if it.refused_in in found}
-        if len(these) == 1:
-            return (refused, {}) if refused else ({}, {these[0].name: why or f"no goal of {these[0].refused_in} is open"})
-        if found.keys() - {it.refused_in for it in these}:
-            # A function is refused that none of them changes.
-            refused = {}
-        missing = [it for it in these if it.name not in refused]
-        # Those without an open goal once more: the goals of a function wait for the proofs of what it calls. Where there is none, by halves.
-        parts = [missing] if refused else [missing[: len(these) // 2], missing[len(these) // 2 :]]
-        more = [self.try_together(crate, it) for it in parts if it]
-        return {**refused, **{name: line for it, _ in more for name, line in it.items()}}, {name: line for _, it in more for name, line in it.items()}
-
-    def try_and_print(self, crate, these):
-        refused, kept = self.try_together(crate, these)
-        with printing:
-            for it in these:
-                print(f"{it.label()}: refused: {refused[it.name][:200]}" if it.name in refused else f"{it.label()}: NOT REFUSED: {kept[it.name][:200]}", flush=True)
-        return len(refused), len(kept)
-
+        """How many of these edits are refused, and how many aren't; prints a line for each."""
+        found, why = self.goals(crate, these, True)
+        refused = 0
+        for edit in these:
+            # A function is refused that none of them changes: then nothing is known.
+            line = found.get(edit.refused_in) if found.keys() <= {it.refused_in for it in these} else None
+            for over_holes in (True, False)[len(these) == 1 :]:
+                if not line:
+                    alone, why = self.goals(crate, [edit], over_holes)
+                    line = alone.get(edit.refused_in)
+            refused += bool(line)
+            verdict = f"refused: {line}" if line else f"NOT REFUSED: {why or f'no goal of {edit.refused_in} is open'}"
+            print(f"must-fail {crate}/{edit.name}.edit: {verdict[:200]}\n", end="", flush=True)
+        return refused, len(these) - refused
 
 def in_sets(these):
     """Those edits of one crate together that change different functions, and can be made at once."""
-    alone, sets = [[it] for it in these if it.is_alone()], []
-    for edit in (it for it in these if not it.is_alone()):
-        for fitting in (it for it in sets if edit.own not in {at.own for at in it}):
+    sets = []
+    for edit in sorted(these, key=lambda it: it.is_alone()):
+        for fitting in (it for it in sets if not edit.is_alone() and edit.own not in {at.own for at in it}):
             try:
                 changed([*fitting, edit])
                 fitting.append(edit)
@@ -150,46 +155,37 @@ def in_sets(these):
                 pass
         else:
             sets.append([edit])
-    return sets + alone
-
+    return sets
 
 def has_room():
     """Whether there is memory for one more check beside those of `rt ci`."""
-    with open("/proc/meminfo", encoding="utf-8") as file:
-        return int(re.search(r"^MemAvailable: +(\d+)", file.read(), re.M)[1]) > 5_000_000
+    return int(re.search(r"MemAvailable: +(\d+)", pathlib.Path("/proc/meminfo").read_text())[1]) > 5_000_000
 
-
-def try_all(these, crates, log):
+def main(crates, log):
     os.nice(19)
-    prover = Prover(crates)
-    left = [(crate, it) for crate in sorted({it.crate for it in these}) for it in in_sets([it for it in these if it.crate == crate])]
+    prover, left = Prover(crates), []
+    these = [it for it in edits() if it.always]
+    for crate in sorted({it.crate for it in these}):
+        under = below(crate, prover.uses)[:-1]
+        left += [(crate, under, it) for it in in_sets([it for it in these if it.crate == crate])]
     # First what takes longest: many edits, over many crates.
-    left.sort(key=lambda it: -len(it[1]) - len(below(it[0], prover.uses)))
+    left.sort(key=lambda it: -len(it[2]) - len(it[1]))
     running, counts, processors = set(), [(0, 0)], os.cpu_count() or 1
     with ThreadPoolExecutor(processors) as pool:
         while left or running:
-            with open(log, encoding="utf-8", errors="replace") as file:
-                text = file.read()
+            text = pathlib.Path(log).read_text(errors="replace")
             proved, ended = {*re.findall(r"^rt: (\w+) (?:proved$|is kept: )", text, re.M)}, text.endswith("\nended\n")
-            ready = [it for it in left if proved.issuperset(below(it[0], prover.uses)[:-1])]
             lanes = processors if ended else max(1, processors // 2)
-            for it in ready[: max(0, lanes - len(running)) if not running or has_room() else 0]:
+            for it in [it for it in left if proved.issuperset(it[1])][: max(0, lanes - len(running)) if not running or has_room() else 0]:
                 left.remove(it)
-                running.add(pool.submit(prover.try_and_print, *it))
+                running.add(pool.submit(prover.try_together, it[0], it[2]))
             if ended and left and not running:
-                print(f"wrong bodies: not tried, since what is below them isn't proved: those of {' '.join(sorted({it for it, _ in left}))}")
-                return 1
+                return f"wrong bodies: not tried, since what is below them isn't proved: {' '.join(sorted({it[0] for it in left}))}"
             done, running = wait(running, timeout=2, return_when=FIRST_COMPLETED) if running else (time.sleep(2), running)
             counts += [it.result() for it in done or ()]
     refused, kept = map(sum, zip(*counts))
     print(f"wrong bodies: {refused} refused, {kept} not")
     return 1 if kept else 0
 
-
-def main(words):
-    every, (crates, log) = words[0] == "--whole", words[-2:]
-    return try_all([it for it in edits() if every or it.always], crates, log)
-
-
 if __name__ == "__main__":
-    sys.exit(main(sys.argv[1:]))
+    sys.exit(main(*sys.argv[1:]))

@@ -10,7 +10,7 @@ use Rattle.binfarce.specs.Walk.{Walk, YieldsNext, ended, ahead_of}
 use Rattle.binfarce_c.specs.declared.sections.Section.{Section}
 use Rattle.binfarce_c.specs.AllSections.{GivesWalk, walk_of, end_status, count_of}
 use Rattle.binfarce_c.specs.Buffer.{put}
-use Rattle.binfarce_c.specs.Sections.{Told, IsSection}
+use Rattle.binfarce_c.specs.Sections.{Details, IsSection}
 use Rattle.binfarce_c.specs.Status.{status_of}
 use Rattle.binfarce_c.specs.machine.Filled.{IsFilled, OneMore}
 
@@ -42,17 +42,17 @@ module _ (was sections old new : List Section) (section : Section) (count next :
       (is ∙ filled.0 ∙ sym (set_past (put was sections) (length sections) section long) ∙ sym (put-append was sections section), next_is)
 
 -- what was given of a walk, of which this is left
-pub record HasGiven {S : Type 0} (told : S → Told) (walk left : Walk S) (was now : List Section) (count : ℕ) : Type 0 where
+pub record HasGiven {S : Type 0} (section_details : S → Details) (walk left : Walk S) (was now : List Section) (count : ℕ) : Type 0 where
   pub before : List S
   pub sections : List Section
-  pub are : AllZip IsSection (map told before) sections
+  pub are : AllZip IsSection (map section_details before) sections
   pub filled : IsFilled was sections now count
   pub items : walk.items ≡ before ++ left.items
   pub refusal : walk.refusal ≡ left.refusal
 
 -- nothing was given yet
-pub starts : {S : Type 0} (told : S → Told) (walk left : Walk S) (was : List Section) → left ≡ walk → HasGiven told walk left was was 0
-starts told walk left was same = record {
+pub starts : {S : Type 0} (section_details : S → Details) (walk left : Walk S) (was : List Section) → left ≡ walk → HasGiven section_details walk left was was 0
+starts section_details walk left was same = record {
   before = [];
   sections = [];
   are = tt;
@@ -64,30 +64,30 @@ starts told walk left was same = record {
     put_none : (xs : List Section) → xs ≡ put xs []
     put_none xs = sym (ap (λ (ys : List Section). ys ++ xs) (take-nil (length xs)))
 
-one_more : {S : Type 0} (told : S → Told) (before : List S) (sections : List Section) (item : S) (section : Section) → AllZip IsSection (map told before) sections → IsSection (told item) section → AllZip IsSection (map told (before ++ item ∷ [])) (sections ++ section ∷ [])
-one_more told [] [] item section are is = (is, tt)
-one_more told [] (s ∷ sections) item section are is = absurd are
-one_more told (b ∷ before) [] item section are is = absurd are
-one_more told (b ∷ before) (s ∷ sections) item section are is = (are.0, one_more told before sections item section are.1 is)
+one_more : {S : Type 0} (section_details : S → Details) (before : List S) (sections : List Section) (item : S) (section : Section) → AllZip IsSection (map section_details before) sections → IsSection (section_details item) section → AllZip IsSection (map section_details (before ++ item ∷ [])) (sections ++ section ∷ [])
+one_more section_details [] [] item section are is = (is, tt)
+one_more section_details [] (s ∷ sections) item section are is = absurd are
+one_more section_details (b ∷ before) [] item section are is = absurd are
+one_more section_details (b ∷ before) (s ∷ sections) item section are is = (are.0, one_more section_details before sections item section are.1 is)
 
 -- one section more was given
-pub goes : {S : Type 0} (told : S → Told) (walk left after : Walk S) (was now new : List Section) (count next : ℕ) (item : S) (section : Section)
-    → HasGiven told walk left was now count → left ≡ ahead_of item after → IsSection (told item) section → OneMore section count now new next → HasGiven told walk after was new next
-goes told walk left after was now new count next item section so step is more = record {
+pub goes : {S : Type 0} (section_details : S → Details) (walk left after : Walk S) (was now new : List Section) (count next : ℕ) (item : S) (section : Section)
+    → HasGiven section_details walk left was now count → left ≡ ahead_of item after → IsSection (section_details item) section → OneMore section count now new next → HasGiven section_details walk after was new next
+goes section_details walk left after was now new count next item section so step is more = record {
   before = so.before ++ item ∷ [];
   sections = so.sections ++ section ∷ [];
-  are = one_more told so.before so.sections item section so.are is;
+  are = one_more section_details so.before so.sections item section so.are is;
   filled = more was so.sections so.filled;
   items = so.items ∙ ap (λ w. so.before ++ w.items) step ∙ sym (append_assoc so.before (item ∷ []) after.items);
   refusal = so.refusal ∙ ap (λ w. w.refusal) step;
 }
 
 -- and nothing is left
-pub ends : {S : Type 0} (told : S → Told) (walk left : Walk S) (was now : List Section) (count : ℕ) (refusal : Option Refusal)
-    → HasGiven told walk left was now count → left ≡ ended refusal → GivesWalk told walk was now (record { status = end_status refusal; count = count })
-ends told walk left was now count refusal so step = record {
+pub ends : {S : Type 0} (section_details : S → Details) (walk left : Walk S) (was now : List Section) (count : ℕ) (refusal : Option Refusal)
+    → HasGiven section_details walk left was now count → left ≡ ended refusal → GivesWalk section_details walk was now (record { status = end_status refusal; count = count })
+ends section_details walk left was now count refusal so step = record {
   sections = so.sections;
-  are = subst (λ (items : List _). AllZip IsSection (map told items) so.sections) (sym (so.items ∙ ap (λ w. so.before ++ w.items) step ∙ append-nil so.before)) so.are;
+  are = subst (λ (items : List _). AllZip IsSection (map section_details items) so.sections) (sym (so.items ∙ ap (λ w. so.before ++ w.items) step ∙ append-nil so.before)) so.are;
   given_is = ap (λ (r : Option Refusal). record { status = end_status r; count = count }) (sym (so.refusal ∙ ap (λ w. w.refusal) step)) ∙ ap (λ (n : ℕ). record { status = end_status walk.refusal; count = n }) so.filled.1;
   new_is = so.filled.0;
 }
@@ -97,10 +97,10 @@ pub step_of : {T S E : Type 0} (why : E → Refusal) (seen : T → S) (left afte
 step_of {T} {S} {E} why seen left after item value is step = let P : Result T E → Type 0 = λ r. YieldsNext why seen left (Some r) after in subst P is step
 
 -- a file without its header
-pub refused : {S : Type 0} (told : S → Told) (walk : Walk S) (file : List ℕ) (least : ℕ) (old : List Section) (refusal : Refusal) (status : ℕ)
-    → length file < least → refusal ≡ unexpected_eof → status ≡ status_of refusal → GivesWalk told (walk_of least file walk) old old (record { status = status; count = 0 })
-refused {S} told walk file least old refusal status short why is =
-    let P : Bool → Type 0 = λ b. GivesWalk told (if b then ended (Some unexpected_eof) else walk) old old (record { status = status; count = 0 }) in
+pub refused : {S : Type 0} (section_details : S → Details) (walk : Walk S) (file : List ℕ) (least : ℕ) (old : List Section) (refusal : Refusal) (status : ℕ)
+    → length file < least → refusal ≡ unexpected_eof → status ≡ status_of refusal → GivesWalk section_details (walk_of least file walk) old old (record { status = status; count = 0 })
+refused {S} section_details walk file least old refusal status short why is =
+    let P : Bool → Type 0 = λ b. GivesWalk section_details (if b then ended (Some unexpected_eof) else walk) old old (record { status = status; count = 0 }) in
     subst P (sym (is_short (length file) least short)) (record {
       sections = [];
       are = tt;

@@ -7,7 +7,7 @@ use Rattle.binfarce.specs.declared.ParseError.{ParseError}
 use Rattle.binfarce.specs.Refusal.{Refusal}
 use Rattle.binfarce.specs.Walk.{Walk, YieldsNext}
 use Rattle.binfarce_c.specs.declared.sections.Section.{Section}
-use Rattle.binfarce_c.specs.Sections.{Told, IsSection, GivesSection, found_of, numbered, results}
+use Rattle.binfarce_c.specs.Sections.{Details, IsSection, GivesSection, found_of, numbered, results}
 use Rattle.binfarce_c.specs.machine.Sought.{IsFound, Given}
 
 -- what comes of a walk, as it is seen
@@ -35,9 +35,9 @@ pub nth_item_is : {T S E : Type 0} (why : E → Refusal) (seen : T → S) (walk 
 nth_item_is {T = T} {E = E} why seen walk whole left n x y same is ran =
     nth_is why seen walk whole left n (Some x) is ran ∙ ap (λ (item : Result T E). found_of (Some (seen_as why seen item))) same
 
--- what was found stands in the struct
-pub given : (answer : Result (Option Told) Refusal) (found : Result (Option Section) ParseError) (old new : Section) (status : ℕ)
+-- the section that was found is in the struct
+pub given : (answer : Result (Option Details) Refusal) (found : Result (Option Section) ParseError) (old new : Section) (status : ℕ)
     → IsFound answer found → Given found old new status → GivesSection answer old new status
-given answer (Ok (Some section)) old new status is told = subst (λ (a : Result (Option Told) Refusal). GivesSection a old new status) (sym is.1) (told.0, subst (IsSection is.0) (sym told.1) is.2)
-given answer (Ok None) old new status is told = subst (λ (a : Result (Option Told) Refusal). GivesSection a old new status) (sym is) told
-given answer (Err e) old new status is told = subst (λ (a : Result (Option Told) Refusal). GivesSection a old new status) (sym is) told
+given answer (Ok (Some section)) old new status is section_details = subst (λ (a : Result (Option Details) Refusal). GivesSection a old new status) (sym is.1) (section_details.0, subst (IsSection is.0) (sym section_details.1) is.2)
+given answer (Ok None) old new status is section_details = subst (λ (a : Result (Option Details) Refusal). GivesSection a old new status) (sym is) section_details
+given answer (Err e) old new status is section_details = subst (λ (a : Result (Option Details) Refusal). GivesSection a old new status) (sym is) section_details

@@ -1,9 +1,9 @@
--- What is put into a caller's buffer of any length, and pointers to texts.
+-- A caller's buffer of any length, and pointers to texts.
 use Rattle.std.specs.Prelude.{◌≡◌, ℕ, List, [], ◌∷◌, ◌++◌, length, take, drop}
 use Rattle.std.specs.Borrow.{Bor}
 use Rattle.std.specs.Ptr.{Ptr, null_ptr, as_ptr}
 
--- a buffer into which this was put: as much of it as has room, and behind it what stood there
+-- a buffer after a write: as much as has room, and after it the old content
 abbrev pub put : {X : Type 0} → (old : List X) (given : List X) → List X
 put old given = take (length old) given ++ drop (length given) old
 

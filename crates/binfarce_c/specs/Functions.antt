@@ -1,4 +1,4 @@
--- What the exports give that list the function symbols of a file.
+-- The results of the exports that list the function symbols of a file.
 use Rattle.std.specs.Prelude.{◌≡◌, ◌⊎◌, ℕ, List, Result, Ok, Err, length}
 use Rattle.std.specs.List.{AllZip}
 use Rattle.std.specs.Str.{IsUtf8}
@@ -20,21 +20,22 @@ pub record IsFunctionOf (entry : Entry) (function : Function) : Type 0 where
 abbrev pub AreFunctionsOf : (entries : List Entry) (functions : List Function) → Type 0
 AreFunctionsOf entries functions = AllZip IsFunctionOf entries functions
 
--- all functions of the list were given: how many they are, the section's size, and as many of them as the array has room for
+-- all functions of the list were given: their number, the section's size, and as many of them as the array has room for
 pub record HoldsAll (listed : Listed) (old : List Function) (new : List Function) (given : Functions) : Type 0 where
   pub functions : List Function
   pub are : AreFunctionsOf listed.entries functions
   pub given_is : given ≡ record { status = ok; detail = 0; count = length functions; section_size = listed.section_size }
   pub new_is : new ≡ put old functions
 
--- no functions were given, and the array stands as it was
+-- no functions were given, and the array is unchanged
 abbrev pub HoldsNothing : (status : ℕ) (detail : ℕ) (old : List Function) (new : List Function) (given : Functions) → Type 0
 HoldsNothing status detail old new given = (given ≡ record { status = status; detail = detail; count = 0; section_size = 0 }) × (new ≡ old)
 
 abbrev pub HoldsRefusal : (refusal : Refusal) (old : List Function) (new : List Function) (given : Functions) → Type 0
 HoldsRefusal refusal old new given = HoldsNothing (status_of refusal) (detail_of refusal) old new given
 
--- by the file's answer: the list, or the refusal. An allocation may fail in place of a list, and of a refusal that needs memory
+-- the result for the file's answer: the list, or the refusal. Instead of a list, or of a refusal that needs memory, it may be that an allocation
+-- failed
 abbrev pub GivesAnswer : (NeedsMemory : Refusal → Type 0) (answer : Result Listed Refusal) (old : List Function) (new : List Function) (given : Functions) → Type 0
 GivesAnswer NeedsMemory (Ok listed) old new given = HoldsAll listed old new given ⊎ HoldsRefusal out_of_memory old new given
 GivesAnswer NeedsMemory (Err refusal) old new given = HoldsRefusal refusal old new given ⊎ (NeedsMemory refusal × HoldsRefusal out_of_memory old new given)

@@ -1,4 +1,4 @@
--- What the exports on a file's format and header give.
+-- The results of the exports for a file's format and header.
 use Rattle.std.specs.Prelude.{◌≡◌, ◌⊎◌, ◌+◌, ◌<◌, ◌≤◌, ℕ, List, Bool, true, false, length}
 use Rattle.binfarce.specs.declared.ByteOrder.{ByteOrder}
 use Rattle.binfarce.specs.declared.ByteOrder.TheVariants.{LittleEndian, BigEndian}
@@ -30,12 +30,12 @@ format_number PE = 6
 abbrev pub header_view : ElfHeader → elf.Header ℕ
 header_view h = record { elf_type = h.elf_type; machine = h.machine; version = h.version; entry = h.entry; phoff = h.phoff; shoff = h.shoff; flags = h.flags; ehsize = h.ehsize; phentsize = h.phentsize; phnum = h.phnum; shentsize = h.shentsize; shnum = h.shnum; shstrndx = h.shstrndx }
 
--- the header was given where the file has as many bytes, and else refused
+-- the header was given where the file is long enough, and else refused
 abbrev pub GivesHeader : (class : elf.ElfClass) (order : ByteOrder) (file : List ℕ) (old : ElfHeader) (new : ElfHeader) (status : ℕ) → Type 0
 GivesHeader class order file old new status =
     ((class.header_length ≤ length file) × (status ≡ ok) × (header_view new ≡ elf.header_of class order file))
     ⊎ ((length file < class.header_length) × (status ≡ status_of unexpected_eof) × (new ≡ old))
 
--- a file that has as many bytes as its header needs is told to be right
-abbrev pub TellsHeader : (least : ℕ) (file : List ℕ) (status : ℕ) → Type 0
-TellsHeader least file status = ((least ≤ length file) × (status ≡ ok)) ⊎ ((length file < least) × (status ≡ status_of unexpected_eof))
+-- the status is BINFARCE_OK for a file that is long enough for its header
+abbrev pub ChecksHeader : (least : ℕ) (file : List ℕ) (status : ℕ) → Type 0
+ChecksHeader least file status = ((least ≤ length file) × (status ≡ ok)) ⊎ ((length file < least) × (status ≡ status_of unexpected_eof))

@@ -1,4 +1,4 @@
--- What the exports on names give.
+-- The results of the exports for names.
 use Rattle.std.specs.Prelude.{◌≡◌, ◌⊎◌, ℕ, List, [], Option, Some, None, Bool, true, false, length}
 use Rattle.std.specs.Str.{IsUtf8}
 use Rattle.binfarce.specs.Crates.{crate_of}
@@ -20,7 +20,7 @@ no_text status = record { status = status; detail = 0; length = 0 }
 abbrev pub Holds : (old : List ℕ) (new : List ℕ) (text : List ℕ) (given : Text) → Type 0
 Holds old new text given = (given ≡ record { status = ok; detail = 0; length = length text }) × (new ≡ put old text)
 
--- no text was given, and the buffer stands as it was
+-- no text was given, and the buffer is unchanged
 abbrev pub HoldsNone : (status : ℕ) (old : List ℕ) (new : List ℕ) (given : Text) → Type 0
 HoldsNone status old new given = (given ≡ no_text status) × (new ≡ old)
 
@@ -29,7 +29,7 @@ abbrev pub HoldsSome : (old : List ℕ) (new : List ℕ) (text : Option (List �
 HoldsSome old new (Some text) given = Holds old new text given
 HoldsSome old new None given = HoldsNone none old new given
 
--- a name that isn't UTF-8 is refused; of any other it is what `Gives` says of an answer of the name, or an allocation failed
+-- a name that isn't UTF-8 is refused; for any other, `Gives` holds of an answer of the name, or an allocation failed
 abbrev pub OfName : (Gives : Name → Type 0) (Refuses : ℕ → Type 0) (name : List ℕ) → Type 0
 OfName Gives Refuses name =
     ((¬ (IsUtf8 name)) × Refuses not_utf8)
@@ -40,8 +40,8 @@ unfoldable pub Trims : (name : List ℕ) (old : List ℕ) (new : List ℕ) (give
 Trims name old new given = OfName (λ n. Holds old new n.trimmed given) (λ status. HoldsNone status old new given) name
 
 -- `binfarce_crate_of`
-unfoldable pub TellsCrate : (name : List ℕ) (old : List ℕ) (new : List ℕ) (given : Text) → Type 0
-TellsCrate name old new given = OfName (λ n. HoldsSome old new (crate_of n) given) (λ status. HoldsNone status old new given) name
+unfoldable pub GivesCrate : (name : List ℕ) (old : List ℕ) (new : List ℕ) (given : Text) → Type 0
+GivesCrate name old new given = OfName (λ n. HoldsSome old new (crate_of n) given) (λ status. HoldsNone status old new given) name
 
 -- `enum binfarce_kind`
 abbrev pub kind_number : Kind → ℕ
@@ -72,14 +72,14 @@ pub record HoldsName (complete : List ℕ) (complete' : List ℕ) (trimmed : Lis
   pub trimmed_is : trimmed' ≡ put trimmed answer.trimmed
   pub crate_is : crate_name' ≡ put crate_name (text_or_none answer.crate_name)
 
--- no name was given, and the buffers stand as they were
+-- no name was given, and the buffers are unchanged
 pub record HoldsNoName (complete : List ℕ) (complete' : List ℕ) (trimmed : List ℕ) (trimmed' : List ℕ) (crate_name : List ℕ) (crate_name' : List ℕ) (given : SymbolName) (status : ℕ) : Type 0 where
   pub given_is : given ≡ record { status = status; kind = 0; complete_length = 0; trimmed_length = 0; crate_length = 0; has_crate = false }
   pub complete_stays : complete' ≡ complete
   pub trimmed_stays : trimmed' ≡ trimmed
   pub crate_stays : crate_name' ≡ crate_name
 
--- `binfarce_demangle`: what stood in each of the buffers, and what stands there afterwards
+-- `binfarce_demangle`: the old and the new content of each buffer
 unfoldable pub Demangles : (name : List ℕ) (complete : List ℕ) (complete' : List ℕ) (trimmed : List ℕ) (trimmed' : List ℕ) (crate_name : List ℕ) (crate_name' : List ℕ) (given : SymbolName) → Type 0
 Demangles name complete complete' trimmed trimmed' crate_name crate_name' given =
     OfName (HoldsName complete complete' trimmed trimmed' crate_name crate_name' given) (HoldsNoName complete complete' trimmed trimmed' crate_name crate_name' given) name
@@ -91,7 +91,7 @@ pub record HoldsMangling (answer : Mangled) (mangling : Mangling) : Type 0 where
   pub kind : mangling.kind ≡ kind_number answer.kind
 
 -- `binfarce_mangling`: a name that isn't UTF-8 is refused
-unfoldable pub TellsMangling : (name : List ℕ) (old : Mangling) (new : Mangling) (status : ℕ) → Type 0
-TellsMangling name old new status =
+unfoldable pub GivesMangling : (name : List ℕ) (old : Mangling) (new : Mangling) (status : ℕ) → Type 0
+GivesMangling name old new status =
     ((¬ (IsUtf8 name)) × (status ≡ not_utf8) × (new ≡ old))
     ⊎ (IsUtf8 name × (status ≡ ok) × ((answer : Mangled) × IsMangled name answer × HoldsMangling answer new))

@@ -1,4 +1,4 @@
--- What the exports on the sections of a file give: one by its name, and one by its number.
+-- The results of the exports for one section of a file: by its name, and by its number.
 use Rattle.std.specs.Prelude.{◌≡◌, ◌⊎◌, ◌+◌, ◌≤◌, ◌^◌, ◌++◌, ℕ, List, [], ◌∷◌, Option, Some, None, Result, Ok, Err, length, map, nat_lt, if◌then◌else◌}
 use Rattle.std.specs.List.{slice_get}
 use Rattle.std.specs.Str.{IsUtf8}
@@ -14,8 +14,8 @@ use Rattle.binfarce_c.specs.Buffer.{PointsTo}
 use Rattle.binfarce_c.specs.Names.{text_or_none, is_there}
 use Rattle.binfarce_c.specs.Status.{ok, none, not_utf8, status_of}
 
--- what is told of a section of any format
-pub record Told : Type 0 where
+-- the details of a section of any format
+pub record Details : Type 0 where
   pub name : Option (List ℕ)
   pub segment : List ℕ
   pub address : ℕ
@@ -24,7 +24,7 @@ pub record Told : Type 0 where
   pub size : ℕ
   pub entries : ℕ
 
--- a section's range in the file, which is refused past 2^64 - 1
+-- a section's range in the file; refused where its end exceeds 2^64 - 1
 abbrev pub IsRange : (offset : ℕ) (size : ℕ) (section : Section) → Type 0
 IsRange offset size section =
     ((section.range_status ≡ ok) × (section.start ≡ offset) × (section.end ≡ offset + size))
@@ -34,19 +34,19 @@ IsRange offset size section =
 abbrev pub HasName : (name : Option (List ℕ)) (section : Section) → Type 0
 HasName name section = (section.has_name ≡ is_there name) × PointsTo (text_or_none name) section.name × (section.name_length ≡ length (text_or_none name))
 
--- `struct binfarce_section` holds what is told
-pub record IsSection (told : Told) (section : Section) : Type 0 where
-  pub name : HasName told.name section
-  pub segment : PointsTo told.segment section.segment
-  pub segment_length : section.segment_length ≡ length told.segment
-  pub address : section.address ≡ told.address
-  pub kind : section.kind ≡ told.kind
-  pub range : IsRange told.offset told.size section
-  pub entries : section.entries ≡ told.entries
+-- `struct binfarce_section` holds these details
+pub record IsSection (section_details : Details) (section : Section) : Type 0 where
+  pub name : HasName section_details.name section
+  pub segment : PointsTo section_details.segment section.segment
+  pub segment_length : section.segment_length ≡ length section_details.segment
+  pub address : section.address ≡ section_details.address
+  pub kind : section.kind ≡ section_details.kind
+  pub range : IsRange section_details.offset section_details.size section
+  pub entries : section.entries ≡ section_details.entries
 
--- the section that was found, that there is none, or the refusal
-abbrev pub GivesSection : (answer : Result (Option Told) Refusal) (old : Section) (new : Section) (status : ℕ) → Type 0
-GivesSection (Ok (Some told)) old new status = (status ≡ ok) × IsSection told new
+-- the section that was found, BINFARCE_NONE, or the refusal
+abbrev pub GivesSection : (answer : Result (Option Details) Refusal) (old : Section) (new : Section) (status : ℕ) → Type 0
+GivesSection (Ok (Some section_details)) old new status = (status ≡ ok) × IsSection section_details new
 GivesSection (Ok None) old new status = (status ≡ none) × (new ≡ old)
 GivesSection (Err refusal) old new status = (status ≡ status_of refusal) × (new ≡ old)
 
@@ -54,7 +54,7 @@ GivesSection (Err refusal) old new status = (status ≡ status_of refusal) × (n
 abbrev pub OfUtf8 : (name : List ℕ) (Gives : Type 0) (old : Section) (new : Section) (status : ℕ) → Type 0
 OfUtf8 name Gives old new status = ((¬ (IsUtf8 name)) × (status ≡ not_utf8) × (new ≡ old)) ⊎ (IsUtf8 name × Gives)
 
--- what comes of a walk, one after the other: its sections, and last its refusal, if it has one
+-- the items of a walk, one after the other: its sections, and last its refusal, if any
 abbrev pub refusals : {S : Type 0} → Option Refusal → List (Result S Refusal)
 refusals None = []
 refusals (Some refusal) = Err refusal ∷ []
@@ -62,7 +62,7 @@ refusals (Some refusal) = Err refusal ∷ []
 abbrev pub results : {S : Type 0} → Walk S → List (Result S Refusal)
 results walk = map (λ s. Ok s) walk.items ++ refusals walk.refusal
 
--- what comes as number `index`, counted from 0
+-- the item with number `index`, counted from 0
 abbrev pub found_of : {S : Type 0} → Option (Result S Refusal) → Result (Option S) Refusal
 found_of None = Ok None
 found_of (Some (Ok section)) = Ok (Some section)
@@ -71,15 +71,15 @@ found_of (Some (Err refusal)) = Err refusal
 abbrev pub numbered : {S : Type 0} → (index : ℕ) → Walk S → Result (Option S) Refusal
 numbered index walk = found_of (slice_get (results walk) index)
 
--- what is told of the section that was found
-abbrev pub telling : {S : Type 0} → (S → Told) → Result (Option S) Refusal → Result (Option Told) Refusal
-telling told (Ok (Some section)) = Ok (Some (told section))
-telling told (Ok None) = Ok None
-telling told (Err refusal) = Err refusal
+-- the details of the section that was found
+abbrev pub details_found : {S : Type 0} → (S → Details) → Result (Option S) Refusal → Result (Option Details) Refusal
+details_found section_details (Ok (Some section)) = Ok (Some (section_details section))
+details_found section_details (Ok None) = Ok None
+details_found section_details (Err refusal) = Err refusal
 
--- of an ELF section its type (`sh_type`) and how many entries it has
-abbrev pub elf_told : (class : elf.ElfClass) (table : elf.SectionTable) → elf.Section → Told
-elf_told class table s = record {
+-- the details of an ELF section, with its type (`sh_type`) and its number of entries
+abbrev pub elf_details : (class : elf.ElfClass) (table : elf.SectionTable) → elf.Section → Details
+elf_details class table s = record {
   name = elf.name_of class table s;
   segment = [];
   address = s.address;
@@ -89,51 +89,51 @@ elf_told class table s = record {
   entries = elf.entry_count s.size s.entry_size;
 }
 
-abbrev pub macho_told : macho.Section → Told
-macho_told s = record { name = Some s.section_name; segment = s.segment_name; address = s.address; kind = 0; offset = s.offset; size = s.size; entries = 0 }
+abbrev pub macho_details : macho.Section → Details
+macho_details s = record { name = Some s.section_name; segment = s.segment_name; address = s.address; kind = 0; offset = s.offset; size = s.size; entries = 0 }
 
--- of a PE section the bytes that it has in the file
-abbrev pub pe_told : pe.Section → Told
-pe_told s = record { name = Some s.name; segment = []; address = s.virtual_address; kind = 0; offset = s.pointer_to_raw_data; size = s.size_of_raw_data; entries = 0 }
+-- the details of a PE section; its size is that in the file
+abbrev pub pe_details : pe.Section → Details
+pe_details s = record { name = Some s.name; segment = []; address = s.virtual_address; kind = 0; offset = s.pointer_to_raw_data; size = s.size_of_raw_data; entries = 0 }
 
 -- the first section with this name among those of a table, and the one with this number
-abbrev pub elf_table_section : (class : elf.ElfClass) (table : elf.SectionTable) (name : List ℕ) → Result (Option Told) Refusal
-elf_table_section class table name = telling (elf_told class table) (first (λ s. elf_symbols.is_named name (elf.name_of class table s)) (elf.walk class table))
+abbrev pub elf_table_section : (class : elf.ElfClass) (table : elf.SectionTable) (name : List ℕ) → Result (Option Details) Refusal
+elf_table_section class table name = details_found (elf_details class table) (first (λ s. elf_symbols.is_named name (elf.name_of class table s)) (elf.walk class table))
 
-abbrev pub elf_table_numbered : (class : elf.ElfClass) (table : elf.SectionTable) (index : ℕ) → Result (Option Told) Refusal
-elf_table_numbered class table index = telling (elf_told class table) (numbered index (elf.walk class table))
+abbrev pub elf_table_numbered : (class : elf.ElfClass) (table : elf.SectionTable) (index : ℕ) → Result (Option Details) Refusal
+elf_table_numbered class table index = details_found (elf_details class table) (numbered index (elf.walk class table))
 
 abbrev pub elf_table : (class : elf.ElfClass) (order : ByteOrder) (file : List ℕ) → elf.SectionTable
 elf_table class order file = elf.section_table class (record { order = order; bytes = file })
 
 -- the first section of an ELF file with this name, where the file has a header
-abbrev pub elf_section : (class : elf.ElfClass) (order : ByteOrder) (file : List ℕ) (name : List ℕ) → Result (Option Told) Refusal
+abbrev pub elf_section : (class : elf.ElfClass) (order : ByteOrder) (file : List ℕ) (name : List ℕ) → Result (Option Details) Refusal
 elf_section class order file name =
     if nat_lt (length file) class.header_length then Err unexpected_eof
     else elf_table_section class (elf_table class order file) name
 
 -- the section of an ELF file with this number
-abbrev pub elf_numbered : (class : elf.ElfClass) (order : ByteOrder) (file : List ℕ) (index : ℕ) → Result (Option Told) Refusal
+abbrev pub elf_numbered : (class : elf.ElfClass) (order : ByteOrder) (file : List ℕ) (index : ℕ) → Result (Option Details) Refusal
 elf_numbered class order file index =
     if nat_lt (length file) class.header_length then Err unexpected_eof
     else elf_table_numbered class (elf_table class order file) index
 
-abbrev pub macho_section : (file : List ℕ) (segment : List ℕ) (name : List ℕ) → Result (Option Told) Refusal
+abbrev pub macho_section : (file : List ℕ) (segment : List ℕ) (name : List ℕ) → Result (Option Details) Refusal
 macho_section file segment name =
     if nat_lt (length file) macho.least_length then Err unexpected_eof
-    else telling macho_told (first (λ s. macho.is_named segment name s) (macho.walk file))
+    else details_found macho_details (first (λ s. macho.is_named segment name s) (macho.walk file))
 
-abbrev pub macho_numbered : (file : List ℕ) (index : ℕ) → Result (Option Told) Refusal
+abbrev pub macho_numbered : (file : List ℕ) (index : ℕ) → Result (Option Details) Refusal
 macho_numbered file index =
     if nat_lt (length file) macho.least_length then Err unexpected_eof
-    else telling macho_told (numbered index (macho.walk file))
+    else details_found macho_details (numbered index (macho.walk file))
 
-abbrev pub pe_section : (file : List ℕ) (name : List ℕ) → Result (Option Told) Refusal
+abbrev pub pe_section : (file : List ℕ) (name : List ℕ) → Result (Option Details) Refusal
 pe_section file name =
     if nat_lt (length file) (pe.least_length file) then Err unexpected_eof
-    else telling pe_told (first (λ s. pe.is_named name s) (pe.walk file))
+    else details_found pe_details (first (λ s. pe.is_named name s) (pe.walk file))
 
-abbrev pub pe_numbered : (file : List ℕ) (index : ℕ) → Result (Option Told) Refusal
+abbrev pub pe_numbered : (file : List ℕ) (index : ℕ) → Result (Option Details) Refusal
 pe_numbered file index =
     if nat_lt (length file) (pe.least_length file) then Err unexpected_eof
-    else telling pe_told (numbered index (pe.walk file))
+    else details_found pe_details (numbered index (pe.walk file))

@@ -1,4 +1,4 @@
--- How a call of the library for C ended: its number, and the words of that number.
+-- The status of a call of the library for C: its number, and its text.
 use Rattle.std.specs.Prelude.{ℕ, List, nat_eq, codes, if◌then◌else◌}
 use Rattle.std.specs.Str.{bytes_eq}
 use Rattle.binfarce.specs.Refusal.{Refusal, words, symbols_section_is_missing, section_is_missing, unexpected_section_type, malformed_input, unexpected_eof, out_of_memory}
@@ -7,7 +7,7 @@ use Rattle.binfarce.specs.Refusal.{Refusal, words, symbols_section_is_missing, s
 abbrev pub ok : ℕ
 ok = 0
 
--- BINFARCE_NONE: what was asked for isn't there
+-- BINFARCE_NONE: there is no such section, or no crate
 abbrev pub none : ℕ
 none = 1
 
@@ -36,12 +36,12 @@ status_of malformed_input = 10
 status_of unexpected_eof = 11
 status_of out_of_memory = no_memory
 
--- what a refusal tells beside its number: the section type that was found
+-- the detail of a refusal: the section type that was found
 abbrev pub detail_of : Refusal → ℕ
 detail_of (unexpected_section_type expected actual) = actual
 detail_of refusal = 0
 
--- the words of a number: a refusal's are those that are printed, but for the types of an unexpected section type
+-- the text of a number: for a refusal the printed text, but without the types of an unexpected section type
 abbrev pub status_words : ℕ → List ℕ
 status_words status =
     if nat_eq status 0 then codes "ok"

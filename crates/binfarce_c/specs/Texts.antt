@@ -1,4 +1,4 @@
--- What the exports give that make a text of a file: a listing, a report.
+-- The results of the exports that make a text of a file: a listing, a report.
 use Rattle.std.specs.Prelude.{◌≡◌, ◌⊎◌, ℕ, List, Option, Result}
 use Rattle.std.specs.Str.{IsUtf8}
 use Rattle.binfarce.specs.Refusal.{Refusal}
@@ -8,7 +8,7 @@ use Rattle.binfarce_c.specs.declared.buffer.Text.{Text}
 use Rattle.binfarce_c.specs.Names.{Holds, HoldsNone}
 use Rattle.binfarce_c.specs.Status as status
 
--- the number of a call's end: the text is first written to memory, so a write fails where an allocation does. The last two are no ends of a call
+-- the status of an outcome: the text is first written to memory, so a write fails where an allocation does. No call has the last two outcomes
 abbrev pub status_of : Outcome → ℕ
 status_of written = status.ok
 status_of write_failed = status.no_memory
@@ -19,16 +19,16 @@ status_of too_large = status.too_large
 status_of unreadable = status.none
 status_of wrong_usage = status.none
 
--- what is told beside it
+-- its detail
 abbrev pub detail_of : Outcome → ℕ
 detail_of (refused refusal) = status.detail_of refusal
 detail_of outcome = 0
 
--- no text, for the reason that the outcome is
+-- no text, for the outcome's reason
 abbrev pub no_text : Outcome → Text
 no_text outcome = record { status = status_of outcome; detail = detail_of outcome; length = 0 }
 
--- what stands in the buffer and what is returned, by the outcome: the text that is due, or why there is none
+-- the content of the buffer and the result, by the outcome: the text that is due, or why there is none
 abbrev pub Ends : (IsTextOf : Listed → List ℕ → Type 0) (answer : Option (Result Listed Refusal)) (old : List ℕ) (new : List ℕ) (given : Text) → Outcome → Type 0
 Ends IsTextOf answer old new given written = (text : List ℕ) × IsDue IsTextOf answer text × Holds old new text given
 Ends IsTextOf answer old new given outcome = (given ≡ no_text outcome) × (new ≡ old)

@@ -5,7 +5,7 @@ ghost use Rattle.binfarce.specs.Macho as macho;
 ghost use Rattle.binfarce.specs.Pe as pe;
 ghost use Rattle.binfarce_c.specs.AllSections.{GivesWalk, walk_of};
 ghost use Rattle.binfarce_c.specs.Headers.{order_of};
-ghost use Rattle.binfarce_c.specs.Sections.{elf_told, elf_table, macho_told, pe_told};
+ghost use Rattle.binfarce_c.specs.Sections.{elf_details, elf_table, macho_details, pe_details};
 ghost use Rattle.binfarce_c.specs.machine.Filled.{OneMore};
 
 use crate::headers::order_of;
@@ -17,7 +17,7 @@ use binfarce::{elf32, elf64, macho, pe};
 #[repr(C)]
 #[derive(Drop)]
 pub struct Sections {
-    /// `BINFARCE_OK`, or the refusal of what stands behind the last section.
+    /// `BINFARCE_OK`, or the refusal of the next section.
     pub status: u32,
     /// How many sections there are, however many of them the array had room for.
     pub count: usize,
@@ -32,7 +32,7 @@ pub extern "C" fn binfarce_elf32_sections(
     out: &mut [Section],
 ) -> Sections
     ensures { let table = elf_table elf.elf32 (order_of big_endian) file.now in
-        GivesWalk (elf_told elf.elf32 table) (walk_of elf.elf32.header_length file.now (elf.walk elf.elf32 table))
+        GivesWalk (elf_details elf.elf32 table) (walk_of elf.elf32.header_length file.now (elf.walk elf.elf32 table))
         out.old out.new result }
 {
     match elf32::parse(file, order_of(big_endian)) {
@@ -53,7 +53,7 @@ pub extern "C" fn binfarce_elf64_sections(
     out: &mut [Section],
 ) -> Sections
     ensures { let table = elf_table elf.elf64 (order_of big_endian) file.now in
-        GivesWalk (elf_told elf.elf64 table) (walk_of elf.elf64.header_length file.now (elf.walk elf.elf64 table))
+        GivesWalk (elf_details elf.elf64 table) (walk_of elf.elf64.header_length file.now (elf.walk elf.elf64 table))
         out.old out.new result }
 {
     match elf64::parse(file, order_of(big_endian)) {
@@ -68,7 +68,7 @@ pub extern "C" fn binfarce_elf64_sections(
 /// All sections of a Mach-O file.
 #[unsafe(no_mangle)]
 pub extern "C" fn binfarce_macho_sections(file: &[u8], out: &mut [Section]) -> Sections
-    ensures { GivesWalk macho_told (walk_of macho.least_length file.now (macho.walk file.now)) out.old out.new result }
+    ensures { GivesWalk macho_details (walk_of macho.least_length file.now (macho.walk file.now)) out.old out.new result }
 {
     match macho::parse(file) {
         Ok(file) => fill_macho(&file, out),
@@ -82,7 +82,7 @@ pub extern "C" fn binfarce_macho_sections(file: &[u8], out: &mut [Section]) -> S
 /// All sections of a PE file.
 #[unsafe(no_mangle)]
 pub extern "C" fn binfarce_pe_sections(file: &[u8], out: &mut [Section]) -> Sections
-    ensures { GivesWalk pe_told (walk_of (pe.least_length file.now) file.now (pe.walk file.now)) out.old
+    ensures { GivesWalk pe_details (walk_of (pe.least_length file.now) file.now (pe.walk file.now)) out.old
         out.new result }
 {
     match pe::parse(file) {
@@ -96,7 +96,7 @@ pub extern "C" fn binfarce_pe_sections(file: &[u8], out: &mut [Section]) -> Sect
 
 fn fill_32(file: &elf32::Elf32<'_>, out: &mut [Section]) -> Sections
     ensures { let table = elf.section_table elf.elf32 file.now in
-        GivesWalk (elf_told elf.elf32 table) (elf.walk elf.elf32 table) out.old out.new result }
+        GivesWalk (elf_details elf.elf32 table) (elf.walk elf.elf32 table) out.old out.new result }
 {
     let mut count = 0;
     for section in file.sections() {
@@ -115,7 +115,7 @@ fn fill_32(file: &elf32::Elf32<'_>, out: &mut [Section]) -> Sections
 
 fn fill_64(file: &elf64::Elf64<'_>, out: &mut [Section]) -> Sections
     ensures { let table = elf.section_table elf.elf64 file.now in
-        GivesWalk (elf_told elf.elf64 table) (elf.walk elf.elf64 table) out.old out.new result }
+        GivesWalk (elf_details elf.elf64 table) (elf.walk elf.elf64 table) out.old out.new result }
 {
     let mut count = 0;
     for section in file.sections() {
@@ -133,7 +133,7 @@ fn fill_64(file: &elf64::Elf64<'_>, out: &mut [Section]) -> Sections
 }
 
 fn fill_macho(file: &macho::Macho<'_>, out: &mut [Section]) -> Sections
-    ensures { GivesWalk macho_told (macho.walk file.now) out.old out.new result }
+    ensures { GivesWalk macho_details (macho.walk file.now) out.old out.new result }
 {
     let mut count = 0;
     for section in file.sections() {
@@ -151,7 +151,7 @@ fn fill_macho(file: &macho::Macho<'_>, out: &mut [Section]) -> Sections
 }
 
 fn fill_pe(file: &pe::Pe<'_>, out: &mut [Section]) -> Sections
-    ensures { GivesWalk pe_told (pe.walk file.now) out.old out.new result }
+    ensures { GivesWalk pe_details (pe.walk file.now) out.old out.new result }
 {
     let mut count = 0;
     for section in file.sections() {
@@ -168,7 +168,7 @@ fn fill_pe(file: &pe::Pe<'_>, out: &mut [Section]) -> Sections
     Sections { status: OK, count }
 }
 
-// Puts a section into the array behind those that came before it, where it has room, and gives how many came then.
+// Puts a section into the array after those before it, if there is room. Returns how many came so far.
 fn place(section: Section, count: usize, out: &mut [Section]) -> usize
     ensures { OneMore section count out.old out.new result }
 {

@@ -1,4 +1,4 @@
-//! Texts that are put into a caller's buffer, whatever its length.
+//! Texts in a caller's buffer of any length.
 
 ghost use Rattle.std.specs.Prelude.{◌≡◌};
 ghost use Rattle.binfarce_c.specs.Buffer.{put};
@@ -12,7 +12,7 @@ use crate::status::OK;
 pub struct Text {
     /// How the call ended.
     pub status: u32,
-    /// Of `BINFARCE_UNEXPECTED_SECTION_TYPE` the type that was found, and else 0.
+    /// For `BINFARCE_UNEXPECTED_SECTION_TYPE` the type that was found, and else 0.
     pub detail: u32,
     /// The whole length of the text in bytes, however much of it the buffer had room for.
     pub length: usize,
@@ -30,7 +30,7 @@ pub(crate) fn give(text: &[u8], out: &mut [u8]) -> Text
     }
 }
 
-/// Puts into a buffer as much of what is given as has room. What stands behind it stays.
+/// Writes as much as has room into a buffer. The rest of the buffer is unchanged.
 pub(crate) fn put<T: Copy>(given: &[T], out: &mut [T])
     ensures { out.new ≡ put out.old given.now }
 {

@@ -42,7 +42,7 @@ pub struct Function {
 pub struct Functions {
     /// How the call ended.
     pub status: u32,
-    /// Of `BINFARCE_UNEXPECTED_SECTION_TYPE` the type that was found, and else 0.
+    /// For `BINFARCE_UNEXPECTED_SECTION_TYPE` the type that was found, and else 0.
     pub detail: u32,
     /// How many function symbols there are, however many of them the array had room for.
     pub count: usize,
@@ -236,7 +236,7 @@ pub(crate) fn start(text: &[u8]) -> *const u8
     }
 }
 
-// What was found, in the array.
+// The functions that were found, in the array.
 fn give(found: Result<(Vec<Function>, u64), ParseError>, out: &mut [Function]) -> Functions
     ensures { Ends found out.old out.new result }
 {

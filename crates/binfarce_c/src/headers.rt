@@ -6,7 +6,7 @@ ghost use Rattle.binfarce.specs.ElfViews as elf;
 ghost use Rattle.binfarce.specs.Format.{format_of};
 ghost use Rattle.binfarce.specs.Macho as macho;
 ghost use Rattle.binfarce.specs.Pe as pe;
-ghost use Rattle.binfarce_c.specs.Headers.{GivesHeader, TellsHeader, format_number, header_view, order_number, order_of};
+ghost use Rattle.binfarce_c.specs.Headers.{GivesHeader, ChecksHeader, format_number, header_view, order_number, order_of};
 
 use crate::status::{OK, status_of};
 use binfarce::{ByteOrder, Format, detect_format, elf32, elf64, macho, pe};
@@ -140,7 +140,7 @@ fn of_64_bits(header: elf64::Elf64Header) -> ElfHeader
 /// Whether a Mach-O file has its file header.
 #[unsafe(no_mangle)]
 pub extern "C" fn binfarce_macho_header(file: &[u8]) -> u32
-    ensures { TellsHeader macho.least_length file.now result }
+    ensures { ChecksHeader macho.least_length file.now result }
 {
     match macho::parse(file) {
         Ok(_) => OK,
@@ -151,7 +151,7 @@ pub extern "C" fn binfarce_macho_header(file: &[u8]) -> u32
 /// Whether a PE file has its file header.
 #[unsafe(no_mangle)]
 pub extern "C" fn binfarce_pe_header(file: &[u8]) -> u32
-    ensures { TellsHeader (pe.least_length file.now) file.now result }
+    ensures { ChecksHeader (pe.least_length file.now) file.now result }
 {
     match pe::parse(file) {
         Ok(_) => OK,

@@ -1,4 +1,4 @@
-//! The library for C and C++: `binfarce.h` declares what is exported here, and says what a caller has to keep.
+//! The library for C and C++: `binfarce.h` declares the exports, and has the rules for callers.
 //!
 //! Each export calls one function of `binfarce` or `binfarce_tools`, and its clauses are that function's, over numbers and
 //! buffers.

@@ -5,7 +5,7 @@ ghost use Rattle.std.specs.String.{string_bytes};
 ghost use Rattle.binfarce.specs.Crates.{crate_of};
 ghost use Rattle.binfarce.specs.Name.{Name, mangled_view, name_view};
 ghost use Rattle.binfarce.specs.Named.{IsNamed};
-ghost use Rattle.binfarce_c.specs.Names.{Demangles, Trims, TellsCrate, TellsMangling, HoldsMangling, kind_number, no_text};
+ghost use Rattle.binfarce_c.specs.Names.{Demangles, Trims, GivesCrate, GivesMangling, HoldsMangling, kind_number, no_text};
 ghost use Rattle.binfarce_c.specs.machine.Reading.{ReadsName, name_status};
 
 use crate::buffer::{Text, give, put};
@@ -89,19 +89,19 @@ pub extern "C" fn binfarce_demangle(
 {
     match symbol_name(alloc, name) {
         Ok(found) => {
-            let told = match &found.crate_name {
+            let crate_text = match &found.crate_name {
                 Some(text) => text.as_bytes(),
                 None => &[],
             };
             put(found.complete.as_bytes(), complete);
             put(found.trimmed.as_bytes(), trimmed);
-            put(told, crate_name);
+            put(crate_text, crate_name);
             SymbolName {
                 status: OK,
                 kind: kind_number(found.kind),
                 complete_length: found.complete.len(),
                 trimmed_length: found.trimmed.len(),
-                crate_length: told.len(),
+                crate_length: crate_text.len(),
                 has_crate: found.crate_name.is_some(),
             }
         }
@@ -128,11 +128,11 @@ pub extern "C" fn binfarce_trimmed(alloc: Global, name: &[u8], out: &mut [u8]) -
     }
 }
 
-/// The crate that a name tells, in a buffer.
+/// The crate of a name, in a buffer.
 #[unsafe(no_mangle)]
-#[tactic(auto, unfolding(crate::specs::Names::TellsCrate))]
+#[tactic(auto, unfolding(crate::specs::Names::GivesCrate))]
 pub extern "C" fn binfarce_crate_of(alloc: Global, name: &[u8], out: &mut [u8]) -> Text
-    ensures { TellsCrate name.now out.old out.new result }
+    ensures { GivesCrate name.now out.old out.new result }
 {
     match crate_text(alloc, name) {
         Ok(Some(text)) => give(text.as_bytes(), out),
@@ -141,11 +141,11 @@ pub extern "C" fn binfarce_crate_of(alloc: Global, name: &[u8], out: &mut [u8]) 
     }
 }
 
-/// How a name is mangled, decided without memory.
+/// How a name is mangled. Nothing is allocated.
 #[unsafe(no_mangle)]
-#[tactic(auto, unfolding(crate::specs::Names::TellsMangling))]
+#[tactic(auto, unfolding(crate::specs::Names::GivesMangling))]
 pub extern "C" fn binfarce_mangling(name: &[u8], out: &mut Mangling) -> u32
-    ensures { TellsMangling name.now out.old out.new result }
+    ensures { GivesMangling name.now out.old out.new result }
 {
     match str::from_utf8(name) {
         Ok(name) => {

@@ -11,7 +11,7 @@ ghost use Rattle.binfarce.specs.PeViews as pe_view;
 ghost use Rattle.binfarce.specs.Refusal.{Gives, refusal_of};
 ghost use Rattle.binfarce_c.specs.Buffer.{PointsTo};
 ghost use Rattle.binfarce_c.specs.Headers.{order_of};
-ghost use Rattle.binfarce_c.specs.Sections.{GivesSection, HasName, IsSection, OfUtf8, elf_told, macho_told, pe_told, numbered, elf_table_section, elf_table_numbered, elf_section, elf_numbered, macho_section, macho_numbered, pe_section, pe_numbered};
+ghost use Rattle.binfarce_c.specs.Sections.{GivesSection, HasName, IsSection, OfUtf8, elf_details, macho_details, pe_details, numbered, elf_table_section, elf_table_numbered, elf_section, elf_numbered, macho_section, macho_numbered, pe_section, pe_numbered};
 ghost use Rattle.binfarce_c.specs.Status.{status_of};
 ghost use Rattle.binfarce_c.specs.machine.Sought.{Given, IsFound};
 
@@ -42,7 +42,7 @@ pub struct Section {
     pub range_status: u32,
     /// Where its bytes begin in the file.
     pub start: usize,
-    /// Where they end: the offset behind the last one.
+    /// Where they end: the offset after the last one.
     pub end: usize,
     /// In ELF how many entries of its entry size it has, 0 where that size is 0; in the other formats 0.
     pub entries: u64,
@@ -218,7 +218,7 @@ fn nth_32(file: &elf32::Elf32<'_>, index: usize) -> Result<Option<elf32::Section
 }
 
 pub(crate) fn shown_32(file: &elf32::Elf32<'_>, section: elf32::Section) -> Section
-    ensures { IsSection (elf_told elf.elf32 (elf.section_table elf.elf32 file.now)
+    ensures { IsSection (elf_details elf.elf32 (elf.section_table elf.elf32 file.now)
         (elf_view.section_view (λ n. n) section)) result }
 {
     section_of(
@@ -279,7 +279,7 @@ fn nth_64(file: &elf64::Elf64<'_>, index: usize) -> Result<Option<elf64::Section
 }
 
 pub(crate) fn shown_64(file: &elf64::Elf64<'_>, section: elf64::Section) -> Section
-    ensures { IsSection (elf_told elf.elf64 (elf.section_table elf.elf64 file.now)
+    ensures { IsSection (elf_details elf.elf64 (elf.section_table elf.elf64 file.now)
         (elf_view.section_view (λ n. n) section)) result }
 {
     section_of(
@@ -324,7 +324,7 @@ fn nth_macho<'a>(
 }
 
 pub(crate) fn shown_macho(section: macho::Section<'_>) -> Section
-    ensures { IsSection (macho_told (macho_view.section_view section.entry)) result }
+    ensures { IsSection (macho_details (macho_view.section_view section.entry)) result }
 {
     section_of(
         Some(section.name()),
@@ -365,7 +365,7 @@ fn nth_pe<'a>(file: &pe::Pe<'a>, index: usize) -> Result<Option<pe::Section<'a>>
 }
 
 pub(crate) fn shown_pe(section: pe::Section<'_>) -> Section
-    ensures { IsSection (pe_told (pe_view.section_view section.entry)) result }
+    ensures { IsSection (pe_details (pe_view.section_view section.entry)) result }
 {
     section_of(
         Some(section.name()),
@@ -377,7 +377,7 @@ pub(crate) fn shown_pe(section: pe::Section<'_>) -> Section
     )
 }
 
-// What was found, in the caller's struct.
+// The section that was found, in the caller's struct.
 fn give(found: Result<Option<Section>, ParseError>, out: &mut Section) -> u32
     ensures { Given found out.old out.new result }
 {

@@ -1,4 +1,4 @@
-//! How a call ended, as a number, and the number's words.
+//! The status of a call: its number, and its text.
 
 ghost use Rattle.std.specs.Prelude.{◌≡◌, length};
 ghost use Rattle.binfarce.specs.Refusal.{refusal_of};
@@ -8,10 +8,10 @@ ghost use Rattle.binfarce_c.specs.Status.{status_of, detail_of, status_words};
 use crate::buffer;
 use binfarce::ParseError;
 
-/// The call gave what was asked for.
+/// The call succeeded.
 pub(crate) const OK: u32 = 0;
 
-/// What was asked for isn't there.
+/// There is no such section, or no crate.
 pub(crate) const NONE: u32 = 1;
 
 /// A name that was passed isn't UTF-8.
@@ -20,7 +20,7 @@ pub(crate) const NOT_UTF8: u32 = 2;
 /// An allocation failed.
 pub(crate) const OUT_OF_MEMORY: u32 = 3;
 
-/// The file's first bytes name no format that is read.
+/// The file's first bytes name no supported format.
 pub(crate) const UNKNOWN_FORMAT: u32 = 4;
 
 /// A sum of sizes is 2^64 or more.
@@ -41,7 +41,7 @@ pub(crate) fn status_of(error: ParseError) -> u32
     }
 }
 
-/// What a refusal tells beside its number: the section type that was found.
+/// The detail of a refusal: the section type that was found.
 pub(crate) fn detail_of(error: ParseError) -> u32
     ensures { result ≡ detail_of (refusal_of error) }
 {
@@ -51,7 +51,7 @@ pub(crate) fn detail_of(error: ParseError) -> u32
     }
 }
 
-/// Puts the words of a status into a buffer, and gives their whole length.
+/// Writes the text of a status into a buffer, and returns its whole length.
 #[unsafe(no_mangle)]
 pub extern "C" fn binfarce_status_text(status: u32, out: &mut [u8]) -> usize
     ensures length { result ≡ length (status_words status) }

@@ -1,4 +1,4 @@
--- What the program's functions answer.
+-- The results of the program's functions.
 use Rattle.std.specs.Prelude.{Bool, true, false, Result, Ok, Err}
 use Rattle.binfarce_tools.specs.ListWords as call
 use Rattle.binfarce_tools.specs.Writing as writing
@@ -10,20 +10,20 @@ use Rattle.binfarce_tools.specs.declared.list.ListError.TheVariants as errors
 use Rattle.binfarce_list.specs.declared.program.Fault.{Fault}
 use Rattle.binfarce_list.specs.declared.program.Fault.TheVariants.{Usage, File, List as Listing}
 
--- the fault that each failure is
+-- the fault of each failure
 abbrev pub fault_of : Failure → Fault
 fault_of failures.Usage = Usage
 fault_of failures.File = File
 fault_of failures.OutOfMemory = Listing errors.OutOfMemory
 fault_of failures.Write = Listing errors.Write
 
--- the fault that an error of the reading is
+-- the fault of an error of the reading
 abbrev pub read_fault : ReadError → Fault
 read_fault (reading.Refused e) = Listing (errors.Parse e)
 read_fault reading.Unreadable = File
 read_fault reading.OutOfMemory = Listing errors.OutOfMemory
 
--- whether a fault is that the arguments are wrong
+-- whether the arguments are wrong
 abbrev pub is_usage : Fault → Bool
 is_usage Usage = true
 is_usage File = false

@@ -20,7 +20,7 @@ use Rattle.binfarce_sections.specs.declared.sections.Sections.{Sections}
 use Rattle.binfarce_sections.specs.Lines.{section_lines}
 use Rattle.binfarce_sections.specs.Named.{Lack, unknown_format, refused, no_section, no_bytes, past_end, is_named, bytes_of, bytes_found, bytes_named}
 use Rattle.binfarce_sections.specs.Section.{Section, sections_of}
-use Rattle.binfarce_sections.specs.Telling.{IsLack, TakesBytes, TakesLines, TakesRead, TakesReadLines, Fails, told_of}
+use Rattle.binfarce_sections.specs.Telling.{IsLack, TakesBytes, TakesLines, TakesRead, TakesReadLines, Fails, error_of}
 use Rattle.binfarce_sections.specs.Views.{Opens, section_view, sections_left}
 use Rattle.binfarce_sections.specs.machine.Found.{Finds, ReadsBytes}
 use Rattle.binfarce_sections.specs.machine.Tables.{Has, ReadsTables}
@@ -75,7 +75,7 @@ lines_read may_fail None old new (Err Unreadable) takes = let e : Path (Result (
 lines_read may_fail (Some walk) old new (Err Unreadable) takes = absurd takes
 
 -- where nothing was read, no line is taken
-pub lines_unread : (may_fail : Bool) (file : List ℕ) (e : ReadError) (old : Option (List ℕ)) → ReadsTables may_fail file (Err e) → TakesReadLines may_fail (sections_of (format_of file) file) old old (Err (told_of e))
+pub lines_unread : (may_fail : Bool) (file : List ℕ) (e : ReadError) (old : Option (List ℕ)) → ReadsTables may_fail file (Err e) → TakesReadLines may_fail (sections_of (format_of file) file) old old (Err (error_of e))
 lines_unread may_fail file (reading.Refused p) old has =
     subst (λ (w : Option (Walk Section)). TakesLines w old old (Err (Parse p))) (sym has) (ended_lines (ended (Some (refusal_of p))) p old refl)
 lines_unread may_fail file reading.Unreadable old has = (has, nothing old)
@@ -95,7 +95,7 @@ bytes_unopened may_fail (Some walk) file word e is =
     subst (λ (s : SectionError). ReadsBytes may_fail (bytes_named (Some walk) file word) (Err s)) (sym is.2)
     (refused (refusal_of is.0), ap (λ (w : Walk Section). bytes_found file (first (is_named word) w)) is.1, refl)
 
-pub bytes_unread : (may_fail : Bool) (file word : List ℕ) (e : ReadError) → ReadsTables may_fail file (Err e) → ReadsBytes may_fail (bytes_named (sections_of (format_of file) file) file word) (Err (told_of e))
+pub bytes_unread : (may_fail : Bool) (file word : List ℕ) (e : ReadError) → ReadsTables may_fail file (Err e) → ReadsBytes may_fail (bytes_named (sections_of (format_of file) file) file word) (Err (error_of e))
 unfolding bytes_named
 bytes_unread may_fail file word (reading.Refused p) has = (refused (refusal_of p), ap (λ (w : Option (Walk Section)). bytes_named w file word) has, refl)
 bytes_unread may_fail file word reading.Unreadable has = has
@@ -119,7 +119,7 @@ unfolding bytes_of
 bytes_none file s has = rw has refl
 
 -- a part that was read, or why it wasn't
-pub part_unread : (may_fail : Bool) (bytes : List ℕ) (answer : Result (List ℕ) Lack) (e : ReadError) → Reads {X = Vec ℕ Global} may_fail (λ v. v.items) (Ok bytes) (Err e) → ReadsBytes may_fail answer (Err (told_of e))
+pub part_unread : (may_fail : Bool) (bytes : List ℕ) (answer : Result (List ℕ) Lack) (e : ReadError) → Reads {X = Vec ℕ Global} may_fail (λ v. v.items) (Ok bytes) (Err e) → ReadsBytes may_fail answer (Err (error_of e))
 part_unread may_fail bytes answer (reading.Refused p) reads = let e : Path (Result (List ℕ) Refusal) (Ok bytes) (Err (refusal_of p)) = reads in absurd cc
 part_unread may_fail bytes answer reading.Unreadable reads = reads
 part_unread may_fail bytes answer reading.OutOfMemory reads = tt
@@ -151,16 +151,16 @@ bytes_untaken may_fail answer OutOfMemory old is = nothing old
 bytes_untaken may_fail answer Write old is = absurd is.2
 bytes_untaken may_fail answer Unreadable old is = (is, nothing old)
 
--- what an error of a reading is told as is no failed write
-not_written : (e : ReadError) → told_of e ≡ Write → ⊥
+-- the error for an error of a reading isn't a failed write
+not_written : (e : ReadError) → error_of e ≡ Write → ⊥
 not_written (reading.Refused p) is = cc
 not_written reading.Unreadable is = cc
 not_written reading.OutOfMemory is = cc
 
-pub unwritten : {X : Type 0} (r : Result X SectionError) (e : ReadError) → (IsErr r × IsErrAnd r (λ s. s ≡ told_of e)) → IfErr r (λ s. s ≢ Write)
-unwritten {X = X} r e is = err_is (λ (x : Result X SectionError). IfErr x (λ s. s ≢ Write)) r (told_of e) is (not_written e)
+pub unwritten : {X : Type 0} (r : Result X SectionError) (e : ReadError) → (IsErr r × IsErrAnd r (λ s. s ≡ error_of e)) → IfErr r (λ s. s ≢ Write)
+unwritten {X = X} r e is = err_is (λ (x : Result X SectionError). IfErr x (λ s. s ≢ Write)) r (error_of e) is (not_written e)
 
--- a failure of the sink is told of an error of a write alone
+-- the sink fails with a failed write alone
 pub unfailed : (old : Bool) (e : SectionError) → e ≢ Write → Fails old old (Err e)
 unfailed old Write is = absurd (is refl)
 unfailed old Unknown is = refl

@@ -31,11 +31,11 @@ pub taken : {Y : Type 0} {a b : Y} → Path (Result Y Refusal) (Ok a) (Ok b) →
 taken step = cc
 
 -- what a source says of its length is the file's
-pub length_told : (known : Option (List ℕ)) (file : List ℕ) (len : ℕ) → known ≡ Some file → IfSome known (λ all. len ≡ length all) → len ≡ length file
-length_told None file len is told = absurd cc
-length_told (Some bytes) file len is told =
+pub length_known : (known : Option (List ℕ)) (file : List ℕ) (len : ℕ) → known ≡ Some file → IfSome known (λ all. len ≡ length all) → len ≡ length file
+length_known None file len is is_known = absurd cc
+length_known (Some bytes) file len is is_known =
     let same : bytes ≡ file = cc in
-    told ∙ ap length same
+    is_known ∙ ap length same
 
 -- the sections of a file are those of its format
 pub of_elf32 : (order : ByteOrder) (file : List ℕ) → format_of file ≡ formats.Elf32 order → Has file (elf_sections elf32 order file)

@@ -5,13 +5,13 @@ use Rattle.binfarce_tools.specs.Listing.{address_text, size_text}
 use Rattle.binfarce_sections.specs.Section.{Section}
 use Rattle.binfarce_sections.specs.Named.{full_name}
 
--- the name as it is stored, in Mach-O behind the segment's; nothing for a section without one
+-- the name as it is stored, in Mach-O after the segment's; nothing for a section without one
 abbrev pub name_text : Option (List ℕ) → Option (List ℕ) → List ℕ
 name_text segment None = []
 name_text None (Some name) = name
 name_text (Some segment) (Some name) = full_name segment name
 
--- `{address:016x} {offset:>10} {size:>10} `, which stands before the name
+-- `{address:016x} {offset:>10} {size:>10} `, the text before the name
 abbrev pub line_head : ℕ → ℕ → ℕ → List ℕ
 line_head address offset size = address_text address ++ (codes " " ++ (size_text offset ++ (codes " " ++ (size_text size ++ codes " "))))
 

@@ -6,7 +6,8 @@ use Rattle.binfarce.specs.Refusal.{Refusal}
 use Rattle.binfarce.specs.Walk.{Walk, first}
 use Rattle.binfarce_sections.specs.Section.{Section}
 
--- why there are no bytes to be had: no reader reads the file's format; the walk over its sections was refused before one was found; it has no section of the name; the section has no bytes in the file; it reaches past the file's end
+-- why there are no bytes: the file's format is unknown; the walk over its sections ended with a refusal before the section; no section has the name;
+-- the section has no bytes in the file; its bytes end past the file
 pub data Lack : Type 0 where
   unknown_format : Lack
   refused : Refusal → Lack
@@ -14,7 +15,7 @@ pub data Lack : Type 0 where
   no_bytes : Lack
   past_end : Lack
 
--- `SEGMENT,SECTION`, as `otool` and `ld` have it
+-- `SEGMENT,SECTION`, as `otool` and `ld` write it
 abbrev pub full_name : List ℕ → List ℕ → List ℕ
 full_name segment name = segment ++ 44 ∷ name
 
@@ -35,13 +36,13 @@ bytes_of file section =
     else if nat_lt (length file) (section.offset + section.size) then Err past_end
     else Ok (bytes_at file section.offset section.size)
 
--- the bytes of what a search has found
+-- the bytes of the section that a search has found
 abbrev pub bytes_found : List ℕ → Result (Option Section) Refusal → Result (List ℕ) Lack
 bytes_found file (Ok (Some section)) = bytes_of file section
 bytes_found file (Ok None) = Err no_section
 bytes_found file (Err refusal) = Err (refused refusal)
 
--- the bytes of the first section that the word names, where these are the file's sections
+-- the bytes of the first of the file's sections that the word names
 unfoldable pub bytes_named : Option (Walk Section) → List ℕ → List ℕ → Result (List ℕ) Lack
 bytes_named None file word = Err unknown_format
 bytes_named (Some walk) file word = bytes_found file (first (is_named word) walk)

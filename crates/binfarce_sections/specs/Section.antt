@@ -19,7 +19,7 @@ pub record Section : Type 0 where
   pub size : ℕ
   pub has_bytes : Bool
 
--- of an ELF section with such a name: a section of type 8 (SHT_NOBITS) has no bytes in the file (gABI, "Sections")
+-- an ELF section with such a name: a section of type 8 (SHT_NOBITS) has no bytes in the file (gABI, "Sections")
 abbrev pub elf_named : (elf.Section → Option (List ℕ)) → elf.Section → Section
 elf_named name s = record {
   segment = None;
@@ -33,7 +33,7 @@ elf_named name s = record {
 abbrev pub elf_section : elf.ElfClass → elf.SectionTable → elf.Section → Section
 elf_section class table = elf_named (elf.name_of class table)
 
--- of a Mach-O section: one whose offset is 0, as that of a section that is filled with zeros, has no bytes in the file
+-- a Mach-O section: one with the offset 0, as of a zero-filled section, has no bytes in the file
 abbrev pub macho_section : macho.Section → Section
 macho_section s = record {
   segment = Some s.segment_name;
@@ -44,11 +44,12 @@ macho_section s = record {
   has_bytes = not (nat_eq s.offset 0);
 }
 
--- the size of a PE section: the one that is given, and where both are the smaller one. Of an image SizeOfRawData is rounded up, and an object file gives VirtualSize as 0
+-- the size of a PE section: the smaller one of the two, or the other one where one is 0. In an image SizeOfRawData is rounded up; in an object file
+-- VirtualSize is 0
 abbrev pub pe_size : ℕ → ℕ → ℕ
 pe_size virtual raw = if nat_eq virtual 0 then raw else if nat_eq raw 0 then virtual else min virtual raw
 
--- of a PE section: one without raw data has no bytes in the file (PE Format, "Section Table")
+-- a PE section: one without raw data has no bytes in the file (PE Format, "Section Table")
 abbrev pub pe_section : pe.Section → Section
 pe_section s = record {
   segment = None;
@@ -59,11 +60,11 @@ pe_section s = record {
   has_bytes = not (nat_eq s.pointer_to_raw_data 0) && not (nat_eq s.size_of_raw_data 0);
 }
 
--- a walk over what each item is
+-- a walk with each item converted
 abbrev pub mapped : {S T : Type 0} → (S → T) → Walk S → Walk T
 mapped f walk = record { items = map f walk.items; refusal = walk.refusal }
 
--- the sections of an ELF file: one that is too short for its header ends before what it should hold
+-- the sections of an ELF file: a file that is too short for its header is truncated
 abbrev pub elf_sections : elf.ElfClass → ByteOrder → List ℕ → Walk Section
 elf_sections class order file =
     let table = elf.section_table class (record { order = order; bytes = file }) in
@@ -75,7 +76,7 @@ macho_sections file = if nat_lt (length file) macho.least_length then ended (Som
 abbrev pub pe_sections : List ℕ → Walk Section
 pe_sections file = if nat_lt (length file) (pe.least_length file) then ended (Some unexpected_eof) else mapped pe_section (pe.walk file)
 
--- the sections of a file of this format, in file order; no reader reads an unknown one
+-- the sections of a file of this format, in file order; none for an unknown format
 unfoldable pub sections_of : Format → List ℕ → Option (Walk Section)
 sections_of (Elf32 order) file = Some (elf_sections elf32 order file)
 sections_of (Elf64 order) file = Some (elf_sections elf64 order file)

@@ -1,4 +1,4 @@
--- What the calls return, and what their sink has taken then.
+-- The results of the calls, and the bytes that their sink has taken.
 use Rattle.std.specs.Prelude.{◌≡◌, ℕ, List, [], Bool, true, codes, Option, Some, None, Result, Ok, Err}
 use Rattle.std.specs.Io.KnownBytes.{Appends}
 use Rattle.binfarce.specs.Refusal.{refusal_of, words}
@@ -12,7 +12,7 @@ use Rattle.binfarce_sections.specs.Lines.{section_lines}
 use Rattle.binfarce_sections.specs.Named.{Lack, unknown_format, refused, no_section, no_bytes, past_end}
 use Rattle.binfarce_sections.specs.Section.{Section}
 
--- what is printed
+-- the printed text
 abbrev pub section_words : SectionError → List ℕ
 section_words Unknown = codes "unknown file format"
 section_words (Parse e) = words (refusal_of e)
@@ -23,13 +23,13 @@ section_words OutOfMemory = codes "out of memory"
 section_words Write = codes "write failed"
 section_words Unreadable = codes "cannot read file"
 
--- what an error of a reading is told as: a refusal is the file's
-abbrev pub told_of : reading.ReadError → SectionError
-told_of (read_errors.Refused e) = Parse e
-told_of read_errors.Unreadable = Unreadable
-told_of read_errors.OutOfMemory = OutOfMemory
+-- the error of a call for an error of a reading
+abbrev pub error_of : reading.ReadError → SectionError
+error_of (read_errors.Refused e) = Parse e
+error_of read_errors.Unreadable = Unreadable
+error_of read_errors.OutOfMemory = OutOfMemory
 
--- the error is that the bytes can't be had, for this reason
+-- the error gives this reason why there are no bytes
 abbrev pub IsLack : Lack → SectionError → Type 0
 IsLack lack Unknown = lack ≡ unknown_format
 IsLack lack (Parse e) = lack ≡ refused (refusal_of e)
@@ -40,18 +40,19 @@ IsLack lack OutOfMemory = ⊥
 IsLack lack Write = ⊥
 IsLack lack Unreadable = ⊥
 
--- a call gives these bytes, or tells why they can't be had
+-- a call returns these bytes, or the error for the reason why there are none
 abbrev pub Hands : {X : Type 0} → (X → List ℕ) → Result (List ℕ) Lack → Result X SectionError → Type 0
 Hands view answer (Ok x) = answer ≡ Ok (view x)
 Hands view answer (Err e) = (lack : Lack) × (answer ≡ Err lack) × IsLack lack e
 
--- bytes were taken whole; where a write failed, a beginning of them; and else none, and it is told why there are none
+-- all bytes were taken; where a write failed, a beginning of them; otherwise none, and the error gives the reason
 abbrev pub TakesBytes : Result (List ℕ) Lack → Option (List ℕ) → Option (List ℕ) → Result (Unit {0}) SectionError → Type 0
 TakesBytes answer old new (Ok x) = (bytes : List ℕ) × (answer ≡ Ok bytes) × Appends old new bytes
 TakesBytes answer old new (Err Write) = (bytes : List ℕ) × (answer ≡ Ok bytes) × AppendsBeginning old new bytes
 TakesBytes answer old new (Err e) = (lack : Lack) × (answer ≡ Err lack) × IsLack lack e × Appends old new []
 
--- the lines of the sections were taken, and then the walk's refusal is told, if it has one; where a write failed a beginning of the lines; and where an allocation failed, or the format is unknown, nothing
+-- the lines of the sections were taken, and then the walk's refusal is returned, if any; where a write failed, a beginning of the lines was taken;
+-- where an allocation failed, or the format is unknown, nothing
 abbrev pub TakesLines : Option (Walk Section) → Option (List ℕ) → Option (List ℕ) → Result (Unit {0}) SectionError → Type 0
 TakesLines None old new result = (result ≡ Err Unknown) × Appends old new []
 TakesLines (Some walk) old new (Ok x) = (walk.refusal ≡ None) × Appends old new (section_lines walk.items)
@@ -60,19 +61,19 @@ TakesLines (Some walk) old new (Err OutOfMemory) = Appends old new []
 TakesLines (Some walk) old new (Err Write) = AppendsBeginning old new (section_lines walk.items)
 TakesLines (Some walk) old new (Err e) = ⊥
 
--- the same of a source's bytes: where it can't be read, which it may only where it may fail, or an allocation failed, nothing was taken
+-- the same for a source's bytes. A source that may fail can be unreadable; then, and where an allocation failed, nothing was taken
 abbrev pub TakesRead : Bool → Result (List ℕ) Lack → Option (List ℕ) → Option (List ℕ) → Result (Unit {0}) SectionError → Type 0
 TakesRead may_fail answer old new (Err Unreadable) = (may_fail ≡ true) × Appends old new []
 TakesRead may_fail answer old new (Err OutOfMemory) = Appends old new []
 TakesRead may_fail answer old new result = TakesBytes answer old new result
 
--- and of the lines of its sections
+-- the same for the lines of its sections
 abbrev pub TakesReadLines : Bool → Option (Walk Section) → Option (List ℕ) → Option (List ℕ) → Result (Unit {0}) SectionError → Type 0
 TakesReadLines may_fail sections old new (Err Unreadable) = (may_fail ≡ true) × Appends old new []
 TakesReadLines may_fail sections old new (Err OutOfMemory) = Appends old new []
 TakesReadLines may_fail sections old new result = TakesLines sections old new result
 
--- whether the sink has failed afterwards: where a write failed; anything else leaves it as it was
+-- whether the sink has failed afterwards: it has where a write failed; otherwise this is unchanged
 abbrev pub Fails : Bool → Bool → Result (Unit {0}) SectionError → Type 0
 Fails old new (Err Write) = new ≡ true
 Fails old new result = new ≡ old

@@ -1,4 +1,4 @@
--- What clauses see of sections and of what is left of them.
+-- What clauses see of sections and of iterators over them.
 use Rattle.std.specs.Prelude.{◌≡◌, ℕ, List, Option, Some, None, Result, Ok, Err}
 use Rattle.std.specs.Option.{option_map}
 use Rattle.binfarce.specs.declared.ParseError.{ParseError}
@@ -24,7 +24,7 @@ use Rattle.binfarce_sections.specs.Section.{Section, elf_named, macho_section, p
 abbrev pub section_view : code.Section → Section
 section_view s = record { segment = option_map (λ t. t.now) s.segment; name = option_map (λ t. t.now) s.name; address = s.address; offset = s.offset; size = s.size; has_bytes = s.has_bytes }
 
--- the name of a section, by the whole file or by what was read of it
+-- the name of a section, by the whole file or by its parts that were read
 abbrev pub elf32_name : Elf32Names → elf.Section → Option (List ℕ)
 elf32_name (names32.File file) = name_of elf32 (section_table elf32 file)
 elf32_name (names32.Parts parts) = (sections_view elf32 parts.now).name
@@ -47,7 +47,7 @@ sections_left (variants.Elf64 sections) = elf64_left sections
 sections_left (variants.Macho left) = mapped macho_section left
 sections_left (variants.Pe left) = mapped pe_section left
 
--- what a call returns that gives the sections of a file: all of them; or the refusal that comes before any
+-- the result of a call that gives the sections of a file: all of them, or the refusal that comes before any
 abbrev pub Opens : Option (Walk Section) → Result Sections SectionError → Type 0
 Opens (Some walk) (Ok sections) = sections_left sections ≡ walk
 Opens (Some walk) (Err e) = (p : ParseError) × (walk ≡ ended (Some (refusal_of p))) × (e ≡ Parse p)

@@ -1,4 +1,4 @@
-//! Why no sections or no bytes of one are given.
+//! Why sections can't be listed, or a section's bytes can't be given.
 
 ghost use Rattle.std.specs.Prelude.{◌≡◌, Some};
 
@@ -8,10 +8,10 @@ use std::alloc::AllocError;
 use std::error::Error;
 use std::fmt;
 
-/// Why the sections of a file were not listed, or the bytes of one not given.
+/// Why the sections of a file were not listed, or the bytes of one were not given.
 #[derive(Debug, PartialEq, Drop)]
 pub enum SectionError {
-    /// The file's first bytes name no format that is read.
+    /// The file's first bytes name no supported format.
     Unknown,
     /// The reader of the file's format refused it before the section was found, or before the last one was listed.
     Parse(ParseError),
@@ -23,9 +23,10 @@ pub enum SectionError {
     PastEnd,
     /// An allocation failed.
     OutOfMemory,
-    /// A write of the sink failed. What it took before is a beginning of what was due.
+    /// A write of the sink failed. It took a beginning of the output.
     Write,
-    /// The source can't be read at offsets, or a read of it failed, as where it became shorter. Bytes in memory never are it.
+    /// The source can't be read at offsets, or a read of it failed, as where it became shorter. Never for bytes in
+    /// memory.
     Unreadable,
 }
 
@@ -71,11 +72,11 @@ impl From<AllocError> for SectionError {
 }
 
 impl From<ReadError> for SectionError {
-    ghost use Rattle.binfarce_sections.specs.Telling.{told_of};
+    ghost use Rattle.binfarce_sections.specs.Telling.{error_of};
 
-    ghost from_gives = { λ e s. s ≡ told_of e };
+    ghost from_gives = { λ e s. s ≡ error_of e };
 
-    /// A refusal is that of the file.
+    /// A refusal becomes `Parse`.
     fn from(e: ReadError) -> Self {
         match e {
             ReadError::Refused(e) => SectionError::Parse(e),

@@ -1,4 +1,4 @@
-//! The sections of executables: their bytes by name, and a line for each.
+//! The sections of executables: a section's bytes by its name, and a list of all sections.
 #![tactic(auto)]
 
 pub mod bytes;

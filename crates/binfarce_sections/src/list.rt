@@ -28,9 +28,9 @@ use std::fmt::Write;
 ///
 /// # Errors
 ///
-/// `Unknown` where the format isn't one that is read, and `OutOfMemory` where an allocation failed: nothing is written then.
-/// `Parse` where the reader refuses to go on: the lines of the sections before are written. `Write` where a write failed,
-/// which can leave a beginning of the lines written.
+/// `Unknown` where the format isn't supported, and `OutOfMemory` where an allocation failed: nothing is written then.
+/// `Parse` where the reader refuses the next section: the lines of those before are written. `Write` where a write
+/// failed: a beginning of the lines may then be written.
 pub fn list_sections<S: Sink>(alloc: Global, data: &[u8], out: &mut S) -> Result<(), SectionError>
     ensures takes { TakesLines (sections_of (format_of data.now) data.now) (S.taken out.old) (S.taken out.new) result }
     ensures fails { Fails (S.has_failed out.old) (S.has_failed out.new) result }
@@ -42,13 +42,13 @@ pub fn list_sections<S: Sink>(alloc: Global, data: &[u8], out: &mut S) -> Result
     write_lines(alloc, sections, out)
 }
 
-/// The same of the bytes of a source, of which only these are read: the first 8 bytes, and what `read_sections` of
-/// `binfarce_tables` reads of a file of their format.
+/// The same for a source, of which only these bytes are read: the first 8 bytes, and those that `read_sections` of
+/// `binfarce_tables` reads of a file of that format.
 ///
 /// # Errors
 ///
-/// As `list_sections`, and `Unreadable` where the source can't be read at offsets, or a read of it fails: nothing is written
-/// then.
+/// Those of `list_sections`, and `Unreadable` where the source can't be read at offsets, or a read of it fails: nothing
+/// is written then.
 pub fn list_source<F: Source, S: Sink>(
     alloc: Global,
     source: &F,
@@ -98,7 +98,7 @@ fn lines_of(
     Ok((text, None))
 }
 
-// Writes the line of a section after the text.
+// Appends the line of a section to the text.
 fn push_line(text: &mut String, section: Section<'_>) -> Result<(), AllocError>
     ensures { OnOk result (string_bytes text.new ≡ string_bytes text.old ++ section_line (section_view section.entry)) }
 {
@@ -107,7 +107,7 @@ fn push_line(text: &mut String, section: Section<'_>) -> Result<(), AllocError>
     text.push_str("\n")
 }
 
-// Writes what stands before a section's name.
+// Writes the numbers before a section's name.
 #[tactic(auto, using(crate::proofs::Pads::address_padded, crate::proofs::Pads::size_padded))]
 fn push_head(text: &mut String, address: u64, offset: u64, size: u64) -> Result<(), AllocError>
     ensures { OnOk result (string_bytes text.new ≡ string_bytes text.old ++ line_head address offset size) }
@@ -115,7 +115,7 @@ fn push_head(text: &mut String, address: u64, offset: u64, size: u64) -> Result<
     write!(text, "{address:016x} {offset:>10} {size:>10} ")
 }
 
-// Writes a section's name, in Mach-O behind its segment's.
+// Writes a section's name, in Mach-O after its segment's.
 fn push_name(text: &mut String, segment: Option<&str>, name: Option<&str>) -> Result<(), AllocError>
     ensures { OnOk result
         (string_bytes text.new

@@ -1,4 +1,4 @@
-//! What is read of a file for its sections.
+//! The tables of a file's sections, read from a source.
 
 ghost use Rattle.std.specs.Prelude.{◌≡◌, ◌≢◌, ℕ, List, Some, IfErr, length};
 ghost use Rattle.binfarce.specs.Format.{format_of};
@@ -18,7 +18,7 @@ use binfarce_tables::{Beginning, ReadError, elf32, elf64, macho, part, pe};
 use binfarce_tools::tables::read_format;
 use std::alloc::Global;
 
-// What was read of a file for its sections.
+// The tables of a file's sections.
 #[derive(Drop)]
 pub(crate) enum Tables {
     Elf32(elf32::SectionParts),
@@ -58,8 +58,8 @@ impl Tables {
     }
 }
 
-// Reads of a file its first bytes, which name its format, and what `binfarce_tables` reads for the sections of a file of
-// that format. Refused where the file is too short for its header.
+// Reads the first bytes of a file, which name its format, and the tables of the sections of a file of that format
+// (`binfarce_tables`). Refused where the file is too short for its header.
 pub(crate) fn read<S: Source>(alloc: Global, source: &S) -> Result<Tables, ReadError>
     ensures { (file : List ℕ) → S.bytes source.now ≡ Some file → ReadsTables (S.may_fail source.now) file result }
 {

@@ -1,4 +1,4 @@
-//! What the program does, over any reader and any writer.
+//! The program, over any reader and any writer.
 
 ghost use Rattle.std.specs.Prelude.{◌≡◌, ◌⊎◌, ℕ, List, [], true, map, Some, None, MatchResult, IfSome};
 ghost use Rattle.std.specs.String.{string_bytes};
@@ -21,7 +21,7 @@ use std::alloc::Global;
 use std::io::{Read, Write};
 use thiserror::Error;
 
-/// Why the program did not report on a file. Its text is the line that is printed.
+/// Why the program did not report on a file. Its text is the printed line.
 #[derive(Debug, Drop, Error)]
 pub enum Fault {
     /// The arguments aren't a file and perhaps a section.
@@ -55,7 +55,7 @@ impl From<ReadError> for Fault {
 
     ghost from_gives = { λ e f. f ≡ read_fault e };
 
-    /// A file that isn't read is one that can't be read, and a refusal is that of the file.
+    /// `Unreadable` becomes `File`, and any other error becomes `Report`.
     fn from(e: ReadError) -> Self {
         match e {
             ReadError::Refused(e) => Fault::Report(ReportError::Parse(e)),
@@ -108,9 +108,9 @@ pub fn run<R: Read, W: Write>(
     report(alloc, bytes.as_slice(), section, out).map_err(Fault::Report)
 }
 
-/// Does the same of a source, of which it reads the headers, the symbol table and the names alone.
+/// The same for a source, of which only the headers, the symbol table and the names are read.
 ///
-/// `File` where the source can't be read at offsets, or a read of it fails; `Report` as `run`.
+/// `File` where the source can't be read at offsets, or a read of it fails; `Report` as in `run`.
 pub fn run_at<S: Source, W: Write>(
     alloc: Global,
     source: &S,
@@ -133,7 +133,7 @@ pub fn run_at<S: Source, W: Write>(
     }
 }
 
-/// Does what `run_at` does where the file can be read at offsets, and else what `run` does.
+/// As `run_at` if the file can be read at offsets, and else as `run`.
 pub fn run_file<F: Read + Source, W: Write>(
     alloc: Global,
     file: &mut F,
@@ -156,7 +156,7 @@ pub fn run_file<F: Read + Source, W: Write>(
     }
 }
 
-/// The status that the program ends with: 2 for the usage, and 1 for any other fault.
+/// The program's exit status: 2 for the usage, and 1 for any other fault.
 pub fn status(fault: &Fault) -> u8
     ensures { result ≡ status_of (is_usage fault.now) }
 {

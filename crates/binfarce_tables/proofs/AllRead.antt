@@ -95,14 +95,14 @@ all_from which class table = by_refusal (walk class table).refusal (rows_in whic
 -- what a file holds, by its rows, its section names, its sections and its type
 abbrev pub symbols_of : ElfClass → SectionTable → Option (List ℕ) → Walk Section → ℕ → TableRows → AllSymbols
 symbols_of class table names sections elf_type found =
-    record { entries = entries_of class table found; section_name = λ number. name_of_index names sections number; is_object = eqb elf_type 1 }
+    record { entries = entries_of class table found; section_name = λ number. name_of_index names sections number; shares_addresses = eqb elf_type 1 }
 
 abbrev pub symbols_by : SymbolTable → ElfClass → ℕ → SectionTable → Result AllSymbols Refusal
 symbols_by which class elf_type table = rows_of_all which class table >>= λ found. Ok (symbols_of class table (names_bytes class table) (walk class table) elf_type found)
 
 symbols_from : (which : SymbolTable) (class : ElfClass) (table : SectionTable) (elf_type : ℕ) → all_symbols which class table elf_type ≡ symbols_by which class elf_type table
 symbols_from which class table elf_type =
-    let named : List SectionEntry → Result AllSymbols Refusal = λ entries. Ok (record { entries = entries; section_name = λ number. name_of_index (names_bytes class table) (walk class table) number; is_object = eqb elf_type 1 }) in
+    let named : List SectionEntry → Result AllSymbols Refusal = λ entries. Ok (record { entries = entries; section_name = λ number. name_of_index (names_bytes class table) (walk class table) number; shares_addresses = eqb elf_type 1 }) in
     ap (λ (a : Result (List SectionEntry) Refusal). a >>= named) (all_from which class table)
     ∙ assoc (rows_of_all which class table) (λ found. Ok (entries_of class table found)) named
 

@@ -1,5 +1,5 @@
 -- Where the symbols of all sections of a Mach-O file are, by what was read of it.
-use Rattle.std.proofs.Common.{◌≡◌, ◌⊎◌, ◌≢◌, ℕ, ◌+◌, ◌*◌, ◌≤◌, Bool, true, false, nat_eq, List, [], ◌∷◌, length, map, All, Option, None, Some, Result, Ok, Err, inl, inr, refl, sym, ap, ap₂, subst, ◌∙◌}
+use Rattle.std.proofs.Common.{◌≡◌, ◌⊎◌, ◌≢◌, ℕ, ◌+◌, ◌*◌, ◌≤◌, Bool, false, nat_eq, List, [], ◌∷◌, length, map, All, Option, None, Some, Result, Ok, Err, inl, inr, refl, sym, ap, ap₂, subst, ◌∙◌}
 use Rattle.std.specs.Global.{Vec}
 use Rattle.std.proofs.lemmas.Bool.{le-ltb}
 use Rattle.std.proofs.lemmas.List.Elements.{All-head, All-tail}
@@ -39,17 +39,17 @@ module _ (file bytes : List ℕ) (inside : 28 ≤ length file) (are : bytes ≡ 
       rw (sym same.starts ∙ at, sym same.table ∙ is) refl
 
   pub all_found : (starts : List ℕ) (found : CommandParts) → section_starts bytes ≡ Ok starts → All (λ start. start + 52 ≤ length bytes) starts
-      → found.ends ≡ map (end_at bytes) starts → found.names ≡ map (name_at bytes) starts → table_of bytes ≡ Ok found.table → found.is_object ≡ nat_eq (header_of bytes).filetype 1 → all_commands file ≡ Ok found
+      → found.ends ≡ map (end_at bytes) starts → found.names ≡ map (name_at bytes) starts → table_of bytes ≡ Ok found.table → found.shares_addresses ≡ nat_eq (header_of bytes).filetype 1 → all_commands file ≡ Ok found
   all_found starts found at held ends names table object =
       let same = same_sections file bytes inside are in
       let ends_are : map (end_at file) starts ≡ found.ends = sym (map_held (end_at bytes) (end_at file) (length bytes) starts same.ends held) ∙ sym ends in
       let names_are : map (name_at file) starts ≡ found.names = sym (map_held (name_at bytes) (name_at file) (length bytes) starts same.names held) ∙ sym names in
-      let object_is : nat_eq (header_of file).filetype 1 ≡ found.is_object = sym (object ∙ ap (λ (n : ℕ). nat_eq n 1) same.filetype) in
+      let object_is : nat_eq (header_of file).filetype 1 ≡ found.shares_addresses = sym (object ∙ ap (λ (n : ℕ). nat_eq n 1) same.filetype) in
       rw (sym same.starts ∙ at, sym same.table ∙ table, ends_are, names_are, object_is) refl
 
 -- what follows the commands
 abbrev pub after_commands : List ℕ → CommandParts → Result AllLocated Refusal
-after_commands file found = symbols_by file found.table >>= λ symbols. Ok (record { ends = found.ends; names = found.names; symbols = symbols; is_object = found.is_object })
+after_commands file found = symbols_by file found.table >>= λ symbols. Ok (record { ends = found.ends; names = found.names; symbols = symbols; shares_addresses = found.shares_addresses })
 
 symbols_are : (file : List ℕ) → symbols_of file ≡ (table_of file >>= symbols_by file)
 unfolding symbols_of
@@ -59,10 +59,10 @@ located_by : List ℕ → Result (List ℕ) Refusal → Result (Option Symbols) 
 located_by file starts symbols = do
   starts ← starts
   symbols ← symbols
-  Ok (record { ends = map (end_at file) starts; names = map (name_at file) starts; symbols = symbols; is_object = nat_eq (header_of file).filetype 1 })
+  Ok (record { ends = map (end_at file) starts; names = map (name_at file) starts; symbols = symbols; shares_addresses = nat_eq (header_of file).filetype 1 })
 
 by_steps : (file : List ℕ) (starts : Result (List ℕ) Refusal) (table : Result (Option (SymbolTable ℕ)) Refusal) → located_by file starts (table >>= symbols_by file)
-    ≡ ((starts >>= λ starts. table >>= λ table. Ok (record { ends = map (end_at file) starts; names = map (name_at file) starts; table = table; is_object = nat_eq (header_of file).filetype 1 })) >>= after_commands file)
+    ≡ ((starts >>= λ starts. table >>= λ table. Ok (record { ends = map (end_at file) starts; names = map (name_at file) starts; table = table; shares_addresses = nat_eq (header_of file).filetype 1 })) >>= after_commands file)
 unfolding located_by
 by_steps file (Err why) table = refl
 by_steps file (Ok starts) (Err why) = refl

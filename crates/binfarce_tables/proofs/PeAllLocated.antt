@@ -12,9 +12,9 @@ use Rattle.binfarce_bytes.specs.Refusal.{◌>>=◌, Refusal, unexpected_eof}
 use Rattle.binfarce_bytes.specs.SectionEntries.{SectionEntry, AllSymbols, in_section, unless}
 use Rattle.binfarce_pe.specs.Pe.{Section, header_of, least_length, section_fields}
 use Rattle.binfarce_pe.specs.PeAll.{size_in, section_entries, all_entries, name_of, whole_sections, all_answer}
-use Rattle.binfarce_pe.specs.PeParts.{TablePlaces, SectionTable, headers_alone, places_of, section_table, section_in, whole_in, table_walk}
+use Rattle.binfarce_pe.specs.PeParts.{TablePlaces, SectionTable, headers_alone, places_of, section_table, whole_in, table_walk}
 use Rattle.binfarce_pe.specs.PeSymbols.{SymbolTable, symbol_table, entries_of}
-use Rattle.binfarce_tables.specs.PeAllReading.{AllTables, all_view, all_file_answer}
+use Rattle.binfarce_tables.specs.PeAllReading.{all_view, all_file_answer}
 use Rattle.binfarce_tables.specs.machine.PePlaces.{places_step, headers_at, alone_at, whole_at, table_at}
 use Rattle.binfarce_tables.specs.declared.error.ReadError.{ReadError}
 use Rattle.binfarce_tables.specs.declared.error.ReadError.TheVariants.{Refused, Unreadable, OutOfMemory}
@@ -84,8 +84,8 @@ module _ (file : List ℕ) (places : TablePlaces) where
       ]
     ]
 
-    pub view_same : (symbols : SymbolTable) → all_view (record { sections = alone; symbols = symbols }) ≡ record { entries = all_entries table symbols; section_name = name_of table; is_object = false }
-    view_same symbols = ap₂ (λ (es : List SectionEntry) (names : ℕ → Option (List ℕ)). record { entries = es; section_name = names; is_object = false }) (entries_same symbols) (fun_ext name_same)
+    pub view_same : (symbols : SymbolTable) → all_view (record { sections = alone; symbols = symbols }) ≡ record { entries = all_entries table symbols; section_name = name_of table; shares_addresses = true }
+    view_same symbols = ap₂ (λ (es : List SectionEntry) (names : ℕ → Option (List ℕ)). record { entries = es; section_name = names; shares_addresses = true }) (entries_same symbols) (fun_ext name_same)
 
   -- where nothing is refused, none is truncated
   held : (table_walk table).refusal ≡ None → (places.sections < length file) × (places.section_count ≤ whole_in table)
@@ -113,9 +113,9 @@ table_is file = refl
 
 answer_by : SectionTable → Result SectionTable Refusal → Result SymbolTable Refusal → Result AllSymbols Refusal
 answer_by table sections symbols =
-    (sections >>= λ sections. symbols >>= λ symbols. Ok (all_entries sections symbols)) >>= λ entries. Ok (record { entries = entries; section_name = name_of table; is_object = false })
+    (sections >>= λ sections. symbols >>= λ symbols. Ok (all_entries sections symbols)) >>= λ entries. Ok (record { entries = entries; section_name = name_of table; shares_addresses = true })
 
-answer_is : (file : List ℕ) → (all_answer file >>= λ entries. Ok (record { entries = entries; section_name = name_of (section_table file); is_object = false })) ≡ answer_by (section_table file) (whole_sections (section_table file)) (symbol_table file)
+answer_is : (file : List ℕ) → (all_answer file >>= λ entries. Ok (record { entries = entries; section_name = name_of (section_table file); shares_addresses = true })) ≡ answer_by (section_table file) (whole_sections (section_table file)) (symbol_table file)
 unfolding all_answer answer_by
 answer_is file = refl
 
@@ -134,7 +134,7 @@ after_is file =
 pub steps_are : (file : List ℕ) → all_file_answer file ≡ (places_step file >>= after_places file)
 steps_are file = by_test (ltb (length file) (least_length file))
   where
-    by_test : (b : Bool) → cond b (Err unexpected_eof) (all_answer file >>= λ entries. Ok (record { entries = entries; section_name = name_of (section_table file); is_object = false }))
+    by_test : (b : Bool) → cond b (Err unexpected_eof) (all_answer file >>= λ entries. Ok (record { entries = entries; section_name = name_of (section_table file); shares_addresses = true }))
         ≡ (cond b (Err unexpected_eof) (Ok (places_of file)) >>= after_places file)
     by_test true = refl
     by_test false = answer_is file ∙ after_is file

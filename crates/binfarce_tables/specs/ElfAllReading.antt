@@ -14,7 +14,7 @@ use Rattle.binfarce_tables.specs.declared.elf_all.AllParts.{AllParts}
 abbrev pub all_symbols : SymbolTable → ElfClass → SectionTable → ℕ → Result AllSymbols Refusal
 all_symbols which class table elf_type = do
   entries ← all_answer which class table
-  Ok (record { entries = entries; section_name = λ number. name_of_index (names_bytes class table) (walk class table) number; is_object = nat_eq elf_type 1 })
+  Ok (record { entries = entries; section_name = λ number. name_of_index (names_bytes class table) (walk class table) number; shares_addresses = nat_eq elf_type 1 })
 
 -- the answer of a file by this symbol table: one too short for its header ends before what it should hold
 abbrev pub all_file_answer : SymbolTable → ElfClass → ByteOrder → List ℕ → Result AllSymbols Refusal
@@ -27,5 +27,5 @@ abbrev pub all_view : {C : Type 0} → ElfClass → AllParts C → AllSymbols
 all_view class p = record {
   entries = section_entries_from class p.byte_order p.strings.items p.count p.rows.items 0;
   section_name = λ number. name_of_index (option_map (λ v. v.items) p.names) (walk class (headers_alone p.byte_order p.headers.items p.count)) number;
-  is_object = nat_eq p.elf_type 1;
+  shares_addresses = nat_eq p.elf_type 1;
 }

@@ -14,14 +14,14 @@ pub record AllLocated : Type 0 where
   pub ends : List ℕ
   pub names : List (Option (List ℕ))
   pub symbols : Option Symbols
-  pub is_object : Bool
+  pub shares_addresses : Bool
 
 -- those of a file; an object file is of the type MH_OBJECT (1)
 abbrev pub all_located : List ℕ → Result AllLocated Refusal
 all_located file = do
   starts ← section_starts file
   symbols ← symbols_of file
-  Ok (record { ends = map (end_at file) starts; names = map (name_at file) starts; symbols = symbols; is_object = nat_eq (header_of file).filetype 1 })
+  Ok (record { ends = map (end_at file) starts; names = map (name_at file) starts; symbols = symbols; shares_addresses = nat_eq (header_of file).filetype 1 })
 
 -- a file too short for its header ends before what it should hold
 abbrev pub all_located_answer : List ℕ → Result AllLocated Refusal
@@ -34,7 +34,7 @@ all_entries found = all_of found.ends found.symbols
 abbrev pub all_symbols : AllLocated → Result AllSymbols Refusal
 all_symbols found = do
   entries ← all_entries found
-  Ok (record { entries = entries; section_name = name_of found.names; is_object = found.is_object })
+  Ok (record { entries = entries; section_name = name_of found.names; shares_addresses = found.shares_addresses })
 
 -- the answer of a file
 abbrev pub all_file_answer : List ℕ → Result AllSymbols Refusal
@@ -50,5 +50,5 @@ all_view p = record {
   ends = map extent_end p.extents.items;
   names = map (option_map string_bytes) p.names.items;
   symbols = option_map symbols_view p.symbols;
-  is_object = p.is_object;
+  shares_addresses = p.shares_addresses;
 }

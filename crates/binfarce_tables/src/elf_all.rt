@@ -61,9 +61,9 @@ impl<C: Class> AllParts<C> {
         )
     }
 
-    /// Whether the file is an object file (`ET_REL`), whose sections share addresses.
-    pub fn is_object(&self) -> bool
-        ensures { result ≡ (all_view C.table self.now).is_object }
+    /// Whether its sections share addresses: those of an object file (`ET_REL`) do.
+    pub fn shares_addresses(&self) -> bool
+        ensures { result ≡ (all_view C.table self.now).shares_addresses }
     {
         self.elf_type == RELOCATABLE
     }

@@ -30,7 +30,7 @@ pub struct AllParts {
     extents: Vec<Extent>,
     names: Vec<Option<String>>,
     symbols: Option<SymbolParts>,
-    is_object: bool,
+    shares_addresses: bool,
 }
 
 // The string table and the symbol table.
@@ -71,11 +71,11 @@ impl AllParts {
         }
     }
 
-    /// Whether the file is an object file (`MH_OBJECT`), whose sections may share addresses.
-    pub fn is_object(&self) -> bool
-        ensures { result ≡ (all_view self.now).is_object }
+    /// Whether its sections share addresses: those of an object file (`MH_OBJECT`) may.
+    pub fn shares_addresses(&self) -> bool
+        ensures { result ≡ (all_view self.now).shares_addresses }
     {
-        self.is_object
+        self.shares_addresses
     }
 }
 
@@ -114,7 +114,7 @@ pub fn read_all<S: Source>(alloc: Global, source: &S) -> Result<AllParts, ReadEr
         extents: found.extents,
         names: found.names,
         symbols,
-        is_object: found.is_object,
+        shares_addresses: found.shares_addresses,
     })
 }
 
@@ -124,7 +124,7 @@ struct Found {
     extents: Vec<Extent>,
     names: Vec<Option<String>>,
     table: Option<SymbolTable>,
-    is_object: bool,
+    shares_addresses: bool,
 }
 
 // What the load commands say, which these bytes of the file hold.
@@ -144,7 +144,7 @@ fn found_in(alloc: Global, commands: &[u8]) -> Result<Found, ReadError>
         extents,
         names,
         table,
-        is_object: is_object(header),
+        shares_addresses: is_object(header),
     })
 }
 

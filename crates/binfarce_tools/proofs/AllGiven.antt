@@ -1,8 +1,7 @@
 -- What the parts of a file give is what the file answers for all sections.
-use Rattle.std.proofs.Common.{◌≡◌, ℕ, Bool, true, false, cond, ltb, length, List, [], ◌++◌, map, Vec, Global, Option, Some, None, Result, Ok, Err, refl, sym, ap, subst, ◌∙◌, inl, inr}
+use Rattle.std.proofs.Common.{◌≡◌, ℕ, Bool, true, false, cond, ltb, length, List, [], map, Vec, Global, Option, Some, None, Result, Ok, Err, refl, sym, ap, subst, ◌∙◌, inl, inr}
 use Rattle.std.specs.Prelude.{◌≢◌, codes, nat_eq}
-use Rattle.std.specs.List.{AllZip, concat}
-use Rattle.std.specs.Result.{IsErr, IsErrAnd}
+use Rattle.std.specs.Result.{IsErrAnd}
 use Rattle.binfarce.specs.declared.ParseError.{ParseError}
 use Rattle.binfarce.specs.declared.Format.{Format}
 use Rattle.binfarce.specs.declared.Format.TheVariants as formats
@@ -19,7 +18,7 @@ use Rattle.binfarce.specs.Macho.{least_length}
 use Rattle.binfarce.specs.MachoAll as macho_all
 use Rattle.binfarce_macho.proofs.AllRows.{has_start}
 use Rattle.binfarce.specs.Pe as pe_file
-use Rattle.binfarce_tables.specs.ElfAllReading.{all_file_answer, all_view}
+use Rattle.binfarce_tables.specs.ElfAllReading.{all_file_answer}
 use Rattle.binfarce_tables.specs.MachoAllReading as macho
 use Rattle.binfarce_tables.specs.PeAllReading as pe
 use Rattle.binfarce_tools.specs.declared.all.AllTables.{AllTables}
@@ -29,7 +28,7 @@ use Rattle.binfarce_tools.specs.declared.list.ListError.{ListError}
 use Rattle.binfarce_tools.specs.declared.list.ListError.TheVariants as errors
 use Rattle.binfarce_tools.specs.AllAnswer.{all_symbols_answer, all_answer_of, by_symbol_table, HasSections, AllNeedsMemory}
 use Rattle.binfarce_tools.specs.AllListing.{IsLineIn, IsAllListingOf}
-use Rattle.binfarce_tools.specs.AllTables.{AreAllTablesOf, section_names, is_object_of}
+use Rattle.binfarce_tools.specs.AllTables.{AreAllTablesOf, section_names, shares_addresses_of}
 use Rattle.binfarce_tools.specs.Entries.{GetsAs, HoldsAll, all_left}
 use Rattle.binfarce_tools.specs.ListWords.{list_error_of}
 use Rattle.binfarce_tools.proofs.Lines.{AreLines}
@@ -63,9 +62,9 @@ unfolding all_symbols_answer
 of_unknown which file is = subst (λ (f : Format). GetsAs HoldsAll (λ _. HasSections f file) (all_symbols_answer which f file) (Err errors.Unknown)) (sym is) refl
 
 -- what is made of entries that a call lists
-module _ (A B : Type 0) (names : ℕ → Option (List ℕ)) (is_object : Bool) where
+module _ (A B : Type 0) (names : ℕ → Option (List ℕ)) (shares_addresses : Bool) where
   abbrev pub with_entries : Result (List SectionEntry) Refusal → Result AllSymbols Refusal
-  with_entries entries = entries >>= λ e. Ok (record { entries = e; section_name = names; is_object = is_object })
+  with_entries entries = entries >>= λ e. Ok (record { entries = e; section_name = names; shares_addresses = shares_addresses })
 
   pub listed : (entries : Result (List SectionEntry) Refusal) (functions : Vec SectionFunction Global) (value : AllFunctions)
       → AnswersAll HoldsSectionFunctions A entries (Ok functions) → all_left value ≡ map section_function_view functions.items → GetsAs HoldsAll (λ _. B) (Some (with_entries entries)) (Ok value)
@@ -102,13 +101,16 @@ module _ (which : SymbolTable) (file : List ℕ) (found : macho.AllLocated)
       → GetsAs HoldsAll (AllNeedsMemory file) (all_answer_of which file) (Ok value)
   given_macho functions value answers left =
       got which file formats.Macho (macho.all_symbols found) (Ok value) is.0 (is.1 ∙ ap Some same)
-      (listed SomeEnd (HasSections formats.Macho file) (macho_all.name_of found.names) found.is_object (macho.all_entries found) functions value answers left)
+      (listed SomeEnd (HasSections formats.Macho file) (macho_all.name_of found.names) found.shares_addresses (macho.all_entries found) functions value answers left)
 
   pub not_given_macho : (e : ParseError) (result : Result AllFunctions ListError) → (SomeEnd → HasSections formats.Macho file) → AnswersAll HoldsSectionFunctions SomeEnd (macho.all_entries found) (Err e) → IsErrAnd result (λ f. f ≡ list_error_of e)
       → GetsAs HoldsAll (AllNeedsMemory file) (all_answer_of which file) result
   not_given_macho e result needs answers err =
       got which file formats.Macho (macho.all_symbols found) result is.0 (is.1 ∙ ap Some same)
-      (not_listed SomeEnd (HasSections formats.Macho file) (macho_all.name_of found.names) found.is_object (macho.all_entries found) e result (told_all_of found.ends found.symbols) needs answers err)
+      (not_listed SomeEnd (HasSections formats.Macho file) (macho_all.name_of found.names) found.shares_addresses (macho.all_entries found) e result (told_all_of found.ends found.symbols) needs answers err)
+
+located_same : {a b : macho.AllLocated} → Path (Result macho.AllLocated Refusal) (Ok a) (Ok b) → b ≡ a
+located_same e = cc
 
 -- a Mach-O file with an end of a section has a section
 pub macho_needs : (file : List ℕ) (found : macho.AllLocated) → macho.all_located_answer file ≡ Ok found → found.ends ≢ [] → HasSections formats.Macho file
@@ -116,19 +118,16 @@ unfolding HasSections
 macho_needs file found is some = by_length (ltb (length file) least_length) is
   where
     by_starts : (starts : Result (List ℕ) Refusal) → macho_all.section_starts file ≡ starts
-        → (starts >>= λ s. macho_all.symbols_of file >>= λ symbols. Ok (record { ends = map (macho_all.end_at file) s; names = map (macho_all.name_at file) s; symbols = symbols; is_object = nat_eq (macho_file.header_of file).filetype 1 })) ≡ Ok found
+        → (starts >>= λ s. macho_all.symbols_of file >>= λ symbols. Ok (record { ends = map (macho_all.end_at file) s; names = map (macho_all.name_at file) s; symbols = symbols; shares_addresses = nat_eq (macho_file.header_of file).filetype 1 })) ≡ Ok found
         → macho_all.HasSection file
     by_starts (Err refusal) at e = absurd cc
     by_starts (Ok starts) at e = has_start file starts at (λ none. some (by_symbols (macho_all.symbols_of file) e ∙ ap (map (macho_all.end_at file)) none))
       where
         by_symbols : (symbols : Result (Option macho_all.Symbols) Refusal)
-            → (symbols >>= λ symbols. Ok (record { ends = map (macho_all.end_at file) starts; names = map (macho_all.name_at file) starts; symbols = symbols; is_object = nat_eq (macho_file.header_of file).filetype 1 })) ≡ Ok found
+            → (symbols >>= λ symbols. Ok (record { ends = map (macho_all.end_at file) starts; names = map (macho_all.name_at file) starts; symbols = symbols; shares_addresses = nat_eq (macho_file.header_of file).filetype 1 })) ≡ Ok found
             → found.ends ≡ map (macho_all.end_at file) starts
         by_symbols (Err refusal) e = absurd cc
-        by_symbols (Ok symbols) e = ap (λ (l : macho.AllLocated). l.ends) (of_ok e)
-
-        of_ok : {a b : macho.AllLocated} → Path (Result macho.AllLocated Refusal) (Ok a) (Ok b) → b ≡ a
-        of_ok e = cc
+        by_symbols (Ok symbols) e = ap (λ (l : macho.AllLocated). l.ends) (located_same e)
 
     by_length : (short : Bool) → cond short (Err unexpected_eof) (macho.all_located file) ≡ Ok found → macho_all.HasSection file
     by_length true e = absurd cc
@@ -157,33 +156,33 @@ some_same : {a b : Result AllSymbols Refusal} → Path (Option (Result AllSymbol
 some_same e = cc
 
 -- what was read beside the entries of a Mach-O file is the file's
-macho_all_is : (entries : Result (List SectionEntry) Refusal) (names : ℕ → Option (List ℕ)) (is_object : Bool) (all : AllSymbols)
-    → (entries >>= λ e. Ok (record { entries = e; section_name = names; is_object = is_object })) ≡ Ok all → (names ≡ all.section_name) × (is_object ≡ all.is_object)
-macho_all_is (Ok entries) names is_object all is = let same : (record { entries = entries; section_name = names; is_object = is_object }) ≡ all = of_ok is in
-    (ap (λ (a : AllSymbols). a.section_name) same, ap (λ (a : AllSymbols). a.is_object) same)
+macho_all_is : (entries : Result (List SectionEntry) Refusal) (names : ℕ → Option (List ℕ)) (shares_addresses : Bool) (all : AllSymbols)
+    → (entries >>= λ e. Ok (record { entries = e; section_name = names; shares_addresses = shares_addresses })) ≡ Ok all → (names ≡ all.section_name) × (shares_addresses ≡ all.shares_addresses)
+macho_all_is (Ok entries) names shares_addresses all is = let same : (record { entries = entries; section_name = names; shares_addresses = shares_addresses }) ≡ all = of_ok is in
+    (ap (λ (a : AllSymbols). a.section_name) same, ap (λ (a : AllSymbols). a.shares_addresses) same)
   where
     of_ok : {a b : AllSymbols} → Path (Result AllSymbols Refusal) (Ok a) (Ok b) → a ≡ b
     of_ok e = cc
-macho_all_is (Err refusal) names is_object all is = absurd cc
+macho_all_is (Err refusal) names shares_addresses all is = absurd cc
 
 -- and so for any file: the names, and whether it is an object file
 all_is : (which : SymbolTable) (file : List ℕ) (read : AllTables) (all : AllSymbols) → AreAllTablesOf which file read → all_answer_of which file ≡ Some (Ok all)
-    → (section_names read ≡ all.section_name) × (is_object_of read ≡ all.is_object)
+    → (section_names read ≡ all.section_name) × (shares_addresses_of read ≡ all.shares_addresses)
 unfolding AreAllTablesOf all_symbols_answer
-all_is which file (tables.Elf32 parts) all are is = (ap (λ (a : AllSymbols). a.section_name) (some_ok (sym are ∙ is)), ap (λ (a : AllSymbols). a.is_object) (some_ok (sym are ∙ is)))
-all_is which file (tables.Elf64 parts) all are is = (ap (λ (a : AllSymbols). a.section_name) (some_ok (sym are ∙ is)), ap (λ (a : AllSymbols). a.is_object) (some_ok (sym are ∙ is)))
+all_is which file (tables.Elf32 parts) all are is = (ap (λ (a : AllSymbols). a.section_name) (some_ok (sym are ∙ is)), ap (λ (a : AllSymbols). a.shares_addresses) (some_ok (sym are ∙ is)))
+all_is which file (tables.Elf64 parts) all are is = (ap (λ (a : AllSymbols). a.section_name) (some_ok (sym are ∙ is)), ap (λ (a : AllSymbols). a.shares_addresses) (some_ok (sym are ∙ is)))
 all_is which file (tables.Macho parts) all are is =
     let found = macho.all_view parts in
-    macho_all_is (macho.all_entries found) (macho_all.name_of found.names) found.is_object all
+    macho_all_is (macho.all_entries found) (macho_all.name_of found.names) found.shares_addresses all
     (sym (ap (λ (l : Result macho.AllLocated Refusal). l >>= macho.all_symbols) are.2) ∙ some_same (sym are.1 ∙ is))
-all_is which file (tables.Pe parts) all are is = (ap (λ (a : AllSymbols). a.section_name) (some_ok (sym are.1 ∙ is)), ap (λ (a : AllSymbols). a.is_object) (some_ok (sym are.1 ∙ is)))
+all_is which file (tables.Pe parts) all are is = (ap (λ (a : AllSymbols). a.section_name) (some_ok (sym are.1 ∙ is)), ap (λ (a : AllSymbols). a.shares_addresses) (some_ok (sym are.1 ∙ is)))
 all_is which file tables.Unknown all are is =
     let e : Path (Option (Result AllSymbols Refusal)) None (Some (Ok all)) = sym (ap (λ (f : Format). all_symbols_answer which f file) are) ∙ is in absurd cc
 
 pub names_are : (which : SymbolTable) (file : List ℕ) (read : AllTables) (all : AllSymbols) → AreAllTablesOf which file read → all_answer_of which file ≡ Some (Ok all) → section_names read ≡ all.section_name
 names_are which file read all are is = (all_is which file read all are is).0
 
-pub object_is : (which : SymbolTable) (file : List ℕ) (read : AllTables) (all : AllSymbols) → AreAllTablesOf which file read → all_answer_of which file ≡ Some (Ok all) → is_object_of read ≡ all.is_object
+pub object_is : (which : SymbolTable) (file : List ℕ) (read : AllTables) (all : AllSymbols) → AreAllTablesOf which file read → all_answer_of which file ≡ Some (Ok all) → shares_addresses_of read ≡ all.shares_addresses
 object_is which file read all are is = (all_is which file read all are is).1
 
 -- the lines of what a file holds are its listing

@@ -1,20 +1,18 @@
 -- The sums over the entries of all sections.
-use Rattle.std.proofs.Common.{◌≡◌, ℕ, ◌≤◌, ◌^◌, List, map, Option, Some, None, Result, Ok, Err, refl, sym, ap, subst, ◌∙◌, inl, inr, ◌⊎◌}
-use Rattle.std.specs.Prelude.{◌≢◌}
+use Rattle.std.proofs.Common.{◌≡◌, ◌≤◌, ◌^◌, List, map, Option, Some, None, Result, Ok, Err, refl, sym, ap, subst, ◌∙◌, inl, inr, ◌⊎◌}
 use Rattle.std.specs.Result.{IsErrAnd}
 use Rattle.std.specs.List.{AllZip}
-use Rattle.binfarce.specs.Refusal.{Refusal, refusal_of}
+use Rattle.binfarce.specs.Refusal.{Refusal}
 use Rattle.binfarce.specs.Symbol.{Entry, Listed}
 use Rattle.binfarce.specs.SectionEntries.{SectionEntry, AllSymbols}
 use Rattle.binfarce_tools.specs.declared.all.AllFunctions.{AllFunctions}
 use Rattle.binfarce_tools.specs.declared.functions.Functions.TheVariants.{All}
 use Rattle.binfarce_tools.specs.declared.list.ListError.{ListError}
-use Rattle.binfarce_tools.specs.declared.list.ListError.TheVariants as errors
 use Rattle.binfarce_tools.specs.declared.report.CrateSums.{CrateSums}
 use Rattle.binfarce_tools.specs.declared.report.ReportError.{ReportError}
 use Rattle.binfarce_tools.specs.declared.report.ReportError.TheVariants as report_errors
 use Rattle.binfarce_tools.specs.AllAnswer.{one_answer}
-use Rattle.binfarce_tools.specs.Entries.{GetsAs, Gets, HoldsAll, all_left, functions_left}
+use Rattle.binfarce_tools.specs.Entries.{GetsAs, Gets, HoldsAll, functions_left}
 use Rattle.binfarce_tools.specs.Report.{Share, IsShareOf}
 use Rattle.binfarce_tools.specs.ReportWords.{report_error_of}
 use Rattle.binfarce_tools.specs.Sums.{AreSumsOf, GetsSums}

@@ -36,9 +36,9 @@ section_names (Pe parts) = (pe.all_view parts).section_name
 section_names Unknown = λ number. None
 
 -- whether what was read is an object file
-abbrev pub is_object_of : AllTables → Bool
-is_object_of (Elf32 parts) = (all_view elf32 parts).is_object
-is_object_of (Elf64 parts) = (all_view elf64 parts).is_object
-is_object_of (Macho parts) = (macho.all_view parts).is_object
-is_object_of (Pe parts) = false
-is_object_of Unknown = false
+abbrev pub shares_addresses_of : AllTables → Bool
+shares_addresses_of (Elf32 parts) = (all_view elf32 parts).shares_addresses
+shares_addresses_of (Elf64 parts) = (all_view elf64 parts).shares_addresses
+shares_addresses_of (Macho parts) = (macho.all_view parts).shares_addresses
+shares_addresses_of (Pe parts) = true
+shares_addresses_of Unknown = false

@@ -4,13 +4,12 @@ ghost use Rattle.std.specs.Prelude.{◌≡◌, ◌≢◌, ◌++◌, ℕ, List, m
 ghost use Rattle.std.specs.Iterator.{YieldsFirstBy};
 ghost use Rattle.std.specs.Option.{option_map};
 ghost use Rattle.std.specs.String.{string_bytes};
-ghost use Rattle.binfarce.specs.Format.{format_of};
 ghost use Rattle.binfarce.specs.SectionEntries.{AllSymbols};
 ghost use Rattle.binfarce.specs.SymbolViews.{section_function_view};
 ghost use Rattle.binfarce.specs.declared.SymbolTable.{SymbolTable};
 ghost use Rattle.binfarce_tools.specs.AllAnswer.{all_answer_of, AllNeedsMemory, one_answer};
 ghost use Rattle.binfarce_tools.specs.AllListing.{section_text, IsLineIn, IsAllListingOf, AllListingFits};
-ghost use Rattle.binfarce_tools.specs.AllTables.{AreAllTablesOf, ReadsAllTables, section_names, is_object_of};
+ghost use Rattle.binfarce_tools.specs.AllTables.{AreAllTablesOf, ReadsAllTables, section_names, shares_addresses_of};
 ghost use Rattle.binfarce_tools.specs.Entries.{GetsAs, HoldsAll, all_left, all_arranged_left};
 ghost use Rattle.binfarce_tools.specs.ListWords.{outcome_of};
 ghost use Rattle.binfarce_tools.specs.Map.{IsMapOf};
@@ -100,24 +99,24 @@ impl AllTables {
         }
     }
 
-    /// Whether the file is an object file, whose sections share addresses: in ELF of the type `ET_REL`, in Mach-O
-    /// `MH_OBJECT`. A PE image is none.
-    pub fn is_object(&self) -> bool
-        ensures read { result ≡ is_object_of self.now }
+    /// Whether the file's sections share addresses: those of an object file do (in ELF `ET_REL`, in Mach-O `MH_OBJECT`), and
+    /// those of a PE file, whose addresses are offsets in a section.
+    pub fn shares_addresses(&self) -> bool
+        ensures read { result ≡ shares_addresses_of self.now }
         ensures file { (which : SymbolTable) (file : List ℕ) (all : AllSymbols) → AreAllTablesOf which file self.now
-            → all_answer_of which file ≡ Some (Ok all) → result ≡ all.is_object }
+            → all_answer_of which file ≡ Some (Ok all) → result ≡ all.shares_addresses }
     {
-        self.object_read()
+        self.sharing_read()
     }
 
-    fn object_read(&self) -> bool
-        ensures { result ≡ is_object_of self.now }
+    fn sharing_read(&self) -> bool
+        ensures { result ≡ shares_addresses_of self.now }
     {
         match self {
-            AllTables::Elf32(parts) => parts.is_object(),
-            AllTables::Elf64(parts) => parts.is_object(),
-            AllTables::Macho(parts) => parts.is_object(),
-            AllTables::Pe(_) => false,
+            AllTables::Elf32(parts) => parts.shares_addresses(),
+            AllTables::Elf64(parts) => parts.shares_addresses(),
+            AllTables::Macho(parts) => parts.shares_addresses(),
+            AllTables::Pe(_) => true,
             AllTables::Unknown => false,
         }
     }

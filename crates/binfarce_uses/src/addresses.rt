@@ -1,4 +1,4 @@
-//! What stands at addresses.
+//! Addresses and their symbols.
 
 pub mod line_of;
 pub mod write_lines;

@@ -1,4 +1,4 @@
-//! Files that are read where their tables are.
+//! Files of which only the tables are read.
 
 pub mod elf_symbols;
 pub mod section_parts;

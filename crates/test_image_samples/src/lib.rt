@@ -1,4 +1,4 @@
-//! Images of small ELF files, and the files that they are laid out in, for tests of what reads them.
+//! Images of small ELF files, and the files that they are laid out in, for tests of readers.
 #![tactic(auto)]
 
 pub mod tally;

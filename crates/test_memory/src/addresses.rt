@@ -1,4 +1,4 @@
-//! What stands at addresses: all lines, or `OutOfMemory` and nothing or a beginning of them written.
+//! Symbolized addresses: all lines, or `OutOfMemory` and nothing or a beginning of them written.
 
 use binfarce_addresses::at::{Places, at};
 use binfarce_addresses::stream::{LinesError, answer_lines};

@@ -1,4 +1,4 @@
-//! Laying out: the file, or `OutOfMemory`; and what is refused, whichever allocation fails.
+//! Laying out: the file, or `OutOfMemory`; and the refusals, whichever allocation fails.
 //!
 //! `TooLarge` has no row: it takes bodies of 2^32 bytes together, or rows that have 2.8 GB in memory.
 

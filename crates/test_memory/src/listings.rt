@@ -28,7 +28,7 @@ fn is_listed(alloc: Global, file: File, text: &str) -> Row {
     }
 }
 
-// What is listed of a sample, and what is reported.
+// The listing of a sample, and its report.
 fn texts_of(file: File) -> (&'static str, &'static str) {
     match file {
         File::Elf(_) => (elf::LISTING, "        16 foo\nsum 16\ntext 32\n"),
@@ -100,8 +100,8 @@ fn is_reported_of(alloc: Global, file: File) -> Row {
 const PICTURE: &str =
     "<svg xmlns=\"http://www.w3.org/2000/svg\" width=\"800\" height=\"96\" viewBox=\"0 0 800 96\" font-family=\"sans-serif\" font-size=\"14\">\n<title>Size by crate</title>\n<rect width=\"800\" height=\"100%\" fill=\"#fff\"/>\n<text x=\"8\" y=\"25\">sum 32, text 32: bytes and share of the sum by crate</text>\n<svg y=\"40\" height=\"24\"><svg width=\"236\"><text x=\"8\" y=\"17\">123foo</text></svg><svg x=\"240\" width=\"360\"><rect y=\"3\" width=\"100%\" height=\"18\" fill=\"#e6e6e6\"/><rect y=\"3\" width=\"50.00%\" height=\"18\" fill=\"#245\"/></svg><text x=\"672\" y=\"17\" text-anchor=\"end\">50.00%</text><text x=\"792\" y=\"17\" text-anchor=\"end\">16</text></svg>\n<svg y=\"64\" height=\"24\"><svg width=\"236\"><text x=\"8\" y=\"17\">foo</text></svg><svg x=\"240\" width=\"360\"><rect y=\"3\" width=\"100%\" height=\"18\" fill=\"#e6e6e6\"/><rect y=\"3\" width=\"50.00%\" height=\"18\" fill=\"#245\"/></svg><text x=\"672\" y=\"17\" text-anchor=\"end\">50.00%</text><text x=\"792\" y=\"17\" text-anchor=\"end\">16</text></svg>\n</svg>\n";
 
-// The name of a function that stands before `foo::bar`, and the report of both or its picture; `TooLarge` where the first
-// function's size, which stands at 112, is 2^64 - 1.
+// The name of a function before `foo::bar`, and the report of both or its picture; `TooLarge` where the first
+// function's size, at offset 112, is 2^64 - 1.
 const REPORTS: [(&str, Reported); 4] = [
     ("_RNvC6_123foo3bar", Reported::Picture(PICTURE)),
     (

@@ -40,8 +40,9 @@ pub(crate) fn add_readings(alloc: Global, tally: &mut Tally) {
     tally.add("all sections of PE", row_of(all::pe(alloc, file, &file)));
 }
 
-/// Whether the file gives what the sample does. No clause says what an opened file gives, so this run alone refuses a `fill_at`
-/// of `File` that reads at another offset (`read_exact_at(buf, 0)`, or `offset + 1`), and a `length` below the file's.
+/// Whether the file gives the sample's bytes. No clause says what an opened file gives, so this run alone refuses a
+/// `fill_at` of `File` that reads at another offset (`read_exact_at(buf, 0)`, or `offset + 1`), and a `length` below
+/// the file's.
 pub(crate) fn is_read(rt: &HostRuntime) -> bool {
     let layout = Layout::Elf64Little;
     match File::open(rt, SAMPLE) {

@@ -43,7 +43,7 @@ fn is_at_the_end() -> Result<bool, UnexpectedEof> {
     Ok(stream.at_end() && stream.offset() == 13 && stream.remaining() == 0)
 }
 
-// Whether what was read is right, and no call was refused.
+// Whether the bytes that were read are right, and no call was refused.
 fn is_right(row: Result<bool, UnexpectedEof>) -> bool {
     row.unwrap_or(false)
 }

@@ -1,4 +1,4 @@
-//! Errors: their printed words, and what becomes a `ParseError`.
+//! Errors: their printed words, and the conversions to `ParseError`.
 
 use crate::expected::is_printed;
 use binfarce::{ParseError, UnexpectedEof};

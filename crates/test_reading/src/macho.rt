@@ -10,7 +10,7 @@ use test_samples::{Patch, patched};
 /// The size of the sample's load commands in its header, which has none.
 pub const SAID: Patch<'static> = (SIZEOFCMDS, &[0xB0]);
 
-/// What the source gives, beside what the whole file does.
+/// The answer of the source, beside that of the whole file.
 pub fn compared<S: Source>(alloc: Global, file: &[u8], source: &S) -> Given {
     let whole = match binfarce::macho::parse(file) {
         Ok(macho) => macho.functions(alloc),

@@ -5,7 +5,7 @@ use binfarce_bytes::source::Source;
 use binfarce_reading::ReadError;
 use std::alloc::Global;
 
-/// What the source gives, beside what the whole file does.
+/// The answer of the source, beside that of the whole file.
 pub fn compared<S: Source>(alloc: Global, file: &[u8], source: &S) -> Given {
     let whole = match binfarce::pe::parse(file) {
         Ok(pe) => pe.functions(alloc),

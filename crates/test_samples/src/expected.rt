@@ -2,7 +2,7 @@
 
 use std::io::{self, Write};
 
-/// Compares what is written with bytes, and keeps nothing.
+/// Compares the written bytes with others, and keeps nothing.
 #[derive(Drop)]
 pub struct Expected<'a> {
     left: &'a [u8],

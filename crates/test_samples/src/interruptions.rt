@@ -4,7 +4,7 @@ use crate::streams::{Source, Target};
 use std::cell::Cell;
 use std::io::{self, Error, ErrorKind, Read, Write};
 
-/// Gives what its source gives. The first call and every second one after it are interrupted.
+/// Reads from its source. The first call and every second one after it are interrupted.
 #[derive(Drop)]
 pub struct InterruptedSource<'a> {
     pub source: Source<'a>,
@@ -43,7 +43,7 @@ impl<'a> Read for InterruptedSource<'a> {
     }
 }
 
-/// Takes what its target takes. The first write and every second one after it are interrupted.
+/// Writes to its target. The first write and every second one after it are interrupted.
 #[derive(Drop)]
 pub struct InterruptedTarget<'a> {
     pub target: Target,

@@ -1,4 +1,4 @@
-//! Small executables, byte by byte, for tests of what reads them.
+//! Small executables, byte by byte, for tests of readers.
 #![tactic(auto)]
 
 ghost use Rattle.std.specs.Prelude.{◌≡◌, map, set, take, IfOk};

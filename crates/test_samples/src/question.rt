@@ -11,7 +11,7 @@ pub trait Question {
     fn answer(&self, alloc: Global, file: &[u8]) -> Result<String, AllocError>;
 }
 
-/// The first wrong answer, where the patches are what the answer comes from.
+/// The first wrong answer, where the patches decide the answer.
 ///
 /// Of the patched file it has to be this text, and of a file that lacks one of the patches, whichever, another text.
 pub fn wrong_with<Q: Question>(

@@ -1,6 +1,6 @@
 // From crates/binfarce_reading/src/lib.rt, by tools/erase.
 
-//! Files that are read where their tables are: each part once, into memory of its size.
+//! Files of which only the tables are read: each part once, into memory of its size.
 
 mod elf;
 pub mod elf32;

@@ -1,6 +1,6 @@
 // From crates/binfarce_sections/src/lib.rt, by tools/erase.
 
-//! The sections of executables: their bytes by name, and a line for each.
+//! The sections of executables: a section's bytes by its name, and a list of all sections.
 
 pub mod bytes;
 pub mod error;

@@ -1,6 +1,6 @@
 // From crates/test_image_samples/src/lib.rt, by tools/erase.
 
-//! Images of small ELF files, and the files that they are laid out in, for tests of what reads them.
+//! Images of small ELF files, and the files that they are laid out in, for tests of readers.
 
 pub mod tally;
 

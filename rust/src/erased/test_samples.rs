@@ -1,6 +1,6 @@
 // From crates/test_samples/src/lib.rt, by tools/erase.
 
-//! Small executables, byte by byte, for tests of what reads them.
+//! Small executables, byte by byte, for tests of readers.
 
 pub mod elf;
 pub mod expected;

@@ -1,4 +1,4 @@
--- What stands in a caller's array while sections are put into it.
+-- A caller's array while sections are put into it.
 use Rattle.std.specs.Prelude.{◌≡◌, ℕ, List, [], ◌∷◌, ◌++◌}
 use Rattle.binfarce_c.specs.declared.sections.Section.{Section}
 use Rattle.binfarce_c.specs.AllSections.{count_of}
@@ -8,6 +8,6 @@ use Rattle.binfarce_c.specs.Buffer.{put}
 abbrev pub IsFilled : (was : List Section) (sections : List Section) (now : List Section) (count : ℕ) → Type 0
 IsFilled was sections now count = (now ≡ put was sections) × (count ≡ count_of sections)
 
--- one section more came, whatever came before it
+-- one more section, whatever came before it
 abbrev pub OneMore : (section : Section) (count : ℕ) (old : List Section) (new : List Section) (next : ℕ) → Type 0
 OneMore section count old new next = (was sections : List Section) → IsFilled was sections old count → IsFilled was (sections ++ section ∷ []) new next

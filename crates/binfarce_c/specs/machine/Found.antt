@@ -1,4 +1,4 @@
--- What was found of function symbols before it is put into a caller's array.
+-- The function symbols that were found, before they are put into a caller's array.
 use Rattle.std.specs.Prelude.{◌≡◌, ℕ, List, Result, Ok, Err, length}
 use Rattle.std.specs.Global.{Vec}
 use Rattle.binfarce.specs.declared.ParseError.{ParseError}
@@ -22,7 +22,7 @@ ListsOr Needs (Err refusal) = Needs
 abbrev pub Lists : Result Listed Refusal → Type 0
 Lists answer = ListsOr ⊥ answer
 
--- what was found stands in the array
+-- the functions that were found are in the array
 abbrev pub Ends : Result (Vec Function × ℕ) ParseError → List Function → List Function → Functions → Type 0
 Ends (Ok found) old new given = (given ≡ record { status = ok; detail = 0; count = length found.0.items; section_size = found.1 }) × (new ≡ put old found.0.items)
 Ends (Err e) old new given = HoldsRefusal (refusal_of e) old new given

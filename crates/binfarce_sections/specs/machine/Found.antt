@@ -1,4 +1,4 @@
--- What is found before its bytes are cut.
+-- A section that was found, before its bytes are cut.
 use Rattle.std.specs.Prelude.{◌≡◌, ℕ, Bool, true, List, Vec, Option, Some, None, Result, Ok, Err}
 use Rattle.std.specs.Global.{Global}
 use Rattle.std.specs.Option.{option_map}
@@ -12,7 +12,7 @@ use Rattle.binfarce_sections.specs.Section.{Section}
 use Rattle.binfarce_sections.specs.Telling.{IsLack}
 use Rattle.binfarce_sections.specs.Views.{section_view}
 
--- the first section that the word names, or why the walk doesn't come to it
+-- the first section that the word names, or why the walk doesn't reach it
 abbrev pub Finds : Option (Walk Section) → List ℕ → Result (Option code.Section) SectionError → Type 0
 Finds (Some walk) word (Ok found) = first (is_named word) walk ≡ Ok (option_map section_view found)
 Finds (Some walk) word (Err (Parse e)) = first (is_named word) walk ≡ Err (refusal_of e)
@@ -20,7 +20,7 @@ Finds (Some walk) word (Err e) = ⊥
 Finds None word (Ok found) = ⊥
 Finds None word (Err e) = e ≡ Unknown
 
--- the bytes that a search gives, read from a source: or why there are none; or it can't be read, where it may fail, or an allocation failed
+-- the bytes of a search, read from a source, or why there are none; or a source that may fail is unreadable, or an allocation failed
 abbrev pub ReadsBytes : Bool → Result (List ℕ) Lack → Result (Vec ℕ Global) SectionError → Type 0
 ReadsBytes may_fail answer (Ok v) = answer ≡ Ok v.items
 ReadsBytes may_fail answer (Err Unreadable) = may_fail ≡ true

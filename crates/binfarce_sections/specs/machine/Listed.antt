@@ -1,4 +1,4 @@
--- The lines that are made before they are written.
+-- The lines of a walk's sections, before they are written.
 use Rattle.std.specs.Prelude.{◌≡◌, Option, String}
 use Rattle.std.specs.Option.{option_map}
 use Rattle.std.specs.String.{string_bytes}

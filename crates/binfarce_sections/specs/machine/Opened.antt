@@ -1,4 +1,4 @@
--- What a reader gives of the sections of its format, before its refusal becomes the call's.
+-- The sections that a reader of one format gives, before its refusal becomes the call's.
 use Rattle.std.specs.Prelude.{◌≡◌, Some, Result, Ok, Err}
 use Rattle.binfarce.specs.declared.ParseError.{ParseError}
 use Rattle.binfarce.specs.Refusal.{refusal_of}

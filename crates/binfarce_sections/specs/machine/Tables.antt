@@ -1,4 +1,4 @@
--- What is read of a file for its sections.
+-- The tables of a file's sections.
 use Rattle.std.specs.Prelude.{◌≡◌, ℕ, Bool, true, List, length, Some, Result, Ok, Err}
 use Rattle.binfarce.specs.declared.Format.TheVariants as formats
 use Rattle.binfarce.specs.Elf.{elf32, elf64}
@@ -17,7 +17,7 @@ use Rattle.binfarce_sections.specs.declared.tables.Tables.TheVariants.{Elf32, El
 abbrev pub Has : List ℕ → Walk Section → Type 0
 Has file walk = sections_of (format_of file) file ≡ Some walk
 
--- the sections of what was read are the file's, and so is the length
+-- the tables have the file's sections, and its length
 abbrev pub AreTablesOf : List ℕ → Tables → Type 0
 AreTablesOf file (Elf32 parts) = let seen = sections_view elf32 parts in Has file (mapped (elf_named seen.name) seen.sections) × (seen.file_length ≡ length file)
 AreTablesOf file (Elf64 parts) = let seen = sections_view elf64 parts in Has file (mapped (elf_named seen.name) seen.sections) × (seen.file_length ≡ length file)
@@ -33,7 +33,8 @@ HasLength (Macho begun) n = n ≡ file_length_of begun
 HasLength (Pe begun) n = n ≡ file_length_of begun
 HasLength Unknown n = n ≡ 0
 
--- what a reading of this file gives: its tables, or the refusal that comes before any section; or a source that may fail can't be read, or an allocation failed
+-- the result of a reading of this file: its tables, or the refusal that comes before any section; or a source that may fail is unreadable, or an
+-- allocation failed
 abbrev pub ReadsTables : Bool → List ℕ → Result Tables ReadError → Type 0
 ReadsTables may_fail file (Ok tables) = AreTablesOf file tables
 ReadsTables may_fail file (Err (Refused e)) = Has file (ended (Some (refusal_of e)))

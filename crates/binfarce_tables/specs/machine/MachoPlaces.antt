@@ -23,13 +23,13 @@ pub record CommandParts : Type 0 where
   pub ends : List ℕ
   pub names : List (Option (List ℕ))
   pub table : Option (SymbolTable ℕ)
-  pub is_object : Bool
+  pub shares_addresses : Bool
 
 abbrev pub all_commands : List ℕ → Result CommandParts Refusal
 all_commands file = do
   starts ← section_starts file
   table ← table_of file
-  Ok (record { ends = map (end_at file) starts; names = map (name_at file) starts; table = table; is_object = nat_eq (header_of file).filetype 1 })
+  Ok (record { ends = map (end_at file) starts; names = map (name_at file) starts; table = table; shares_addresses = nat_eq (header_of file).filetype 1 })
 
 -- what was found
 abbrev pub found_view : Found → CommandParts
@@ -37,5 +37,5 @@ found_view f = record {
   ends = map extent_end f.extents.items;
   names = map (option_map string_bytes) f.names.items;
   table = option_map table_view f.table;
-  is_object = f.is_object;
+  shares_addresses = f.shares_addresses;
 }

@@ -5,7 +5,7 @@ use binfarce_filtering::stream::{StreamError, filter_stream};
 use std::alloc::Global;
 use std::io::{Read, Write};
 
-/// Copies a log, with each name in it made readable.
+/// Copies a log, with each name in readable form.
 pub fn copy_readable<R: Read, W: Write>(
     alloc: Global,
     input: &mut R,

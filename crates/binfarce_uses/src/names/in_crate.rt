@@ -7,7 +7,7 @@ ghost use Rattle.binfarce.specs.Named.{IsNamed};
 use binfarce::demangle::push_crate;
 use std::alloc::{AllocError, Global};
 
-/// `in ` and the crate that a name tells, if it tells one.
+/// `in ` and the crate of a name, if it has one.
 pub fn in_crate(alloc: Global, name: &str) -> Result<String, AllocError>
     ensures { IfOk result
         (λ text. (answer : Name) × IsNamed name.now answer

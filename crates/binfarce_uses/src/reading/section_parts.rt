@@ -10,7 +10,7 @@ use binfarce_reading::ReadError;
 use binfarce_reading::elf64::{SectionParts, read_sections};
 use std::alloc::Global;
 
-/// What the sections of a file and their names are read from.
+/// The parts of a file that have its sections and their names.
 pub fn section_parts<S: Source>(alloc: Global, source: &S) -> Result<SectionParts, ReadError>
     ensures { (file : List ℕ) → S.bytes source.now ≡ Some file
         → Reads (S.may_fail source.now) (sections_view elf64) (file_sections elf64 LittleEndian file) result }

@@ -8,7 +8,7 @@ use binfarce_tools::SymbolTable;
 use binfarce_tools::tables::{Tables, read_by};
 use std::alloc::Global;
 
-/// What the function symbols of `.text` in the dynamic symbol table are made of.
+/// The tables of the function symbols of `.text` in the dynamic symbol table.
 pub fn dynamic_tables<S: Source>(alloc: Global, source: &S) -> Result<Tables, ReadError>
     ensures { (file : List ℕ) → S.bytes source.now ≡ Some file
         → ReadsTables (S.may_fail source.now ≡ true) Dynsym file (codes ".text") result }

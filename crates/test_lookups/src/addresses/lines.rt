@@ -8,7 +8,7 @@ use std::alloc::{AllocError, Global};
 use std::test::Fail;
 use test_samples::elf::ELF64_LITTLE;
 
-// What is told of addresses in a file, after a base is taken off.
+// The lines of addresses in a file, after a base is subtracted.
 fn told(
     alloc: Global,
     file: &[u8],

@@ -24,7 +24,7 @@ fn places(alloc: Global) -> Result<Places<'static>, Fail> {
     Ok(places)
 }
 
-// How the answering ended, and what was written.
+// The result, and the output.
 fn answered(
     alloc: Global,
     source: Source<'_>,
@@ -105,7 +105,7 @@ fn failed_writes(rt: HostRuntime) -> Result<(), Fail> {
     Ok(())
 }
 
-// Texts, what is written of them, with the base taken off, and how many of their lines write no address.
+// Texts, their output with the base subtracted, and how many of their lines have no address.
 const TEXTS: [(&[u8], &[u8], u64); 16] = [
     (b"\n", b"??\n", 1),
     (b"401000\n\n401000\n", b"A??\nA", 1),

@@ -7,7 +7,7 @@ use binfarce_tools::list::Out;
 use std::alloc::{AllocError, Global};
 use test_samples::first_bytes;
 
-// Whether both fronts write the same lines and the same bytes of this section, and end alike.
+// Whether both fronts write the same lines and the same bytes of this section, with the same result.
 pub(crate) fn are_alike(alloc: Global, file: &[u8], name: &str) -> Result<bool, AllocError> {
     let mut whole = Out::new(Vec::new(alloc));
     let mut read = Out::new(Vec::new(alloc));

@@ -77,7 +77,7 @@ fn failed_writes(rt: HostRuntime) -> Result<(), AllocError> {
     Ok(())
 }
 
-// Interrupted reads and writes are tried again, and what is written is flushed before more is read and at the end.
+// Interrupted reads and writes are tried again, and the output is flushed before each read and at the end.
 #[test]
 fn interrupted_reads_and_writes(rt: HostRuntime) -> Result<(), AllocError> {
     let unflushed = Cell::new(0);

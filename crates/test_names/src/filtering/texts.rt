@@ -4,7 +4,7 @@
 use binfarce_filtering::filter::{TextFilter, filter};
 use std::alloc::{AllocError, Global};
 
-// A text, and what it becomes with trimmed and with complete texts.
+// A text, and the filtered texts with trimmed and with complete names.
 struct Row(&'static [u8], &'static [u8], &'static [u8]);
 
 const ROWS: [Row; 23] = [
@@ -74,19 +74,19 @@ const ROWS: [Row; 23] = [
         b"FOO_RC0 v1_RC1_x _RC3foo GAMMA_ZNE",
         b"FOO_RC0 v1_RC1_x _RC3foo GAMMA_ZNE",
     ),
-    // C++ names, and what follows one in its run.
+    // C++ names, and the rest of a run after one.
     Row(
         b"_ZN3foo3barEv _ZN3foo3barEv.cold._RNvC1a1b _ZNK3foo3barEv",
         b"_ZN3foo3barEv _ZN3foo3barEv.cold._RNvC1a1b _ZNK3foo3barEv",
         b"_ZN3foo3barEv _ZN3foo3barEv.cold._RNvC1a1b _ZNK3foo3barEv",
     ),
-    // A v0 name that doesn't read ends before a `.`, behind which names are looked for.
+    // A v0 name that doesn't read ends before a `.`; names are looked for after it.
     Row(
         b"SOME_RNG._RNvC1a1b _RNvC1a._RNvC1a1b",
         b"SOME_RNG.a::b _RNvC1a.a::b",
         b"SOME_RNG.a[0]::b _RNvC1a.a[0]::b",
     ),
-    // What is no mangling stands unchanged.
+    // Text that isn't a mangling stays unchanged.
     Row(
         b"_RNvC1a _ZN3foo _R _ZN ...",
         b"_RNvC1a _ZN3foo _R _ZN ...",

@@ -17,13 +17,13 @@ struct Row<'a> {
     complete: &'a str,
     // Its trimmed text.
     trimmed: &'a str,
-    // The crate that its answer tells, if any.
+    // The crate of its answer, if any.
     root: Option<&'a str>,
     // What the row shows.
     what: &'a str,
 }
 
-/// The crate that a row tells: `-` for none.
+/// The crate of a row: `-` for none.
 pub(super) fn root_of(told: &str) -> Option<&str> {
     if told == "-" { None } else { Some(told) }
 }
@@ -81,7 +81,7 @@ pub(super) fn tells(alloc: Global, name: &str, root: Option<&str>) -> Result<boo
     Ok(told.as_ref().map(String::as_str) == root)
 }
 
-// The row's name has its answer. Of a legacy name the crate alone is told, and the answer has none.
+// The row's name has its answer. A legacy name has a crate, but its answer has none.
 fn check(rt: &impl Abort, alloc: Global, row: &Row<'_>) -> Result<(), AllocError> {
     assert!(rt; is_answered(alloc, row)?, "the answer: {}", row.what);
     assert!(rt;

@@ -1,4 +1,4 @@
-//! What a demangler answers doesn't depend on the names that it was asked for before.
+//! The answers of a demangler don't depend on the names before.
 
 use super::answers::check_after;
 use std::test::Fail;

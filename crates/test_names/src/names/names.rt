@@ -51,7 +51,7 @@ fn reads_names(rt: HostRuntime) -> Result<(), Fail> {
     check_lines(&rt, rt.alloc(), ROWS, 37)
 }
 
-// A line is a name and the crate that its path tells (`-` for none), with a bar between them.
+// A line is a name and the crate of its path (`-` for none), with a bar between them.
 const CRATES: &str = "\
 _ZN3foo3barE|foo
 _ZN3fooE|foo

@@ -8,7 +8,7 @@ use binfarce_v0_state::state::{Buffers, Printer};
 use std::alloc::{AllocError, Global};
 use std::process::Abort;
 
-// What stands behind a prefix has so many levels and steps.
+// The part after a prefix has so many levels and steps.
 fn check_counts(
     rt: &impl Abort,
     alloc: Global,
@@ -45,7 +45,7 @@ fn counts_levels_and_steps(rt: HostRuntime) -> Result<(), AllocError> {
     Ok(())
 }
 
-// A type in so many slices behind a front.
+// A type in so many slices, after a front.
 fn in_slices(alloc: Global, front: &str, slices: usize, back: &str) -> Result<String, AllocError> {
     let mut name = String::from_str(alloc, front)?;
     for _ in 0..slices {
@@ -65,7 +65,7 @@ fn counts_500_levels(rt: HostRuntime) -> Result<(), AllocError> {
     check_counts(&rt, alloc, shared.as_str(), 500, 802)
 }
 
-// A printing of what stands behind a prefix reads so many paths, types, consts and lifetimes.
+// A printing of the part after a prefix reads so many paths, types, consts and lifetimes.
 fn check_visits(
     rt: &impl Abort,
     alloc: Global,

@@ -130,7 +130,7 @@ fn reads_v0_names(rt: HostRuntime) -> Result<(), Fail> {
     check_lines(&rt, rt.alloc(), ROWS, 115)
 }
 
-// A text so many times, behind another.
+// A text so many times, after another.
 fn push_times(text: &mut String, part: &str, times: usize) -> Result<(), AllocError> {
     for _ in 0..times {
         text.push_str(part)?;
@@ -158,7 +158,7 @@ fn check_unknown(rt: &impl Abort, alloc: Global, name: &str, what: &str) -> Resu
     Ok(())
 }
 
-// A type in so many slices behind a front.
+// A type in so many slices, after a front.
 fn in_slices(alloc: Global, front: &str, slices: usize, back: &str) -> Result<String, AllocError> {
     let mut name = String::from_str(alloc, front)?;
     push_times(&mut name, "S", slices)?;

@@ -1,4 +1,4 @@
-//! Names that want to halt a reader, or to change the symbols beside them: each stands in a file before `foo::bar`.
+//! Names that try to halt a reader, or to change other symbols: each is in a file before `foo::bar`.
 
 use binfarce::demangle::{Kind, SymbolData, SymbolName};
 use binfarce::{ByteOrder, elf64};
@@ -6,7 +6,7 @@ use std::alloc::{AllocError, Global};
 use std::test::Fail;
 use test_image_samples::file_beside;
 
-// Pieces of a text, each with how often it stands there.
+// Pieces of a text, each with its count.
 type Pieces = &'static [(&'static str, usize)];
 
 fn joined(alloc: Global, pieces: Pieces) -> Result<String, AllocError> {

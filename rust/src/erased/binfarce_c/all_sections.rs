@@ -10,7 +10,7 @@ use crate::erased::binfarce::{elf32, elf64, macho, pe};
 /// What a call that gives sections returns: `struct binfarce_sections`.
 #[repr(C)]
 pub struct Sections {
-    /// `BINFARCE_OK`, or the refusal of what stands behind the last section.
+    /// `BINFARCE_OK`, or the refusal of the next section.
     pub status: u32,
     /// How many sections there are, however many of them the array had room for.
     pub count: usize,
@@ -132,7 +132,7 @@ fn fill_pe(file: &pe::Pe<'_>, out: &mut [Section]) -> Sections {
     Sections { status: OK, count }
 }
 
-// Puts a section into the array behind those that came before it, where it has room, and gives how many came then.
+// Puts a section into the array after those before it, if there is room. Returns how many came so far.
 fn place(section: Section, count: usize, out: &mut [Section]) -> usize {
     let room = out.len();
     if count < room {

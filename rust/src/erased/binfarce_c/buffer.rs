@@ -1,6 +1,6 @@
 // From crates/binfarce_c/src/buffer.rt, by tools/erase.
 
-//! Texts that are put into a caller's buffer, whatever its length.
+//! Texts in a caller's buffer of any length.
 
 use crate::erased::binfarce_c::status::OK;
 
@@ -9,7 +9,7 @@ use crate::erased::binfarce_c::status::OK;
 pub struct Text {
     /// How the call ended.
     pub status: u32,
-    /// Of `BINFARCE_UNEXPECTED_SECTION_TYPE` the type that was found, and else 0.
+    /// For `BINFARCE_UNEXPECTED_SECTION_TYPE` the type that was found, and else 0.
     pub detail: u32,
     /// The whole length of the text in bytes, however much of it the buffer had room for.
     pub length: usize,
@@ -25,7 +25,7 @@ pub(crate) fn give(text: &[u8], out: &mut [u8]) -> Text {
     }
 }
 
-/// Puts into a buffer as much of what is given as has room. What stands behind it stays.
+/// Writes as much as has room into a buffer. The rest of the buffer is unchanged.
 pub(crate) fn put<T: Copy>(given: &[T], out: &mut [T]) {
     let count = given.len().min(out.len());
     out[..count].copy_from_slice(&given[..count]);

@@ -68,19 +68,19 @@ pub fn binfarce_demangle(
 ) -> SymbolName {
     match symbol_name(alloc, name) {
         Ok(found) => {
-            let told = match &found.crate_name {
+            let crate_text = match &found.crate_name {
                 Some(text) => text.as_bytes(),
                 None => &[],
             };
             put(found.complete.as_bytes(), complete);
             put(found.trimmed.as_bytes(), trimmed);
-            put(told, crate_name);
+            put(crate_text, crate_name);
             SymbolName {
                 status: OK,
                 kind: kind_number(found.kind),
                 complete_length: found.complete.len(),
                 trimmed_length: found.trimmed.len(),
-                crate_length: told.len(),
+                crate_length: crate_text.len(),
                 has_crate: found.crate_name.is_some(),
             }
         }
@@ -103,7 +103,7 @@ pub fn binfarce_trimmed(alloc: Global, name: &[u8], out: &mut [u8]) -> Text {
     }
 }
 
-/// The crate that a name tells, in a buffer.
+/// The crate of a name, in a buffer.
 pub fn binfarce_crate_of(alloc: Global, name: &[u8], out: &mut [u8]) -> Text {
     match crate_text(alloc, name) {
         Ok(Some(text)) => give(text.as_bytes(), out),
@@ -112,7 +112,7 @@ pub fn binfarce_crate_of(alloc: Global, name: &[u8], out: &mut [u8]) -> Text {
     }
 }
 
-/// How a name is mangled, decided without memory.
+/// How a name is mangled. Nothing is allocated.
 pub fn binfarce_mangling(name: &[u8], out: &mut Mangling) -> u32 {
     match str::from_utf8(name) {
         Ok(name) => {

@@ -29,7 +29,7 @@ pub struct Section {
     pub range_status: u32,
     /// Where its bytes begin in the file.
     pub start: usize,
-    /// Where they end: the offset behind the last one.
+    /// Where they end: the offset after the last one.
     pub end: usize,
     /// In ELF how many entries of its entry size it has, 0 where that size is 0; in the other formats 0.
     pub entries: u64,
@@ -277,7 +277,7 @@ pub(crate) fn shown_pe(section: pe::Section<'_>) -> Section {
     )
 }
 
-// What was found, in the caller's struct.
+// The section that was found, in the caller's struct.
 fn give(found: Result<Option<Section>, ParseError>, out: &mut Section) -> u32 {
     match found {
         Ok(Some(section)) => {

@@ -1,14 +1,14 @@
 // From crates/binfarce_c/src/status.rt, by tools/erase.
 
-//! How a call ended, as a number, and the number's words.
+//! The status of a call: its number, and its text.
 
 use crate::erased::binfarce_c::buffer;
 use crate::erased::binfarce::ParseError;
 
-/// The call gave what was asked for.
+/// The call succeeded.
 pub(crate) const OK: u32 = 0;
 
-/// What was asked for isn't there.
+/// There is no such section, or no crate.
 pub(crate) const NONE: u32 = 1;
 
 /// A name that was passed isn't UTF-8.
@@ -17,7 +17,7 @@ pub(crate) const NOT_UTF8: u32 = 2;
 /// An allocation failed.
 pub(crate) const OUT_OF_MEMORY: u32 = 3;
 
-/// The file's first bytes name no format that is read.
+/// The file's first bytes name no supported format.
 pub(crate) const UNKNOWN_FORMAT: u32 = 4;
 
 /// A sum of sizes is 2^64 or more.
@@ -36,7 +36,7 @@ pub(crate) fn status_of(error: ParseError) -> u32 {
     }
 }
 
-/// What a refusal tells beside its number: the section type that was found.
+/// The detail of a refusal: the section type that was found.
 pub(crate) fn detail_of(error: ParseError) -> u32 {
     match error {
         ParseError::UnexpectedSectionType { actual, .. } => actual,
@@ -44,7 +44,7 @@ pub(crate) fn detail_of(error: ParseError) -> u32 {
     }
 }
 
-/// Puts the words of a status into a buffer, and gives their whole length.
+/// Writes the text of a status into a buffer, and returns its whole length.
 pub fn binfarce_status_text(status: u32, out: &mut [u8]) -> usize {
     let words = words_of(status).as_bytes();
     buffer::put(words, out);

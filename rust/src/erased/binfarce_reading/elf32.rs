@@ -1,6 +1,6 @@
 // From crates/binfarce_reading/src/elf32.rt, by tools/erase.
 
-//! 32-bit ELF files of either byte order, read where their tables are (System V gABI).
+//! 32-bit ELF files of either byte order, of which only the tables are read (System V gABI).
 
 use crate::erased::binfarce_reading::elf;
 use crate::erased::binfarce_bytes::ByteOrder;
@@ -10,18 +10,18 @@ pub use crate::erased::binfarce_tables::elf32::{SectionParts, read_sections};
 use crate::erased::binfarce_tables::{ReadError, elf32};
 use crate::shim::alloc::Global;
 
-/// The parts of a 32-bit file that the function symbols of a section are read from, in memory.
+/// The parts of a 32-bit file that have the function symbols of a section, in memory.
 pub type Parts = elf::Parts<u32>;
 
-/// Reads the parts of a file that the function symbols of the section with this name are read from, numbers in the
-/// given order, without a look at the magic number: the file header of 52 bytes, the header of the section names' own
-/// section, the section names, all section headers, the symbol table and its strings. Each is read once, into memory of
-/// its size, which is never more than what the file holds of it. No other byte is read.
+/// Reads the parts of a file that have the function symbols of the section with this name, numbers in the given order.
+/// These are the file header of 52 bytes, the header of the section names' own section, the section names, all section
+/// headers, the symbol table and its strings. Each is read once, into memory of its size, which is never more than the
+/// file has of it. No other byte is read. The magic number isn't checked.
 ///
 /// # Errors
 ///
-/// `Refused` with what `parse` and `functions` of a reader of the whole file refuse; `Unreadable` where the source can't
-/// be read at offsets, or a read of it fails, and never of a source that can't fail, as bytes in memory are;
+/// `Refused` with the error of `parse` or `functions` of a reader of the whole file; `Unreadable` where the source
+/// can't be read at offsets, or a read of it fails, and never for a source that can't fail, such as bytes in memory;
 /// `OutOfMemory` where an allocation fails.
 pub fn read<S: Source>(
     alloc: Global,
@@ -33,12 +33,12 @@ pub fn read<S: Source>(
     Ok(elf::of_tables(tables))
 }
 
-/// Reads the parts of a file that the function symbols of the section with this name in the dynamic symbol table are read
-/// from: what `read` reads, with the dynamic symbol table and its strings in place of the symbol table and its own.
+/// Reads the parts of a file that have the function symbols of the section with this name in the dynamic symbol table.
+/// These are the parts that `read` reads, but with the dynamic symbol table and its strings.
 ///
 /// # Errors
 ///
-/// `Refused` with what `parse` and `dynamic_functions` of a reader of the whole file refuse; else as `read`.
+/// `Refused` with the error of `parse` or `dynamic_functions` of a reader of the whole file; else as `read`.
 pub fn read_dynamic<S: Source>(
     alloc: Global,
     source: &S,

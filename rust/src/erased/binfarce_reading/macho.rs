@@ -1,6 +1,6 @@
 // From crates/binfarce_reading/src/macho.rt, by tools/erase.
 
-//! 64-bit Mach-O files, read where their tables are (Apple's `<mach-o/loader.h>` and `<mach-o/nlist.h>`).
+//! 64-bit Mach-O files, of which only the tables are read (Apple's `<mach-o/loader.h>` and `<mach-o/nlist.h>`).
 
 use crate::shim::Vec;
 use crate::erased::binfarce::symbols::symbols_of;
@@ -12,24 +12,24 @@ pub use crate::erased::binfarce_tables::macho::read_sections;
 use crate::erased::binfarce_tables::{ReadError, macho};
 use crate::shim::alloc::Global;
 
-/// The parts of a file that its function symbols are read from, in memory.
+/// The parts of a file that have its function symbols, in memory.
 pub struct Parts {
     tables: macho::Parts,
 }
 
 impl Parts {
     /// The function symbols that `functions` of a reader of the whole file gives, in its order, and the text's size in
-    /// bytes. Nothing is read: names are parts of what was read.
+    /// bytes. Nothing is read: names are slices of the parts.
     ///
     /// # Errors
     ///
     /// `MalformedInput` where a row that would be kept lies past the text's end with no address above it. `OutOfMemory`
-    /// comes only where the table has a value that isn't 0, and may stand in place of that refusal.
+    /// only where the table has a value that isn't 0; it may replace that error.
     pub fn functions(&self, alloc: Global) -> Result<(Vec<FunctionSymbol<'_>>, u64), ParseError> {
         self.tables.functions(alloc)
     }
 
-    /// The same functions as symbols, whose names are in readable form, and the text's size in bytes. Nothing is read.
+    /// The same functions as symbols with readable names, and the text's size in bytes. Nothing is read.
     ///
     /// # Errors
     ///
@@ -41,17 +41,17 @@ impl Parts {
     }
 }
 
-/// Reads the parts of a file that its function symbols are read from, without a look at the magic number: the header of
-/// 28 bytes, the file's first bytes up to where the load commands end as the header says (`sizeofcmds`), the string table
-/// and the symbol table. Each is read into memory of its size, which is never more than what the file holds of it. No other
-/// byte is read, unless the commands, or the sections of a segment command, go on past that end: then the whole file is
-/// read for them.
+/// Reads the parts of a file that have its function symbols: the header of 28 bytes, the file's first bytes up to the
+/// end of the load commands that the header states (`sizeofcmds`), the string table and the symbol table. Each is read
+/// into memory of its size, which is never more than the file has of it. No other byte is read, unless the commands, or
+/// the sections of a segment command, extend past that end: then the whole file is read for them. The magic number
+/// isn't checked.
 ///
 /// # Errors
 ///
-/// `Refused` with what `parse` and `functions` of a reader of the whole file refuse before they look at the symbol table's
-/// rows; `Unreadable` where the source can't be read at offsets, or a read of it fails, and never of a source that can't
-/// fail, as bytes in memory are; `OutOfMemory` where an allocation fails.
+/// `Refused` with the error of `parse` or `functions` of a reader of the whole file, if it comes before they read the
+/// symbol table's rows; `Unreadable` where the source can't be read at offsets, or a read of it fails, and never for a
+/// source that can't fail, such as bytes in memory; `OutOfMemory` where an allocation fails.
 pub fn read<S: Source>(alloc: Global, source: &S) -> Result<Parts, ReadError> {
     let tables = macho::read(alloc, source)?;
     Ok(Parts { tables })

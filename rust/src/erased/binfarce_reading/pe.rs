@@ -1,6 +1,6 @@
 // From crates/binfarce_reading/src/pe.rt, by tools/erase.
 
-//! PE files, read where their tables are (Microsoft PE Format).
+//! PE files, of which only the tables are read (Microsoft PE Format).
 
 use crate::shim::Vec;
 use crate::erased::binfarce::symbols::symbols_of;
@@ -12,29 +12,29 @@ pub use crate::erased::binfarce_tables::pe::read_sections;
 use crate::erased::binfarce_tables::{ReadError, pe};
 use crate::shim::alloc::Global;
 
-/// The parts of a file that the function symbols of `.text` are read from, in memory.
+/// The parts of a file that have the function symbols of `.text`, in memory.
 pub struct Parts {
     tables: pe::Parts,
 }
 
 impl Parts {
-    /// The function symbols of the section `.text`, by address and at equal addresses in table order, and the size in
-    /// bytes that the section has in the file: what `functions` of a reader of the whole file gives. Nothing is read:
-    /// names are parts of what was read.
+    /// The function symbols of the section `.text`, by address and at equal addresses in table order, and the section's
+    /// size in bytes in the file: the answer of `functions` of a reader of the whole file. Nothing is read: names are
+    /// slices of the parts.
     ///
     /// # Errors
     ///
-    /// `OutOfMemory`, only in place of a list that isn't empty.
+    /// `OutOfMemory`, only instead of a list that isn't empty.
     pub fn functions(&self, alloc: Global) -> Result<(Vec<FunctionSymbol<'_>>, u64), ParseError> {
         self.tables.functions(alloc)
     }
 
-    /// The same functions as symbols, whose names are in readable form, and the size in bytes that `.text` has in the
-    /// file. Nothing is read.
+    /// The same functions as symbols with readable names, and the size of `.text` in bytes in the file. Nothing is
+    /// read.
     ///
     /// # Errors
     ///
-    /// `OutOfMemory`, only in place of a list that isn't empty.
+    /// `OutOfMemory`, only instead of a list that isn't empty.
     pub fn symbols(&self, alloc: Global) -> Result<(Vec<SymbolData>, u64), ParseError> {
         let (functions, size) = self.functions(alloc)?;
         let symbols = symbols_of(alloc, functions.into_iter())?;
@@ -42,15 +42,15 @@ impl Parts {
     }
 }
 
-/// Reads the parts of a file that the function symbols of the section `.text` are read from, without a look at the
-/// signature: the offset of the signature, the signature and the file header, which are 24 bytes, the section headers,
-/// the symbol table, and the strings, which are what follows it. Each is read once, into memory of its size, which is never
-/// more than what the file holds of it. No other byte is read.
+/// Reads the parts of a file that have the function symbols of the section `.text`: the offset of the signature, the
+/// signature and the file header, which are 24 bytes, the section headers, the symbol table, and the strings, which are
+/// all that follows it. Each is read once, into memory of its size, which is never more than the file has of it. No
+/// other byte is read. The signature isn't checked.
 ///
 /// # Errors
 ///
-/// `Refused` with what `parse` and `functions` of a reader of the whole file refuse; `Unreadable` where the source can't
-/// be read at offsets, or a read of it fails, and never of a source that can't fail, as bytes in memory are;
+/// `Refused` with the error of `parse` or `functions` of a reader of the whole file; `Unreadable` where the source
+/// can't be read at offsets, or a read of it fails, and never for a source that can't fail, such as bytes in memory;
 /// `OutOfMemory` where an allocation fails.
 pub fn read<S: Source>(alloc: Global, source: &S) -> Result<Parts, ReadError> {
     let tables = pe::read(alloc, source)?;

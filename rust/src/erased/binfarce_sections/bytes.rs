@@ -11,11 +11,11 @@ use crate::erased::binfarce_tools::list::Sink;
 use crate::erased::binfarce_tools::writing::write_whole;
 use crate::shim::alloc::Global;
 
-/// The bytes of the first section of this name, a part of the file; nothing is copied or allocated.
+/// The bytes of the first section of this name, a slice of the file; nothing is copied or allocated.
 ///
 /// The format is the one that the file's first bytes name. In a Mach-O file the name is `SEGMENT,SECTION`, as
-/// `__TEXT,__text`, or a section's name alone, which is then the first of that name in any segment. In a PE file a name of
-/// more than 8 bytes stands in the string table, and the section's own name is as `/4`.
+/// `__TEXT,__text`, or a section's name alone: the first of that name in any segment. In a PE file a name of more than
+/// 8 bytes is in the string table, and the section's own name is as `/4`.
 ///
 /// # Errors
 ///
@@ -29,12 +29,12 @@ pub fn section_bytes<'a>(data: &'a [u8], name: &str) -> Result<&'a [u8], Section
     }
 }
 
-/// Writes the bytes of the first section of this name to the sink, as `section_bytes` gives them; none is copied on the way.
+/// Writes the bytes of the first section of this name to the sink, as `section_bytes` gives them, without a copy.
 ///
 /// # Errors
 ///
-/// As `section_bytes`, before anything is written; `Write` where a write failed, which alone can leave a beginning of the
-/// bytes written.
+/// Those of `section_bytes`, before anything is written; `Write` where a write failed: a beginning of the bytes may
+/// then be written.
 pub fn write_section<S: Sink>(data: &[u8], name: &str, out: &mut S) -> Result<(), SectionError> {
     let bytes = section_bytes(data, name)?;
     write_all(bytes, out)
@@ -45,13 +45,13 @@ fn write_all<S: Sink>(bytes: &[u8], out: &mut S) -> Result<(), SectionError> {
     write_whole(out, bytes).map_err(|_| SectionError::Write)
 }
 
-/// The same of the bytes of a source, of which only these are read: the first 8 bytes, what `read_sections` of
-/// `binfarce_tables` reads of a file of their format, and the section's bytes, in memory of its size.
+/// The same for a source, of which only these bytes are read: the first 8 bytes, those that `read_sections` of
+/// `binfarce_tables` reads of a file of that format, and the section's bytes, into memory of its size.
 ///
 /// # Errors
 ///
-/// As `write_section`, and before anything is written `Unreadable` where the source can't be read at offsets, or a read of it
-/// fails, and `OutOfMemory` where an allocation fails.
+/// Those of `write_section`. Before anything is written, also `Unreadable` where the source can't be read at offsets,
+/// or a read of it fails, and `OutOfMemory` where an allocation fails.
 pub fn write_section_of<F: Source, S: Sink>(
     alloc: Global,
     source: &F,
@@ -68,7 +68,7 @@ fn first_section<'a>(data: &'a [u8], name: &str) -> Result<Option<Section<'a>>, 
     Ok(first_in(sections, name)?)
 }
 
-// The first of the sections that are left that has this name.
+// The first section with this name, of those that are left.
 pub(crate) fn first_in<'a>(
     sections: Sections<'a>,
     name: &str,
@@ -82,7 +82,7 @@ pub(crate) fn first_in<'a>(
     Ok(None)
 }
 
-// The bytes of a section, a part of the file.
+// The bytes of a section, a slice of the file.
 fn bytes_of<'a>(data: &'a [u8], section: Section<'_>) -> Result<&'a [u8], SectionError> {
     if !section.has_bytes {
         return Err(SectionError::NoBytes);

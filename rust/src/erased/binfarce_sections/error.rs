@@ -1,6 +1,6 @@
 // From crates/binfarce_sections/src/error.rt, by tools/erase.
 
-//! Why no sections or no bytes of one are given.
+//! Why sections can't be listed, or a section's bytes can't be given.
 
 use crate::erased::binfarce::ParseError;
 use crate::erased::binfarce_tables::ReadError;
@@ -8,10 +8,10 @@ use crate::shim::alloc::AllocError;
 use std::error::Error;
 use std::fmt;
 
-/// Why the sections of a file were not listed, or the bytes of one not given.
+/// Why the sections of a file were not listed, or the bytes of one were not given.
 #[derive(Debug, PartialEq)]
 pub enum SectionError {
-    /// The file's first bytes name no format that is read.
+    /// The file's first bytes name no supported format.
     Unknown,
     /// The reader of the file's format refused it before the section was found, or before the last one was listed.
     Parse(ParseError),
@@ -23,9 +23,10 @@ pub enum SectionError {
     PastEnd,
     /// An allocation failed.
     OutOfMemory,
-    /// A write of the sink failed. What it took before is a beginning of what was due.
+    /// A write of the sink failed. It took a beginning of the output.
     Write,
-    /// The source can't be read at offsets, or a read of it failed, as where it became shorter. Bytes in memory never are it.
+    /// The source can't be read at offsets, or a read of it failed, as where it became shorter. Never for bytes in
+    /// memory.
     Unreadable,
 }
 
@@ -59,7 +60,7 @@ impl From<AllocError> for SectionError {
 }
 
 impl From<ReadError> for SectionError {
-    /// A refusal is that of the file.
+    /// A refusal becomes `Parse`.
     fn from(e: ReadError) -> Self {
         match e {
             ReadError::Refused(e) => SectionError::Parse(e),

@@ -7,7 +7,7 @@ use crate::erased::binfarce::{
     ByteOrder, Format, ParseError, detect_format, elf32, elf64, macho, pe,
 };
 
-/// A section of a file of any format. Its names are parts of the file; nothing is copied.
+/// A section of a file of any format. Its names are slices of the file; nothing is copied.
 #[derive(Debug, Clone, Copy)]
 pub struct Section<'a> {
     /// In a Mach-O file the name of its segment (`segname`), as `__TEXT`; elsewhere `None`.
@@ -19,17 +19,17 @@ pub struct Section<'a> {
     pub address: u64,
     /// Where its bytes begin in the file (`sh_offset`, `offset`, `PointerToRawData`), as the file states it.
     pub offset: u64,
-    /// Its size in bytes (`sh_size`, `size`), as the file states it; of `VirtualSize` and `SizeOfRawData` of a PE file the
-    /// one that isn't 0, and else the smaller one.
+    /// Its size in bytes (`sh_size`, `size`), as the file states it. In a PE file, the smaller one of `VirtualSize` and
+    /// `SizeOfRawData`, or the other one where one is 0.
     pub size: u64,
     /// Whether it has bytes in the file: not in ELF where its type is `SHT_NOBITS`, not in Mach-O where its offset is 0,
     /// and not in PE where `PointerToRawData` or `SizeOfRawData` is 0.
     pub has_bytes: bool,
 }
 
-/// The sections of a file that are left, in file order. It borrows the file's bytes.
+/// An iterator over the sections of a file, in file order. It borrows the file's bytes.
 ///
-/// A section is read when it is asked for. A refusal comes in the place of one that can't be read, and after it nothing.
+/// A section is read on demand. An error is given for one that can't be read; nothing follows it.
 #[must_use = "iterators are lazy and do nothing unless consumed"]
 pub enum Sections<'a> {
     Elf32(Elf32Sections<'a>),
@@ -38,25 +38,25 @@ pub enum Sections<'a> {
     Pe(pe::Sections<'a>),
 }
 
-/// The sections of a 32-bit ELF file that are left, and what has their names.
+/// The sections of a 32-bit ELF file that are left, with the source of their names.
 pub struct Elf32Sections<'a> {
     names: Elf32Names<'a>,
     left: elf32::Sections<'a>,
 }
 
-// What has the names of the sections of a 32-bit ELF file: the whole file, or what was read of it.
+// The source of the names of a 32-bit ELF file's sections: the whole file, or its parts that were read.
 enum Elf32Names<'a> {
     File(elf32::Elf32<'a>),
     Parts(&'a crate::erased::binfarce_tables::elf32::SectionParts),
 }
 
-/// The sections of a 64-bit ELF file that are left, and what has their names.
+/// The sections of a 64-bit ELF file that are left, with the source of their names.
 pub struct Elf64Sections<'a> {
     names: Elf64Names<'a>,
     left: elf64::Sections<'a>,
 }
 
-// What has the names of the sections of a 64-bit ELF file: the whole file, or what was read of it.
+// The source of the names of a 64-bit ELF file's sections: the whole file, or its parts that were read.
 enum Elf64Names<'a> {
     File(elf64::Elf64<'a>),
     Parts(&'a crate::erased::binfarce_tables::elf64::SectionParts),
@@ -75,11 +75,11 @@ impl<'a> Iterator for Sections<'a> {
     }
 }
 
-/// The sections of a file, whose format is the one that its first bytes name. Nothing is allocated.
+/// The sections of a file, in the format that its first bytes name. Nothing is allocated.
 ///
 /// # Errors
 ///
-/// `Unknown` where the format isn't one that is read; `Parse` where the file is too short for its header.
+/// `Unknown` where the format isn't supported; `Parse` where the file is too short for its header.
 pub fn sections_of(data: &[u8]) -> Result<Sections<'_>, SectionError> {
     match detect_format(data) {
         Format::Elf32 { byte_order } => Ok(open_elf32(data, byte_order)?),
@@ -97,7 +97,7 @@ fn open_elf32(data: &[u8], byte_order: ByteOrder) -> Result<Sections<'_>, ParseE
     Ok(Sections::Elf32(Elf32Sections { names, left }))
 }
 
-// The sections of a file, by what was read of it.
+// The sections of a file, from its parts that were read.
 pub(crate) fn elf32_sections(parts: &crate::erased::binfarce_tables::elf32::SectionParts) -> Sections<'_> {
     let left = parts.sections();
     let names = Elf32Names::Parts(parts);
@@ -111,7 +111,7 @@ fn open_elf64(data: &[u8], byte_order: ByteOrder) -> Result<Sections<'_>, ParseE
     Ok(Sections::Elf64(Elf64Sections { names, left }))
 }
 
-// The sections of a file, by what was read of it.
+// The sections of a file, from its parts that were read.
 pub(crate) fn elf64_sections(parts: &crate::erased::binfarce_tables::elf64::SectionParts) -> Sections<'_> {
     let left = parts.sections();
     let names = Elf64Names::Parts(parts);
@@ -224,7 +224,7 @@ fn pe_section(section: pe::Section<'_>) -> Section<'_> {
     }
 }
 
-// Of `VirtualSize` and `SizeOfRawData` the one that isn't 0, and else the smaller one.
+// The smaller one of `VirtualSize` and `SizeOfRawData`, or the other one where one is 0.
 fn pe_size(virtual_size: u32, raw_size: u32) -> u32 {
     if virtual_size == 0 {
         raw_size

@@ -1,6 +1,6 @@
 // From crates/binfarce_sections/src/tables.rt, by tools/erase.
 
-//! What is read of a file for its sections.
+//! The tables of a file's sections, read from a source.
 
 use crate::shim::Vec;
 use crate::erased::binfarce_sections::bytes::first_in;
@@ -14,7 +14,7 @@ use crate::erased::binfarce_tables::{Beginning, ReadError, elf32, elf64, macho, 
 use crate::erased::binfarce_tools::tables::read_format;
 use crate::shim::alloc::Global;
 
-// What was read of a file for its sections.
+// The tables of a file's sections.
 pub(crate) enum Tables {
     Elf32(elf32::SectionParts),
     Elf64(elf64::SectionParts),
@@ -47,8 +47,8 @@ impl Tables {
     }
 }
 
-// Reads of a file its first bytes, which name its format, and what `binfarce_tables` reads for the sections of a file of
-// that format. Refused where the file is too short for its header.
+// Reads the first bytes of a file, which name its format, and the tables of the sections of a file of that format
+// (`binfarce_tables`). Refused where the file is too short for its header.
 pub(crate) fn read<S: Source>(alloc: Global, source: &S) -> Result<Tables, ReadError> {
     let len = source.length()? as usize;
     match read_format(alloc, source, len)? {

@@ -1,6 +1,6 @@
 // From crates/binfarce_size/src/program.rt, by tools/erase.
 
-//! What the program does, over any reader and any writer.
+//! The program, over any reader and any writer.
 
 use crate::shim::String;
 use crate::erased::binfarce_bytes::source::Source;
@@ -12,7 +12,7 @@ use crate::erased::binfarce_tools::tables::read;
 use crate::shim::alloc::Global;
 use crate::shim::io::{Read, Write};
 
-/// Why the program did not report on a file. Its text is the line that is printed.
+/// Why the program did not report on a file. Its text is the printed line.
 #[derive(Debug)]
 pub enum Fault {
     /// The arguments aren't a file and perhaps a section.
@@ -47,7 +47,7 @@ impl From<Failure> for Fault {
 }
 
 impl From<ReadError> for Fault {
-    /// A file that isn't read is one that can't be read, and a refusal is that of the file.
+    /// `Unreadable` becomes `File`, and any other error becomes `Report`.
     fn from(e: ReadError) -> Self {
         match e {
             ReadError::Refused(e) => Fault::Report(ReportError::Parse(e)),
@@ -83,9 +83,9 @@ pub fn run<R: Read, W: Write>(
     report(alloc, bytes.as_slice(), section, out).map_err(Fault::Report)
 }
 
-/// Does the same of a source, of which it reads the headers, the symbol table and the names alone.
+/// The same for a source, of which only the headers, the symbol table and the names are read.
 ///
-/// `File` where the source can't be read at offsets, or a read of it fails; `Report` as `run`.
+/// `File` where the source can't be read at offsets, or a read of it fails; `Report` as in `run`.
 pub fn run_at<S: Source, W: Write>(
     alloc: Global,
     source: &S,
@@ -99,7 +99,7 @@ pub fn run_at<S: Source, W: Write>(
     }
 }
 
-/// Does what `run_at` does where the file can be read at offsets, and else what `run` does.
+/// As `run_at` if the file can be read at offsets, and else as `run`.
 pub fn run_file<F: Read + Source, W: Write>(
     alloc: Global,
     file: &mut F,
@@ -113,7 +113,7 @@ pub fn run_file<F: Read + Source, W: Write>(
     }
 }
 
-/// The status that the program ends with: 2 for the usage, and 1 for any other fault.
+/// The program's exit status: 2 for the usage, and 1 for any other fault.
 pub fn status(fault: &Fault) -> u8 {
     match fault {
         Fault::Usage => 2,

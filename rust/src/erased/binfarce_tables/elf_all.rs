@@ -50,8 +50,8 @@ impl<C: Class> AllParts<C> {
         )
     }
 
-    /// Whether the file is an object file (`ET_REL`), whose sections share addresses.
-    pub fn is_object(&self) -> bool {
+    /// Whether its sections share addresses: those of an object file (`ET_REL`) do.
+    pub fn shares_addresses(&self) -> bool {
         self.elf_type == RELOCATABLE
     }
 }

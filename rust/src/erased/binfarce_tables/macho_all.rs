@@ -18,7 +18,7 @@ pub struct AllParts {
     extents: Vec<Extent>,
     names: Vec<Option<String>>,
     symbols: Option<SymbolParts>,
-    is_object: bool,
+    shares_addresses: bool,
 }
 
 // The string table and the symbol table.
@@ -53,9 +53,9 @@ impl AllParts {
         }
     }
 
-    /// Whether the file is an object file (`MH_OBJECT`), whose sections may share addresses.
-    pub fn is_object(&self) -> bool {
-        self.is_object
+    /// Whether its sections share addresses: those of an object file (`MH_OBJECT`) may.
+    pub fn shares_addresses(&self) -> bool {
+        self.shares_addresses
     }
 }
 
@@ -89,7 +89,7 @@ pub fn read_all<S: Source>(alloc: Global, source: &S) -> Result<AllParts, ReadEr
         extents: found.extents,
         names: found.names,
         symbols,
-        is_object: found.is_object,
+        shares_addresses: found.shares_addresses,
     })
 }
 
@@ -98,7 +98,7 @@ struct Found {
     extents: Vec<Extent>,
     names: Vec<Option<String>>,
     table: Option<SymbolTable>,
-    is_object: bool,
+    shares_addresses: bool,
 }
 
 // What the load commands say, which these bytes of the file hold.
@@ -115,7 +115,7 @@ fn found_in(alloc: Global, commands: &[u8]) -> Result<Found, ReadError> {
         extents,
         names,
         table,
-        is_object: is_object(header),
+        shares_addresses: is_object(header),
     })
 }
 

@@ -70,18 +70,18 @@ impl AllTables {
         }
     }
 
-    /// Whether the file is an object file, whose sections share addresses: in ELF of the type `ET_REL`, in Mach-O
-    /// `MH_OBJECT`. A PE image is none.
-    pub fn is_object(&self) -> bool {
-        self.object_read()
+    /// Whether the file's sections share addresses: those of an object file do (in ELF `ET_REL`, in Mach-O `MH_OBJECT`), and
+    /// those of a PE file, whose addresses are offsets in a section.
+    pub fn shares_addresses(&self) -> bool {
+        self.sharing_read()
     }
 
-    fn object_read(&self) -> bool {
+    fn sharing_read(&self) -> bool {
         match self {
-            AllTables::Elf32(parts) => parts.is_object(),
-            AllTables::Elf64(parts) => parts.is_object(),
-            AllTables::Macho(parts) => parts.is_object(),
-            AllTables::Pe(_) => false,
+            AllTables::Elf32(parts) => parts.shares_addresses(),
+            AllTables::Elf64(parts) => parts.shares_addresses(),
+            AllTables::Macho(parts) => parts.shares_addresses(),
+            AllTables::Pe(_) => true,
             AllTables::Unknown => false,
         }
     }

@@ -1,6 +1,6 @@
 // From crates/test_memory/src/addresses.rt, by tools/erase.
 
-//! What stands at addresses: all lines, or `OutOfMemory` and nothing or a beginning of them written.
+//! Symbolized addresses: all lines, or `OutOfMemory` and nothing or a beginning of them written.
 
 use crate::erased::binfarce_addresses::at::{Places, at};
 use crate::erased::binfarce_addresses::stream::{LinesError, answer_lines};

@@ -13,7 +13,7 @@ pub(crate) struct Name {
     complete: &'static str,
     trimmed: &'static str,
     crate_name: Option<&'static str>,
-    // What `crate_of` tells.
+    // The answer of `crate_of`.
     told: Option<&'static str>,
 }
 
@@ -127,7 +127,7 @@ pub(crate) fn add_names(alloc: Global, tally: &mut Tally, keeps: bool) {
     }
 }
 
-// Where an allocation fails, the text that stood before has to be as it was.
+// Where an allocation fails, the text has to be unchanged.
 fn is_trimmed(alloc: Global, demangler: &mut Demangler, row: &Name) -> Row {
     const BEFORE: &str = "text before ";
     let mut text = String::from_str(alloc, BEFORE)?;

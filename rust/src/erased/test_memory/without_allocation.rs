@@ -161,7 +161,7 @@ fn has_failed() -> bool {
 }
 
 pub(crate) fn add_calls(tally: &mut Tally) {
-    // Nothing of what this call gives can be seen from here. It is no row, but its allocations would be counted.
+    // The result of this call can't be seen from here. It isn't a row, but its allocations would be counted.
     for row in &NAMES {
         let _ = demangle(row.name);
     }

@@ -1,6 +1,6 @@
 // From crates/test_memory/src/words.rt, by tools/erase.
 
-//! Errors: their printed words, and what becomes a `ParseError`.
+//! Errors: their printed words, and the conversions to `ParseError`.
 
 use crate::erased::test_memory::expected::is_printed;
 use crate::erased::binfarce::{ParseError, UnexpectedEof};

@@ -12,7 +12,7 @@ use crate::erased::test_samples::{Patch, patched};
 /// The size of the sample's load commands in its header, which has none.
 pub const SAID: Patch<'static> = (SIZEOFCMDS, &[0xB0]);
 
-/// What the source gives, beside what the whole file does.
+/// The answer of the source, beside that of the whole file.
 pub fn compared<S: Source>(alloc: Global, file: &[u8], source: &S) -> Given {
     let whole = match crate::erased::binfarce::macho::parse(file) {
         Ok(macho) => macho.functions(alloc),

@@ -7,7 +7,7 @@ use crate::erased::binfarce_bytes::source::Source;
 use crate::erased::binfarce_reading::ReadError;
 use crate::shim::alloc::Global;
 
-/// What the source gives, beside what the whole file does.
+/// The answer of the source, beside that of the whole file.
 pub fn compared<S: Source>(alloc: Global, file: &[u8], source: &S) -> Given {
     let whole = match crate::erased::binfarce::pe::parse(file) {
         Ok(pe) => pe.functions(alloc),

@@ -4,7 +4,7 @@
 
 use crate::shim::io::{self, Write};
 
-/// Compares what is written with bytes, and keeps nothing.
+/// Compares the written bytes with others, and keeps nothing.
 pub struct Expected<'a> {
     left: &'a [u8],
     /// Nothing was written.

@@ -6,7 +6,7 @@ use crate::erased::test_samples::streams::{Source, Target};
 use std::cell::Cell;
 use crate::shim::io::{self, Error, ErrorKind, Read, Write};
 
-/// Gives what its source gives. The first call and every second one after it are interrupted.
+/// Reads from its source. The first call and every second one after it are interrupted.
 pub struct InterruptedSource<'a> {
     pub source: Source<'a>,
     pub was_interrupted: bool,
@@ -44,7 +44,7 @@ impl<'a> Read for InterruptedSource<'a> {
     }
 }
 
-/// Takes what its target takes. The first write and every second one after it are interrupted.
+/// Writes to its target. The first write and every second one after it are interrupted.
 pub struct InterruptedTarget<'a> {
     pub target: Target,
     pub was_interrupted: bool,

@@ -18,7 +18,7 @@ pub struct Source<'a> {
 }
 
 impl<'a> Source<'a> {
-    /// Gives its bytes as they are asked for, and then ends.
+    /// Gives its bytes on demand, and then ends.
     pub fn of(bytes: &'a [u8]) -> Source<'a> {
         Source {
             bytes,
@@ -43,7 +43,7 @@ impl<'a> Read for Source<'a> {
     }
 }
 
-/// Gives what its reader gives, and is interrupted before each read.
+/// Reads from its reader, and is interrupted before each read.
 pub struct Interrupted<'a> {
     pub source: Source<'a>,
     pub is_next: bool,
@@ -79,7 +79,7 @@ impl<'a> crate::erased::binfarce_bytes::source::Source for Held<'a> {
     }
 }
 
-/// A file: what it gives at offsets, and what it gives to its end.
+/// A file: its bytes at offsets, and its bytes to the end.
 pub struct Opened<'a> {
     pub held: Held<'a>,
     pub left: Source<'a>,
@@ -175,7 +175,8 @@ impl Write for Target {
 
 const ELF: &[u8] = b"\x7FELF\x02\x01\x00\x00";
 
-/// What a file's reader gives, how it ends, and what a program that reads the file's symbols says of it after its own name.
+/// The bytes of a file's reader, how it ends, and the message of a program that reads the file's symbols, after the
+/// program's name.
 pub const READERS: [(&str, &[u8], Option<ErrorKind>, &str); 5] = [
     ("empty", &[], None, "unknown file format"),
     ("truncated", ELF, None, "unexpected end of file"),
@@ -199,7 +200,7 @@ pub const READERS: [(&str, &[u8], Option<ErrorKind>, &str); 5] = [
     ),
 ];
 
-/// What a source gives at offsets, its length, how it ends, and what a program says of it as above.
+/// The bytes of a source at offsets, its length, how it ends, and the message of a program as above.
 pub const HELD: [(&str, &[u8], u64, Option<ErrorKind>, &str); 7] = [
     ("one byte", b"\x7F", 1, None, "unknown file format"),
     ("truncated", ELF, 8, None, "unexpected end of file"),

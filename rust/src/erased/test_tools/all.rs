@@ -137,9 +137,9 @@ fn texts_of_all_sections() -> Result<(), Fail> {
 }
 
 // Whether a file can be read, is an object file or none, and no section has one of the numbers that none has.
-fn is_of_kind(alloc: Global, file: &[u8], is_object: bool) -> bool {
+fn is_known_to_share(alloc: Global, file: &[u8], shares_addresses: bool) -> bool {
     match read_all(alloc, &file, SYMTAB) {
-        Ok(tables) => tables.is_object() == is_object && !has_others(&tables),
+        Ok(tables) => tables.shares_addresses() == shares_addresses && !has_others(&tables),
         Err(_) => false,
     }
 }
@@ -153,27 +153,30 @@ fn has_others(tables: &AllTables) -> bool {
     false
 }
 
-// The ELF samples are object files; a Mach-O file is one by its file type, and a PE file none.
+// The ELF samples are object files; a Mach-O file is one by its file type. The addresses of a PE file are offsets in a section.
 #[test]
-fn object_files() -> Result<(), Fail> {
+fn shared_addresses() -> Result<(), Fail> {
     let rt = HostRuntime::new();
     for file in FILES {
-        let is_object = match file {
-            File::Elf(_) => true,
-            File::Macho | File::Pe => false,
+        let shares_addresses = match file {
+            File::Elf(_) | File::Pe => true,
+            File::Macho => false,
         };
         let bytes = file.whole(rt.alloc())?;
-        assert!(is_of_kind(rt.alloc(), &bytes, is_object), "{file:?}");
+        assert!(
+            is_known_to_share(rt.alloc(), &bytes, shares_addresses),
+            "{file:?}"
+        );
     }
     for layout in LAYOUTS {
         let file = sample_with(rt.alloc(), layout, &[(Field::Type, 2)])?;
-        assert!(is_of_kind(rt.alloc(), &file, false), "{layout:?}");
+        assert!(is_known_to_share(rt.alloc(), &file, false), "{layout:?}");
     }
     let file = patched(
         rt.alloc(),
         &File::Macho.whole(rt.alloc())?,
         &[(FILETYPE, &[1])],
     )?;
-    assert!(is_of_kind(rt.alloc(), &file, true));
+    assert!(is_known_to_share(rt.alloc(), &file, true));
     Ok(())
 }

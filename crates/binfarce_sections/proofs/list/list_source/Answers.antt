@@ -1,6 +1,6 @@
 use Rattle.binfarce.specs.Format.{format_of}
 use Rattle.binfarce_sections.specs.Section.{sections_of}
-use Rattle.binfarce_sections.specs.Telling.{TakesReadLines, Fails, told_of}
+use Rattle.binfarce_sections.specs.Telling.{TakesReadLines, Fails, error_of}
 use Rattle.binfarce_sections.proofs.SourceAnswers.{err_is, lines_opened, lines_unopened, lines_read, lines_unread, unfailed}
 use Rattle.binfarce_sections.proofs.list.list_source.Goals as goal
 
@@ -9,7 +9,7 @@ returns-in_err-tables-clause-takes g c = λ file known.
     let fails = g.F.Source.may_fail c.args.source.now in
     let old = g.S.Sink.taken c.args.out.now in
     let e = c.in_err-tables.field-0.0 in
-    err_is (λ r. TakesReadLines fails (sections_of (format_of file) file) old old r) c.from_residual.result (told_of e) c.from_residual.ensures
+    err_is (λ r. TakesReadLines fails (sections_of (format_of file) file) old old r) c.from_residual.result (error_of e) c.from_residual.ensures
     (lines_unread fails file e old (c.in_err-tables.ensures file known))
 
 pub returns-in_err-sections-clause-takes : goal.returns-in_err-sections-clause-takes

@@ -5,7 +5,7 @@ use Rattle.binfarce.specs.Refusal.{refusal_of}
 use Rattle.binfarce_sections.specs.declared.sections.Section as code
 use Rattle.binfarce_sections.specs.Named.{refused, no_section, bytes_named, bytes_of}
 use Rattle.binfarce_sections.specs.Section.{sections_of}
-use Rattle.binfarce_sections.specs.Telling.{told_of}
+use Rattle.binfarce_sections.specs.Telling.{error_of}
 use Rattle.binfarce_sections.specs.Views.{section_view}
 use Rattle.binfarce_sections.specs.declared.error.SectionError.TheVariants.{Parse}
 use Rattle.binfarce_sections.specs.machine.Found.{ReadsBytes}
@@ -17,7 +17,7 @@ pub returns-in_err-tables-clause-reads : goal.returns-in_err-tables-clause-reads
 returns-in_err-tables-clause-reads g c = λ file known.
     let fails = g.F.Source.may_fail c.args.source.now in
     let e = c.in_err-tables.field-0.0 in
-    err_is (λ r. ReadsBytes fails (bytes_named (sections_of (format_of file) file) file c.args.name.now) r) c.from_residual.result (told_of e) c.from_residual.ensures
+    err_is (λ r. ReadsBytes fails (bytes_named (sections_of (format_of file) file) file c.args.name.now) r) c.from_residual.result (error_of e) c.from_residual.ensures
     (bytes_unread fails file c.args.name.now e (c.in_err-tables.ensures file known))
 
 pub returns-in_err-sections-clause-reads : goal.returns-in_err-sections-clause-reads

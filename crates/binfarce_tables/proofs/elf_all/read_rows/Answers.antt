@@ -1,7 +1,7 @@
 use Rattle.std.proofs.Common.{◌≡◌, ℕ, Vec, Global, List, Result, Ok, Err, ap, sym, ◌∙◌}
 use Rattle.binfarce_bytes.specs.Refusal.{◌>>=◌, Refusal, refusal_of}
 use Rattle.binfarce_elf.specs.ElfParts.{TableSections, needed_table_view}
-use Rattle.binfarce_elf.specs.ElfSymbols.{TableRows, section_data, whole_rows}
+use Rattle.binfarce_elf.specs.ElfSymbols.{section_data, whole_rows}
 use Rattle.binfarce_tables.specs.machine.Places.{table_at, rows_view, rows_of_all}
 use Rattle.binfarce_tables.proofs.AllRead.{after_needed, after_strings, after_rows, rows_read}
 use Rattle.binfarce_tables.proofs.Located.{rows_are}

@@ -1,7 +1,6 @@
-use Rattle.std.proofs.Common.{◌≡◌, ◌∙◌, ap, false, length, List, ℕ, map, nat_eq, sym}
-use Rattle.std.specs.Option.{option_map}
+use Rattle.std.proofs.Common.{◌∙◌, ap, false, List, ℕ, map, nat_eq}
 use Rattle.binfarce_bytes.specs.Refusal.{refusal_of}
-use Rattle.binfarce_macho.specs.Macho.{Header, header_of}
+use Rattle.binfarce_macho.specs.Macho.{Header}
 use Rattle.binfarce_macho.specs.MachoAll.{end_at, name_at}
 use Rattle.binfarce_tables.specs.machine.MachoPlaces.{all_commands, found_view}
 use Rattle.binfarce_tables.proofs.MachoAllLocated.{starts_refused, table_refused, all_found, with_memory, not_memory}

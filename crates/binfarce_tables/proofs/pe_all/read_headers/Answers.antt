@@ -1,7 +1,5 @@
-use Rattle.std.proofs.Common.{◌≡◌, ◌-◌, ◌*◌, ◌+◌, ◌<◌, ◌≤◌, ℕ, ap, sym, ◌∙◌, arith, length, min, Ok}
-use Rattle.binfarce_bytes.specs.Number.{bytes_at}
-use Rattle.binfarce_pe.specs.PeParts.{places_view, headers_alone}
-use Rattle.binfarce_tables.specs.machine.PePlaces.{whole_at}
+use Rattle.std.proofs.Common.{◌≡◌, ◌-◌, ◌*◌, ◌<◌, ◌≤◌, arith, length, min}
+use Rattle.binfarce_pe.specs.PeParts.{places_view}
 use Rattle.binfarce_tables.proofs.PeAllLocated.{outside, truncated, whole, headers_read}
 use Rattle.binfarce_tables.proofs.pe_all.read_headers.Goals as goal
 

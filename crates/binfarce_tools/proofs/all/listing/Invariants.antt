@@ -7,4 +7,4 @@ use Rattle.binfarce_tools.proofs.all.listing.Given as goal
 
 -- with the lines of what is left after it, the text is the lines of all
 abbrev pub invariant-loop-function : goal.invariant-loop-function
-invariant-loop-function l = Completes (IsLineIn (section_names l.tables.now)) (all_left l.fn.functions) (all_left l.function-iterator) (string_bytes l.text)
+invariant-loop-function l = Completes (IsLineIn (section_names l.tables)) (all_left l.fn.functions) (all_left l.function-iterator) (string_bytes l.text)

@@ -1,7 +1,7 @@
-use Rattle.std.proofs.Common.{◌≡◌, ℕ, List, true, Some, Result, Ok, Err, refl, sym, ap, ◌∙◌}
+use Rattle.std.proofs.Common.{◌≡◌, ℕ, true, Some, Result, refl, sym, ap, ◌∙◌}
 use Rattle.binfarce.specs.declared.Format.TheVariants.{Elf32, Elf64, Macho, PE}
 use Rattle.binfarce.specs.Format.{format_of}
-use Rattle.binfarce.specs.Refusal.{◌>>=◌, Refusal}
+use Rattle.binfarce.specs.Refusal.{Refusal}
 use Rattle.binfarce.specs.SectionEntries.{AllSymbols}
 use Rattle.binfarce.specs.Elf.{elf32, elf64}
 use Rattle.binfarce.specs.declared.SymbolTable.{SymbolTable}
@@ -27,7 +27,7 @@ unfolding AreAllTablesOf
 returns-in_err-parts-in-Elf32 g c = λ file known.
     let told : Known (g.S.Source.bytes c.args.source.now) c.in_ok-len.len file = (known, length_told _ file c.in_ok-len.len known c.in_ok-len.ensures.length) in
     let format : format_of file ≡ Elf32 c.in-Elf32.byte_order = sym (taken (c.in_ok-byte_order.ensures file told)) ∙ c.in-Elf32.is in
-    unread_as (AreAllTablesOf c.args.which file) (g.S.Source.may_fail c.args.source.now) (all_answer_of c.args.which file) (all_view elf32) (all_file_answer c.args.which elf32 c.in-Elf32.byte_order file) c.in_err-parts-in-Elf32.field-0.0 c.from_residual-in_err-parts-in-Elf32.result
+    unread_as (AreAllTablesOf c.args.which file) (g.S.Source.may_fail c.args.source.now) (all_answer_of c.args.which file) (all_view {C = ℕ} elf32) (all_file_answer c.args.which elf32 c.in-Elf32.byte_order file) c.in_err-parts-in-Elf32.field-0.0 c.from_residual-in_err-parts-in-Elf32.result
     (answer_32 c.args.which c.in-Elf32.byte_order file _ format refl) (c.in_err-parts-in-Elf32.ensures file known) c.from_residual-in_err-parts-in-Elf32.ensures
 
 pub returns-in_ok-parts-in-Elf64 : goal.returns-in_ok-parts-in-Elf64
@@ -42,7 +42,7 @@ unfolding AreAllTablesOf
 returns-in_err-parts-in-Elf64 g c = λ file known.
     let told : Known (g.S.Source.bytes c.args.source.now) c.in_ok-len.len file = (known, length_told _ file c.in_ok-len.len known c.in_ok-len.ensures.length) in
     let format : format_of file ≡ Elf64 c.in-Elf64.byte_order = sym (taken (c.in_ok-byte_order.ensures file told)) ∙ c.in-Elf64.is in
-    unread_as (AreAllTablesOf c.args.which file) (g.S.Source.may_fail c.args.source.now) (all_answer_of c.args.which file) (all_view elf64) (all_file_answer c.args.which elf64 c.in-Elf64.byte_order file) c.in_err-parts-in-Elf64.field-0.0 c.from_residual-in_err-parts-in-Elf64.result
+    unread_as (AreAllTablesOf c.args.which file) (g.S.Source.may_fail c.args.source.now) (all_answer_of c.args.which file) (all_view {C = ℕ} elf64) (all_file_answer c.args.which elf64 c.in-Elf64.byte_order file) c.in_err-parts-in-Elf64.field-0.0 c.from_residual-in_err-parts-in-Elf64.result
     (answer_64 c.args.which c.in-Elf64.byte_order file _ format refl) (c.in_err-parts-in-Elf64.ensures file known) c.from_residual-in_err-parts-in-Elf64.ensures
 
 pub returns-in_ok-parts-in-Macho : goal.returns-in_ok-parts-in-Macho

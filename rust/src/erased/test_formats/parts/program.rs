@@ -14,7 +14,7 @@ fn texts(alloc: Global, words: &[&str]) -> Result<Vec<String>, AllocError> {
     Ok(texts)
 }
 
-// The arguments, and what they give.
+// The arguments, and the result.
 const ARGUMENTS: [(&[&str], Option<(&str, &str)>); 5] = [
     (&[], None),
     (&["a"], Some(("a", ".text"))),
@@ -44,7 +44,7 @@ fn takes_one_argument_or_two() -> Result<(), AllocError> {
     Ok(())
 }
 
-// How many bytes a reader gives, at most how many in a call, how it ends, and what keeps the file from being read.
+// How many bytes a reader gives, at most how many in a call, how it ends, and why the file can't be read.
 const READERS: [(usize, usize, Option<ErrorKind>, Option<Failure>); 10] = [
     (0, 1, None, None),
     (7, 1, None, None),
@@ -125,7 +125,7 @@ impl Write for Flushed {
     }
 }
 
-// How the work ended, whether the flush fails, and what is told.
+// The result of the work, whether the flush fails, and the reported fault.
 const ENDS: [(Result<(), Failure>, bool, Result<(), Failure>); 4] = [
     (Ok(()), false, Ok(())),
     (Ok(()), true, Err(Failure::Write)),

@@ -11,7 +11,7 @@ use crate::shim::alloc::{AllocError, Global};
 use crate::shim::test::Fail;
 use crate::erased::test_samples::elf::ELF64_LITTLE;
 
-// What is told of addresses in a file, after a base is taken off.
+// The lines of addresses in a file, after a base is subtracted.
 fn told(
     alloc: Global,
     file: &[u8],

@@ -151,7 +151,7 @@ fn finds_the_range() -> Result<(), AllocError> {
     Ok(())
 }
 
-// Where a span tells what is found at an address, it tells the truth.
+// Where a span gives the answer for an address, it is right.
 fn is_told(span: Option<Span>, address: u64, place: Option<usize>) -> bool {
     match span {
         Some(span) => {
@@ -183,7 +183,7 @@ fn spans_tell_what_is_found() -> Result<(), AllocError> {
     Ok(())
 }
 
-// Behind a range up to the next one nothing is found; behind one within another nothing is said.
+// Between a range and the next one nothing is found; after a nested range nothing is claimed.
 #[test]
 fn spans_end_at_the_next_range() -> Result<(), AllocError> {
     let rt = HostRuntime::new();

@@ -10,7 +10,7 @@ use crate::erased::binfarce_tools::list::Out;
 use crate::shim::alloc::{AllocError, Global};
 use crate::erased::test_samples::first_bytes;
 
-// Whether both fronts write the same lines and the same bytes of this section, and end alike.
+// Whether both fronts write the same lines and the same bytes of this section, with the same result.
 pub(crate) fn are_alike(alloc: Global, file: &[u8], name: &str) -> Result<bool, AllocError> {
     let mut whole = Out::new(Vec::new(alloc));
     let mut read = Out::new(Vec::new(alloc));

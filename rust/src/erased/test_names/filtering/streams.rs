@@ -83,7 +83,7 @@ fn failed_writes() -> Result<(), AllocError> {
     Ok(())
 }
 
-// Interrupted reads and writes are tried again, and what is written is flushed before more is read and at the end.
+// Interrupted reads and writes are tried again, and the output is flushed before each read and at the end.
 #[test]
 fn interrupted_reads_and_writes() -> Result<(), AllocError> {
     let rt = HostRuntime::new();

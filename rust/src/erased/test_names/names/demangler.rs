@@ -1,6 +1,6 @@
 // From crates/test_names/src/names/demangler.rt, by tools/erase.
 
-//! What a demangler answers doesn't depend on the names that it was asked for before.
+//! The answers of a demangler don't depend on the names before.
 
 use crate::shim::HostRuntime;
 use super::answers::check_after;

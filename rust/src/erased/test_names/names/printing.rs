@@ -11,7 +11,7 @@ use crate::erased::binfarce_v0_state::state::{Buffers, Printer};
 use crate::shim::alloc::{AllocError, Global};
 use crate::shim::test::Abort;
 
-// What stands behind a prefix has so many levels and steps.
+// The part after a prefix has so many levels and steps.
 fn check_counts(
     rt: &impl Abort,
     alloc: Global,
@@ -49,7 +49,7 @@ fn counts_levels_and_steps() -> Result<(), AllocError> {
     Ok(())
 }
 
-// A type in so many slices behind a front.
+// A type in so many slices, after a front.
 fn in_slices(alloc: Global, front: &str, slices: usize, back: &str) -> Result<String, AllocError> {
     let mut name = String::from_str(alloc, front)?;
     for _ in 0..slices {
@@ -70,7 +70,7 @@ fn counts_500_levels() -> Result<(), AllocError> {
     check_counts(&rt, alloc, shared.as_str(), 500, 802)
 }
 
-// A printing of what stands behind a prefix reads so many paths, types, consts and lifetimes.
+// A printing of the part after a prefix reads so many paths, types, consts and lifetimes.
 fn check_visits(
     rt: &impl Abort,
     alloc: Global,

@@ -107,13 +107,13 @@ fn each_call_fails_in_turn() -> Result<(), Fail> {
 }
 
 // Whether the first section alone of a Mach-O file has a name, which is this, and whether it is an object file.
-fn is_macho_of(alloc: Global, file: &[u8], name: Option<&str>, is_object: bool) -> bool {
+fn is_macho_of(alloc: Global, file: &[u8], name: Option<&str>, shares_addresses: bool) -> bool {
     match crate::erased::binfarce_tables::macho::read_all(alloc, &file) {
         Ok(parts) => {
             parts.section_name(0).is_none()
                 && parts.section_name(1) == name
                 && parts.section_name(2).is_none()
-                && parts.is_object() == is_object
+                && parts.shares_addresses() == shares_addresses
         }
         Err(_) => false,
     }

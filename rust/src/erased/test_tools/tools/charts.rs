@@ -25,7 +25,7 @@ const PICTURES: [(Sizes, &[Line], u64); 8] = [
         &[("large", "75.00", 3), ("small", "25.00", 1)],
         4,
     ),
-    // Of equal sizes the first comes first; what is lost by rounding down is the last one's.
+    // Equal sizes keep their order; the last one has the loss of rounding down.
     (
         &[("a", 1), ("b", 1), ("c", 1)],
         &[("a", "33.33", 1), ("b", "33.33", 1), ("c", "33.34", 1)],
@@ -44,7 +44,7 @@ const PICTURES: [(Sizes, &[Line], u64); 8] = [
         ],
         u64::MAX,
     ),
-    // What means something in XML, and what may not stand there or is no ASCII character.
+    // Characters that are special in XML, not allowed in it, or not ASCII.
     (
         &[
             ("<a b=\"c\">&amp;'</a>", 5),
@@ -78,7 +78,7 @@ impl Bars {
         }
     }
 
-    // Adds a bar of this size, or of what is left below 2^64.
+    // Adds a bar of this size, or of the rest below 2^64.
     fn push(&mut self, name: &'static str, size: u64) -> Result<(), AllocError> {
         let size = size.min(u64::MAX - self.sum);
         self.list.push(Bar { name, size })?;

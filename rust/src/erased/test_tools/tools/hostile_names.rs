@@ -1,6 +1,6 @@
 // From crates/test_tools/src/tools/hostile_names.rt, by tools/erase.
 
-//! Names that want to halt a reader, or to change the symbols beside them: each stands in a file before `foo::bar`.
+//! Names that try to halt a reader, or to change other symbols: each is in a file before `foo::bar`.
 
 use crate::shim::{HostRuntime, String};
 use crate::erased::binfarce::demangle::{Kind, SymbolData, SymbolName};
@@ -9,7 +9,7 @@ use crate::shim::alloc::{AllocError, Global};
 use crate::shim::test::Fail;
 use crate::erased::test_image_samples::file_beside;
 
-// Pieces of a text, each with how often it stands there.
+// Pieces of a text, each with its count.
 type Pieces = &'static [(&'static str, usize)];
 
 fn joined(alloc: Global, pieces: Pieces) -> Result<String, AllocError> {

@@ -68,7 +68,7 @@ fn sums_by_crate() -> Result<(), Fail> {
     Ok(())
 }
 
-// The size of a file's first function, which stands at 112, and the answer.
+// The size of a file's first function, at offset 112, and the answer.
 const GREAT_SIZES: [(&[u8; 8], &str); 2] = [
     (&[0xFF; 8], "sizes are too large"),
     (

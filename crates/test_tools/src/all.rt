@@ -110,7 +110,10 @@ fn written(
     Ok(text)
 }
 
-fn words<E: fmt::Display>(alloc: Global, ended: Result<(), E>) -> Result<String, AllocError> {
+fn words<E: fmt::Display + Drop>(
+    alloc: Global,
+    ended: Result<(), E>,
+) -> Result<String, AllocError> {
     match ended {
         Ok(()) => Ok(String::new(alloc)),
         Err(e) => format!(in alloc; "{e}"),

@@ -111,7 +111,10 @@ fn written(
     Ok(text)
 }
 
-fn words<E: fmt::Display>(alloc: Global, ended: Result<(), E>) -> Result<String, AllocError> {
+fn words<E: fmt::Display>(
+    alloc: Global,
+    ended: Result<(), E>,
+) -> Result<String, AllocError> {
     match ended {
         Ok(()) => Ok(String::new(alloc)),
         Err(e) => String::formatted(alloc, format_args!("{e}")),

@@ -1,117 +1,90 @@
 // bench/refuse-memory.sh lets each of the program's allocations fail in turn: it prints `out of memory` or the whole listing.
 
 use crate::program::{Fault, run, run_at, run_file, status, words};
+use binfarce_bytes::source::Source as AtOffsets;
 use binfarce_tools::list::Out;
-use std::alloc::AllocError;
-use test_samples::streams::{
-    HELD, Held, Interrupted, READERS, Source, ended_with, failed_with, files_of, large_file,
-    samples,
-};
+use std::alloc::{AllocError, Global};
+use std::io::Read;
+use test_samples::programs::{Program, wrong_fault, wrong_text};
+use test_samples::streams::{Source, large_file};
 use test_samples::{elf, macho, pe};
 
-// The listings of the sample files.
-const LISTINGS: [&str; 3] = [elf::LISTING, macho::LISTING, pe::LISTING];
+#[derive(Clone, Copy)]
+struct List;
+
+// What is written, and behind it the fault's text.
+fn text_of(
+    alloc: Global,
+    ended: Result<(), Fault>,
+    out: Out<Vec<u8>>,
+) -> Result<String, AllocError> {
+    let mut text = match String::from_utf8(out.into_inner()) {
+        Ok(text) => text,
+        Err(_) => String::from_str(alloc, "no text")?,
+    };
+    if let Err(fault) = ended {
+        let words = format!(in alloc; "{fault}")?;
+        text.push_str(words.as_str())?;
+    }
+    Ok(text)
+}
+
+impl Program for List {
+    fn texts(&self) -> [&'static str; 3] {
+        [elf::LISTING, macho::LISTING, pe::LISTING]
+    }
+
+    fn read<R: Read>(&self, alloc: Global, file: &mut R) -> Result<String, AllocError> {
+        let mut out = Out::new(Vec::new(alloc));
+        let ended = run(alloc, file, ".text", &mut out);
+        text_of(alloc, ended, out)
+    }
+
+    fn read_at<S: AtOffsets>(&self, alloc: Global, file: &S) -> Result<String, AllocError> {
+        let mut out = Out::new(Vec::new(alloc));
+        let ended = run_at(alloc, file, ".text", &mut out);
+        text_of(alloc, ended, out)
+    }
+
+    fn read_any<F: Read + AtOffsets>(
+        &self,
+        alloc: Global,
+        file: &mut F,
+    ) -> Result<String, AllocError> {
+        let mut out = Out::new(Vec::new(alloc));
+        let ended = run_file(alloc, file, ".text", &mut out);
+        text_of(alloc, ended, out)
+    }
+}
 
 #[test]
 fn needs_a_file(rt: HostRuntime) -> Result<(), AllocError> {
     let given = words(&[]).map(|_| ());
-    let line = "usage: binfarce-list FILE [SECTION]";
-    assert!(&rt; ended_with(rt.alloc(), given, line)?);
-    Ok(())
-}
-
-#[test]
-fn ends_with_2_for_the_usage(rt: HostRuntime) {
+    let text = text_of(rt.alloc(), given, Out::new(Vec::new(rt.alloc())))?;
+    assert!(&rt; text.as_str() == "usage: binfarce-list FILE [SECTION]");
     assert!(&rt; status(&Fault::Usage) == 2);
     assert!(&rt; status(&Fault::File) == 1);
-}
-
-// Whether there was no fault, and this text was written.
-fn is_written(ended: Result<(), Fault>, out: Out<Vec<u8>>, text: &str) -> bool {
-    ended.is_ok() && out.into_inner().as_slice() == text.as_bytes()
-}
-
-#[test]
-fn lists_bytes_that_are_read_to_the_end(rt: HostRuntime) -> Result<(), AllocError> {
-    for (file, want) in samples(rt.alloc())?.iter().zip(&LISTINGS) {
-        let mut out = Out::new(Vec::new(rt.alloc()));
-        let ended = run(rt.alloc(), &mut file.as_slice(), ".text", &mut out);
-        assert!(&rt; is_written(ended, out, want), "{want}");
-        let mut out = Out::new(Vec::new(rt.alloc()));
-        let mut short = Interrupted {
-            source: Source {
-                most: 1,
-                ..Source::of(file)
-            },
-            is_next: false,
-        };
-        let ended = run(rt.alloc(), &mut short, ".text", &mut out);
-        assert!(&rt; is_written(ended, out, want), "{want}");
-    }
     Ok(())
 }
 
 #[test]
-fn lists_bytes_that_are_read_at_offsets(rt: HostRuntime) -> Result<(), AllocError> {
-    for (file, want) in samples(rt.alloc())?.iter().zip(&LISTINGS) {
-        let mut out = Out::new(Vec::new(rt.alloc()));
-        let ended = run_at(rt.alloc(), &file.as_slice(), ".text", &mut out);
-        assert!(&rt; is_written(ended, out, want), "{want}");
-    }
+fn writes_the_listing(rt: HostRuntime) -> Result<(), AllocError> {
+    let wrong = wrong_text(rt.alloc(), &List)?;
+    assert!(&rt; wrong.is_none(), "{wrong:?}");
     Ok(())
 }
 
 #[test]
-fn lists_any_file(rt: HostRuntime) -> Result<(), AllocError> {
-    for (file, want) in samples(rt.alloc())?.iter().zip(&LISTINGS) {
-        for (label, mut opened) in files_of(file) {
-            let mut out = Out::new(Vec::new(rt.alloc()));
-            let ended = run_file(rt.alloc(), &mut opened, ".text", &mut out);
-            assert!(&rt; is_written(ended, out, want), "{label}");
-        }
-    }
-    Ok(())
-}
-
-#[test]
-fn reports_why_a_file_is_not_listed(rt: HostRuntime) -> Result<(), AllocError> {
-    for (label, bytes, end, want) in &READERS {
-        let mut out = Out::new(Vec::new(rt.alloc()));
-        let mut source = Source {
-            end: *end,
-            ..Source::of(bytes)
-        };
-        let ended = run(rt.alloc(), &mut source, ".text", &mut out);
-        let is_told = failed_with(rt.alloc(), ended, "binfarce-list", want)?;
-        assert!(&rt; is_told, "{label}");
-        assert!(&rt; out.into_inner().is_empty(), "{label}");
-    }
-    Ok(())
-}
-
-#[test]
-fn reports_why_a_file_is_not_listed_at_offsets(rt: HostRuntime) -> Result<(), AllocError> {
-    for (label, bytes, length, end, want) in &HELD {
-        let mut out = Out::new(Vec::new(rt.alloc()));
-        let held = Held {
-            bytes,
-            length: Some(*length),
-            end: *end,
-        };
-        let ended = run_at(rt.alloc(), &held, ".text", &mut out);
-        let is_told = failed_with(rt.alloc(), ended, "binfarce-list", want)?;
-        assert!(&rt; is_told, "{label}");
-        assert!(&rt; out.into_inner().is_empty(), "{label}");
-    }
+fn reports_why_nothing_is_written(rt: HostRuntime) -> Result<(), AllocError> {
+    let wrong = wrong_fault(rt.alloc(), &List, "binfarce-list")?;
+    assert!(&rt; wrong.is_none(), "{wrong:?}");
     Ok(())
 }
 
 #[test]
 fn reads_a_large_file(rt: HostRuntime) -> Result<(), AllocError> {
     let bytes = large_file(rt.alloc())?;
-    let mut out = Out::new(Vec::new(rt.alloc()));
-    let ended = run(rt.alloc(), &mut Source::of(&bytes), ".text", &mut out);
-    let want = "symbols section is missing";
-    assert!(&rt; failed_with(rt.alloc(), ended, "binfarce-list", want)?);
+    let text = List.read(rt.alloc(), &mut Source::of(&bytes))?;
+    assert!(&rt; text.as_str() == "binfarce-list: symbols section is missing");
     Ok(())
 }

@@ -5,7 +5,6 @@ use crate::macho::{MACHO, MAGIC as MACHO_MAGIC};
 use crate::pe::{MAGIC as PE_MAGIC, PE};
 use crate::{first_bytes, patched};
 use std::alloc::{AllocError, Global};
-use std::fmt;
 use std::io::{self, Error, ErrorKind, Read, Write};
 
 /// Gives its bytes, at most `most` in a call, and then ends or fails.
@@ -240,30 +239,4 @@ pub fn large_file(alloc: Global) -> Result<Vec<u8>, AllocError> {
     let mut bytes = Vec::from_slice(alloc, &[0xCF, 0xFA, 0xED, 0xFE])?;
     bytes.resize(3 << 20, 0)?;
     Ok(bytes)
-}
-
-/// Whether it ended with a fault of this text.
-pub fn ended_with<F: fmt::Display + Drop>(
-    alloc: Global,
-    ended: Result<(), F>,
-    line: &str,
-) -> Result<bool, AllocError> {
-    match ended {
-        Ok(()) => Ok(false),
-        Err(fault) => {
-            let text = format!(in alloc; "{fault}")?;
-            Ok(text.as_str() == line)
-        }
-    }
-}
-
-/// Whether it ended with a fault whose text is the program's name, a colon, a blank and these words.
-pub fn failed_with<F: fmt::Display + Drop>(
-    alloc: Global,
-    ended: Result<(), F>,
-    program: &str,
-    words: &str,
-) -> Result<bool, AllocError> {
-    let line = format!(in alloc; "{program}: {words}")?;
-    ended_with(alloc, ended, line.as_str())
 }

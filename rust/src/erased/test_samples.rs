@@ -9,6 +9,7 @@ pub mod files;
 pub mod interruptions;
 pub mod macho;
 pub mod pe;
+pub mod programs;
 pub mod question;
 pub mod streams;
 

@@ -2,13 +2,12 @@
 
 //! What programs are tested with: readers and writers that are short or fail, and how a program's work has to end.
 
-use crate::shim::{String, Vec};
+use crate::shim::Vec;
 use crate::erased::test_samples::elf::ELF64_LITTLE;
 use crate::erased::test_samples::macho::{MACHO, MAGIC as MACHO_MAGIC};
 use crate::erased::test_samples::pe::{MAGIC as PE_MAGIC, PE};
 use crate::erased::test_samples::{first_bytes, patched};
 use crate::shim::alloc::{AllocError, Global};
-use std::fmt;
 use crate::shim::io::{self, Error, ErrorKind, Read, Write};
 
 /// Gives its bytes, at most `most` in a call, and then ends or fails.
@@ -238,30 +237,4 @@ pub fn large_file(alloc: Global) -> Result<Vec<u8>, AllocError> {
     let mut bytes = Vec::from_slice(alloc, &[0xCF, 0xFA, 0xED, 0xFE])?;
     bytes.resize(3 << 20, 0)?;
     Ok(bytes)
-}
-
-/// Whether it ended with a fault of this text.
-pub fn ended_with<F: fmt::Display>(
-    alloc: Global,
-    ended: Result<(), F>,
-    line: &str,
-) -> Result<bool, AllocError> {
-    match ended {
-        Ok(()) => Ok(false),
-        Err(fault) => {
-            let text = String::formatted(alloc, format_args!("{fault}"))?;
-            Ok(text.as_str() == line)
-        }
-    }
-}
-
-/// Whether it ended with a fault whose text is the program's name, a colon, a blank and these words.
-pub fn failed_with<F: fmt::Display>(
-    alloc: Global,
-    ended: Result<(), F>,
-    program: &str,
-    words: &str,
-) -> Result<bool, AllocError> {
-    let line = String::formatted(alloc, format_args!("{program}: {words}"))?;
-    ended_with(alloc, ended, line.as_str())
 }

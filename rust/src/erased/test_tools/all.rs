@@ -111,8 +111,11 @@ fn written(
     Ok(text)
 }
 
-fn words<E: fmt::Display>(alloc: Global, result: Result<(), E>) -> Result<String, AllocError> {
-    match result {
+fn words<E: fmt::Display>(
+    alloc: Global,
+    ended: Result<(), E>,
+) -> Result<String, AllocError> {
+    match ended {
         Ok(()) => Ok(String::new(alloc)),
         Err(e) => String::formatted(alloc, format_args!("{e}")),
     }

@@ -114,10 +114,10 @@ def elf_of(found):
 def on_file(rng, path):
     section = rng.choice([[], [], [".text"], [".symtab"], ["__text"], [".data"], [""], ["é"]])
     addresses = [rng.choice(["1000", "0x1005", "100f", "1010", "fff", "0", "180", "1040", "ffffffffffffffff"]) for _ in range(4)]
-    option = [f"--section={name}" for name in section] + rng.choice([[], [], ["--dynamic"]])
+    option = [f"--section={name}" for name in section] + rng.choice([[], [], ["--dynamic"], ["--all"]])
     return [(rng.choice(["binfarce-list", "binfarce-size"]), [path, *section], None, ""),
             (rng.choice(["list", "list", "size"]), [path, *option], None, ""), (rng.choice(["size", "map"]), [*option, path], None, ""),
-            ("section", [path, *section], None, ""), ("at", [*rng.choice([[], ["--base", "40"]]), path, *addresses], None, "")]
+            ("section", [path, *section], None, ""), ("at", [*rng.choice([[], ["--base", "40"], ["--all"]]), path, *addresses], None, "")]
 
 def main(scratch):
     def file(name, data):

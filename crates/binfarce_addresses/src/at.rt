@@ -1,10 +1,13 @@
 //! What stands at addresses in an executable, a line each.
 
-ghost use Rattle.std.specs.Prelude.{◌≡◌, ◌≢◌, ◌++◌, ◌-◌, ◌<◌, ℕ, List, length, Some, None, true, map, IfErr, IfOk, IfSome, MatchOption, OnOk};
+ghost use Rattle.std.specs.Prelude.{◌≡◌, ◌≢◌, ◌++◌, ◌-◌, ◌<◌, ℕ, List, length, Option, Some, None, Result, Ok, true, map, IfErr, IfOk, IfSome, MatchOption, OnOk};
 ghost use Rattle.std.specs.String.{string_bytes};
-ghost use Rattle.binfarce.specs.Symbol.{Entry};
+ghost use Rattle.binfarce.specs.Refusal.{Refusal};
+ghost use Rattle.binfarce.specs.Symbol.{Entry, Listed};
 ghost use Rattle.binfarce.specs.SymbolViews.{function_view};
-ghost use Rattle.binfarce_tools.specs.Answer.{answer_of, file_answer, FileNeedsMemory};
+ghost use Rattle.binfarce_tools.specs.AllAnswer.{all_answer_of, AllNeedsMemory, one_answer};
+ghost use Rattle.binfarce_tools.specs.AllTables.{AreAllTablesOf};
+ghost use Rattle.binfarce_tools.specs.Answer.{answer_of, NeedsMemory, file_answer, FileNeedsMemory};
 ghost use Rattle.binfarce_tools.specs.Entries.{functions_left};
 ghost use Rattle.binfarce_tools.specs.Listing.{ListingFits};
 ghost use Rattle.binfarce_tools.specs.ListWords.{outcome_of};
@@ -25,6 +28,7 @@ use crate::ranges::{AddressRange, Found, Ranges};
 use binfarce::FunctionSymbol;
 use binfarce_tools::functions::{Functions, functions_of_file};
 use binfarce_tools::list::{ListError, Sink};
+use binfarce_tools::all::AllTables;
 use binfarce_tools::tables::Tables;
 use binfarce_tools::writing::write_whole;
 use std::alloc::{AllocError, Global};
@@ -57,7 +61,8 @@ impl<'a> Places<'a> {
     ///
     /// As `list`, but for `Write`.
     pub fn of_file(alloc: Global, data: &'a [u8], section: &str) -> Result<Places<'a>, ListError>
-        ensures { IsMadeOf (FileNeedsMemory data.entry.now) (file_answer data.entry.now section.now) result }
+        ensures { IsMadeOf (FileNeedsMemory data.entry.now)
+            (file_answer data.entry.now section.now) result }
     {
         let (functions, _) = functions_of_file(alloc, data, section)?;
         let places = places_of(alloc, functions)?;
@@ -76,6 +81,22 @@ impl<'a> Places<'a> {
     {
         let (functions, _) = tables.functions(alloc)?;
         let places = places_of(alloc, functions)?;
+        Ok(places)
+    }
+
+    /// The places of the function symbols of all sections of a file. Those of an object file share addresses, so that an address
+    /// names no place there.
+    ///
+    /// # Errors
+    ///
+    /// As `AllTables::functions`; `OutOfMemory` where any other allocation failed.
+    pub fn of_all(alloc: Global, tables: &'a AllTables) -> Result<Places<'a>, ListError>
+        ensures made { (which : SymbolTable) (file : List ℕ) → AreAllTablesOf which file tables.entry.now
+            → IsMadeOf (AllNeedsMemory file) (one_answer (all_answer_of which file)) result }
+        ensures unwritten { IfErr result (λ e. e ≢ Write) }
+    {
+        let functions = tables.functions(alloc)?;
+        let places = places_of(alloc, Functions::All(functions))?;
         Ok(places)
     }
 
@@ -386,6 +407,31 @@ pub fn at_tables<S: Sink>(
 {
     let places = Places::of_tables(alloc, tables)?;
     let text = lines(alloc, &places, base, addresses)?;
+    write_whole(out, text.as_slice())
+}
+
+/// Writes what stands at each of the addresses by these places, which are those of a file: a line each, as `at` has them.
+///
+/// # Errors
+///
+/// `OutOfMemory` where an allocation failed; `Write` where a write failed, which alone can leave a beginning of the lines
+/// written.
+pub fn write_lines<S: Sink>(
+    alloc: Global,
+    places: &Places<'_>,
+    base: u64,
+    addresses: &[u64],
+    out: &mut S,
+) -> Result<(), ListError>
+    ensures tells { (NeedsMemory : Result Listed Refusal → Type 0) (answer : Option (Result Listed Refusal))
+        → IsMadeOf NeedsMemory answer (Ok places.now) → Tells ListingFits NeedsMemory answer (outcome_of result) }
+    ensures takes { (NeedsMemory : Result Listed Refusal → Type 0) (answer : Option (Result Listed Refusal))
+        → IsMadeOf NeedsMemory answer (Ok places.now)
+        → Takes (AreLinesAt base addresses.now) answer (S.taken out.old) (S.taken out.new) (outcome_of result) }
+    ensures fails { Fails (S.has_failed out.old) (S.has_failed out.new) (outcome_of result) }
+    ensures leaves { Leaves out.old out.new (outcome_of result) }
+{
+    let text = lines(alloc, places, base, addresses)?;
     write_whole(out, text.as_slice())
 }
 

@@ -17,7 +17,7 @@ use Rattle.binfarce_filtering.specs.declared.stream.StreamError.TheVariants as s
 use Rattle.binfarce_sections.specs.declared.error.SectionError.{SectionError}
 use Rattle.binfarce_sections.specs.declared.error.SectionError.TheVariants as sections
 use Rattle.binfarce_command.specs.declared.fault.Fault.{Fault}
-use Rattle.binfarce_command.specs.declared.fault.Fault.TheVariants.{Unreadable, Input, OutOfMemory, Write, Unknown, Parse, TooLarge, NoSection, NoBytes, PastEnd, Missing}
+use Rattle.binfarce_command.specs.declared.fault.Fault.TheVariants.{Unreadable, Input, OutOfMemory, Write, Unknown, Parse, TooLarge, NoSection, NoBytes, PastEnd, SharedAddresses, Missing}
 
 -- that an allocation failed is reported as such, and any other error of a read as a file that can't be read
 abbrev pub io_fault : ErrorKind → Fault
@@ -75,4 +75,5 @@ outcome_of (Err TooLarge) = writing.too_large
 outcome_of (Err NoSection) = writing.wrong_usage
 outcome_of (Err NoBytes) = writing.wrong_usage
 outcome_of (Err PastEnd) = writing.wrong_usage
+outcome_of (Err SharedAddresses) = writing.wrong_usage
 outcome_of (Err (Missing count)) = writing.wrong_usage

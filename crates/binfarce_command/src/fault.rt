@@ -37,6 +37,8 @@ pub enum Fault {
     NoBytes,
     /// The section's bytes reach past the file's end.
     PastEnd,
+    /// The sections of an object file share addresses, so one has to be named.
+    SharedAddresses,
     /// So many lines of standard input write no address; all were answered.
     Missing(u64),
 }
@@ -62,6 +64,10 @@ impl fmt::Display for Fault {
             Fault::NoSection => write!(f, "no section of this name"),
             Fault::NoBytes => write!(f, "section has no bytes in the file"),
             Fault::PastEnd => write!(f, "section reaches past the end of the file"),
+            Fault::SharedAddresses => write!(
+                f,
+                "sections of an object file share addresses; --section names one"
+            ),
             Fault::Missing(1) => write!(f, "1 line without an address"),
             Fault::Missing(count) => write!(f, "{count} lines without an address"),
         }

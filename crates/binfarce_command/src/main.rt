@@ -238,10 +238,12 @@ fn symbols_of<'a>(given: &Given<'a>) -> Symbols<'a> {
     } else {
         SymbolTable::Symtab
     };
-    Symbols {
-        which,
-        section: given.section.unwrap_or(".text"),
-    }
+    let section = if given.all {
+        None
+    } else {
+        Some(given.section.unwrap_or(".text"))
+    };
+    Symbols { which, section }
 }
 
 // The first operand.

@@ -194,7 +194,7 @@ awk '{ sum += $2 } END { printf "%10d [unknown]\nsum %d\n", sum, sum }' "$scratc
 ends 0 "$scratch/lines" "" binfarce size --all "$object"
 printf '%016x g+0x2\n' 2 >"$scratch/lines"
 ends 0 "$scratch/lines" "" binfarce at --section=.text.g "$object" 2
-shared="binfarce: $object: sections of an object file share addresses; --section names one"
+shared="binfarce: $object: its sections share addresses; use --section in place of --all"
 ends 1 /dev/null "$shared" binfarce at --all "$object" 2
 echo 2 | ends 1 /dev/null "$shared" binfarce at --all "$object"
 ends 2 /dev/null "binfarce: --all and --section exclude each other" binfarce list --all --section=.text "$object"

@@ -41,7 +41,7 @@ one_line entries base addresses i line text new lt are is grown =
 pub whole : (entries : List Entry) (base : ℕ) (addresses : List ℕ) (i : ℕ) (text : List ℕ) → length addresses ≤ i → AreLinesOf entries base (take i addresses) text → AreLinesOf entries base addresses text
 whole entries base addresses i text le are = let P : List ℕ → Type 0 = λ xs. AreLinesOf entries base xs text in subst P (take_all i addresses le) are
 
--- the answers of lines stand behind a text
+-- the answers of lines follow a text
 abbrev pub AreBehind : List Entry → ℕ → List (Option ℕ) → List ℕ → List ℕ → Type 0
 AreBehind entries base addresses old new = (answers : List ℕ) × AreAnswersOf entries base addresses answers × (new ≡ old ++ answers)
 
@@ -77,24 +77,24 @@ takes memory (Some (Ok listed)) entries base addresses text old new (Err (Parse 
 takes memory (Some (Ok listed)) entries base addresses text old new (Err OutOfMemory) made are wrote = let e = wrote.0 in absurd cc
 
 -- how the writing of the lines of what a file lists ended
-pub tells : (memory : Result Listed Refusal → Type 0) (answer : Option (Result Listed Refusal)) (entries : List Entry) (text : List ℕ) (old new : Option (List ℕ)) (result : Result (Unit {0}) ListError)
-    → IsMadeOf memory answer (Ok entries) → Writes old new text result → writing.Tells ListingFits memory answer (outcome_of result)
-tells memory None entries text old new result made wrote = absurd made
-tells memory (Some (Err refusal)) entries text old new result made wrote = absurd made
-tells memory (Some (Ok listed)) entries text old new (Ok x) made wrote = inr (inl (tt, inl refl))
-tells memory (Some (Ok listed)) entries text old new (Err Write) made wrote = inr (inl (tt, inr refl))
-tells memory (Some (Ok listed)) entries text old new (Err Unknown) made wrote = let e = wrote.0 in absurd cc
-tells memory (Some (Ok listed)) entries text old new (Err (Parse p)) made wrote = let e = wrote.0 in absurd cc
-tells memory (Some (Ok listed)) entries text old new (Err OutOfMemory) made wrote = let e = wrote.0 in absurd cc
+pub outcome : (memory : Result Listed Refusal → Type 0) (answer : Option (Result Listed Refusal)) (entries : List Entry) (text : List ℕ) (old new : Option (List ℕ)) (result : Result (Unit {0}) ListError)
+    → IsMadeOf memory answer (Ok entries) → Writes old new text result → writing.EndsAs ListingFits memory answer (outcome_of result)
+outcome memory None entries text old new result made wrote = absurd made
+outcome memory (Some (Err refusal)) entries text old new result made wrote = absurd made
+outcome memory (Some (Ok listed)) entries text old new (Ok x) made wrote = inr (inl (tt, inl refl))
+outcome memory (Some (Ok listed)) entries text old new (Err Write) made wrote = inr (inl (tt, inr refl))
+outcome memory (Some (Ok listed)) entries text old new (Err Unknown) made wrote = let e = wrote.0 in absurd cc
+outcome memory (Some (Ok listed)) entries text old new (Err (Parse p)) made wrote = let e = wrote.0 in absurd cc
+outcome memory (Some (Ok listed)) entries text old new (Err OutOfMemory) made wrote = let e = wrote.0 in absurd cc
 
 -- so where an allocation failed
 pub tells_no_memory : (memory : Result Listed Refusal → Type 0) (answer : Option (Result Listed Refusal)) (entries : List Entry) (result : Result (Unit {0}) ListError)
-    → IsMadeOf memory answer (Ok entries) → IsErrAnd result (λ e. e ≡ OutOfMemory) → writing.Tells ListingFits memory answer (outcome_of result)
+    → IsMadeOf memory answer (Ok entries) → IsErrAnd result (λ e. e ≡ OutOfMemory) → writing.EndsAs ListingFits memory answer (outcome_of result)
 tells_no_memory memory None entries result made is = absurd made
 tells_no_memory memory (Some (Err refusal)) entries result made is = absurd made
 tells_no_memory memory (Some (Ok listed)) entries (Ok x) made is = absurd is
 tells_no_memory memory (Some (Ok listed)) entries (Err e) made is =
-    let P : ListError → Type 0 = λ e. writing.Tells ListingFits memory (Some (Ok listed)) (outcome_of (Err e)) in subst P (sym is) (inl refl)
+    let P : ListError → Type 0 = λ e. writing.EndsAs ListingFits memory (Some (Ok listed)) (outcome_of (Err e)) in subst P (sym is) (inl refl)
 
 pub nothing : (old : Option (List ℕ)) → Appends old old []
 nothing None = tt

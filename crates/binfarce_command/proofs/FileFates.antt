@@ -17,7 +17,7 @@ use Rattle.binfarce_tools.specs.AllAnswer.{all_answer_of, all_symbols_answer, Al
 use Rattle.binfarce_tools.specs.AllListing.{AllListingFits}
 use Rattle.binfarce_tools.specs.Report.{ReportFits}
 use Rattle.binfarce_tools.specs.Answer.{NeedsMemory, answer_of, dynamic_symbols_answer, symbols_answer}
-use Rattle.binfarce_tools.specs.Writing.{AppendsBeginning, IsDue, Leaves, Outcome, Tells, unknown_format, write_failed, written as has_written, wrong_usage}
+use Rattle.binfarce_tools.specs.Writing.{AppendsBeginning, IsDue, Leaves, Outcome, EndsAs, unknown_format, write_failed, written as has_written, wrong_usage}
 use Rattle.binfarce_command.specs.Faults.{outcome_of}
 use Rattle.binfarce_command.specs.Files.{Fate, IsUnreadable, MayComeTo, Refused, Reports, ReportsWhy, ShowsHeld, ShowsOne, heading, refused, shown}
 use Rattle.binfarce_command.specs.Headed.{pending, taken, writer_of}
@@ -56,30 +56,30 @@ text_of_file asked file bytes text (inr (unknown, first)) is = absurd (due_in (s
 
 -- of a file of an unknown format that is told, and nothing else
 tells_unknown : (section : Option (List ℕ)) (kind : Kind) (which : SymbolTable) (bytes : List ℕ) (o : Outcome) → format_of bytes ≡ formats.Unknown → TellsIn section kind which bytes o → o ≡ unknown_format
-tells_unknown (Some section) kind which bytes o unknown tells = subst (λ (answer : Option (Result Listed Refusal)). Tells (Fits kind) (NeedsMemory (format_of bytes) bytes) answer o) (no_answer which bytes section unknown) tells
-tells_unknown None Listing which bytes o unknown tells = subst (λ (answer : Option (Result AllSymbols Refusal)). AllTells Listing (AllNeedsMemory bytes) answer o) (no_all_answer which bytes unknown) tells
-tells_unknown None Sums which bytes o unknown tells = subst (λ (answer : Option (Result AllSymbols Refusal)). AllTells Sums (AllNeedsMemory bytes) answer o) (no_all_answer which bytes unknown) tells
-tells_unknown None Picture which bytes o unknown tells = subst (λ (answer : Option (Result AllSymbols Refusal)). AllTells Picture (AllNeedsMemory bytes) answer o) (no_all_answer which bytes unknown) tells
+tells_unknown (Some section) kind which bytes o unknown outcome = subst (λ (answer : Option (Result Listed Refusal)). EndsAs (Fits kind) (NeedsMemory (format_of bytes) bytes) answer o) (no_answer which bytes section unknown) outcome
+tells_unknown None Listing which bytes o unknown outcome = subst (λ (answer : Option (Result AllSymbols Refusal)). AllTells Listing (AllNeedsMemory bytes) answer o) (no_all_answer which bytes unknown) outcome
+tells_unknown None Sums which bytes o unknown outcome = subst (λ (answer : Option (Result AllSymbols Refusal)). AllTells Sums (AllNeedsMemory bytes) answer o) (no_all_answer which bytes unknown) outcome
+tells_unknown None Picture which bytes o unknown outcome = subst (λ (answer : Option (Result AllSymbols Refusal)). AllTells Picture (AllNeedsMemory bytes) answer o) (no_all_answer which bytes unknown) outcome
 
 unknown_tells : (section : Option (List ℕ)) (kind : Kind) (which : SymbolTable) (file : List ℕ) (o : Outcome) → format_of file ≡ formats.Unknown → o ≡ unknown_format → TellsIn section kind which file o
-unknown_tells (Some section) kind which file o unknown is = subst (λ (answer : Option (Result Listed Refusal)). Tells (Fits kind) (NeedsMemory (format_of file) file) answer o) (sym (no_answer which file section unknown)) is
+unknown_tells (Some section) kind which file o unknown is = subst (λ (answer : Option (Result Listed Refusal)). EndsAs (Fits kind) (NeedsMemory (format_of file) file) answer o) (sym (no_answer which file section unknown)) is
 unknown_tells None Listing which file o unknown is = subst (λ (answer : Option (Result AllSymbols Refusal)). AllTells Listing (AllNeedsMemory file) answer o) (sym (no_all_answer which file unknown)) is
 unknown_tells None Sums which file o unknown is = subst (λ (answer : Option (Result AllSymbols Refusal)). AllTells Sums (AllNeedsMemory file) answer o) (sym (no_all_answer which file unknown)) is
 unknown_tells None Picture which file o unknown is = subst (λ (answer : Option (Result AllSymbols Refusal)). AllTells Picture (AllNeedsMemory file) answer o) (sym (no_all_answer which file unknown)) is
 
 tells_of_file : (asked : Asked) (file bytes : List ℕ) (o : Outcome) → IsReadOf file bytes → TellsIn (section_of asked.symbols) asked.kind asked.symbols.which bytes o → TellsIn (section_of asked.symbols) asked.kind asked.symbols.which file o
-tells_of_file asked file bytes o (inl same) tells = subst (λ (f : List ℕ). TellsIn (section_of asked.symbols) asked.kind asked.symbols.which f o) same tells
-tells_of_file asked file bytes o (inr (unknown, first)) tells =
-    unknown_tells (section_of asked.symbols) asked.kind asked.symbols.which file o unknown (tells_unknown (section_of asked.symbols) asked.kind asked.symbols.which bytes o (unknown_too file bytes unknown first) tells)
+tells_of_file asked file bytes o (inl same) outcome = subst (λ (f : List ℕ). TellsIn (section_of asked.symbols) asked.kind asked.symbols.which f o) same outcome
+tells_of_file asked file bytes o (inr (unknown, first)) outcome =
+    unknown_tells (section_of asked.symbols) asked.kind asked.symbols.which file o unknown (tells_unknown (section_of asked.symbols) asked.kind asked.symbols.which bytes o (unknown_too file bytes unknown first) outcome)
 
 -- the showing of what was read of a file ends as that of the file may
 pub end_of_file : (P Q : Type 0) → (P → Q) → (asked : Asked) (file bytes : List ℕ) (o : Outcome) → IsReadOf file bytes → MayEnd P asked bytes o → MayEnd Q asked file o
 end_of_file P Q more asked file bytes o read (inl (may, is)) = inl (more may, is)
 end_of_file P Q more asked file bytes o read (inr (inl is)) = inr (inl is)
-end_of_file P Q more asked file bytes o read (inr (inr tells)) = inr (inr (tells_of_file asked file bytes o read tells))
+end_of_file P Q more asked file bytes o read (inr (inr outcome)) = inr (inr (tells_of_file asked file bytes o read outcome))
 
 -- a call about a file is never wrong in itself
-tells_no_usage : {L : Type 0} (fits : L → Type 0) (memory : Result L Refusal → Type 0) (answer : Option (Result L Refusal)) → Tells fits memory answer wrong_usage → ⊥
+tells_no_usage : {L : Type 0} (fits : L → Type 0) (memory : Result L Refusal → Type 0) (answer : Option (Result L Refusal)) → EndsAs fits memory answer wrong_usage → ⊥
 tells_no_usage fits memory None is = cc
 tells_no_usage fits memory (Some (Err refusal)) (inl is) = cc
 tells_no_usage fits memory (Some (Err refusal)) (inr (needs, is)) = cc
@@ -89,15 +89,15 @@ tells_no_usage fits memory (Some (Ok listed)) (inr (inl (may, inr is))) = cc
 tells_no_usage fits memory (Some (Ok listed)) (inr (inr (never, is))) = cc
 
 no_usage_in : (section : Option (List ℕ)) (kind : Kind) (which : SymbolTable) (file : List ℕ) → TellsIn section kind which file wrong_usage → ⊥
-no_usage_in (Some section) kind which file tells = tells_no_usage (Fits kind) (NeedsMemory (format_of file) file) (answer_of which file section) tells
-no_usage_in None Listing which file tells = tells_no_usage AllListingFits (AllNeedsMemory file) (all_answer_of which file) tells
-no_usage_in None Sums which file tells = tells_no_usage ReportFits (AllNeedsMemory file) (one_answer (all_answer_of which file)) tells
-no_usage_in None Picture which file tells = tells_no_usage ReportFits (AllNeedsMemory file) (one_answer (all_answer_of which file)) tells
+no_usage_in (Some section) kind which file outcome = tells_no_usage (Fits kind) (NeedsMemory (format_of file) file) (answer_of which file section) outcome
+no_usage_in None Listing which file outcome = tells_no_usage AllListingFits (AllNeedsMemory file) (all_answer_of which file) outcome
+no_usage_in None Sums which file outcome = tells_no_usage ReportFits (AllNeedsMemory file) (one_answer (all_answer_of which file)) outcome
+no_usage_in None Picture which file outcome = tells_no_usage ReportFits (AllNeedsMemory file) (one_answer (all_answer_of which file)) outcome
 
 never_wrong : (MayFail : Type 0) (asked : Asked) (file : List ℕ) → MayEnd MayFail asked file wrong_usage → ⊥
 never_wrong MayFail asked file (inl (may, is)) = cc
 never_wrong MayFail asked file (inr (inl is)) = cc
-never_wrong MayFail asked file (inr (inr tells)) = no_usage_in (section_of asked.symbols) asked.kind asked.symbols.which file tells
+never_wrong MayFail asked file (inr (inr outcome)) = no_usage_in (section_of asked.symbols) asked.kind asked.symbols.which file outcome
 
 -- the text of which a beginning was taken, or all
 took_part : (section : Option (List ℕ)) (kind : Kind) (which : SymbolTable) (file : List ℕ) (old new : Option (List ℕ)) → TakesIn section kind which file old new write_failed → (text : List ℕ) × IsDueIn section kind which file text × AppendsBeginning old new text
@@ -195,7 +195,7 @@ module _ (asked : Asked) (may : Bool) (file path : List ℕ) (are_several : Bool
 
   was_refused : (fault : Fault) (result : Result Bool Fault) → fault ≢ Write → MayEnd ((may ≡ true) ⊎ (file ≡ [])) asked file (outcome_of (Err fault)) → new ≡ old
       → (result ≡ Ok false) × Reports before after ((path, fault) ∷ []) → One result
-  was_refused fault result other ends same (is, told) = subst One (sym is) (refused fault, (other, ends), refl, unwritten old new same, told)
+  was_refused fault result other ends same (is, answered_lines) = subst One (sym is) (refused fault, (other, ends), refl, unwritten old new same, answered_lines)
     where
       unwritten : (old new : Option (List ℕ)) → new ≡ old → Appends old new []
       unwritten None new same = tt
@@ -203,10 +203,10 @@ module _ (asked : Asked) (may : Bool) (file path : List ℕ) (are_several : Bool
 
   -- a file that can't be opened or read
   pub unopened : (fault : Fault) → IsUnreadable may file fault → new ≡ old → Reports before after ((path, fault) ∷ []) → One (Ok false)
-  unopened fault (inl is) same told =
-      was_refused OutOfMemory (Ok false) (λ e. cc) (inr (inl refl)) same (refl, subst (λ (f : Fault). Reports before after ((path, f) ∷ [])) is told)
-  unopened fault (inr (is, why)) same told =
-      was_refused Unreadable (Ok false) (λ e. cc) (inl (why, refl)) same (refl, subst (λ (f : Fault). Reports before after ((path, f) ∷ [])) is told)
+  unopened fault (inl is) same answered_lines =
+      was_refused OutOfMemory (Ok false) (λ e. cc) (inr (inl refl)) same (refl, subst (λ (f : Fault). Reports before after ((path, f) ∷ [])) is answered_lines)
+  unopened fault (inr (is, why)) same answered_lines =
+      was_refused Unreadable (Ok false) (λ e. cc) (inl (why, refl)) same (refl, subst (λ (f : Fault). Reports before after ((path, f) ∷ [])) is answered_lines)
 
   as_file : (bytes : List ℕ) (MayFail : Type 0) → IsReadOf file bytes → (MayFail → may ≡ true) → (fault : Fault) → MayEnd MayFail asked bytes (outcome_of (Err fault)) → MayEnd ((may ≡ true) ⊎ (file ≡ [])) asked file (outcome_of (Err fault))
   as_file bytes MayFail read more fault ends = end_of_file MayFail ((may ≡ true) ⊎ (file ≡ [])) (λ m. inl (more m)) asked file bytes (outcome_of (Err fault)) read ends
@@ -214,18 +214,18 @@ module _ (asked : Asked) (may : Bool) (file path : List ℕ) (are_several : Bool
   -- a file that is read, by how its showing ended
   pub came_to : (bytes left : List ℕ) (MayFail : Type 0) → IsReadOf file bytes → (MayFail → may ≡ true) → left ≡ heading are_several path
       → (done : Result (Unit {0}) Fault) (result : Result Bool Fault) → ShowsHeld asked MayFail bytes left old new taken done → ReportsWhy path before after done result → One result
-  came_to bytes left MayFail read more is (Ok x) result (text, due, wrote) (ok, told) =
-      subst One (sym ok) (shown text, text_of_file asked file bytes text read due, refl, subst (λ (h : List ℕ). Appends old new (h ++ text)) is wrote, told)
-  came_to bytes left MayFail read more is (Err Write) result (text, due, wrote) (err, told) =
-      subst One (sym err) (inl (refl, (text, text_of_file asked file bytes text read due, subst (λ (h : List ℕ). AppendsBeginning old taken (h ++ text)) is wrote)), told)
-  came_to bytes left MayFail read more is (Err Input) result (other, ends, same) told = absurd (other refl)
-  came_to bytes left MayFail read more is (Err (Missing count)) result (other, ends, same) told = absurd (never_wrong MayFail asked bytes ends)
-  came_to bytes left MayFail read more is (Err Unreadable) result (other, ends, same) told = was_refused Unreadable result (λ e. cc) (as_file bytes MayFail read more Unreadable ends) same told
-  came_to bytes left MayFail read more is (Err OutOfMemory) result (other, ends, same) told = was_refused OutOfMemory result (λ e. cc) (as_file bytes MayFail read more OutOfMemory ends) same told
-  came_to bytes left MayFail read more is (Err Unknown) result (other, ends, same) told = was_refused Unknown result (λ e. cc) (as_file bytes MayFail read more Unknown ends) same told
-  came_to bytes left MayFail read more is (Err (Parse p)) result (other, ends, same) told = was_refused (Parse p) result (λ e. cc) (as_file bytes MayFail read more (Parse p) ends) same told
-  came_to bytes left MayFail read more is (Err TooLarge) result (other, ends, same) told = was_refused TooLarge result (λ e. cc) (as_file bytes MayFail read more TooLarge ends) same told
-  came_to bytes left MayFail read more is (Err NoSection) result (other, ends, same) told = was_refused NoSection result (λ e. cc) (as_file bytes MayFail read more NoSection ends) same told
-  came_to bytes left MayFail read more is (Err NoBytes) result (other, ends, same) told = was_refused NoBytes result (λ e. cc) (as_file bytes MayFail read more NoBytes ends) same told
-  came_to bytes left MayFail read more is (Err SharedAddresses) result (other, ends, same) told = was_refused SharedAddresses result (λ e. cc) (as_file bytes MayFail read more SharedAddresses ends) same told
-  came_to bytes left MayFail read more is (Err PastEnd) result (other, ends, same) told = was_refused PastEnd result (λ e. cc) (as_file bytes MayFail read more PastEnd ends) same told
+  came_to bytes left MayFail read more is (Ok x) result (text, due, wrote) (ok, answered_lines) =
+      subst One (sym ok) (shown text, text_of_file asked file bytes text read due, refl, subst (λ (h : List ℕ). Appends old new (h ++ text)) is wrote, answered_lines)
+  came_to bytes left MayFail read more is (Err Write) result (text, due, wrote) (err, answered_lines) =
+      subst One (sym err) (inl (refl, (text, text_of_file asked file bytes text read due, subst (λ (h : List ℕ). AppendsBeginning old taken (h ++ text)) is wrote)), answered_lines)
+  came_to bytes left MayFail read more is (Err Input) result (other, ends, same) answered_lines = absurd (other refl)
+  came_to bytes left MayFail read more is (Err (Missing count)) result (other, ends, same) answered_lines = absurd (never_wrong MayFail asked bytes ends)
+  came_to bytes left MayFail read more is (Err Unreadable) result (other, ends, same) answered_lines = was_refused Unreadable result (λ e. cc) (as_file bytes MayFail read more Unreadable ends) same answered_lines
+  came_to bytes left MayFail read more is (Err OutOfMemory) result (other, ends, same) answered_lines = was_refused OutOfMemory result (λ e. cc) (as_file bytes MayFail read more OutOfMemory ends) same answered_lines
+  came_to bytes left MayFail read more is (Err Unknown) result (other, ends, same) answered_lines = was_refused Unknown result (λ e. cc) (as_file bytes MayFail read more Unknown ends) same answered_lines
+  came_to bytes left MayFail read more is (Err (Parse p)) result (other, ends, same) answered_lines = was_refused (Parse p) result (λ e. cc) (as_file bytes MayFail read more (Parse p) ends) same answered_lines
+  came_to bytes left MayFail read more is (Err TooLarge) result (other, ends, same) answered_lines = was_refused TooLarge result (λ e. cc) (as_file bytes MayFail read more TooLarge ends) same answered_lines
+  came_to bytes left MayFail read more is (Err NoSection) result (other, ends, same) answered_lines = was_refused NoSection result (λ e. cc) (as_file bytes MayFail read more NoSection ends) same answered_lines
+  came_to bytes left MayFail read more is (Err NoBytes) result (other, ends, same) answered_lines = was_refused NoBytes result (λ e. cc) (as_file bytes MayFail read more NoBytes ends) same answered_lines
+  came_to bytes left MayFail read more is (Err SharedAddresses) result (other, ends, same) answered_lines = was_refused SharedAddresses result (λ e. cc) (as_file bytes MayFail read more SharedAddresses ends) same answered_lines
+  came_to bytes left MayFail read more is (Err PastEnd) result (other, ends, same) answered_lines = was_refused PastEnd result (λ e. cc) (as_file bytes MayFail read more PastEnd ends) same answered_lines

@@ -20,18 +20,18 @@ use Rattle.binfarce_command.specs.At.{AnswersLines, HasPlaces, IsUntouched, is_o
 use Rattle.binfarce_command.specs.Faults.{lines_fault, list_fault, read_fault}
 use Rattle.binfarce_command.specs.declared.fault.Fault.{Fault}
 
-pub told : (may : Type 0) (share : Bool) (memory : Result Listed Refusal → Type 0) (answer : Option (Result Listed Refusal)) (entries : List Entry) (base : ℕ) (given left old new : Option (List ℕ)) (ended : Result ℕ LinesError) → share ≡ false → IsMadeOf memory answer (Ok entries)
+pub answered_lines : (may : Type 0) (share : Bool) (memory : Result Listed Refusal → Type 0) (answer : Option (Result Listed Refusal)) (entries : List Entry) (base : ℕ) (given left old new : Option (List ℕ)) (ended : Result ℕ LinesError) → share ≡ false → IsMadeOf memory answer (Ok entries)
     → Streams entries base given left old new ended → AnswersLines may share memory answer base given left old new (lines_end ended)
-told may share memory None entries base given left old new ended alone made streams = absurd made
-told may share memory (Some (Err refusal)) entries base given left old new ended alone made streams = absurd made
-told may share memory (Some (Ok listed)) entries base given left old new ended alone made streams =
+answered_lines may share memory None entries base given left old new ended alone made streams = absurd made
+answered_lines may share memory (Some (Err refusal)) entries base given left old new ended alone made streams = absurd made
+answered_lines may share memory (Some (Ok listed)) entries base given left old new ended alone made streams =
     let P : List Entry → Type 0 = λ es. Streams es base given left old new ended in inr (inr (inr (alone, listed, ended, refl, subst P made streams, refl)))
 
-pub told_less : (may : Type 0) (share : Bool) (memory : Result Listed Refusal → Type 0) (answer : Option (Result Listed Refusal)) (entries : List Entry) (base : ℕ) (given left old new : Option (List ℕ)) (e : LinesError) (result : Result ℕ Fault) → share ≡ false → IsMadeOf memory answer (Ok entries)
+pub answered_less : (may : Type 0) (share : Bool) (memory : Result Listed Refusal → Type 0) (answer : Option (Result Listed Refusal)) (entries : List Entry) (base : ℕ) (given left old new : Option (List ℕ)) (e : LinesError) (result : Result ℕ Fault) → share ≡ false → IsMadeOf memory answer (Ok entries)
     → Streams entries base given left old new (Err e) → IsErrAnd result (λ x. x ≡ lines_fault e) → AnswersLines may share memory answer base given left old new result
-told_less may share memory answer entries base given left old new e (Ok x) alone made streams is = absurd is
-told_less may share memory answer entries base given left old new e (Err x) alone made streams is =
-    let P : Fault → Type 0 = λ f. AnswersLines may share memory answer base given left old new (Err f) in subst P (sym is) (told may share memory answer entries base given left old new (Err e) alone made streams)
+answered_less may share memory answer entries base given left old new e (Ok x) alone made streams is = absurd is
+answered_less may share memory answer entries base given left old new e (Err x) alone made streams is =
+    let P : Fault → Type 0 = λ f. AnswersLines may share memory answer base given left old new (Err f) in subst P (sym is) (answered_lines may share memory answer entries base given left old new (Err e) alone made streams)
 
 untouched : (given old : Option (List ℕ)) → IsUntouched given given old old
 untouched given old = (none_read given, none_written old)

@@ -1,4 +1,4 @@
--- What addresses are asked for, and how those of standard input are answered.
+-- The requested addresses, and the answers to those of standard input.
 use Rattle.std.specs.Prelude.{◌≡◌, ◌⊎◌, ℕ, Bool, true, false, List, [], ◌∷◌, Option, Some, None, Result, Ok, Err}
 use Rattle.std.specs.Io.KnownBytes.{Appends, Consumes}
 use Rattle.binfarce.specs.Refusal.{Refusal}
@@ -27,7 +27,7 @@ abbrev pub first_and_others : (word : List ℕ) → Option ℕ → Result (List 
 first_and_others word None others = Err (no_address word)
 first_and_others word (Some address) others = and_others address others
 
--- the addresses that words write; the first word that writes none is wrong
+-- the addresses in words; the first word without one is wrong
 unfoldable pub addresses_of : List (List ℕ) → Result (List ℕ) Wrong
 addresses_of [] = Ok []
 addresses_of (word ∷ others) = first_and_others word (address_of word) (addresses_of others)
@@ -36,7 +36,7 @@ addresses_of (word ∷ others) = first_and_others word (address_of word) (addres
 abbrev pub IsUntouched : Option (List ℕ) → Option (List ℕ) → Option (List ℕ) → Option (List ℕ) → Type 0
 IsUntouched given left old new = Consumes given left [] × Appends old new []
 
--- how the answering of lines ended
+-- the result of answering lines
 abbrev pub lines_end : Result ℕ LinesError → Result ℕ Fault
 lines_end (Ok count) = Ok count
 lines_end (Err e) = Err (lines_fault e)

@@ -11,14 +11,14 @@ use Rattle.binfarce_tools.specs.Answer.{answer_of, NeedsMemory}
 use Rattle.binfarce_tools.specs.Map.{IsMapOf}
 use Rattle.binfarce_tools.specs.Listing.{IsListingOf, ListingFits}
 use Rattle.binfarce_tools.specs.Report.{IsReportOf, IsSumsOf, ReportFits}
-use Rattle.binfarce_tools.specs.Writing.{Outcome, IsDue, ProgramTells, Takes, Tells, no_memory, unreadable}
+use Rattle.binfarce_tools.specs.Writing.{Outcome, IsDue, ProgramEndsAs, Takes, EndsAs, no_memory, unreadable}
 use Rattle.binfarce_tools.specs.declared.SymbolTable.{SymbolTable}
 use Rattle.binfarce_command.specs.declared.show.Asked.{Asked}
 use Rattle.binfarce_command.specs.declared.show.Kind.{Kind}
 use Rattle.binfarce_command.specs.declared.show.Kind.TheVariants.{Listing, Sums, Picture}
 use Rattle.binfarce_command.specs.declared.show.Symbols.{Symbols}
 
--- text shows what a file holds
+-- text shows a file's answer
 abbrev pub IsTextOf : Kind → Listed → List ℕ → Type 0
 IsTextOf Listing = IsListingOf
 IsTextOf Sums = IsReportOf
@@ -38,9 +38,9 @@ IsDueOfAll Picture answer text = IsDue IsMapOf (one_answer answer) text
 
 -- what is told of such a file, and what is taken of its text
 abbrev pub AllTells : Kind → ({A : Type 0} → A → Type 0) → Option (Result AllSymbols Refusal) → Outcome → Type 0
-AllTells Listing NeedsMemory answer outcome = Tells AllListingFits NeedsMemory answer outcome
-AllTells Sums NeedsMemory answer outcome = Tells ReportFits NeedsMemory (one_answer answer) outcome
-AllTells Picture NeedsMemory answer outcome = Tells ReportFits NeedsMemory (one_answer answer) outcome
+AllTells Listing NeedsMemory answer outcome = EndsAs AllListingFits NeedsMemory answer outcome
+AllTells Sums NeedsMemory answer outcome = EndsAs ReportFits NeedsMemory (one_answer answer) outcome
+AllTells Picture NeedsMemory answer outcome = EndsAs ReportFits NeedsMemory (one_answer answer) outcome
 
 abbrev pub TakesAll : Kind → Option (Result AllSymbols Refusal) → (old new : Option (List ℕ)) → Outcome → Type 0
 TakesAll Listing answer old new outcome = Takes IsAllListingOf answer old new outcome
@@ -57,7 +57,7 @@ IsDueIn (Some section) kind which file text = IsDue (IsTextOf kind) (answer_of w
 IsDueIn None kind which file text = IsDueOfAll kind (all_answer_of which file) text
 
 abbrev pub TellsIn : (section : Option (List ℕ)) → Kind → SymbolTable → (file : List ℕ) → Outcome → Type 0
-TellsIn (Some section) kind which file outcome = Tells (Fits kind) (NeedsMemory (format_of file) file) (answer_of which file section) outcome
+TellsIn (Some section) kind which file outcome = EndsAs (Fits kind) (NeedsMemory (format_of file) file) (answer_of which file section) outcome
 TellsIn None kind which file outcome = AllTells kind (AllNeedsMemory file) (all_answer_of which file) outcome
 
 abbrev pub TakesIn : (section : Option (List ℕ)) → Kind → SymbolTable → (file : List ℕ) → (old new : Option (List ℕ)) → Outcome → Type 0

@@ -9,7 +9,7 @@ ghost use Rattle.binfarce_tools.specs.Answer.{answer_of, FileNeedsMemory};
 ghost use Rattle.binfarce_tools.specs.Listing.{ListingFits};
 ghost use Rattle.binfarce_tools.specs.Tables.{AreTablesOf};
 ghost use Rattle.binfarce_tools.specs.declared.SymbolTable.{SymbolTable};
-ghost use Rattle.binfarce_tools.specs.Writing.{Tells, ProgramTells, Takes, Fails, Leaves};
+ghost use Rattle.binfarce_tools.specs.Writing.{EndsAs, ProgramEndsAs, Takes, Fails, Leaves};
 ghost use Rattle.binfarce_command.specs.At.{AnswersLines, HasPlaces, IsShared, addresses_of, is_of_object, share_addresses};
 ghost use Rattle.binfarce_command.specs.Faults.{outcome_of};
 ghost use Rattle.binfarce_command.specs.Show.{MemoryFor, answer_for};
@@ -28,11 +28,11 @@ use binfarce_words::words::Wrong;
 use std::alloc::Global;
 use std::io::Read;
 
-/// The addresses that the words write.
+/// The addresses in the words.
 ///
 /// # Errors
 ///
-/// `NoAddress` with the first word that writes none; `OutOfMemory` where an allocation fails.
+/// `NoAddress` with the first word that isn't an address; `OutOfMemory` where an allocation fails.
 pub fn read_addresses<'a>(alloc: Global, words: &[&'a str]) -> Result<Vec<u64>, Wrong<'a>>
     ensures { Gives (λ v. v.items) (addresses_of (map (λ word. word.now) words.entry.now)) result }
 {
@@ -64,8 +64,8 @@ pub fn answer_all<S: Source, K: Sink>(
     addresses: &[u64],
     out: &mut K,
 ) -> Result<(), Fault>
-    ensures tells { (file : List ℕ) → S.bytes source.now ≡ Some file → share_addresses symbols.now file ≡ false
-        → ProgramTells (S.may_fail source.now ≡ true) ListingFits
+    ensures outcome { (file : List ℕ) → S.bytes source.now ≡ Some file → share_addresses symbols.now file ≡ false
+        → ProgramEndsAs (S.may_fail source.now ≡ true) ListingFits
         (MemoryFor symbols.now file) (answer_for symbols.now file) (outcome_of result) }
     ensures shared { (file : List ℕ) → S.bytes source.now ≡ Some file → share_addresses symbols.now file ≡ true
         → IsShared (S.may_fail source.now ≡ true) result }
@@ -94,8 +94,8 @@ fn answer_tables<K: Sink>(
     addresses: &[u64],
     out: &mut K,
 ) -> Result<(), Fault>
-    ensures tells { (which : SymbolTable) (file section : List ℕ) → AreTablesOf which file section tables.now
-        → Tells ListingFits
+    ensures outcome { (which : SymbolTable) (file section : List ℕ) → AreTablesOf which file section tables.now
+        → EndsAs ListingFits
         (FileNeedsMemory file) (answer_of which file section) (outcome_of result) }
     ensures takes { (which : SymbolTable) (file section : List ℕ) → AreTablesOf which file section tables.now
         → Takes (AreLinesAt base addresses.now)
@@ -114,9 +114,9 @@ fn answer_all_tables<K: Sink>(
     addresses: &[u64],
     out: &mut K,
 ) -> Result<(), Fault>
-    ensures tells { (which : SymbolTable) (file : List ℕ) → AreAllTablesOf which file tables.now
+    ensures outcome { (which : SymbolTable) (file : List ℕ) → AreAllTablesOf which file tables.now
         → is_of_object (all_answer_of which file) ≡ false
-        → Tells ListingFits (AllNeedsMemory file) (one_answer (all_answer_of which file)) (outcome_of result) }
+        → EndsAs ListingFits (AllNeedsMemory file) (one_answer (all_answer_of which file)) (outcome_of result) }
     ensures shared { (which : SymbolTable) (file : List ℕ) → AreAllTablesOf which file tables.now
         → is_of_object (all_answer_of which file) ≡ true → IsShared ⊥ result }
     ensures takes { (which : SymbolTable) (file : List ℕ) → AreAllTablesOf which file tables.now
@@ -141,12 +141,12 @@ fn places_of_all(alloc: Global, tables: &AllTables) -> Result<Places<'_>, Fault>
     Ok(places)
 }
 
-/// Symbolizes the addresses that the lines of `input` write, each as soon as its line feed has come, and returns how many lines
-/// write none.
+/// Symbolizes the addresses in the lines of `input`, each as soon as its line feed has come, and returns how many lines
+/// have none.
 ///
 /// # Errors
 ///
-/// As `answer_all`, before anything is read of `input`; `Input` where it can't be read.
+/// Those of `answer_all`, before anything of `input` is read; `Input` where it can't be read.
 pub fn answer_input<S: Source, I: Read, K: Sink>(
     alloc: Global,
     source: &S,

@@ -6,7 +6,7 @@ ghost use Rattle.binfarce_tools.specs.AllTables.{AreAllTablesOf};
 ghost use Rattle.binfarce_tools.specs.Answer.{answer_of, FileNeedsMemory};
 ghost use Rattle.binfarce_tools.specs.Tables.{AreTablesOf};
 ghost use Rattle.binfarce_tools.specs.declared.SymbolTable.{SymbolTable};
-ghost use Rattle.binfarce_tools.specs.Writing.{Tells, Takes, Fails, Leaves};
+ghost use Rattle.binfarce_tools.specs.Writing.{EndsAs, Takes, Fails, Leaves};
 ghost use Rattle.binfarce_command.specs.Faults.{outcome_of};
 ghost use Rattle.binfarce_command.specs.Show.{AllTells, Fits, IsTextOf, MayEnd, TakesAll, TakesShown};
 ghost use Rattle.binfarce_command.specs.declared.fault.Fault.TheVariants.{Input};
@@ -55,15 +55,15 @@ pub struct Asked<'a> {
 ///
 /// # Errors
 ///
-/// `Unreadable` where a read fails; `Unknown`, `Parse`, `OutOfMemory`, `TooLarge` and `Write` as `list` and `report` refuse. Only
-/// `Write` can leave a beginning written.
+/// `Unreadable` where a read fails; `Unknown`, `Parse`, `OutOfMemory`, `TooLarge` and `Write` as in `list` and
+/// `report`. Only after `Write` a beginning may be written.
 pub fn show<S: Source, K: Sink>(
     alloc: Global,
     asked: &Asked<'_>,
     source: &S,
     out: &mut K,
 ) -> Result<(), Fault>
-    ensures tells { (file : List ℕ) → S.bytes source.now ≡ Some file
+    ensures outcome { (file : List ℕ) → S.bytes source.now ≡ Some file
         → MayEnd (S.may_fail source.now ≡ true) asked.now file (outcome_of result) }
     ensures takes { (file : List ℕ) → S.bytes source.now ≡ Some file
         → TakesShown asked.now file (K.taken out.old) (K.taken out.new) (outcome_of result) }
@@ -90,8 +90,8 @@ fn show_tables<K: Sink>(
     tables: &Tables,
     out: &mut K,
 ) -> Result<(), Fault>
-    ensures tells { (which : SymbolTable) (file section : List ℕ) → AreTablesOf which file section tables.now
-        → Tells (Fits kind)
+    ensures outcome { (which : SymbolTable) (file section : List ℕ) → AreTablesOf which file section tables.now
+        → EndsAs (Fits kind)
         (FileNeedsMemory file) (answer_of which file section) (outcome_of result) }
     ensures takes { (which : SymbolTable) (file section : List ℕ) → AreTablesOf which file section tables.now
         → Takes (IsTextOf kind)
@@ -114,7 +114,7 @@ fn show_all<K: Sink>(
     tables: &AllTables,
     out: &mut K,
 ) -> Result<(), Fault>
-    ensures tells { (which : SymbolTable) (file : List ℕ) → AreAllTablesOf which file tables.now
+    ensures outcome { (which : SymbolTable) (file : List ℕ) → AreAllTablesOf which file tables.now
         → AllTells kind (AllNeedsMemory file) (all_answer_of which file) (outcome_of result) }
     ensures takes { (which : SymbolTable) (file : List ℕ) → AreAllTablesOf which file tables.now
         → TakesAll kind (all_answer_of which file) (K.taken out.old) (K.taken out.new) (outcome_of result) }

@@ -19,7 +19,7 @@ use Rattle.binfarce_parts.proofs.Same as elf
 use Rattle.binfarce_parts.proofs.MachoSame as macho
 use Rattle.binfarce_parts.proofs.PeSame as pe
 
--- what stands after eight bytes doesn't matter to the format
+-- the bytes after the first eight don't matter to the format
 by_eight : (first rest more : List ℕ) → length first ≡ 8 → length rest ≡ length more → format_of (first ++ rest) ≡ format_of (first ++ more)
 unfolding format_of
 by_eight (a ∷ b ∷ c ∷ d ∷ e ∷ f ∷ g ∷ h ∷ []) rest more eight long =

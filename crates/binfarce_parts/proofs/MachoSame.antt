@@ -117,7 +117,7 @@ located_same file other same =
     ∙ sym (from_is (walk file) (commands file) (located_by file))
     ∙ sym (located_is file)
 
--- where the symbols are located alike, an address of the table is one of both
+-- where the symbols have the same location, an address of the table is one of both
 pub address_same : (file other : List ℕ) → located other ≡ located file → HasAddress file → HasAddress other
 address_same file other same has = record { found = has.found; is_located = same ∙ has.is_located; some = has.some }
 

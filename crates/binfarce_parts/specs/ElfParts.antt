@@ -1,4 +1,4 @@
--- The parts of an ELF file that its answer is read from.
+-- The parts of an ELF file that decide its answer.
 use Rattle.std.specs.Prelude.{ℕ, ◌+◌, ◌*◌, Bool, List, [], ◌∷◌, ◌++◌, min, Option, find, nat_eq, nat_lt, if◌then◌else◌}
 use Rattle.binfarce.specs.declared.ByteOrder.{ByteOrder}
 use Rattle.binfarce.specs.Elf.{ElfClass, SectionTable, Section, section_table, walk, whole_headers, names_section}

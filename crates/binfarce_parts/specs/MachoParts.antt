@@ -1,4 +1,4 @@
--- The parts of a Mach-O file that its answer is read from.
+-- The parts of a Mach-O file that decide its answer.
 use Rattle.std.specs.Prelude.{ℕ, zero, suc, ◌+◌, ◌-◌, ◌*◌, List, [], ◌∷◌, ◌++◌, length, map, min, Option, find, nat_eq, nat_lt, if◌then◌else◌}
 use Rattle.std.specs.List.{range_with_len, flat_map}
 use Rattle.binfarce.specs.Field.{field}
@@ -37,7 +37,7 @@ table_command file = find (λ command. nat_eq command.kind 2) (commands file).it
 abbrev pub contents_parts : List ℕ → SymbolTable ℕ → List Part
 contents_parts file table = whole_part file table.strings_offset table.strings_size ++ whole_part file table.symbol_offset (symbol_length * table.row_count)
 
--- the body of that command, and what it names
+-- the body of that command, and the tables that it names
 abbrev pub table_parts : List ℕ → Command → List Part
 table_parts file command = part (body_of command) symbol_table_length ∷ contents_parts file (symbol_table_at file (body_of command))
 

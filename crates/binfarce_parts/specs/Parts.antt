@@ -1,4 +1,4 @@
--- The parts of a file that its format and its answer are read from, and the law that no other byte of the file matters to them.
+-- The parts of a file that decide its format and its answer, and the law that no other byte of the file matters.
 use Rattle.std.specs.Prelude.{◌≡◌, ◌↔◌, ℕ, List, [], ◌∷◌, Result}
 use Rattle.binfarce.specs.declared.Format.{Format}
 use Rattle.binfarce.specs.declared.Format.TheVariants.{Elf32, Elf64, Macho, PE, Unknown}
@@ -12,11 +12,11 @@ use Rattle.binfarce_parts.specs.ElfParts.{elf_parts}
 use Rattle.binfarce_parts.specs.MachoParts.{macho_parts}
 use Rattle.binfarce_parts.specs.PeParts.{pe_parts}
 
--- the bytes that tell a file's format
+-- the bytes that name a file's format
 abbrev pub magic : Part
 magic = part 0 8
 
--- what the reader of a format reads; of a file of no known format nothing is read
+-- the parts that the format's reader reads; none for an unknown format
 abbrev pub answer_parts : Format → List ℕ → List Part
 answer_parts (Elf32 order) file = elf_parts elf32 order file
 answer_parts (Elf64 order) file = elf_parts elf64 order file
@@ -28,7 +28,7 @@ answer_parts Unknown file = []
 abbrev pub parts_of : List ℕ → List Part
 parts_of file = magic ∷ answer_parts (format_of file) file
 
--- files of one length that hold the same in the parts of the first have one format, one answer for each section, and the same answers that need memory
+-- files of one length that agree in the parts of the first have one format, one answer for each section, and the same answers that need memory
 abbrev pub PartsDecide : List ℕ → List ℕ → Type 0
 PartsDecide file other =
     SameParts (parts_of file) file other

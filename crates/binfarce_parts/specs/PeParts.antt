@@ -1,4 +1,4 @@
--- The parts of a PE file that its answer is read from.
+-- The parts of a PE file that decide its answer.
 use Rattle.std.specs.Prelude.{ℕ, ◌+◌, ◌-◌, ◌*◌, List, [], ◌∷◌, ◌++◌, length, map, min, nat_le, if◌then◌else◌}
 use Rattle.std.specs.List.{range_with_len}
 use Rattle.binfarce.specs.Pe.{header_of, signature_offset, sections_offset, section_length, section_unread, whole_headers}

@@ -1,4 +1,4 @@
-//! The law of parts, which the definitions keep; and worked examples, which are computed from them alone.
+//! The law of parts, proved from the definitions. Worked examples, computed from the definitions alone.
 
 ghost use Rattle.std.specs.Prelude.{◌≡◌, ◌++◌, [], ◌∷◌, replicate, Err};
 ghost use Rattle.binfarce.specs.declared.ByteOrder.TheVariants.{LittleEndian};
@@ -13,12 +13,12 @@ ghost use Rattle.binfarce_parts.specs.Parts.{PartsDecide};
 
 use binfarce::ByteOrder;
 
-/// Two files of one length that hold the same in the parts of the first have one format, and one answer for each section.
+/// Two files of one length that agree in the parts of the first have one format, and one answer for each section.
 ///
-/// No other byte matters to what is listed or reported. The first eight bytes are a part of every file. Of an ELF file the
+/// No other byte matters to a listing or a report. The first eight bytes are a part of every file. Of an ELF file the
 /// others are the file header, the section headers, the section names, the symbol table and its string table; of a
 /// Mach-O file the load commands as far as they are read, the symbol table and its string table; of a PE file the file
-/// header, the section headers, the symbol table and the rest of the file after it; of any other file there is none.
+/// header, the section headers, the symbol table and the rest of the file after it; any other file has none.
 pub fn parts_decide(file: &[u8], other: &[u8])
     ensures { PartsDecide file.now other.now }
 {
@@ -26,7 +26,7 @@ pub fn parts_decide(file: &[u8], other: &[u8])
     let _ = other;
 }
 
-/// The same of what the readers of both classes answer, in either order.
+/// The same for the answers of the readers of both classes, in either order.
 pub fn elf_parts_decide(file: &[u8], other: &[u8], byte_order: ByteOrder, section: &str)
     ensures of_32_bits { SameParts (elf_parts elf32 byte_order file.now) file.now other.now
         → elf_file_answer elf32 byte_order other.now section.now
@@ -41,7 +41,7 @@ pub fn elf_parts_decide(file: &[u8], other: &[u8], byte_order: ByteOrder, sectio
     let _ = section;
 }
 
-/// The same of what the reader of Mach-O answers.
+/// The same for the answer of the Mach-O reader.
 pub fn macho_parts_decide(file: &[u8], other: &[u8])
     ensures { SameParts (macho_parts file.now) file.now other.now
         → macho_file_answer other.now ≡ macho_file_answer file.now }
@@ -50,7 +50,7 @@ pub fn macho_parts_decide(file: &[u8], other: &[u8])
     let _ = other;
 }
 
-/// The same of what the reader of PE answers.
+/// The same for the answer of the PE reader.
 pub fn pe_parts_decide(file: &[u8], other: &[u8])
     ensures { SameParts (pe_parts file.now) file.now other.now → pe_file_answer other.now ≡ pe_file_answer file.now }
 {

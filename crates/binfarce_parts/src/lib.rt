@@ -1,4 +1,4 @@
-//! Laws of what is listed and reported of a file: which of its bytes that is read from, and which symbols it is made of.
+//! Laws of listings and reports: the bytes of a file that decide them, and the symbols that they show.
 #![tactic(auto)]
 
 pub mod laws;

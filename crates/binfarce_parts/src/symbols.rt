@@ -1,4 +1,4 @@
-//! Laws of listings and reports, which their definitions keep.
+//! Laws of listings and reports, proved from their definitions.
 
 ghost use Rattle.std.specs.Prelude.{◌≡◌, List, ℕ};
 ghost use Rattle.binfarce.specs.Symbol.{AreSymbolsOf, Listed};
@@ -8,8 +8,8 @@ ghost use Rattle.binfarce_parts.specs.machine.Symbols.{IsReportOfSymbols, symbol
 
 use binfarce::demangle::SymbolData;
 
-/// The lines of the symbols that are made of a file's entries are the file's listing, and a report of their shares is the
-/// file's report.
+/// The lines of the symbols of a file's entries are the file's listing, and the report of their shares is the file's
+/// report.
 #[tactic(auto, using(crate::proofs::SymbolLaws::listing_of_symbols))]
 pub fn symbols_list_and_report(symbols: &[SymbolData], size: u64)
     ensures listing { (listed : Listed) → AreSymbolsOf listed.entries symbols.now → size ≡ listed.section_size

@@ -1,4 +1,4 @@
-//! What the programs share: their arguments, the file that they read, and how they end.
+//! Code that the programs share: for arguments, for the file that they read, and for their exit.
 #![tactic(auto)]
 
 ghost use Rattle.std.specs.Prelude.{◌≡◌, ◌≢◌, ◌⊎◌, [], Bool, true, false, map, Err, Some, None, MatchResult, IfSome, IfOk, IfErr, OnOk};
@@ -16,10 +16,10 @@ use std::io::{self, ErrorKind, Read, Write};
 use std::process::ExitCode;
 use std::{env, fmt};
 
-/// What can go wrong in every program. A program's own fault is made of it.
+/// A failure that every program can have. A program's own fault is made of it.
 #[derive(Debug, Clone, Copy, PartialEq)]
 pub enum Failure {
-    /// The arguments aren't those that the program takes.
+    /// The arguments are wrong.
     Usage,
     /// The file can't be opened or read.
     File,
@@ -29,12 +29,12 @@ pub enum Failure {
     Write,
 }
 
-/// Why a program ended early. Its text is the line that is printed.
+/// Why a program ended early. Its text is the printed line.
 pub trait Fault: fmt::Display + From<Failure> {
-    // The arguments aren't those that the program takes.
+    // The arguments are wrong.
     ghost is_usage: { Self → Bool };
 
-    /// The status that the program ends with: 2 for wrong arguments, and 1 for any other fault.
+    /// The program's exit status: 2 for wrong arguments, and 1 for any other fault.
     fn status(&self) -> u8
         ensures { result ≡ status_of (is_usage self.now) };
 }
@@ -57,7 +57,7 @@ pub fn arguments_failure(e: io::Error) -> Failure
     }
 }
 
-/// The file and the section that the arguments after the program's own name give. The section is by default `.text`.
+/// The file and the section in the arguments after the program's own name. The section is by default `.text`.
 ///
 /// `Usage` for none, and for more than two.
 pub fn file_and_section(arguments: &[String]) -> Result<(&str, &str), Failure>
@@ -92,7 +92,7 @@ pub fn is_read_at_offsets<S: Source>(file: &S) -> bool
     }
 }
 
-/// The failure that a reader's error is: `OutOfMemory` where an allocation failed, and `File` for any other.
+/// The failure for a reader's error: `OutOfMemory` where an allocation failed, and `File` for any other.
 pub fn read_failure(e: io::Error) -> Failure
     ensures { result ≡ failure_of (error_kind e) }
 {
@@ -104,7 +104,7 @@ pub fn read_failure(e: io::Error) -> Failure
 
 /// The bytes up to the reader's end.
 ///
-/// `File` where the reader fails; `OutOfMemory` where an allocation fails, or the reader says that one did.
+/// `File` where the reader fails; `OutOfMemory` where an allocation fails, or the reader reports that one did.
 pub fn read_whole<R: Read>(alloc: Global, file: &mut R) -> Result<Vec<u8>, Failure>
     ensures read { IfOk result (λ v. IfSome (R.remaining file.old) (λ bytes. v.items ≡ bytes)) }
     ensures refused { IfErr result (λ e. (e ≡ Unreadable) ⊎ (e ≡ OutOfMemory)) }
@@ -114,8 +114,8 @@ pub fn read_whole<R: Read>(alloc: Global, file: &mut R) -> Result<Vec<u8>, Failu
     Ok(bytes)
 }
 
-/// How a program's work ended, once what it wrote is flushed: with its own fault, if it has one, and else with `Write`
-/// where the flush fails.
+/// Flushes the output, and returns the result of a program's work: its own fault if it has one, and else `Write` where
+/// the flush fails.
 pub fn finish<W: Write + Drop, F: From<Failure>>(mut out: W, ended: Result<(), F>) -> Result<(), F>
     ensures first { IfErr ended (λ f. result ≡ Err f) }
     ensures flush { OnOk ended (IfErr result (λ f. F.from_gives Unwritten f)) }
@@ -126,7 +126,7 @@ pub fn finish<W: Write + Drop, F: From<Failure>>(mut out: W, ended: Result<(), F
     Ok(())
 }
 
-/// Prints a program's fault to standard error, if it has one, and gives the status that it ends with.
+/// Prints a program's fault to standard error, if it has one, and returns its exit status.
 pub fn exit<F: Fault + Drop>(rt: &HostRuntime, ended: Result<(), F>) -> ExitCode
     ensures { MatchResult ended (λ _. exit_status result ≡ 0) (λ f. exit_status result ≡ status_of (F.is_usage f)) }
 {

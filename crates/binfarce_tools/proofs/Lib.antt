@@ -1,7 +1,7 @@
 pub mod HeaderLengths
 pub mod Pads
 pub mod Heads
-pub mod Told
+pub mod Reported
 pub mod Listings
 pub mod Lines
 pub mod CrateSums

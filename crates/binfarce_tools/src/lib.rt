@@ -1,4 +1,4 @@
-//! What the programs are made of: listings of the function symbols of executables, and reports of their sizes by crate.
+//! Listings of the function symbols of executables, and reports and pictures of their sizes by crate.
 #![tactic(auto)]
 
 pub mod all;

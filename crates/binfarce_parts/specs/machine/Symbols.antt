@@ -1,4 +1,4 @@
--- What laws of listings and reports say of symbols.
+-- Listings and reports of symbols, for the laws.
 use Rattle.std.specs.Prelude.{ℕ, List, [], ◌∷◌, ◌++◌, map}
 use Rattle.std.specs.List.{concat}
 use Rattle.std.specs.String.{string_bytes}
@@ -15,10 +15,10 @@ symbol_line symbol = line_head symbol.address symbol.size ++ (string_bytes symbo
 abbrev pub symbols_listing : List SymbolData → ℕ → List ℕ
 symbols_listing symbols size = concat (map symbol_line symbols) ++ size_line size
 
--- what a symbol adds to a report
+-- the share that a symbol adds to a report
 abbrev pub share_of : SymbolData → Share
 share_of symbol = record { name = crate_text (name_view symbol.name); size = symbol.size }
 
--- text is the report of what symbols add
+-- text is the report of the shares of symbols
 abbrev pub IsReportOfSymbols : List SymbolData → ℕ → List ℕ → Type 0
 IsReportOfSymbols symbols size text = IsReportOfShares (map share_of symbols) size text

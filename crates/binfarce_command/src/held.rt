@@ -6,7 +6,7 @@ ghost use Rattle.binfarce_command.specs.Input.{ReadsJudged, ReadsFirst, ReadsByt
 use crate::fault::Fault;
 use binfarce_bytes::format::{Format, detect_format};
 use binfarce_bytes::source::Source;
-use binfarce_program::is_read_at_offsets;
+use binfarce_tools::program::is_read_at_offsets;
 use std::alloc::Global;
 use std::io::{self, ErrorKind, Read};
 

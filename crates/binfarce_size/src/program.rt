@@ -6,15 +6,15 @@ ghost use Rattle.binfarce_tools.specs.Answer.{file_answer, FileNeedsMemory};
 ghost use Rattle.binfarce_tools.specs.Report.{IsReportOf, ReportFits};
 ghost use Rattle.binfarce_tools.specs.Sink.{writer_of, has_failed};
 ghost use Rattle.binfarce_tools.specs.Writing.{ProgramEndsAs, Takes, Fails, Leaves};
-ghost use Rattle.binfarce_program.specs.Given.{words_of};
-ghost use Rattle.binfarce_program.specs.Status.{status_of};
+ghost use Rattle.binfarce_tools.specs.Given.{words_of};
+ghost use Rattle.binfarce_tools.specs.Status.{status_of};
 ghost use Rattle.binfarce_size.specs.Program.{outcome_of, is_usage};
 ghost use Rattle.binfarce_size.specs.declared.program.Fault.TheVariants.{Usage};
 
 use binfarce_bytes::source::Source;
-use binfarce_program::{Failure, file_and_section, is_read_at_offsets, read_whole};
 use binfarce_tables::ReadError;
 use binfarce_tools::list::Out;
+use binfarce_tools::program::{Failure, file_and_section, is_read_at_offsets, read_whole};
 use binfarce_tools::report::{ReportError, report, report_tables};
 use binfarce_tools::tables::read;
 use std::alloc::Global;
@@ -65,7 +65,7 @@ impl From<ReadError> for Fault {
     }
 }
 
-impl binfarce_program::Fault for Fault {
+impl binfarce_tools::program::Fault for Fault {
     ghost use Rattle.binfarce_size.specs.Program.{is_usage};
 
     ghost is_usage = { is_usage };

@@ -4,8 +4,10 @@
 pub mod all;
 pub mod functions;
 mod head;
+pub mod laws;
 pub mod list;
 pub mod map;
+pub mod program;
 pub mod report;
 pub mod tables;
 pub mod writing;

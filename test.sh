@@ -8,6 +8,7 @@
 # tests/crates.sh runs them with the checks that their proofs would make needless. `rt ci` in the repository proves and tries all.
 set -eu
 cd "$(dirname "$0")"
+[ "$#" -eq 0 ] || { echo "usage: ./test.sh" >&2; exit 2; }
 
 tools="rt python3 cargo gcc g++ nm readelf strip valgrind pkg-config groff tar pgrep"
 missing=$(for tool in $tools; do command -v "$tool" >/dev/null || echo "$tool"; done)
@@ -91,5 +92,6 @@ done
 part tests/programs.sh "$scratch/proved"
 part tests/programs.sh "$built"
 part tests/erased.py "$scratch/proved" "$built"
-sed -n 's/^tests: \([0-9]*\) passed, 0 failed$/\1/p; s/^wrong bodies: \([0-9]*\) refused, 0 not$/\1/p; s/^test result: ok[.] \([0-9]*\) passed.*/\1/p' "$scratch"/logs/* |
+sed -n 's/^tests: \([0-9]*\) passed, 0 failed$/\1/p; s/^wrong bodies: \([0-9]*\) refused, 0 not$/\1/p
+    s/^test result: ok[.] \([0-9]*\) passed.*/\1/p' "$scratch"/logs/* |
     awk -v gate="${last%% *}" '{ gate += $1 } END { print gate " passed, 0 failed" }'

@@ -59,7 +59,7 @@ def item_at(crate, file, lines, at):
     return kind, name, f"{holder}::{name}".removeprefix("::")
 
 def functions(crate):
-    """The functions with a body in a crate's sources, as `rt fmt` lays them out, but for tests and traits: each one's path, file and text."""
+    """The path, file and text of each function with a body in a crate's sources, but for tests and traits."""
     top = f"{TOP}/crates/{crate}"
     for file in sorted(os.path.relpath(f"{folder}/{name}", top) for folder, _, names in os.walk(f"{top}/src") for name in names):
         text = "" if file == "src/tests.rt" else read(f"crates/{crate}/{file}")

@@ -114,10 +114,10 @@ def elf_of(found):
 def on_file(rng, path):
     section = rng.choice([[], [], [".text"], [".symtab"], ["__text"], [".data"], [""], ["é"]])
     addresses = [rng.choice(["1000", "0x1005", "100f", "1010", "fff", "0", "180", "1040", "ffffffffffffffff"]) for _ in range(4)]
-    option = [f"--section={name}" for name in section] + rng.choice([[], [], ["--dynamic"]])
+    option = [f"--section={name}" for name in section] + rng.choice([[], [], ["--dynamic"], ["--all"]])
     return [(rng.choice(["binfarce-list", "binfarce-size"]), [path, *section], None, ""),
             (rng.choice(["list", "list", "size"]), [path, *option], None, ""), (rng.choice(["size", "map"]), [*option, path], None, ""),
-            ("section", [path, *section], None, ""), ("at", [*rng.choice([[], ["--base", "40"]]), path, *addresses], None, "")]
+            ("section", [path, *section], None, ""), ("at", [*rng.choice([[], ["--base", "40"], ["--all"]]), path, *addresses], None, "")]
 
 def main(scratch):
     def file(name, data):
@@ -160,7 +160,7 @@ def main(scratch):
         rows += [(name, [good, *words], None, streams) for streams in (">/dev/full", "2>&-", "</dev/null", "<&-")]
         rows += [(name, [missing, *words], None, streams) for streams in (">/dev/full", "2>/dev/full", "2>&-", "<&-")]
     lines = [b"1000\n0x1005\n100f", b"1000\nno\n", b"\n", b"", b"1" * 10_000, b"0x\n", b"1000\n" * 5_000]
-    rows += [("binfarce", call, None, "") for call in ([], ["help"], ["help", "at"], ["help", "x"], ["--version"], ["-V"], ["lst"], ["--x"])]
+    rows += [("binfarce", call, None, "") for call in ([], ["help"], ["help", "at"], ["help", "x"], ["--version"], ["lst"], ["--x"])]
     rows += [("filter", call, None, "") for call in (["_RNvC1a1b", "x"], ["--full", "_RNvC1a1b", "--", "--full"])]
     rows += [("at", [good], given, "") for given in lines] + [("at", [good], b"", f"<{folder}"), ("at", ["--base=f", good], lines[0], "")]
     failed += compare("arguments and streams", rows)

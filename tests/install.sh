@@ -74,7 +74,7 @@ runs 0 "" ./uninstall "$prefix"
 what="below DESTDIR, the default prefix"
 DESTDIR="$scratch/package" runs 0 "" ./install
 [ "$(found "$scratch/package")" = "$(files "$scratch/package/usr/local")" ] || fail "other files: $(found "$scratch/package")"
-[ "$(sed q "$scratch/package/usr/local/lib/pkgconfig/binfarce.pc")" = "prefix=/usr/local" ] || fail "the pkg-config file names another prefix"
+grep -qx prefix=/usr/local "$scratch/package/usr/local/lib/pkgconfig/binfarce.pc" || fail "the pkg-config file names another prefix"
 
 what="wrong calls"
 runs 2 "install: PREFIX must begin with a slash, and is here" ./install here
@@ -94,6 +94,7 @@ printf '#!/bin/sh\necho "error: no" >&2\nexit 101\n' >"$scratch/cargo"
 chmod +x "$scratch/cargo"
 PATH="$scratch:$PATH" runs 101 "error: no" ./install "$scratch/none"
 printf '#!/bin/sh\n' >"$scratch/cargo"
-CARGO_TARGET_DIR="$scratch/target" PATH="$scratch:$PATH" runs 1 "install: $scratch/target/release/binfarce-list is missing: cargo build --release makes it" ./install "$scratch/none"
+lacks="install: $scratch/target/release/binfarce-list is missing: cargo build --release makes it"
+CARGO_TARGET_DIR="$scratch/target" PATH="$scratch:$PATH" runs 1 "$lacks" ./install "$scratch/none"
 [ ! -e "$scratch/none" ] || fail "something is installed"
 echo "install: as it must be"

@@ -160,7 +160,8 @@ sed 's/^000000000000/000000000040/' "$stdout" >"$scratch/moved"
 printf '401000\n401005\n40100f\n401010\n400fff\n' | ends 0 "$scratch/moved" "" binfarce at --base=400000 "$sample"
 ends 0 "$scratch/moved" "" binfarce at --base 400000 "$sample" 401000 401005 40100f 401010 400fff
 { head -n 1 "$stdout"; echo '??'; sed -n 2p "$stdout"; echo '??'; } >"$scratch/lines"
-{ printf '1000\nno\n1005\n'; head -c 100000 /dev/zero; } | ends 2 "$scratch/lines" "binfarce: 2 lines without an address" binfarce at "$sample"
+{ printf '1000\nno\n1005\n'; head -c 100000 /dev/zero; } |
+    ends 2 "$scratch/lines" "binfarce: 2 lines without an address" binfarce at "$sample"
 ends 1 /dev/null "binfarce: standard input: Is a directory" binfarce at "$sample" <"$scratch"
 call binfarce at "$sample" <"$scratch/in" >"$scratch/out" &
 exec 3>"$scratch/in" 4<"$scratch/out"
@@ -175,5 +176,26 @@ strip -o "$scratch/stripped" "$library"
 code=$(readelf -SW "$library" | sed -n 's/^ *\[ *\([0-9]*\)\] \.text .*/\1/p')
 readelf -W --dyn-syms "$library" | awk -v code="$code" '$4 == "FUNC" && $3 != "0" && $7 == code { print $2 }' >"$scratch/dynamic"
 call binfarce list --dynamic "$scratch/stripped" | sed '$d' | cut -c1-16 | cmp - "$scratch/dynamic"
-ends 1 /dev/null "binfarce: $scratch/stripped: no symbol table (.symtab); --dynamic lists its dynamic symbols" binfarce list "$scratch/stripped"
+lacks="binfarce: $scratch/stripped: no symbol table (.symtab); --dynamic lists its dynamic symbols"
+ends 1 /dev/null "$lacks" binfarce list "$scratch/stripped"
+call binfarce list --dynamic --all "$scratch/stripped" | cut -c1-16 >"$scratch/lines"
+readelf -W --dyn-syms "$library" | awk '$4 == "FUNC" && $3 != "0" && $7 ~ /^[0-9]+$/ { print $2 }' | cmp "$scratch/lines" -
+
+# The symbols of all sections, in an object file with a section for each function, as readelf has them.
+printf 'int f(int x) { return x + 1; }\nint g(int x) { return x * x; }\nint h(int x) { return f(x) - g(x); }\n' >"$scratch/functions.c"
+object="$scratch/functions.o"
+gcc -ffunction-sections -c -o "$object" "$scratch/functions.c"
+readelf -SW "$object" | sed -n 's/^ *\[ *\([0-9]*\)\] \(\.[^ ]*\) .*/\1 \2/p' >"$scratch/sections"
+readelf -sW "$object" | awk 'NR == FNR { section[$1] = $2; next }
+    $4 == "FUNC" { printf "%s %10d %s %s\n", $2, $3, section[$7], $8 }' "$scratch/sections" - >"$scratch/all"
+[ "$(wc -l <"$scratch/all")" -eq 3 ] || { echo "gcc made no 3 functions" && exit 1; }
+ends 0 "$scratch/all" "" binfarce list --all "$object"
+awk '{ sum += $2 } END { printf "%10d [unknown]\nsum %d\n", sum, sum }' "$scratch/all" >"$scratch/lines"
+ends 0 "$scratch/lines" "" binfarce size --all "$object"
+printf '%016x g+0x2\n' 2 >"$scratch/lines"
+ends 0 "$scratch/lines" "" binfarce at --section=.text.g "$object" 2
+shared="binfarce: $object: its sections share addresses; use --section in place of --all"
+ends 1 /dev/null "$shared" binfarce at --all "$object" 2
+echo 2 | ends 1 /dev/null "$shared" binfarce at --all "$object"
+ends 2 /dev/null "binfarce: --all and --section exclude each other" binfarce list --all --section=.text "$object"
 echo "programs.sh: $folder: as they must be"

@@ -1,11 +1,11 @@
 #!/bin/sh
 # Tries the files of a release, which tools/release made in FOLDER, as their users have them, on Debian, as root and without the
-# kit. The programs run in CHROOT, or in one of the oldest Debian that debootstrap can make here.
+# kit. The programs run in CHROOT, best of an old Debian: `debootstrap --variant=minbase stretch CHROOT` makes one.
 #
-# Usage: tests/release.sh FOLDER [CHROOT]
+# Usage: tests/release.sh FOLDER CHROOT
 set -eu
-case $# in 1 | 2) ;; *) echo "usage: tests/release.sh FOLDER [CHROOT]" >&2 && exit 2 ;; esac
-folder=$(cd "$1" && pwd)
+[ "$#" -eq 2 ] || { echo "usage: tests/release.sh FOLDER CHROOT" >&2; exit 2; }
+folder=$(cd "$1" && pwd) chroot=$(cd "$2" && pwd)
 cd "$(dirname "$0")/.."
 scratch=$(mktemp -d)
 trap 'rm -rf "$scratch"' EXIT
@@ -17,7 +17,7 @@ fail() {
     exit 1
 }
 what="what the test needs"
-for tool in debootstrap chroot dpkg dpkg-deb lintian man pkg-config gcc cargo; do
+for tool in chroot dpkg dpkg-deb lintian man pkg-config gcc cargo; do
     command -v "$tool" >/dev/null || fail "$tool is missing"
 done
 sample=crates/binfarce_list/data/e-elf64-little.bin listing=crates/binfarce_list/stdout
@@ -27,21 +27,11 @@ what="sums and lintian"
 archive=$(echo "$folder"/*.tar.gz) deb=$(echo "$folder"/*.deb) crate=$(echo "$folder"/*.crate)
 lintian --allow-root --fail-on error,warning "$deb" || fail "lintian complains"
 
-what="a chroot"
-chroot=${2:-$scratch/chroot}
-if [ "$#" -eq 1 ]; then
-    for release in stretch buster bullseye bookworm trixie; do
-        rm -rf "$chroot"
-        ! debootstrap --variant=minbase "$release" "$chroot" >"$scratch/log" 2>&1 || break
-    done
-fi
-[ -x "$chroot/usr/bin/dpkg" ] || fail "no Debian: $(tail -n 3 "$scratch/log")"
 echo "chroot of Debian $(cat "$chroot/etc/debian_version")"
 place="$chroot/tmp/release"
 [ ! -e "$place" ] || fail "$place is there already"
 trap 'rm -rf "$scratch" "$place"' EXIT
 mkdir "$place" "$place/archive" "$place/package"
-
 cp "$sample" "$place/sample"
 # A program lists the sample in the chroot as its stored run does.
 runs() {

@@ -1,5 +1,5 @@
 -- The lines of addresses, one after the other.
-use Rattle.std.proofs.Common.{◌≡◌, ℕ, ◌+◌, ◌-◌, false, ◌<◌, ◌≤◌, List, [], ◌∷◌, ◌++◌, length, get_or, take, Option, Some, None, Result, Ok, Err, refl, sym, ap, subst, ◌∙◌, append-nil, append_assoc}
+use Rattle.std.proofs.Common.{◌≡◌, inl, inr, ℕ, ◌+◌, ◌-◌, false, ◌<◌, ◌≤◌, List, [], ◌∷◌, ◌++◌, length, get_or, take, Option, Some, None, Result, Ok, Err, refl, sym, ap, subst, ◌∙◌, append-nil, append_assoc}
 use Rattle.std.specs.List.{AllZip, concat}
 use Rattle.std.proofs.lemmas.List.{take_more, take_all}
 use Rattle.std.specs.Io.KnownBytes.{Appends}
@@ -9,7 +9,7 @@ use Rattle.std.specs.Prelude.{codes}
 use Rattle.binfarce.specs.Name.{Name}
 use Rattle.binfarce.specs.Named.{IsNamed}
 use Rattle.binfarce.specs.Refusal.{Refusal}
-use Rattle.binfarce_tools.specs.Listing.{address_text}
+use Rattle.binfarce_tools.specs.Listing.{address_text, ListingFits}
 use Rattle.binfarce.specs.Symbol.{Entry, Listed}
 use Rattle.binfarce_tools.specs.declared.list.ListError.{ListError}
 use Rattle.binfarce_tools.specs.declared.list.ListError.TheVariants.{Unknown, Parse, OutOfMemory, Write}
@@ -41,7 +41,7 @@ one_line entries base addresses i line text new lt are is grown =
 pub whole : (entries : List Entry) (base : ℕ) (addresses : List ℕ) (i : ℕ) (text : List ℕ) → length addresses ≤ i → AreLinesOf entries base (take i addresses) text → AreLinesOf entries base addresses text
 whole entries base addresses i text le are = let P : List ℕ → Type 0 = λ xs. AreLinesOf entries base xs text in subst P (take_all i addresses le) are
 
--- the answers of lines stand behind a text
+-- the answers of lines follow a text
 abbrev pub AreBehind : List Entry → ℕ → List (Option ℕ) → List ℕ → List ℕ → Type 0
 AreBehind entries base addresses old new = (answers : List ℕ) × AreAnswersOf entries base addresses answers × (new ≡ old ++ answers)
 
@@ -75,6 +75,26 @@ takes memory (Some (Ok listed)) entries base addresses text old new (Err Write) 
 takes memory (Some (Ok listed)) entries base addresses text old new (Err Unknown) made are wrote = let e = wrote.0 in absurd cc
 takes memory (Some (Ok listed)) entries base addresses text old new (Err (Parse p)) made are wrote = let e = wrote.0 in absurd cc
 takes memory (Some (Ok listed)) entries base addresses text old new (Err OutOfMemory) made are wrote = let e = wrote.0 in absurd cc
+
+-- how the writing of the lines of what a file lists ended
+pub outcome : (memory : Result Listed Refusal → Type 0) (answer : Option (Result Listed Refusal)) (entries : List Entry) (text : List ℕ) (old new : Option (List ℕ)) (result : Result (Unit {0}) ListError)
+    → IsMadeOf memory answer (Ok entries) → Writes old new text result → writing.EndsAs ListingFits memory answer (outcome_of result)
+outcome memory None entries text old new result made wrote = absurd made
+outcome memory (Some (Err refusal)) entries text old new result made wrote = absurd made
+outcome memory (Some (Ok listed)) entries text old new (Ok x) made wrote = inr (inl (tt, inl refl))
+outcome memory (Some (Ok listed)) entries text old new (Err Write) made wrote = inr (inl (tt, inr refl))
+outcome memory (Some (Ok listed)) entries text old new (Err Unknown) made wrote = let e = wrote.0 in absurd cc
+outcome memory (Some (Ok listed)) entries text old new (Err (Parse p)) made wrote = let e = wrote.0 in absurd cc
+outcome memory (Some (Ok listed)) entries text old new (Err OutOfMemory) made wrote = let e = wrote.0 in absurd cc
+
+-- so where an allocation failed
+pub tells_no_memory : (memory : Result Listed Refusal → Type 0) (answer : Option (Result Listed Refusal)) (entries : List Entry) (result : Result (Unit {0}) ListError)
+    → IsMadeOf memory answer (Ok entries) → IsErrAnd result (λ e. e ≡ OutOfMemory) → writing.EndsAs ListingFits memory answer (outcome_of result)
+tells_no_memory memory None entries result made is = absurd made
+tells_no_memory memory (Some (Err refusal)) entries result made is = absurd made
+tells_no_memory memory (Some (Ok listed)) entries (Ok x) made is = absurd is
+tells_no_memory memory (Some (Ok listed)) entries (Err e) made is =
+    let P : ListError → Type 0 = λ e. writing.EndsAs ListingFits memory (Some (Ok listed)) (outcome_of (Err e)) in subst P (sym is) (inl refl)
 
 pub nothing : (old : Option (List ℕ)) → Appends old old []
 nothing None = tt

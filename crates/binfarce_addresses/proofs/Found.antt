@@ -118,7 +118,7 @@ module _ (ranges : List AddressRange) (rows : List Row) (rows_are : AreRowsOf ra
   pub none_holds : node ≡ 0 → NoneHolds ranges address
   none_holds none = All-from_get_or (λ range. ¬ (Holds range address)) ranges no_range (none_at none)
 
-  -- what stands at a place
+  -- the range at a place
   here : (place : ℕ) (d : AddressRange) → place < length ranges → range_at ranges place ≡ get_or ranges place d
   here place d lt = get_or_default ranges place no_range d lt
 

@@ -19,7 +19,7 @@ unfoldable pub number_from : ℕ → List ℕ → Option ℕ
 number_from number [] = Some number
 number_from number (digit ∷ others) = option_and_then (λ value. number_from (16 * number + value) others) (digit_value digit)
 
--- a digit is worth less than 16
+-- a digit's value is below 16
 pub digit_is_small : (digit value : ℕ) → digit_value digit ≡ Some value → value < 16
 digit_is_small digit value is = grind (arith, nat_tests)
 
@@ -38,7 +38,7 @@ pub all_digits : (number : ℕ) (digits : List ℕ) (i : ℕ) → length digits 
 unfolding number_from
 all_digits number digits i le = rw (drop_of_length-le digits le) refl
 
--- a digit is worth what std says
+-- a digit has the value that std gives
 value_is : (digit : ℕ) → digit_value digit ≡ (if is_ascii_hexdigit digit then Some (char.digit_value digit) else None)
 value_is digit = grind (arith, nat_tests)
 

@@ -8,7 +8,7 @@ use Rattle.std.proofs.lemmas.List.{drop-append-le, get_or_default, length-drop, 
 use Rattle.binfarce.specs.Name.{Name}
 use Rattle.binfarce.specs.Named.{IsNamed}
 use Rattle.binfarce.specs.Symbol.{Entry}
-use Rattle.binfarce_addresses.specs.machine.Places.{AreNamesOf, IsNamedAt, StandsAt}
+use Rattle.binfarce_addresses.specs.machine.Places.{AreNamesOf, IsNamedAt, IsAtPlace}
 
 -- no name yet
 pub no_names : (entries : List Entry) (text bounds : List ℕ) → length bounds ≤ 1 → AreNamesOf entries text bounds
@@ -26,7 +26,7 @@ abbrev between : List ℕ → List ℕ → ℕ → List ℕ
 between text bounds place = take (get_or bounds (place + 1) 0 - get_or bounds place 0) (drop (get_or bounds place 0) text)
 
 -- one name more
-module _ (entries : List Entry) (text bounds : List ℕ) (i : ℕ) (entry : Entry) (name : Name) (len : length bounds ≡ i + 1) (last : get_or bounds i 0 ≡ length text) (are : AreNamesOf entries text bounds) (stands : StandsAt entries i entry) (is : IsNamed entry.name name) where
+module _ (entries : List Entry) (text bounds : List ℕ) (i : ℕ) (entry : Entry) (name : Name) (len : length bounds ≡ i + 1) (last : get_or bounds i 0 ≡ length text) (are : AreNamesOf entries text bounds) (is_placed : IsAtPlace entries i entry) (is : IsNamed entry.name name) where
   abbrev new : List ℕ
   new = text ++ name.trimmed
 
@@ -73,9 +73,9 @@ module _ (entries : List Entry) (text bounds : List ℕ) (i : ℕ) (entry : Entr
         let text_is : between new more place ≡ name.trimmed =
         ap (λ n. take (get_or more (place + 1) 0 - n) (drop n new)) a ∙ ap (λ n. take (n - length text) (drop (length text) new)) b ∙ comes text name.trimmed in
         λ other at.
-        let P : ℕ → Type 0 = λ n. StandsAt entries n other in
+        let P : ℕ → Type 0 = λ n. IsAtPlace entries n other in
         let there = subst P same at in
-        let equal : entry ≡ other = sym stands.1 ∙ get_or_default entries i entry other stands.0 ∙ there.1 in
+        let equal : entry ≡ other = sym is_placed.1 ∙ get_or_default entries i entry other is_placed.0 ∙ there.1 in
         let Q : Entry → Type 0 = λ e. IsNamed e.name name in
         (name, subst Q equal is, text_is)
   ]
@@ -88,7 +88,7 @@ module _ (entries : List Entry) (text bounds : List ℕ) (i : ℕ) (entry : Entr
       let Q : List ℕ → Type 0 = λ bs. AreNamesOf entries new bs in
       subst P (sym a) (subst Q (sym bounds_are) made)
 
--- the name that stands between two bounds
+-- the name between two bounds
 pub kept : (entries seen : List Entry) (text shown bounds : List ℕ) (place start end : ℕ) → AreNamesOf entries text bounds → entries ≡ seen → place + 1 < length bounds → shown ≡ text → start ≡ get_or bounds place start → end ≡ get_or bounds (place + 1) end → IsNamedAt seen place (take (end - start) (drop start shown))
 kept entries seen text shown bounds place start end are same lt is begins ends =
     let a : start ≡ get_or bounds place 0 = begins ∙ get_or_default_zero bounds place start (omega (arith, lt)) in

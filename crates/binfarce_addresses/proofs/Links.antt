@@ -31,7 +31,7 @@ old_node nodes node k lt = get_or-append nodes (node ∷ []) no_node k lt
 pub new_node : (nodes : List Node) (node : Node) (k : ℕ) → k ≡ length nodes → node_at (nodes ++ node ∷ []) k ≡ node
 new_node nodes node k is = rw is (get_or-append_seam nodes node [] no_node)
 
--- a node that may stand behind others, behind them
+-- a node that may follow others, after them
 pub linked_on : (nodes : List Node) (node : Node) → AreLinked nodes → Follows nodes node → AreLinked (nodes ++ node ∷ [])
 linked_on nodes node linked follows =
     let n = length nodes in

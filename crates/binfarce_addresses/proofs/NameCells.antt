@@ -1,4 +1,4 @@
--- What a cell tells of the addresses that lie in it.
+-- The answers of a cell for the addresses in it.
 use Rattle.std.proofs.Common.{◌≡◌, ℕ, ◌+◌, ◌-◌, ◌<◌, ◌≤◌, inl, inr, max, List, [], ◌∷◌, ◌++◌, length, get_or, take, drop, map, Some, None, true, nat_lt, sym, ap, subst, ◌∙◌, arith, length-append}
 use Rattle.std.proofs.Math.ListN.{get_or-append}
 use Rattle.std.proofs.Math.Seq.{get_or-append_seam}
@@ -42,11 +42,11 @@ pub cell_is : (ranges : List AddressRange) (bounds : List ℕ) (cells : List Cel
 cell_is ranges bounds cells k cell are lt is = subst (λ (x : Cell). IsCellOf ranges bounds x) (sym is) (are.each k lt)
 
 module _ (functions : List FunctionSymbol) (ranges : List AddressRange) (entries : List Entry) (text bounds : List ℕ) (are : ranges ≡ ranges_of functions) (named : AreNamesOf (map function_view functions) text bounds) (seen : map function_view functions ≡ entries) (cell : Cell) (is : IsCellOf ranges bounds cell) where
-  -- its name stands in the text
+  -- its name is in the text
   pub in_text : cell.start + cell.len ≤ length text
   in_text = let rise = named.rise is.place is.kept in omega (arith, rise.1, is.stops)
 
-  -- and is that of the entry which the address is shown by
+  -- and is that of the entry that the address symbolizes to
   pub name_at : (base address x stop : ℕ) (shown : List ℕ) → in_file base address ≡ Some x → x ≡ address - base → shown ≡ text → stop ≡ cell.start + cell.len → cell.address ≤ x → x - cell.address < cell.size → IsNameAt entries base address (take (stop - cell.start) (drop cell.start shown)) (x - cell.address)
   name_at base address x stop shown inside left same ends low high =
       let found : Found = record { place = is.place; offset = x - cell.address } in
@@ -59,7 +59,7 @@ module _ (functions : List FunctionSymbol) (ranges : List AddressRange) (entries
   pub free_at : (base address x : ℕ) → in_file base address ≡ Some x → cell.address ≤ x → cell.size ≤ x - cell.address → x - cell.address < cell.until → found_at entries (in_file base address) ≡ None
   free_at base address x inside above low high = found_none functions ranges entries are seen base address x inside (is.span.none x (omega arith) (omega arith))
 
--- a cell of a span: it may tell less of what is behind the range
+-- a cell of a span: it may cover less of the gap after the range
 pub made_cell : (ranges : List AddressRange) (bounds : List ℕ) (span : Span) (cell : Cell) → IsSpanOf ranges span → span.place + 1 < length bounds → cell.address ≡ span.address → cell.address + cell.size ≡ span.end → cell.address + cell.until ≤ max span.until span.address → cell.start ≡ get_or bounds span.place 0 → cell.start + cell.len ≡ get_or bounds (span.place + 1) 0 → IsCellOf ranges bounds cell
 made_cell ranges bounds span cell is kept begins ends until starts stops = record {
   place = span.place;
@@ -74,6 +74,6 @@ made_cell ranges bounds span cell is kept begins ends until starts stops = recor
   };
 }
 
--- what a test tells
+-- the meaning of a test
 pub is_less : (a b : ℕ) → nat_lt a b ≡ true → a < b
 is_less a b e = grind (arith, nat_tests)

@@ -38,7 +38,7 @@ module _ (at n number digit : ℕ) (ds : List ℕ) (whole : length ds ≡ 16) (w
       sym left ∙ ap (λ m. digits_onto m 16 false n (drop (at + 1) ds)) fuel ∙ one_digit (at + 48) n (drop (at + 1) ds) small
       ∙ ap (λ g. digit_glyph false g ∷ drop (at + 1) ds) last ∙ ap (λ d. d ∷ drop (at + 1) ds) (sym is)
 
-  -- the last digit is put: from there on the number stands
+  -- the last digit is put: the number begins there
   pub number_put : drop at (set ds at digit) ≡ digits 16 false number
   number_put = rw (drop-set ds at digit (omega arith)) (sym shown)
 

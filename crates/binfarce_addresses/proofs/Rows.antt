@@ -19,18 +19,18 @@ use Rattle.binfarce_addresses.specs.machine.Index.{AreRowsOf, DoRise, IsBound, N
 abbrev pub comes_before : Row → Row → Bool
 comes_before x y = nat_lt x.address y.address || (nat_eq x.address y.address && (nat_lt y.place.0 x.place.0 || (nat_eq y.place.0 x.place.0 && nat_lt x.last y.last)))
 
--- what the test of three numbers tells
+-- the meaning of the test of three numbers
 abbrev Before : ℕ → ℕ → ℕ → ℕ → ℕ → ℕ → Type 0
 Before a b r s l m = (a < b) ⊎ ((a ≡ b) × ((r < s) ⊎ ((r ≡ s) × (l < m))))
 
 abbrev NotBefore : ℕ → ℕ → ℕ → ℕ → ℕ → ℕ → Type 0
 NotBefore a b r s l m = (b < a) ⊎ ((a ≡ b) × ((s < r) ⊎ ((r ≡ s) × (m ≤ l))))
 
-not_before_tells : (a b r s l m : ℕ) → (nat_lt a b || (nat_eq a b && (nat_lt r s || (nat_eq r s && nat_lt l m)))) ≡ false → NotBefore a b r s l m
-not_before_tells a b r s l m e = grind (arith, nat_tests)
+not_before_means : (a b r s l m : ℕ) → (nat_lt a b || (nat_eq a b && (nat_lt r s || (nat_eq r s && nat_lt l m)))) ≡ false → NotBefore a b r s l m
+not_before_means a b r s l m e = grind (arith, nat_tests)
 
-before_tells : (a b r s l m : ℕ) → (nat_lt a b || (nat_eq a b && (nat_lt r s || (nat_eq r s && nat_lt l m)))) ≡ true → Before a b r s l m
-before_tells a b r s l m e = grind (arith, nat_tests)
+before_means : (a b r s l m : ℕ) → (nat_lt a b || (nat_eq a b && (nat_lt r s || (nat_eq r s && nat_lt l m)))) ≡ true → Before a b r s l m
+before_means a b r s l m e = grind (arith, nat_tests)
 
 not_before_from : (a b r s l m : ℕ) → NotBefore a b r s l m → (nat_lt a b || (nat_eq a b && (nat_lt r s || (nat_eq r s && nat_lt l m)))) ≡ false
 not_before_from a b r s l m h = grind (arith, nat_tests)
@@ -43,7 +43,7 @@ lt_is x y = lt_is_at x.address y.address y.place.0 x.place.0 x.last y.last
     lt_is_at a b r s l m = grind (arith, nat_tests)
 
 one_way : (x y : Row) → comes_before x y ≡ true → comes_before y x ≡ false
-one_way x y e = not_before_from y.address x.address x.place.0 y.place.0 y.last x.last (turned (before_tells x.address y.address y.place.0 x.place.0 x.last y.last e))
+one_way x y e = not_before_from y.address x.address x.place.0 y.place.0 y.last x.last (turned (before_means x.address y.address y.place.0 x.place.0 x.last y.last e))
   where
     turned : Before x.address y.address y.place.0 x.place.0 x.last y.last → NotBefore y.address x.address x.place.0 y.place.0 y.last x.last
     turned (inl lt) = inl lt
@@ -53,7 +53,7 @@ one_way x y e = not_before_from y.address x.address x.place.0 y.place.0 y.last x
 chain : (x y z : Row) → comes_before x y ≡ false → comes_before y z ≡ false → comes_before x z ≡ false
 chain x y z e f =
     not_before_from x.address z.address z.place.0 x.place.0 x.last z.last
-    (chained (not_before_tells x.address y.address y.place.0 x.place.0 x.last y.last e) (not_before_tells y.address z.address z.place.0 y.place.0 y.last z.last f))
+    (chained (not_before_means x.address y.address y.place.0 x.place.0 x.last y.last e) (not_before_means y.address z.address z.place.0 y.place.0 y.last z.last f))
   where
     chained : NotBefore x.address y.address y.place.0 x.place.0 x.last y.last → NotBefore y.address z.address z.place.0 y.place.0 y.last z.last → NotBefore x.address z.address z.place.0 x.place.0 x.last z.last
     chained (inl p) (inl q) = inl (omega arith)
@@ -117,7 +117,7 @@ arranged_rows ranges rows sorted made same up = record {
 }
   where
     not_behind : (x y : Row) → comes_before y x ≡ false → NotBehind x y
-    not_behind x y e = turned (not_before_tells y.address x.address x.place.0 y.place.0 y.last x.last e)
+    not_behind x y e = turned (not_before_means y.address x.address x.place.0 y.place.0 y.last x.last e)
       where
         turned : NotBefore y.address x.address x.place.0 y.place.0 y.last x.last → NotBehind x y
         turned (inl lt) = inl lt

@@ -1,4 +1,4 @@
--- The range that is found at an address is that of the entry which the address is shown by.
+-- The range that is found at an address is that of the entry that the address symbolizes to.
 use Rattle.std.proofs.Common.{◌≡◌, ℕ, zero, suc, ◌+◌, ◌-◌, ◌<◌, ◌≤◌, ◌⊎◌, inl, inr, Bool, true, false, cond, ◌&&◌, max, List, [], ◌∷◌, map, filter, length, get_or, Option, Some, None, SomeIff, MatchOption, refl, sym, ap, subst, ◌∙◌, arith, nat_lt, nat_le}
 use Rattle.std.proofs.lemmas.Bool.Decides.{nat_tests}
 use Rattle.std.proofs.lemmas.List.{get_or-map, get_or_default, length-map}
@@ -12,20 +12,20 @@ use Rattle.binfarce.specs.Found.{holds, higher_of, highest, entry_at}
 use Rattle.binfarce_addresses.specs.Lines.{in_file, found_at}
 use Rattle.binfarce_addresses.specs.declared.ranges.Found.{Found}
 use Rattle.binfarce_addresses.specs.Range.{Finds}
-use Rattle.binfarce_addresses.specs.machine.Places.{range_of, ranges_of, IsShownAt, StandsAt}
+use Rattle.binfarce_addresses.specs.machine.Places.{range_of, ranges_of, IsShownAt, IsAtPlace}
 
 lies_in : (low high address : ℕ) → low ≤ address → address < high → (nat_le low address && nat_lt address high) ≡ true
 lies_in low high address a b = grind (arith, nat_tests)
 
-lies_in_tells : (low high address : ℕ) → (nat_le low address && nat_lt address high) ≡ true → (low ≤ address) × (address < high)
-lies_in_tells low high address e = grind (arith, nat_tests)
+lies_in_means : (low high address : ℕ) → (nat_le low address && nat_lt address high) ≡ true → (low ≤ address) × (address < high)
+lies_in_means low high address e = grind (arith, nat_tests)
 
 -- the test says whether the range holds the address
 held : (address : ℕ) (entry : Entry) → Holds (range_of entry) address → holds address entry ≡ true
 held address entry h = lies_in entry.address (entry.address + max entry.size 1) address h.0 h.1
 
-held_tells : (address : ℕ) (entry : Entry) → holds address entry ≡ true → Holds (range_of entry) address
-held_tells address entry e = lies_in_tells entry.address (entry.address + max entry.size 1) address e
+held_means : (address : ℕ) (entry : Entry) → holds address entry ≡ true → Holds (range_of entry) address
+held_means address entry e = lies_in_means entry.address (entry.address + max entry.size 1) address e
 
 -- there is none, or its address isn't above the bound
 abbrev NotAbove : ℕ → Option Entry → Type 0
@@ -73,7 +73,7 @@ all_not_above : (bound address : ℕ) (entries : List Entry) (d : AddressRange) 
     → AllNotAbove bound (filter (holds address) entries)
 all_not_above bound address [] d low = tt
 all_not_above bound address (entry ∷ others) d low =
-    kept_not_above bound (holds address entry) entry (filter (holds address) others) (λ e. low 0 (omega arith) (held_tells address entry e))
+    kept_not_above bound (holds address entry) entry (filter (holds address) others) (λ e. low 0 (omega arith) (held_means address entry e))
     (all_not_above bound address others d (λ k lt h. low (suc k) (omega arith) h))
 
 -- what is found among the others is found among all, where it is above the first or the first doesn't hold the address
@@ -105,7 +105,7 @@ shown (entry ∷ others) address (suc place) d found =
       first = λ other e lt h. lower (found.first (suc other) e (omega arith) h);
     }) in
     found_behind (holds address entry) entry (get_or others place d) (filter (holds address) others) behind
-    (λ e. above (found.first 0 (range_of d) (omega arith) (held_tells address entry e)))
+    (λ e. above (found.first 0 (range_of d) (omega arith) (held_means address entry e)))
   where
     lower : {a b p q : ℕ} → (a < b) ⊎ ((a ≡ b) × (suc p ≤ suc q)) → (a < b) ⊎ ((a ≡ b) × (p ≤ q))
     lower (inl lt) = inl lt
@@ -120,13 +120,13 @@ none_kept true entry others e none = absurd cc
 none_kept false entry others e none = none
 
 not_held : (address : ℕ) (entry : Entry) → ¬ (Holds (range_of entry) address) → holds address entry ≡ false
-not_held address entry h = by_test (holds address entry) (λ e. h (held_tells address entry e))
+not_held address entry h = by_test (holds address entry) (λ e. h (held_means address entry e))
   where
     by_test : (b : Bool) → ¬ (b ≡ true) → b ≡ false
     by_test true h = absurd (h refl)
     by_test false h = refl
 
--- where no range holds the address, it is shown by none
+-- where no range holds the address, it has no entry
 pub not_shown : (entries : List Entry) (address : ℕ) → NoneHolds (map range_of entries) address → entry_at entries address ≡ None
 unfolding entry_at highest
 not_shown [] address none = refl
@@ -152,7 +152,7 @@ pub at_none : {T : Type 0} (r : Option T) (P : Type 0) (Q : T → Type 0) → r 
 at_none None P Q is p = p
 at_none (Some x) P Q is p = absurd cc
 
--- what is left once the base is taken off
+-- the rest after the base is subtracted
 pub without_base : (base address x : ℕ) (r : Option ℕ) → SomeIff r (base ≤ address) (address - base) → r ≡ Some x → in_file base address ≡ Some x
 without_base base address x r left is =
     let P : Option ℕ → Type 0 = λ o. SomeIff o (base ≤ address) (address - base) in
@@ -183,7 +183,7 @@ module _ (functions : List FunctionSymbol) (ranges : List AddressRange) (entries
   pub begins_before : (place : ℕ) (f : FunctionSymbol) → IsFoundAt ranges x place → f ≡ get_or functions place f → f.address ≤ x
   begins_before place f found is = omega (arith, (found.holds (range_of (function_view f))).0, ap (λ (r : AddressRange). r.address) (range_is place f found is))
 
-  -- the address is shown by that function symbol
+  -- the address symbolizes to that function symbol
   pub found_some : (place : ℕ) (f : FunctionSymbol) → IsFoundAt ranges x place → f ≡ get_or functions place f → found_at entries (in_file base address) ≡ Some (function_view f)
   found_some place f found is =
       let P : List AddressRange → Type 0 = λ rs. IsFoundAt rs x place in
@@ -191,15 +191,15 @@ module _ (functions : List FunctionSymbol) (ranges : List AddressRange) (entries
       ap (found_at entries) inside ∙ shown entries x place (function_view f) (subst P same found)
       ∙ ap Some (ap (λ (es : List Entry). get_or es place (function_view f)) (sym seen) ∙ get_or-map function_view functions place f (function_view f) lt ∙ ap function_view (sym is))
 
-  -- and stands at that place
-  pub stands_at : (place : ℕ) (f : FunctionSymbol) → IsFoundAt ranges x place → f ≡ get_or functions place f → StandsAt entries place (function_view f)
-  stands_at place f found is =
+  -- and is at that place
+  pub is_at_place : (place : ℕ) (f : FunctionSymbol) → IsFoundAt ranges x place → f ≡ get_or functions place f → IsAtPlace entries place (function_view f)
+  is_at_place place f found is =
       let lt : place < length functions = omega (arith, found.within, ap (length {A = AddressRange}) are, length-map functions (λ (g : FunctionSymbol). range_of (function_view g))) in (
         omega (arith, lt, ap (length {A = Entry}) seen, length-map functions function_view),
         ap (λ (es : List Entry). get_or es place (function_view f)) (sym seen) ∙ get_or-map function_view functions place f (function_view f) lt ∙ ap function_view (sym is),
       )
 
-  -- the address is shown by the entry at the place that is found
+  -- the address symbolizes to the entry at the place that is found
   pub shown_by : (found : Option Found) → x ≡ address - base → Finds ranges x found → IsShownAt entries base address found
   shown_by None left finds = found_none finds
   shown_by (Some f) left finds =
@@ -217,7 +217,7 @@ module _ (functions : List FunctionSymbol) (ranges : List AddressRange) (entries
 
 -- what holds where something is found, and where nothing is
 pub where_found : (entries : List Entry) (base address : ℕ) (shown : Option Found) (f : Found) → IsShownAt entries base address shown → shown ≡ Some f
-    → (entry : Entry) × (found_at entries (in_file base address) ≡ Some entry) × (f.offset ≡ address - base - entry.address) × StandsAt entries f.place entry
+    → (entry : Entry) × (found_at entries (in_file base address) ≡ Some entry) × (f.offset ≡ address - base - entry.address) × IsAtPlace entries f.place entry
 where_found entries base address shown f is found = let P : Option Found → Type 0 = λ o. IsShownAt entries base address o in subst P found is
 
 pub where_none : (entries : List Entry) (base address : ℕ) (shown : Option Found) → IsShownAt entries base address shown → shown ≡ None → found_at entries (in_file base address) ≡ None

@@ -100,7 +100,7 @@ suffix_append text more =
     ap (prefix_len is_ascii_whitespace) (reverse-append text more) ∙ prefix_len-append is_ascii_whitespace (reverse more) (reverse text)
     ∙ ap (λ n. cond (eqb (suffix_len is_ascii_whitespace more) n) (n + suffix_len is_ascii_whitespace text) (suffix_len is_ascii_whitespace more)) (length-reverse more)
 
--- white space at the end is taken off
+-- white space at the end is trimmed
 end_white : (text more : List ℕ) → is_white more ≡ true → trim_end (text ++ more) ≡ trim_end text
 end_white text more e =
     let suffix = suffix_append text more ∙ ap (λ b. cond b (length more + suffix_len is_ascii_whitespace text) (suffix_len is_ascii_whitespace more)) e in
@@ -118,7 +118,7 @@ end_other text more e =
 start_append : (text more : List ℕ) → prefix_len is_ascii_whitespace (text ++ more) ≡ cond (eqb (prefix_len is_ascii_whitespace text) (length text)) (length text + prefix_len is_ascii_whitespace more) (prefix_len is_ascii_whitespace text)
 start_append text more = prefix_len-append is_ascii_whitespace text more
 
--- white space at the start is taken off
+-- white space at the start is trimmed
 start_white : (text more : List ℕ) → prefix_len is_ascii_whitespace text ≡ length text → trim_start (text ++ more) ≡ trim_start more
 start_white text more e =
     let count : prefix_len is_ascii_whitespace (text ++ more) ≡ length text + prefix_len is_ascii_whitespace more = start_append text more ∙ equal (prefix_len is_ascii_whitespace text) (length text) (prefix_len is_ascii_whitespace more) e in

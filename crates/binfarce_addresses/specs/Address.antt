@@ -13,6 +13,6 @@ hexadecimal digits = if is_in_range 1 16 (length digits) && list_all is_ascii_he
 abbrev pub has_prefix : List ℕ → Bool
 has_prefix word = starts_with nat_eq word (codes "0x") || starts_with nat_eq word (codes "0X")
 
--- the address that a word writes: hexadecimal digits, before which `0x` or `0X` may come
+-- the address in a word: hexadecimal digits, optionally after `0x` or `0X`
 abbrev pub address_of : List ℕ → Option ℕ
 address_of word = hexadecimal (if has_prefix word then drop 2 word else word)

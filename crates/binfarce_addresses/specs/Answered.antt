@@ -1,10 +1,10 @@
--- What is answered of a text of addresses.
+-- The answers to the lines of a text.
 use Rattle.std.specs.Prelude.{◌≡◌, ◌≤◌, ℕ, List, ◌++◌, length, drop, Option}
 use Rattle.binfarce.specs.Symbol.{Entry}
 use Rattle.binfarce_addresses.specs.declared.stream.Answered.{Answered}
 use Rattle.binfarce_addresses.specs.Stream.{AreAnswersOf, Begins, HasNoLineFeed, missing}
 
--- the answers of the text's whole lines were written; what is left has no line feed
+-- the answers of the text's whole lines were written; the rest has no line feed
 pub record AnswersOf (entries : List Entry) (base : ℕ) (text old new : List ℕ) (answered : Answered) : Type 0 where
   pub within : answered.len ≤ length text
   pub addresses : List (Option ℕ)

@@ -8,11 +8,11 @@ use Rattle.binfarce.specs.Symbol.{Entry, Listed}
 use Rattle.binfarce_tools.specs.Listing.{address_text}
 use Rattle.binfarce.specs.Found.{entry_at}
 
--- the address in the file, once the base is taken off; an address below the base has none
+-- the address in the file, after the base is subtracted; none for an address below the base
 abbrev pub in_file : ℕ → ℕ → Option ℕ
 in_file base address = if nat_lt address base then None else Some (address - base)
 
--- the entry that stands at an address in the file
+-- the entry that an address in the file symbolizes to
 abbrev pub found_at : List Entry → Option ℕ → Option Entry
 found_at entries None = None
 found_at entries (Some address) = entry_at entries address
@@ -21,12 +21,12 @@ found_at entries (Some address) = entry_at entries address
 abbrev pub IsPlaceOf : Entry → ℕ → List ℕ → Type 0
 IsPlaceOf entry address text = (name : Name) × IsNamed entry.name name × (text ≡ name.trimmed ++ (codes "+0x" ++ digits 16 false (address - entry.address)))
 
--- the text of an address in the file: that of the entry that stands there, or `??`
+-- the text for an address in the file: that of its entry, or `??`
 abbrev pub IsTextOf : Option Entry → ℕ → List ℕ → Type 0
 IsTextOf None address text = text ≡ codes "??"
 IsTextOf (Some entry) address text = IsPlaceOf entry address text
 
--- `{address:016x} {text}`, and a line feed: the address as it was given, and what stands there
+-- `{address:016x} {text}`, and a line feed: the address as it was given, and its symbol
 abbrev pub address_line : ℕ → List ℕ → List ℕ
 address_line address text = address_text address ++ (codes " " ++ (text ++ 10 ∷ []))
 
@@ -38,6 +38,6 @@ IsLineAt entries base address line = (text : List ℕ) × IsTextOf (found_at ent
 abbrev pub AreLinesOf : List Entry → ℕ → List ℕ → List ℕ → Type 0
 AreLinesOf entries base addresses text = (lines : List (List ℕ)) × AllZip (IsLineAt entries base) addresses lines × (text ≡ concat lines)
 
--- the same of the entries that a file lists
+-- the same for the entries that a file lists
 abbrev pub AreLinesAt : ℕ → List ℕ → Listed → List ℕ → Type 0
 AreLinesAt base addresses listed text = AreLinesOf listed.entries base addresses text

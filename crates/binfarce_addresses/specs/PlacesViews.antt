@@ -1,4 +1,4 @@
--- What clauses see of the places that are made of a file.
+-- What clauses see of the places of a file.
 use Rattle.std.specs.Prelude.{◌≡◌, ◌⊎◌, List, Option, Some, None, Result, Ok, Err}
 use Rattle.binfarce.specs.declared.ParseError.{ParseError}
 use Rattle.binfarce.specs.Refusal.{Refusal, refusal_of}
@@ -6,7 +6,7 @@ use Rattle.binfarce.specs.Symbol.{Entry, Listed}
 use Rattle.binfarce_tools.specs.declared.list.ListError.{ListError}
 use Rattle.binfarce_tools.specs.declared.list.ListError.TheVariants.{Unknown, Parse, OutOfMemory}
 
--- what is made of a file whose answer is this: places of its entries, or why they can't be had. In place of a refusal that needs memory, and of no other, an allocation may have failed
+-- the result for a file's answer: places of its entries, or its refusal. Only a refusal that needs memory may be replaced by a failed allocation
 abbrev pub IsMadeOf : (Result Listed Refusal → Type 0) → Option (Result Listed Refusal) → Result (List Entry) ListError → Type 0
 IsMadeOf NeedsMemory (Some (Ok listed)) (Ok entries) = entries ≡ listed.entries
 IsMadeOf NeedsMemory (Some (Ok listed)) (Err e) = e ≡ OutOfMemory

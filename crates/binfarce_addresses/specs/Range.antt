@@ -1,10 +1,11 @@
--- Ranges of addresses, and which of several is found at an address.
+-- Ranges of addresses, and the one that is found at an address.
 use Rattle.std.specs.Prelude.{◌≡◌, ℕ, ◌+◌, ◌-◌, ◌^◌, ◌<◌, ◌≤◌, ◌⊎◌, min, max, List, All, Contains, length, slice_index, slice_index_or, Option, MatchOption}
 use Rattle.binfarce_addresses.specs.declared.ranges.AddressRange.{AddressRange}
 use Rattle.binfarce_addresses.specs.declared.ranges.Found.{Found}
 use Rattle.binfarce_addresses.specs.declared.ranges.Span.{Span}
 
--- the address lies in the range: from the range's address on, and before its end, which may lie past 64 bits; a range of size 0 holds its own address alone
+-- the address lies in the range: from the range's address on, and before its end, which may lie past 64 bits. A range of size 0 holds its own address
+-- alone
 abbrev pub Holds : AddressRange → ℕ → Type 0
 Holds range address = (range.address ≤ address) × (address < range.address + max range.size 1)
 
@@ -12,7 +13,7 @@ Holds range address = (range.address ≤ address) × (address < range.address + 
 abbrev pub NoneHolds : List AddressRange → ℕ → Type 0
 NoneHolds ranges address = All (λ range. ¬ (Holds range address)) ranges
 
--- the range at the place is the one that is found at the address: it holds it, and any other that does has a lower address, or the same and stands behind it
+-- the range at this place is found at the address: it holds it, and any other that does has a lower address, or the same address and a later place
 pub record IsFoundAt (ranges : List AddressRange) (address place : ℕ) : Type 0 where
   pub within : place < length ranges
   pub holds : (d : AddressRange) → Holds (slice_index_or ranges place d) address
@@ -20,19 +21,19 @@ pub record IsFoundAt (ranges : List AddressRange) (address place : ℕ) : Type 0
       → ((slice_index_or ranges other d).address < (slice_index_or ranges place d).address)
       ⊎ (((slice_index_or ranges other d).address ≡ (slice_index_or ranges place d).address) × (place ≤ other))
 
--- what is found at the address: the place of a range, and the offset into that; or nothing, where none holds it
+-- the answer for the address: the place of a range, and the offset into it; or nothing, where none holds it
 abbrev pub Finds : List AddressRange → ℕ → Option Found → Type 0
 Finds ranges address found =
     MatchOption found (NoneHolds ranges address) (λ f. IsFoundAt ranges address f.place × ((d : AddressRange) → f.offset ≡ address - (slice_index_or ranges f.place d).address))
 
--- what is found from the range's address up to the span's end is the range, and from there up to where the span is free nothing
+-- from the range's address up to the span's end the range is found, and from there up to `until` nothing
 pub record IsSpanOf (ranges : List AddressRange) (span : Span) : Type 0 where
   pub within : span.place < length ranges
   pub address : (d : AddressRange) → (slice_index_or ranges span.place d).address ≡ span.address
   pub found : (address : ℕ) → span.address ≤ address → address < span.end → IsFoundAt ranges address span.place
   pub none : (address : ℕ) → span.end ≤ address → address < span.until → NoneHolds ranges address
 
--- of the ranges at two places the first has the lower address, or the same and stands behind the other
+-- of the ranges at two places, the first has the lower address, or the same address and the later place
 abbrev pub ComesFirst : List AddressRange → ℕ → ℕ → Type 0
 ComesFirst ranges place other =
     (d : AddressRange) → ((slice_index_or ranges place d).address < (slice_index_or ranges other d).address)

@@ -1,4 +1,4 @@
--- The lines of a text, the addresses that they write, and what is written of them.
+-- The lines of a text, their addresses, and the answers to them.
 use Rattle.std.specs.Prelude.{◌≡◌, ◌≢◌, ◌⊎◌, ℕ, ◌-◌, ◌^◌, min, Bool, true, List, [], ◌∷◌, ◌++◌, All, codes, length, take, drop, Option, Some, None, is_none, Result, Ok, Err}
 use Rattle.std.specs.Char.{is_ascii_whitespace}
 use Rattle.std.specs.Io.KnownBytes.{Appends, Consumes, IsAtEnd}
@@ -24,7 +24,7 @@ trim_start text = drop (prefix_len is_ascii_whitespace text) text
 abbrev pub trim_end : List ℕ → List ℕ
 trim_end text = take (length text - suffix_len is_ascii_whitespace text) text
 
--- the address that a line writes, without the white space at both ends: blanks, tabs, and a carriage return before its line feed
+-- the address in a line, without the white space at both ends: blanks, tabs, and a carriage return before its line feed
 abbrev pub line_address : List ℕ → Option ℕ
 line_address line = address_of (trim_end (trim_start line))
 
@@ -32,7 +32,7 @@ line_address line = address_of (trim_end (trim_start line))
 abbrev pub HasNoLineFeed : List ℕ → Type 0
 HasNoLineFeed text = All (λ byte. byte ≢ 10) text
 
--- the line writes this address, or none
+-- the line has this address, or none
 abbrev pub Writes : List ℕ → Option ℕ → Type 0
 Writes line address = HasNoLineFeed line × (line_address line ≡ address)
 
@@ -40,7 +40,7 @@ Writes line address = HasNoLineFeed line × (line_address line ≡ address)
 abbrev pub with_line_feeds : List (List ℕ) → List ℕ
 with_line_feeds lines = flat_map (λ line. line ++ 10 ∷ []) lines
 
--- a text is whole lines that write these addresses, or none, and then what is left
+-- a text is whole lines with these addresses, or none, and then a rest
 pub record Begins (text : List ℕ) (addresses : List (Option ℕ)) (left : List ℕ) : Type 0 where
   pub lines : List (List ℕ)
   pub each : AllZip Writes lines addresses
@@ -51,20 +51,20 @@ abbrev pub EndsIn : List ℕ → List (Option ℕ) → Type 0
 EndsIn text addresses =
     (front : List (Option ℕ)) × (last : List ℕ) × Begins text front last × HasNoLineFeed last × (last ≢ []) × (addresses ≡ front ++ line_address last ∷ [])
 
--- a text is lines that write these addresses, or none, and then what is left; the last line of the text may have no line feed
+-- a text is lines with these addresses, or none, and then a rest; the last line of the text may have no line feed
 abbrev pub Reads : List ℕ → List (Option ℕ) → List ℕ → Type 0
 Reads text addresses left = Begins text addresses left ⊎ (EndsIn text addresses × (left ≡ []))
 
--- what is written of a line: the line of its address, or `??` where it writes none
+-- the answer to a line: the line of its address, or `??` where it has none
 abbrev pub IsAnswerOf : List Entry → ℕ → Option ℕ → List ℕ → Type 0
 IsAnswerOf entries base None answer = answer ≡ codes "??\n"
 IsAnswerOf entries base (Some address) answer = IsLineAt entries base address answer
 
--- text is what is written of lines of these addresses, in their order
+-- text is the answers to lines with these addresses, in their order
 abbrev pub AreAnswersOf : List Entry → ℕ → List (Option ℕ) → List ℕ → Type 0
 AreAnswersOf entries base addresses text = (answers : List (List ℕ)) × AllZip (IsAnswerOf entries base) addresses answers × (text ≡ concat answers)
 
--- how many lines write no address
+-- how many lines have no address
 abbrev pub missing : List (Option ℕ) → ℕ
 missing addresses = count_by is_none addresses
 
@@ -76,12 +76,14 @@ AreAnswered entries base addresses old new = (answers : List ℕ) × AreAnswersO
 abbrev pub BreaksOff : List Entry → ℕ → List (Option ℕ) → Option (List ℕ) → Option (List ℕ) → Type 0
 BreaksOff entries base addresses old new = (answers : List ℕ) × AreAnswersOf entries base addresses answers × AppendsBeginning old new answers
 
--- of some lines of what came a beginning of the answers was written
+-- a beginning of the answers to some lines of the input was written
 abbrev pub StopsWithin : List Entry → ℕ → Option (List ℕ) → Option (List ℕ) → Option (List ℕ) → Option (List ℕ) → Type 0
 StopsWithin entries base given left old new =
     (came : List ℕ) × (addresses : List (Option ℕ)) × (rest : List ℕ) × Consumes given left came × Reads came addresses rest × BreaksOff entries base addresses old new
 
--- what was read and written, where the reader had given bytes to give and has left ones, and the sink had old bytes and has new ones, as far as they are known: all lines were answered, and the count is that of those that write no address, or 2^64 - 1 where there are more; the reader failed, and the whole lines before were answered; a write or an allocation failed, and a beginning was written
+-- what was read and written. The reader had the bytes `given`, and now has `left`; the sink had `old`, and now has `new`; each may be unknown. Either
+-- all lines were answered, and the count is that of those without an address, at most 2^64 - 1; or the reader failed, and the whole lines before were
+-- answered; or a write or an allocation failed, and a beginning was written
 abbrev pub Streams : List Entry → ℕ → Option (List ℕ) → Option (List ℕ) → Option (List ℕ) → Option (List ℕ) → Result ℕ LinesError → Type 0
 Streams entries base given left old new (Ok count) =
     IsAtEnd left × ((came : List ℕ) × (addresses : List (Option ℕ)) × Consumes given left came × Reads came addresses [] × AreAnswered entries base addresses old new × (count ≡ min (missing addresses) (2 ^ 64 - 1)))

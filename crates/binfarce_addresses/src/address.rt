@@ -4,8 +4,8 @@ ghost use Rattle.std.specs.Prelude.{◌≡◌, ◌<◌, ◌≤◌, length, slice
 ghost use Rattle.binfarce_addresses.specs.Address.{address_of, hexadecimal};
 ghost use Rattle.binfarce_addresses.specs.machine.Digits.{digit_value};
 
-/// The address that a word writes: 1 to 16 hexadecimal digits, in upper or lower case, before which `0x` or `0X` may come.
-/// `None` for any other word.
+/// The address in a word: 1 to 16 hexadecimal digits, in upper or lower case, optionally after `0x` or `0X`. `None` for
+/// any other word. Nothing is allocated.
 pub fn parse_address(word: &[u8]) -> Option<u64>
     ensures { result ≡ address_of word.now }
 {
@@ -16,8 +16,8 @@ pub fn parse_address(word: &[u8]) -> Option<u64>
     }
 }
 
-/// The address that the first line of the bytes writes, and how many bytes the line has, where these are 1 to 16 digits and
-/// nothing else. `None` doesn't say that the line writes no address: it may have `0x` before its digits.
+/// The address in the first line of the bytes, and the line's length in bytes, if it has 1 to 16 digits and nothing
+/// else. `None` doesn't mean that the line has no address: it may have `0x` before its digits.
 pub fn hex_line(bytes: &[u8]) -> Option<(u64, usize)>
     ensures { IfSome result
         (λ r. (r.1 < length bytes.now) × (slice_index_or bytes.now r.1 0 ≡ 10)
@@ -58,7 +58,7 @@ fn hex_number(digits: &[u8]) -> Option<u64>
     Some(number)
 }
 
-// What each byte is worth as a digit; 16 where it is none.
+// The value of each byte as a digit; 16 for any other byte.
 const VALUES: [u8; 256] = [
     16, 16, 16, 16, 16, 16, 16, 16, 16, 16, 16, 16, 16, 16, 16, 16, 16, 16, 16, 16, 16, 16, 16, 16,
     16, 16, 16, 16, 16, 16, 16, 16, 16, 16, 16, 16, 16, 16, 16, 16, 16, 16, 16, 16, 16, 16, 16, 16,
@@ -73,7 +73,7 @@ const VALUES: [u8; 256] = [
     16, 16, 16, 16, 16, 16, 16, 16, 16, 16, 16, 16, 16, 16,
 ];
 
-// What a digit is worth: one look, since branches on digits are guessed wrong.
+// The value of a digit, by one table lookup: branches on digits are mispredicted.
 #[inline(always)]
 fn hex_digit(digit: u8) -> Option<u64>
     ensures { result ≡ digit_value digit }

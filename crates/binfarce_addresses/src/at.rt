@@ -1,22 +1,25 @@
-//! What stands at addresses in an executable, a line each.
+//! Symbolizes addresses in an executable, a line for each.
 
-ghost use Rattle.std.specs.Prelude.{◌≡◌, ◌≢◌, ◌++◌, ◌-◌, ◌<◌, ℕ, List, length, Some, None, true, map, IfErr, IfOk, IfSome, MatchOption, OnOk};
+ghost use Rattle.std.specs.Prelude.{◌≡◌, ◌≢◌, ◌++◌, ◌-◌, ◌<◌, ℕ, List, length, Option, Some, None, Result, Ok, true, map, IfErr, IfOk, IfSome, MatchOption, OnOk};
 ghost use Rattle.std.specs.String.{string_bytes};
-ghost use Rattle.binfarce.specs.Symbol.{Entry};
+ghost use Rattle.binfarce.specs.Refusal.{Refusal};
+ghost use Rattle.binfarce.specs.Symbol.{Entry, Listed};
 ghost use Rattle.binfarce.specs.SymbolViews.{function_view};
-ghost use Rattle.binfarce_tools.specs.Answer.{answer_of, file_answer, FileNeedsMemory};
+ghost use Rattle.binfarce_tools.specs.AllAnswer.{all_answer_of, AllNeedsMemory, one_answer};
+ghost use Rattle.binfarce_tools.specs.AllTables.{AreAllTablesOf};
+ghost use Rattle.binfarce_tools.specs.Answer.{answer_of, NeedsMemory, file_answer, FileNeedsMemory};
 ghost use Rattle.binfarce_tools.specs.Entries.{functions_left};
 ghost use Rattle.binfarce_tools.specs.Listing.{ListingFits};
 ghost use Rattle.binfarce_tools.specs.ListWords.{outcome_of};
 ghost use Rattle.binfarce_tools.specs.Tables.{AreTablesOf};
 ghost use Rattle.binfarce_tools.specs.declared.SymbolTable.{SymbolTable};
 ghost use Rattle.binfarce_tools.specs.declared.list.ListError.TheVariants.{Write};
-ghost use Rattle.binfarce_tools.specs.Writing.{Tells, Takes, Fails, Leaves};
+ghost use Rattle.binfarce_tools.specs.Writing.{EndsAs, Takes, Fails, Leaves};
 ghost use Rattle.binfarce_addresses.specs.Lines.{in_file, found_at, IsLineAt, AreLinesOf, AreLinesAt};
 ghost use Rattle.binfarce_addresses.specs.PlacesViews.{IsMadeOf};
 ghost use Rattle.binfarce_addresses.specs.Stream.{AreAnswersOf, IsAnswerOf};
 ghost use Rattle.binfarce_addresses.specs.machine.Cells.{IsNameAt};
-ghost use Rattle.binfarce_addresses.specs.machine.Places.{ArePlacesOf, IsNamedAt, IsShownAt, StandsAt};
+ghost use Rattle.binfarce_addresses.specs.machine.Places.{ArePlacesOf, IsNamedAt, IsShownAt, IsAtPlace};
 
 use crate::cells::Cells;
 use crate::digits::{push_address, push_offset};
@@ -25,12 +28,13 @@ use crate::ranges::{AddressRange, Found, Ranges};
 use binfarce::FunctionSymbol;
 use binfarce_tools::functions::{Functions, functions_of_file};
 use binfarce_tools::list::{ListError, Sink};
+use binfarce_tools::all::AllTables;
 use binfarce_tools::tables::Tables;
 use binfarce_tools::writing::write_whole;
 use std::alloc::{AllocError, Global};
 use std::marker::Model;
 
-/// The function symbols of a file, arranged so that what stands at an address takes a search.
+/// The function symbols of a file, arranged for lookups by address.
 ///
 /// Clauses see the entries in their order.
 #[derive(Drop)]
@@ -55,9 +59,10 @@ impl<'a> Places<'a> {
     ///
     /// # Errors
     ///
-    /// As `list`, but for `Write`.
+    /// Those of `list`, except `Write`.
     pub fn of_file(alloc: Global, data: &'a [u8], section: &str) -> Result<Places<'a>, ListError>
-        ensures { IsMadeOf (FileNeedsMemory data.entry.now) (file_answer data.entry.now section.now) result }
+        ensures { IsMadeOf (FileNeedsMemory data.entry.now)
+            (file_answer data.entry.now section.now) result }
     {
         let (functions, _) = functions_of_file(alloc, data, section)?;
         let places = places_of(alloc, functions)?;
@@ -79,7 +84,23 @@ impl<'a> Places<'a> {
         Ok(places)
     }
 
-    /// Makes each name readable and keeps it: lines of many addresses take less time then.
+    /// The places of the function symbols of all sections of a file. Those of an object file share addresses, so that an address
+    /// names no place there.
+    ///
+    /// # Errors
+    ///
+    /// As `AllTables::functions`; `OutOfMemory` where any other allocation failed.
+    pub fn of_all(alloc: Global, tables: &'a AllTables) -> Result<Places<'a>, ListError>
+        ensures made { (which : SymbolTable) (file : List ℕ) → AreAllTablesOf which file tables.entry.now
+            → IsMadeOf (AllNeedsMemory file) (one_answer (all_answer_of which file)) result }
+        ensures unwritten { IfErr result (λ e. e ≢ Write) }
+    {
+        let functions = tables.functions(alloc)?;
+        let places = places_of(alloc, Functions::All(functions))?;
+        Ok(places)
+    }
+
+    /// Demangles and keeps each name: this saves time with many addresses.
     ///
     /// # Errors
     ///
@@ -93,7 +114,7 @@ impl<'a> Places<'a> {
         Ok(())
     }
 
-    /// The function symbol that an address is shown by once the base is taken off, and the offset into it.
+    /// The function symbol that an address minus the base symbolizes to, and the offset into it.
     pub fn find(&self, base: u64, address: u64) -> Option<(FunctionSymbol<'a>, u64)>
         ensures { MatchOption result (found_at self.now (in_file base address) ≡ None)
             (λ f. (found_at self.now (in_file base address) ≡ Some (function_view f.0))
@@ -107,7 +128,7 @@ impl<'a> Places<'a> {
     fn find_place(&self, base: u64, address: u64) -> Option<(usize, FunctionSymbol<'a>, u64)>
         ensures { MatchOption result (found_at self.now (in_file base address) ≡ None)
             (λ f. (found_at self.now (in_file base address) ≡ Some (function_view f.1))
-            × (f.2 ≡ address - base - f.1.address) × StandsAt self.now f.0 (function_view f.1)) }
+            × (f.2 ≡ address - base - f.1.address) × IsAtPlace self.now f.0 (function_view f.1)) }
     {
         let in_file = address.checked_sub(base)?;
         let place = self.ranges.find(in_file)?;
@@ -115,8 +136,8 @@ impl<'a> Places<'a> {
         Some((place, function, in_file - function.address))
     }
 
-    /// Writes the line of an address after the text: the address, the symbol that it is shown by once the base is taken
-    /// off, and the offset into that; or `??` where there is none.
+    /// Appends the line of an address to the text: the address, the symbol that the address minus the base symbolizes
+    /// to, and the offset into it; or `??` where there is none.
     ///
     /// # Errors
     ///
@@ -135,8 +156,8 @@ impl<'a> Places<'a> {
         self.push_shown(alloc, text, base, address, shown)
     }
 
-    // Writes the answers of lines that write these addresses, or none, after the text. What all need of memory is read before
-    // the first is written: it comes sooner where many wait at once.
+    // Appends the answers of lines with these addresses, or none, to the text. The memory of all is read before the
+    // first answer is written, so that cache misses overlap.
     pub(crate) fn push_all(
         &self,
         alloc: Global,
@@ -157,8 +178,7 @@ impl<'a> Places<'a> {
         Ok(())
     }
 
-    // Writes the answer of a line that writes this address, or none, after the text: what the cell at this place says, or what
-    // is found.
+    // Appends the answer of a line with this address, or none, to the text: by the cell at this place, or by a search.
     fn push_answer(
         &self,
         alloc: Global,
@@ -177,7 +197,7 @@ impl<'a> Places<'a> {
         }
     }
 
-    // Writes the line of an address after the text: what the cell at this place tells, or what is found.
+    // Appends the line of an address to the text: by the cell at this place, or by a search.
     fn push_near(
         &self,
         alloc: Global,
@@ -201,8 +221,8 @@ impl<'a> Places<'a> {
         self.push_line(alloc, text, base, address)
     }
 
-    // The kept name of the function symbol that an address is shown by, and the offset into that, if the cell at this place
-    // tells it.
+    // The kept name of the function symbol that an address symbolizes to, and the offset into it, if the cell at this
+    // place has it.
     #[inline(always)]
     fn near_name(&self, base: u64, address: u64, near: usize) -> Option<(&[u8], u64)>
         ensures { IfSome result (λ s. IsNameAt self.now base address s.0.now s.1) }
@@ -221,7 +241,7 @@ impl<'a> Places<'a> {
         Some((&text[start..stop], in_file - cell.address))
     }
 
-    // Whether the cell at this place tells that none is shown at the address.
+    // Whether the cell at this place shows that the address has no symbol.
     #[inline(always)]
     fn is_free(&self, base: u64, address: u64, near: usize) -> bool
         ensures { result ≡ true → found_at self.now (in_file base address) ≡ None }
@@ -235,7 +255,7 @@ impl<'a> Places<'a> {
         }
     }
 
-    // What an address is shown by: the place of a function symbol, and the offset into that.
+    // The symbol of an address: the place of a function symbol, and the offset into it.
     fn find_shown(&self, base: u64, address: u64) -> Option<Found>
         ensures { IsShownAt self.now base address result }
     {
@@ -248,7 +268,7 @@ impl<'a> Places<'a> {
         }
     }
 
-    // Writes the line of an address, which is shown by this, after the text.
+    // Appends the line of an address with this symbol to the text.
     fn push_shown(
         &self,
         alloc: Global,
@@ -275,7 +295,7 @@ impl<'a> Places<'a> {
         }
     }
 
-    // Writes the trimmed name of the function symbol at a place after the text.
+    // Appends the trimmed name of the function symbol at a place to the text.
     fn push_name(&self, alloc: Global, text: &mut Vec<u8>, place: usize) -> Result<(), AllocError>
         requires { place < length self.now }
         ensures { OnOk result
@@ -333,17 +353,17 @@ fn places_of(alloc: Global, functions: Functions<'_>) -> Result<Places<'_>, Allo
     })
 }
 
-/// Writes what stands at each of the addresses in an executable: a line each, in their order.
+/// Symbolizes addresses in an executable: a line for each, in their order.
 ///
-/// The format and the section are as `list` has them. A line is `{address:016x} {trimmed}+0x{offset:x}`: the address, the
-/// trimmed name of the function symbol that it is shown by, and the offset into that. The base is taken off first. A symbol
-/// holds the addresses of its range, of size 0 its own; of several that hold an address it is shown by the one of greatest
-/// address, and of these by the first in the order of the listing. `{address:016x} ??` stands for an address that none holds,
-/// and for one below the base.
+/// The format and the section are as in `list`. A line is `{address:016x} {trimmed}+0x{offset:x}`: the address, the
+/// trimmed name of its function symbol, and the offset into it. The base is subtracted first. A symbol holds the
+/// addresses of its range, or of size 0 its own. Of several that hold an address, it is the one of greatest address,
+/// and of several there the first in the order of the listing. The line is `{address:016x} ??` for an address that none
+/// holds, and for one below the base.
 ///
 /// # Errors
 ///
-/// As `list`; only `Write` can leave a beginning of the lines written.
+/// Those of `list`. Only after `Write` a beginning of the lines may be written.
 pub fn at<S: Sink>(
     alloc: Global,
     data: &[u8],
@@ -352,7 +372,7 @@ pub fn at<S: Sink>(
     addresses: &[u64],
     out: &mut S,
 ) -> Result<(), ListError>
-    ensures tells { Tells ListingFits (FileNeedsMemory data.now)
+    ensures outcome { EndsAs ListingFits (FileNeedsMemory data.now)
         (file_answer data.now section.now) (outcome_of result) }
     ensures takes { Takes (AreLinesAt base addresses.now) (file_answer data.now section.now)
         (S.taken out.old) (S.taken out.new) (outcome_of result) }
@@ -364,7 +384,7 @@ pub fn at<S: Sink>(
     write_whole(out, text.as_slice())
 }
 
-/// Writes what `at` does, of a file's tables: for the section that they were read for.
+/// As `at`, from the tables of a file: for the section that they were read for.
 ///
 /// # Errors
 ///
@@ -376,8 +396,8 @@ pub fn at_tables<S: Sink>(
     addresses: &[u64],
     out: &mut S,
 ) -> Result<(), ListError>
-    ensures tells { (which : SymbolTable) (file section : List ℕ) → AreTablesOf which file section tables.now
-        → Tells ListingFits (FileNeedsMemory file) (answer_of which file section) (outcome_of result) }
+    ensures outcome { (which : SymbolTable) (file section : List ℕ) → AreTablesOf which file section tables.now
+        → EndsAs ListingFits (FileNeedsMemory file) (answer_of which file section) (outcome_of result) }
     ensures takes { (which : SymbolTable) (file section : List ℕ) → AreTablesOf which file section tables.now
         → Takes (AreLinesAt base addresses.now) (answer_of which file section) (S.taken out.old) (S.taken out.new)
         (outcome_of result) }
@@ -386,6 +406,31 @@ pub fn at_tables<S: Sink>(
 {
     let places = Places::of_tables(alloc, tables)?;
     let text = lines(alloc, &places, base, addresses)?;
+    write_whole(out, text.as_slice())
+}
+
+/// Writes what stands at each of the addresses by these places, which are those of a file: a line each, as `at` has them.
+///
+/// # Errors
+///
+/// `OutOfMemory` where an allocation failed; `Write` where a write failed, which alone can leave a beginning of the lines
+/// written.
+pub fn write_lines<S: Sink>(
+    alloc: Global,
+    places: &Places<'_>,
+    base: u64,
+    addresses: &[u64],
+    out: &mut S,
+) -> Result<(), ListError>
+    ensures outcome { (NeedsMemory : Result Listed Refusal → Type 0) (answer : Option (Result Listed Refusal))
+        → IsMadeOf NeedsMemory answer (Ok places.now) → EndsAs ListingFits NeedsMemory answer (outcome_of result) }
+    ensures takes { (NeedsMemory : Result Listed Refusal → Type 0) (answer : Option (Result Listed Refusal))
+        → IsMadeOf NeedsMemory answer (Ok places.now)
+        → Takes (AreLinesAt base addresses.now) answer (S.taken out.old) (S.taken out.new) (outcome_of result) }
+    ensures fails { Fails (S.has_failed out.old) (S.has_failed out.new) (outcome_of result) }
+    ensures leaves { Leaves out.old out.new (outcome_of result) }
+{
+    let text = lines(alloc, places, base, addresses)?;
     write_whole(out, text.as_slice())
 }
 

@@ -1,4 +1,4 @@
-//! What is known of the addresses from each function symbol's own on, so that most lines of many addresses take one look.
+//! A cache of spans of addresses and their symbols, so that most lookups of many read one cell.
 
 ghost use Rattle.std.specs.Prelude.{◌≡◌, ◌+◌, ◌≤◌, max, length, IfOk, IfSome};
 ghost use Rattle.binfarce_addresses.specs.machine.Cells.{AreCellsOf, IsCellOf};
@@ -7,11 +7,11 @@ use crate::marks::Marks;
 use crate::ranges::Ranges;
 use std::alloc::{AllocError, Global};
 
-// How many cells are looked at where slices of the marks have several.
+// How many cells are tried where a slice of the marks has several.
 const FURTHER: usize = 16;
 
-/// So many addresses from `address` on are shown by one function symbol, those behind them up to the offset `until` by none.
-/// Its name is kept from `start` on. A cell is small, so that many stay near.
+/// So many addresses from `address` on have one function symbol, and those after them up to the offset `until` have
+/// none. Its name is kept from `start` on. A cell is small, so that many fit a cache.
 #[derive(Clone, Copy)]
 pub(crate) struct Cell {
     pub(crate) address: u64,
@@ -47,8 +47,8 @@ impl Cells {
         Ok(Cells { cells, marks })
     }
 
-    /// Where the cell of each address stands, once the base is taken off: mostly, so that it has to be looked at. All cells
-    /// are read before the first is used, so that waits for memory overlap. A line without an address has that of 0.
+    /// The probable index of each address's cell, after the base is subtracted; the cell has to be checked. All cells
+    /// are read before the first is used, so that cache misses overlap. A line without an address has the cell of 0.
     pub(crate) fn nears(
         &self,
         alloc: Global,
@@ -82,7 +82,8 @@ impl Cells {
         Ok(nears)
     }
 
-    // The cell before this one, if this one begins behind the address, and one behind it, if it tells nothing of the address.
+    // The cell before this one, if this one begins after the address, and one after it, if it doesn't cover the
+    // address.
     #[inline(always)]
     fn not_behind(&self, near: usize, address: u64) -> usize {
         match self.cells.get(near) {
@@ -96,7 +97,7 @@ impl Cells {
         }
     }
 
-    // The last cell of a few that doesn't begin behind the address.
+    // The last cell of a few that doesn't begin after the address.
     fn further(&self, near: usize, address: u64) -> usize {
         let mut last = near;
         for k in 0..FURTHER {
@@ -109,7 +110,7 @@ impl Cells {
         last
     }
 
-    /// The first and the last byte of the name of each of these cells: read ahead, so that it is near when it is written.
+    /// The first and the last byte of the name of each of these cells: a prefetch, before the names are written.
     pub(crate) fn ends_of_names(
         &self,
         alloc: Global,
@@ -172,7 +173,7 @@ fn cell_of(ranges: &Ranges, bounds: &[usize], row: usize) -> Option<Cell>
     })
 }
 
-// The offset of an end into what begins at an address, and at most the greatest one.
+// The offset of an end from an address, at most the greatest one.
 fn offset_of(end: u64, address: u64) -> u32
     ensures { address + result ≤ max end address }
 {

@@ -6,7 +6,7 @@ ghost use Rattle.binfarce_tools.specs.Listing.{address_text};
 
 use std::alloc::AllocError;
 
-/// Writes an address and a blank after the text.
+/// Appends an address and a blank to the text.
 pub(crate) fn push_address(text: &mut Vec<u8>, address: u64) -> Result<(), AllocError>
     ensures { OnOk result (text.new.items ≡ text.old.items ++ (address_text address ++ codes " ")) }
 {
@@ -16,7 +16,7 @@ pub(crate) fn push_address(text: &mut Vec<u8>, address: u64) -> Result<(), Alloc
     Ok(())
 }
 
-/// Writes an offset and a line feed after the text.
+/// Appends an offset and a line feed to the text.
 pub(crate) fn push_offset(text: &mut Vec<u8>, offset: u64) -> Result<(), AllocError>
     ensures { OnOk result (text.new.items ≡ text.old.items ++ (codes "+0x" ++ (digits 16 false offset ++ codes "\n"))) }
 {
@@ -28,7 +28,7 @@ pub(crate) fn push_offset(text: &mut Vec<u8>, offset: u64) -> Result<(), AllocEr
     Ok(())
 }
 
-// Puts all 16 digits of a number before a last byte: how many of them there are in steps is known, so none is guessed wrong.
+// Puts all 16 digits of a number before a last byte: the number of steps is fixed, so no branch is mispredicted.
 fn put_all_digits(shown: &mut [u8], number: u64)
     requires { length shown.old ≡ 17 }
     ensures { shown.new ≡ address_text number ++ drop 16 shown.old }
@@ -40,7 +40,7 @@ fn put_all_digits(shown: &mut [u8], number: u64)
     }
 }
 
-// Puts a number in the last of 16 zeros, and gives where it begins.
+// Puts a number into the last of 16 zeros, and returns where it begins.
 fn put_digits(shown: &mut [u8], number: u64) -> usize
     requires { shown.old ≡ replicate 16 48 }
     ensures within { result < 16 }

@@ -1,4 +1,4 @@
-//! What stands at addresses in an executable: the function symbol that holds each, and the offset into it.
+//! Symbolizes addresses in an executable: the function symbol that holds each, and the offset into it.
 #![tactic(auto)]
 
 pub mod address;

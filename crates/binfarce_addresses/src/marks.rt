@@ -1,4 +1,4 @@
-//! Where among rising addresses the last one stands that isn't greater than a given one, mostly.
+//! Approximate predecessor search over rising addresses.
 
 ghost use Rattle.std.specs.Prelude.{◌<◌};
 
@@ -7,8 +7,8 @@ use std::alloc::{AllocError, Global};
 // How many slices there are for each address, so that few slices have two.
 const SLICES: usize = 8;
 
-/// Marks of addresses that rise: they say where the last one stands that isn't greater than a given one. What they say is
-/// read fast, and has to be looked at: it may be wrong where two addresses lie in one slice.
+/// Marks of rising addresses: they give the probable index of the last one that isn't greater than a given one. The
+/// index is found fast, and has to be checked: it may be wrong where two addresses lie in one slice.
 #[derive(Drop)]
 pub struct Marks {
     first: u64,
@@ -29,7 +29,7 @@ struct Mark {
 }
 
 impl Marks {
-    /// For so many addresses from the first to the last one.
+    /// Marks for so many addresses from the first to the last one.
     pub fn new(alloc: Global, first: u64, last: u64, count: usize) -> Marks {
         Marks {
             first,
@@ -39,7 +39,7 @@ impl Marks {
         }
     }
 
-    /// Marks the next address. The only error is that an allocation failed.
+    /// Marks the next address. The only error is a failed allocation.
     pub fn push(&mut self, address: u64) -> Result<(), AllocError> {
         let slice = self.slice_of(address);
         let place = (slice / 64) as usize;
@@ -62,7 +62,7 @@ impl Marks {
         Ok(())
     }
 
-    /// Where the last of the marked addresses stands that isn't greater, as the marks say.
+    /// The probable index of the last marked address that isn't greater.
     #[inline(always)]
     pub fn near(&self, address: u64) -> usize {
         let slice = self.slice_of(address);
@@ -78,7 +78,7 @@ impl Marks {
     }
 }
 
-// Where the last address stands that was marked up to this one of the 64 slices.
+// The index of the last address that was marked up to this one of the 64 slices.
 #[inline(always)]
 fn last_in(mark: Mark, slice: u64) -> usize {
     let slices = (mark.high as u64) << 32 | mark.low as u64;
@@ -88,7 +88,7 @@ fn last_in(mark: Mark, slice: u64) -> usize {
         .wrapping_sub(1)
 }
 
-// How often so many addresses are halved until they are at most so many slices.
+// How often the range of addresses is halved until it has at most so many slices.
 fn shift_of(addresses: u64, slices: usize) -> u32
     ensures { result < 64 }
 {

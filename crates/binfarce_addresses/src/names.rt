@@ -9,7 +9,7 @@ use binfarce::FunctionSymbol;
 use binfarce::demangle::{Demangler, push_trimmed};
 use std::alloc::{AllocError, Global};
 
-/// The trimmed names of the first function symbols, one behind the other.
+/// The trimmed names of the first function symbols, one after the other.
 #[derive(Drop)]
 pub(crate) struct Names {
     pub(crate) text: String,

@@ -14,14 +14,14 @@ use std::error::Error;
 use std::fmt;
 use std::io::{ErrorKind, Read};
 
-// How many bytes are asked for at once: what is read of the names and the ranges for these lines stays near until it is
-// written, and the room for the lines is small enough that the allocator keeps it for the next ones.
+// How many bytes are read at a time: the names and ranges for these lines stay in the cache until they are written, and
+// the buffer is small enough that the allocator reuses it.
 const CHUNK: usize = 1 << 13;
 
-// How many bytes the lines of addresses have for each of theirs, mostly: so many are made room for at once.
+// How many bytes of output a byte of input mostly has: so many are reserved at once.
 const GROWTH: usize = 8;
 
-// The most bytes of a line that writes an address: `0x` and 16 digits.
+// The most bytes of a line with an address: `0x` and 16 digits.
 const LONGEST: usize = 18;
 
 /// Why the lines of a text were not answered to its end.
@@ -67,12 +67,12 @@ impl From<AllocError> for LinesError {
 pub struct Answered {
     /// How many bytes its whole lines have, with their line feeds.
     pub len: usize,
-    /// How many of these lines write no address.
+    /// How many of these lines have no address.
     pub missing: u64,
 }
 
-/// Writes after `text` the answers of the whole lines of `bytes`: the line of the address that a line writes, as
-/// `Places::push_line` does, or `??` for a line that writes none. White space at both ends of a line is no part of the address.
+/// Appends to `text` the answers of the whole lines of `bytes`: the line of a line's address, as `Places::push_line`
+/// gives it, or `??` for a line without an address. White space at both ends of a line is ignored.
 ///
 /// # Errors
 ///
@@ -91,7 +91,7 @@ pub fn push_lines(
     Ok(answered)
 }
 
-// The addresses that the whole lines of `bytes` write, or none, and how much of the text that is.
+// The addresses of the whole lines of `bytes`, or none, and the length of these lines.
 fn addresses_of(alloc: Global, bytes: &[u8]) -> Result<(Vec<Option<u64>>, Answered), AllocError>
     ensures { IfOk result (λ r. AreAddressesOf bytes.now r.0.items r.1) }
 {
@@ -106,7 +106,7 @@ fn addresses_of(alloc: Global, bytes: &[u8]) -> Result<(Vec<Option<u64>>, Answer
     Ok((addresses, Answered { len, missing }))
 }
 
-// The address that the first line of the bytes writes, or none, and how many bytes that line has with its line feed.
+// The address of the first line of the bytes, or none, and how many bytes that line has with its line feed.
 fn first_address(bytes: &[u8]) -> Option<(Option<u64>, usize)>
     ensures { MatchOption result (HasNoLineFeed bytes.now) (λ r. IsFirst bytes.now r.0 r.1) }
 {
@@ -117,7 +117,7 @@ fn first_address(bytes: &[u8]) -> Option<(Option<u64>, usize)>
     Some((parse_line(line), line.len() + 1))
 }
 
-// The address that a line writes.
+// The address of a line.
 fn parse_line(line: &[u8]) -> Option<u64>
     ensures { result ≡ line_address line.now }
 {
@@ -137,9 +137,9 @@ fn first_line(bytes: &[u8]) -> Option<&[u8]>
     None
 }
 
-/// Answers the lines of `input` until it ends, each as soon as its line feed has come, and returns how many of them write no
-/// address, at most `u64::MAX`. The last line may have no line feed. A read that was interrupted is tried again. Of a line
-/// that has no end yet at most 19 bytes are kept.
+/// Answers the lines of `input` until it ends, each as soon as its line feed has come, and returns how many of them
+/// have no address, at most `u64::MAX`. The last line may have no line feed. A read that was interrupted is tried
+/// again. Of an unfinished line at most 19 bytes are kept.
 ///
 /// # Errors
 ///
@@ -177,7 +177,7 @@ fn new_chunk(alloc: Global) -> Result<Vec<u8>, AllocError>
     vec![in alloc; 0; CHUNK]
 }
 
-// Answers the whole lines of what the reader gives, and returns how many of them write no address; `line` keeps what is left.
+// Answers the whole lines that the reader gives, and returns how many of them have no address; `line` keeps the rest.
 fn answer_whole<R: Read, S: Sink>(
     alloc: Global,
     places: &Places<'_>,
@@ -211,7 +211,7 @@ fn answer_whole<R: Read, S: Sink>(
     Err(LinesError::Read)
 }
 
-// Answers the whole lines of what was kept and of the next part of the text, and keeps what is left.
+// Answers the whole lines of the kept text and the next part, and keeps the rest.
 fn answer_part<S: Sink>(
     alloc: Global,
     places: &Places<'_>,
@@ -231,8 +231,8 @@ fn answer_part<S: Sink>(
     Ok(answered.missing)
 }
 
-// What is kept of the first part of a line: no white space before the address, and at most one byte of it behind. A line that
-// is too long for an address is kept as a byte that no address has.
+// The text that is kept of the first part of a line: no white space before the address, and at most one byte of it
+// after. A line that is too long for an address is kept as one byte that no address has.
 fn kept_of(alloc: Global, line: &[u8]) -> Result<Vec<u8>, AllocError>
     ensures kept { IfOk result (λ kept. IsKeptOf line.now kept.items) }
     ensures short { IfOk result (λ kept. length kept.items ≤ 19) }
@@ -265,7 +265,7 @@ fn answer<S: Sink>(
     Ok(answered)
 }
 
-// Answers the last line, if there is one, and returns how many of all lines write no address.
+// Answers the last line, if there is one, and returns how many of all lines have no address.
 fn answer_last<S: Sink>(
     alloc: Global,
     places: &Places<'_>,

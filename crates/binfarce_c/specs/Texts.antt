@@ -3,7 +3,7 @@ use Rattle.std.specs.Prelude.{◌≡◌, ◌⊎◌, ℕ, List, Option, Result}
 use Rattle.std.specs.Str.{IsUtf8}
 use Rattle.binfarce.specs.Refusal.{Refusal}
 use Rattle.binfarce.specs.Symbol.{Listed}
-use Rattle.binfarce_tools.specs.Writing.{Outcome, Tells, IsDue, written, write_failed, unknown_format, refused, no_memory, too_large, unreadable, wrong_usage}
+use Rattle.binfarce_tools.specs.Writing.{Outcome, EndsAs, IsDue, written, write_failed, unknown_format, refused, no_memory, too_large, unreadable, wrong_usage}
 use Rattle.binfarce_c.specs.declared.buffer.Text.{Text}
 use Rattle.binfarce_c.specs.Names.{Holds, HoldsNone}
 use Rattle.binfarce_c.specs.Status as status
@@ -37,4 +37,4 @@ Ends IsTextOf answer old new given outcome = (given ≡ no_text outcome) × (new
 unfoldable pub GivesText : (Fits : Listed → Type 0) (NeedsMemory : Result Listed Refusal → Type 0) (IsTextOf : Listed → List ℕ → Type 0) (section : List ℕ) (answer : Option (Result Listed Refusal)) (old : List ℕ) (new : List ℕ) (given : Text) → Type 0
 GivesText Fits NeedsMemory IsTextOf section answer old new given =
     ((¬ (IsUtf8 section)) × HoldsNone status.not_utf8 old new given)
-    ⊎ (IsUtf8 section × ((outcome : Outcome) × Tells Fits NeedsMemory answer outcome × Ends IsTextOf answer old new given outcome))
+    ⊎ (IsUtf8 section × ((outcome : Outcome) × EndsAs Fits NeedsMemory answer outcome × Ends IsTextOf answer old new given outcome))

@@ -4,6 +4,7 @@ use Rattle.std.specs.Option.{option_map}
 use Rattle.std.specs.Prelude.{IfErr, OnOk}
 use Rattle.std.specs.Io.KnownBytes.{Appends, Keeps}
 use Rattle.binfarce_bytes.specs.Entries.{Listed}
+use Rattle.binfarce_bytes.specs.SectionEntries.{AllSymbols}
 use Rattle.binfarce_bytes.specs.Format.{format_of}
 use Rattle.binfarce_bytes.specs.Refusal.{Refusal, refusal_of}
 use Rattle.binfarce_bytes.specs.declared.error.ParseError.{ParseError}
@@ -12,18 +13,22 @@ use Rattle.binfarce_bytes.specs.declared.format.Format.TheVariants as formats
 use Rattle.binfarce_tools.specs.declared.SymbolTable.{SymbolTable}
 use Rattle.binfarce_tools.specs.declared.SymbolTable.TheVariants.{Symtab, Dynsym}
 use Rattle.binfarce_tools.proofs.TablesRead.{format_of_first}
+use Rattle.binfarce_tools.specs.AllAnswer.{all_answer_of, all_symbols_answer, AllNeedsMemory, one_answer}
+use Rattle.binfarce_tools.specs.AllListing.{AllListingFits}
+use Rattle.binfarce_tools.specs.Report.{ReportFits}
 use Rattle.binfarce_tools.specs.Answer.{NeedsMemory, answer_of, dynamic_symbols_answer, symbols_answer}
-use Rattle.binfarce_tools.specs.Writing.{AppendsBeginning, IsDue, Leaves, Outcome, ProgramTells, Tells, unknown_format, wrong_usage}
+use Rattle.binfarce_tools.specs.Writing.{AppendsBeginning, IsDue, Leaves, Outcome, EndsAs, unknown_format, write_failed, written as has_written, wrong_usage}
 use Rattle.binfarce_command.specs.Faults.{outcome_of}
 use Rattle.binfarce_command.specs.Files.{Fate, IsUnreadable, MayComeTo, Refused, Reports, ReportsWhy, ShowsHeld, ShowsOne, heading, refused, shown}
 use Rattle.binfarce_command.specs.Headed.{pending, taken, writer_of}
 use Rattle.binfarce_command.specs.Input.{IsReadOf}
-use Rattle.binfarce_command.specs.Show.{Fits, IsShownText, IsTextOf, MayEnd, TakesShown, answer_for}
+use Rattle.binfarce_command.specs.Show.{AllTells, Fits, IsDueIn, IsDueOfAll, IsShownText, IsTextOf, MayEnd, TakesIn, TakesShown, TellsIn, section_of}
 use Rattle.binfarce_command.specs.declared.fault.Fault.{Fault}
-use Rattle.binfarce_command.specs.declared.fault.Fault.TheVariants.{Unreadable, Input, OutOfMemory, Write, Unknown, Parse, TooLarge, NoSection, NoBytes, PastEnd, Missing}
+use Rattle.binfarce_command.specs.declared.fault.Fault.TheVariants.{Unreadable, Input, OutOfMemory, Write, Unknown, Parse, TooLarge, NoSection, NoBytes, PastEnd, SharedAddresses, Missing}
 use Rattle.binfarce_command.specs.declared.headed.Headed.{Headed}
 use Rattle.binfarce_command.specs.declared.show.Asked.{Asked}
-use Rattle.binfarce_command.specs.declared.show.Symbols.{Symbols}
+use Rattle.binfarce_command.specs.declared.show.Kind.{Kind}
+use Rattle.binfarce_command.specs.declared.show.Kind.TheVariants.{Listing, Sums, Picture}
 
 -- a file of an unknown format has no answer
 no_answer : (which : SymbolTable) (file section : List ℕ) → format_of file ≡ formats.Unknown → answer_of which file section ≡ None
@@ -34,42 +39,78 @@ no_answer Dynsym file section is = ap (λ (f : Format). dynamic_symbols_answer f
 unknown_too : (file bytes : List ℕ) → format_of file ≡ formats.Unknown → bytes ≡ take 8 file → format_of bytes ≡ formats.Unknown
 unknown_too file bytes unknown is = ap format_of is ∙ format_of_first file ∙ unknown
 
+no_all_answer : (which : SymbolTable) (file : List ℕ) → format_of file ≡ formats.Unknown → all_answer_of which file ≡ None
+unfolding all_symbols_answer
+no_all_answer which file is = ap (λ (f : Format). all_symbols_answer which f file) is
+
+due_in : (section : Option (List ℕ)) (kind : Kind) (which : SymbolTable) (bytes text : List ℕ) → format_of bytes ≡ formats.Unknown → IsDueIn section kind which bytes text → ⊥
+due_in (Some section) kind which bytes text unknown is = subst (λ (answer : Option (Result Listed Refusal)). IsDue (IsTextOf kind) answer text) (no_answer which bytes section unknown) is
+due_in None Listing which bytes text unknown is = subst (λ (answer : Option (Result AllSymbols Refusal)). IsDueOfAll Listing answer text) (no_all_answer which bytes unknown) is
+due_in None Sums which bytes text unknown is = subst (λ (answer : Option (Result AllSymbols Refusal)). IsDueOfAll Sums answer text) (no_all_answer which bytes unknown) is
+due_in None Picture which bytes text unknown is = subst (λ (answer : Option (Result AllSymbols Refusal)). IsDueOfAll Picture answer text) (no_all_answer which bytes unknown) is
+
 -- a text of what was read of a file is one of the file
 pub text_of_file : (asked : Asked) (file bytes text : List ℕ) → IsReadOf file bytes → IsShownText asked bytes text → IsShownText asked file text
 text_of_file asked file bytes text (inl same) is = subst (λ (f : List ℕ). IsShownText asked f text) same is
-text_of_file asked file bytes text (inr (unknown, first)) is =
-    let none = no_answer asked.symbols.which bytes asked.symbols.section.now (unknown_too file bytes unknown first) in
-    absurd (subst (λ (answer : Option (Result Listed Refusal)). IsDue (IsTextOf asked.kind) answer text) none is)
+text_of_file asked file bytes text (inr (unknown, first)) is = absurd (due_in (section_of asked.symbols) asked.kind asked.symbols.which bytes text (unknown_too file bytes unknown first) is)
 
-weaker : (P Q : Type 0) → (P → Q) → (asked : Asked) (file : List ℕ) (o : Outcome) → MayEnd P asked file o → MayEnd Q asked file o
-weaker P Q more asked file o (inl (may, is)) = inl (more may, is)
-weaker P Q more asked file o (inr (inl is)) = inr (inl is)
-weaker P Q more asked file o (inr (inr tells)) = inr (inr tells)
+-- of a file of an unknown format that is told, and nothing else
+tells_unknown : (section : Option (List ℕ)) (kind : Kind) (which : SymbolTable) (bytes : List ℕ) (o : Outcome) → format_of bytes ≡ formats.Unknown → TellsIn section kind which bytes o → o ≡ unknown_format
+tells_unknown (Some section) kind which bytes o unknown outcome = subst (λ (answer : Option (Result Listed Refusal)). EndsAs (Fits kind) (NeedsMemory (format_of bytes) bytes) answer o) (no_answer which bytes section unknown) outcome
+tells_unknown None Listing which bytes o unknown outcome = subst (λ (answer : Option (Result AllSymbols Refusal)). AllTells Listing (AllNeedsMemory bytes) answer o) (no_all_answer which bytes unknown) outcome
+tells_unknown None Sums which bytes o unknown outcome = subst (λ (answer : Option (Result AllSymbols Refusal)). AllTells Sums (AllNeedsMemory bytes) answer o) (no_all_answer which bytes unknown) outcome
+tells_unknown None Picture which bytes o unknown outcome = subst (λ (answer : Option (Result AllSymbols Refusal)). AllTells Picture (AllNeedsMemory bytes) answer o) (no_all_answer which bytes unknown) outcome
 
-unknown_ends : (P Q : Type 0) → (P → Q) → (asked : Asked) (file bytes : List ℕ) (o : Outcome) → answer_for asked.symbols file ≡ None → answer_for asked.symbols bytes ≡ None → MayEnd P asked bytes o → MayEnd Q asked file o
-unknown_ends P Q more asked file bytes o none also (inl (may, is)) = inl (more may, is)
-unknown_ends P Q more asked file bytes o none also (inr (inl is)) = inr (inl is)
-unknown_ends P Q more asked file bytes o none also (inr (inr tells)) =
-    let is : o ≡ unknown_format = subst (λ (answer : Option (Result Listed Refusal)). Tells (Fits asked.kind) (NeedsMemory (format_of bytes) bytes) answer o) also tells in
-    inr (inr (subst (λ (answer : Option (Result Listed Refusal)). Tells (Fits asked.kind) (NeedsMemory (format_of file) file) answer o) (sym none) is))
+unknown_tells : (section : Option (List ℕ)) (kind : Kind) (which : SymbolTable) (file : List ℕ) (o : Outcome) → format_of file ≡ formats.Unknown → o ≡ unknown_format → TellsIn section kind which file o
+unknown_tells (Some section) kind which file o unknown is = subst (λ (answer : Option (Result Listed Refusal)). EndsAs (Fits kind) (NeedsMemory (format_of file) file) answer o) (sym (no_answer which file section unknown)) is
+unknown_tells None Listing which file o unknown is = subst (λ (answer : Option (Result AllSymbols Refusal)). AllTells Listing (AllNeedsMemory file) answer o) (sym (no_all_answer which file unknown)) is
+unknown_tells None Sums which file o unknown is = subst (λ (answer : Option (Result AllSymbols Refusal)). AllTells Sums (AllNeedsMemory file) answer o) (sym (no_all_answer which file unknown)) is
+unknown_tells None Picture which file o unknown is = subst (λ (answer : Option (Result AllSymbols Refusal)). AllTells Picture (AllNeedsMemory file) answer o) (sym (no_all_answer which file unknown)) is
+
+tells_of_file : (asked : Asked) (file bytes : List ℕ) (o : Outcome) → IsReadOf file bytes → TellsIn (section_of asked.symbols) asked.kind asked.symbols.which bytes o → TellsIn (section_of asked.symbols) asked.kind asked.symbols.which file o
+tells_of_file asked file bytes o (inl same) outcome = subst (λ (f : List ℕ). TellsIn (section_of asked.symbols) asked.kind asked.symbols.which f o) same outcome
+tells_of_file asked file bytes o (inr (unknown, first)) outcome =
+    unknown_tells (section_of asked.symbols) asked.kind asked.symbols.which file o unknown (tells_unknown (section_of asked.symbols) asked.kind asked.symbols.which bytes o (unknown_too file bytes unknown first) outcome)
 
 -- the showing of what was read of a file ends as that of the file may
 pub end_of_file : (P Q : Type 0) → (P → Q) → (asked : Asked) (file bytes : List ℕ) (o : Outcome) → IsReadOf file bytes → MayEnd P asked bytes o → MayEnd Q asked file o
-end_of_file P Q more asked file bytes o (inl same) ends = subst (λ (f : List ℕ). MayEnd Q asked f o) same (weaker P Q more asked bytes o ends)
-end_of_file P Q more asked file bytes o (inr (unknown, first)) ends =
-    unknown_ends P Q more asked file bytes o (no_answer asked.symbols.which file asked.symbols.section.now unknown) (no_answer asked.symbols.which bytes asked.symbols.section.now (unknown_too file bytes unknown first)) ends
+end_of_file P Q more asked file bytes o read (inl (may, is)) = inl (more may, is)
+end_of_file P Q more asked file bytes o read (inr (inl is)) = inr (inl is)
+end_of_file P Q more asked file bytes o read (inr (inr outcome)) = inr (inr (tells_of_file asked file bytes o read outcome))
 
 -- a call about a file is never wrong in itself
-never_wrong : (MayFail : Type 0) (fits : Listed → Type 0) (memory : Result Listed Refusal → Type 0) (answer : Option (Result Listed Refusal)) → ProgramTells MayFail fits memory answer wrong_usage → ⊥
-never_wrong MayFail fits memory answer (inl (may, is)) = cc
-never_wrong MayFail fits memory answer (inr (inl is)) = cc
-never_wrong MayFail fits memory None (inr (inr is)) = cc
-never_wrong MayFail fits memory (Some (Err refusal)) (inr (inr (inl is))) = cc
-never_wrong MayFail fits memory (Some (Err refusal)) (inr (inr (inr (needs, is)))) = cc
-never_wrong MayFail fits memory (Some (Ok listed)) (inr (inr (inl is))) = cc
-never_wrong MayFail fits memory (Some (Ok listed)) (inr (inr (inr (inl (may, inl is))))) = cc
-never_wrong MayFail fits memory (Some (Ok listed)) (inr (inr (inr (inl (may, inr is))))) = cc
-never_wrong MayFail fits memory (Some (Ok listed)) (inr (inr (inr (inr (never, is))))) = cc
+tells_no_usage : {L : Type 0} (fits : L → Type 0) (memory : Result L Refusal → Type 0) (answer : Option (Result L Refusal)) → EndsAs fits memory answer wrong_usage → ⊥
+tells_no_usage fits memory None is = cc
+tells_no_usage fits memory (Some (Err refusal)) (inl is) = cc
+tells_no_usage fits memory (Some (Err refusal)) (inr (needs, is)) = cc
+tells_no_usage fits memory (Some (Ok listed)) (inl is) = cc
+tells_no_usage fits memory (Some (Ok listed)) (inr (inl (may, inl is))) = cc
+tells_no_usage fits memory (Some (Ok listed)) (inr (inl (may, inr is))) = cc
+tells_no_usage fits memory (Some (Ok listed)) (inr (inr (never, is))) = cc
+
+no_usage_in : (section : Option (List ℕ)) (kind : Kind) (which : SymbolTable) (file : List ℕ) → TellsIn section kind which file wrong_usage → ⊥
+no_usage_in (Some section) kind which file outcome = tells_no_usage (Fits kind) (NeedsMemory (format_of file) file) (answer_of which file section) outcome
+no_usage_in None Listing which file outcome = tells_no_usage AllListingFits (AllNeedsMemory file) (all_answer_of which file) outcome
+no_usage_in None Sums which file outcome = tells_no_usage ReportFits (AllNeedsMemory file) (one_answer (all_answer_of which file)) outcome
+no_usage_in None Picture which file outcome = tells_no_usage ReportFits (AllNeedsMemory file) (one_answer (all_answer_of which file)) outcome
+
+never_wrong : (MayFail : Type 0) (asked : Asked) (file : List ℕ) → MayEnd MayFail asked file wrong_usage → ⊥
+never_wrong MayFail asked file (inl (may, is)) = cc
+never_wrong MayFail asked file (inr (inl is)) = cc
+never_wrong MayFail asked file (inr (inr outcome)) = no_usage_in (section_of asked.symbols) asked.kind asked.symbols.which file outcome
+
+-- the text of which a beginning was taken, or all
+took_part : (section : Option (List ℕ)) (kind : Kind) (which : SymbolTable) (file : List ℕ) (old new : Option (List ℕ)) → TakesIn section kind which file old new write_failed → (text : List ℕ) × IsDueIn section kind which file text × AppendsBeginning old new text
+took_part (Some section) kind which file old new takes = takes
+took_part None Listing which file old new takes = takes
+took_part None Sums which file old new takes = takes
+took_part None Picture which file old new takes = takes
+
+pub took_all : (section : Option (List ℕ)) (kind : Kind) (which : SymbolTable) (file : List ℕ) (old new : Option (List ℕ)) → TakesIn section kind which file old new has_written → (text : List ℕ) × IsDueIn section kind which file text × Appends old new text
+took_all (Some section) kind which file old new takes = takes
+took_all None Listing which file old new takes = takes
+took_all None Sums which file old new takes = takes
+took_all None Picture which file old new takes = takes
 
 -- what is left of a heading precedes the text
 pub after_heading : (old mid : Option (List ℕ)) (left text : List ℕ) → Appends (option_map (λ b. b ++ left) old) mid text → Appends old mid (left ++ text)
@@ -106,7 +147,9 @@ module _ {W : Type 0} (contents : W → Option (List ℕ)) (asked : Asked) (MayF
   -- a file whose showing failed
   pub unshown : (e : Fault) → e ≢ Input → MayEnd MayFail asked file (outcome_of (Err e)) → TakesShown asked file (taken contents old) (taken contents mid) (outcome_of (Err e)) → Leaves old mid (outcome_of (Err e))
       → ShowsHeld asked MayFail file (pending old) (contents (writer_of old)) (contents (writer_of mid)) (taken contents mid) (Err e)
-  unshown Write other ends (text, due, begins) leaves = (text, due, beginning_after (contents (writer_of old)) (taken contents mid) (pending old) text begins)
+  unshown Write other ends takes leaves =
+      let part = took_part (section_of asked.symbols) asked.kind asked.symbols.which file (taken contents old) (taken contents mid) takes in
+      (part.0, part.1, beginning_after (contents (writer_of old)) (taken contents mid) (pending old) part.0 part.2)
   unshown Unreadable other ends takes leaves = (other, ends, ap (λ (s : Headed W). contents (writer_of s)) leaves)
   unshown Input other ends takes leaves = (other, ends, ap (λ (s : Headed W). contents (writer_of s)) leaves)
   unshown OutOfMemory other ends takes leaves = (other, ends, ap (λ (s : Headed W). contents (writer_of s)) leaves)
@@ -116,6 +159,7 @@ module _ {W : Type 0} (contents : W → Option (List ℕ)) (asked : Asked) (MayF
   unshown NoSection other ends takes leaves = (other, ends, ap (λ (s : Headed W). contents (writer_of s)) leaves)
   unshown NoBytes other ends takes leaves = (other, ends, ap (λ (s : Headed W). contents (writer_of s)) leaves)
   unshown PastEnd other ends takes leaves = (other, ends, ap (λ (s : Headed W). contents (writer_of s)) leaves)
+  unshown SharedAddresses other ends takes leaves = (other, ends, ap (λ (s : Headed W). contents (writer_of s)) leaves)
   unshown (Missing count) other ends takes leaves = (other, ends, ap (λ (s : Headed W). contents (writer_of s)) leaves)
 
   -- a file that is shown, and its heading written
@@ -151,7 +195,7 @@ module _ (asked : Asked) (may : Bool) (file path : List ℕ) (are_several : Bool
 
   was_refused : (fault : Fault) (result : Result Bool Fault) → fault ≢ Write → MayEnd ((may ≡ true) ⊎ (file ≡ [])) asked file (outcome_of (Err fault)) → new ≡ old
       → (result ≡ Ok false) × Reports before after ((path, fault) ∷ []) → One result
-  was_refused fault result other ends same (is, told) = subst One (sym is) (refused fault, (other, ends), refl, unwritten old new same, told)
+  was_refused fault result other ends same (is, answered_lines) = subst One (sym is) (refused fault, (other, ends), refl, unwritten old new same, answered_lines)
     where
       unwritten : (old new : Option (List ℕ)) → new ≡ old → Appends old new []
       unwritten None new same = tt
@@ -159,10 +203,10 @@ module _ (asked : Asked) (may : Bool) (file path : List ℕ) (are_several : Bool
 
   -- a file that can't be opened or read
   pub unopened : (fault : Fault) → IsUnreadable may file fault → new ≡ old → Reports before after ((path, fault) ∷ []) → One (Ok false)
-  unopened fault (inl is) same told =
-      was_refused OutOfMemory (Ok false) (λ e. cc) (inr (inl refl)) same (refl, subst (λ (f : Fault). Reports before after ((path, f) ∷ [])) is told)
-  unopened fault (inr (is, why)) same told =
-      was_refused Unreadable (Ok false) (λ e. cc) (inl (why, refl)) same (refl, subst (λ (f : Fault). Reports before after ((path, f) ∷ [])) is told)
+  unopened fault (inl is) same answered_lines =
+      was_refused OutOfMemory (Ok false) (λ e. cc) (inr (inl refl)) same (refl, subst (λ (f : Fault). Reports before after ((path, f) ∷ [])) is answered_lines)
+  unopened fault (inr (is, why)) same answered_lines =
+      was_refused Unreadable (Ok false) (λ e. cc) (inl (why, refl)) same (refl, subst (λ (f : Fault). Reports before after ((path, f) ∷ [])) is answered_lines)
 
   as_file : (bytes : List ℕ) (MayFail : Type 0) → IsReadOf file bytes → (MayFail → may ≡ true) → (fault : Fault) → MayEnd MayFail asked bytes (outcome_of (Err fault)) → MayEnd ((may ≡ true) ⊎ (file ≡ [])) asked file (outcome_of (Err fault))
   as_file bytes MayFail read more fault ends = end_of_file MayFail ((may ≡ true) ⊎ (file ≡ [])) (λ m. inl (more m)) asked file bytes (outcome_of (Err fault)) read ends
@@ -170,17 +214,18 @@ module _ (asked : Asked) (may : Bool) (file path : List ℕ) (are_several : Bool
   -- a file that is read, by how its showing ended
   pub came_to : (bytes left : List ℕ) (MayFail : Type 0) → IsReadOf file bytes → (MayFail → may ≡ true) → left ≡ heading are_several path
       → (done : Result (Unit {0}) Fault) (result : Result Bool Fault) → ShowsHeld asked MayFail bytes left old new taken done → ReportsWhy path before after done result → One result
-  came_to bytes left MayFail read more is (Ok x) result (text, due, wrote) (ok, told) =
-      subst One (sym ok) (shown text, text_of_file asked file bytes text read due, refl, subst (λ (h : List ℕ). Appends old new (h ++ text)) is wrote, told)
-  came_to bytes left MayFail read more is (Err Write) result (text, due, wrote) (err, told) =
-      subst One (sym err) (inl (refl, (text, text_of_file asked file bytes text read due, subst (λ (h : List ℕ). AppendsBeginning old taken (h ++ text)) is wrote)), told)
-  came_to bytes left MayFail read more is (Err Input) result (other, ends, same) told = absurd (other refl)
-  came_to bytes left MayFail read more is (Err (Missing count)) result (other, ends, same) told = absurd (never_wrong MayFail (Fits asked.kind) (NeedsMemory (format_of bytes) bytes) (answer_for asked.symbols bytes) ends)
-  came_to bytes left MayFail read more is (Err Unreadable) result (other, ends, same) told = was_refused Unreadable result (λ e. cc) (as_file bytes MayFail read more Unreadable ends) same told
-  came_to bytes left MayFail read more is (Err OutOfMemory) result (other, ends, same) told = was_refused OutOfMemory result (λ e. cc) (as_file bytes MayFail read more OutOfMemory ends) same told
-  came_to bytes left MayFail read more is (Err Unknown) result (other, ends, same) told = was_refused Unknown result (λ e. cc) (as_file bytes MayFail read more Unknown ends) same told
-  came_to bytes left MayFail read more is (Err (Parse p)) result (other, ends, same) told = was_refused (Parse p) result (λ e. cc) (as_file bytes MayFail read more (Parse p) ends) same told
-  came_to bytes left MayFail read more is (Err TooLarge) result (other, ends, same) told = was_refused TooLarge result (λ e. cc) (as_file bytes MayFail read more TooLarge ends) same told
-  came_to bytes left MayFail read more is (Err NoSection) result (other, ends, same) told = was_refused NoSection result (λ e. cc) (as_file bytes MayFail read more NoSection ends) same told
-  came_to bytes left MayFail read more is (Err NoBytes) result (other, ends, same) told = was_refused NoBytes result (λ e. cc) (as_file bytes MayFail read more NoBytes ends) same told
-  came_to bytes left MayFail read more is (Err PastEnd) result (other, ends, same) told = was_refused PastEnd result (λ e. cc) (as_file bytes MayFail read more PastEnd ends) same told
+  came_to bytes left MayFail read more is (Ok x) result (text, due, wrote) (ok, answered_lines) =
+      subst One (sym ok) (shown text, text_of_file asked file bytes text read due, refl, subst (λ (h : List ℕ). Appends old new (h ++ text)) is wrote, answered_lines)
+  came_to bytes left MayFail read more is (Err Write) result (text, due, wrote) (err, answered_lines) =
+      subst One (sym err) (inl (refl, (text, text_of_file asked file bytes text read due, subst (λ (h : List ℕ). AppendsBeginning old taken (h ++ text)) is wrote)), answered_lines)
+  came_to bytes left MayFail read more is (Err Input) result (other, ends, same) answered_lines = absurd (other refl)
+  came_to bytes left MayFail read more is (Err (Missing count)) result (other, ends, same) answered_lines = absurd (never_wrong MayFail asked bytes ends)
+  came_to bytes left MayFail read more is (Err Unreadable) result (other, ends, same) answered_lines = was_refused Unreadable result (λ e. cc) (as_file bytes MayFail read more Unreadable ends) same answered_lines
+  came_to bytes left MayFail read more is (Err OutOfMemory) result (other, ends, same) answered_lines = was_refused OutOfMemory result (λ e. cc) (as_file bytes MayFail read more OutOfMemory ends) same answered_lines
+  came_to bytes left MayFail read more is (Err Unknown) result (other, ends, same) answered_lines = was_refused Unknown result (λ e. cc) (as_file bytes MayFail read more Unknown ends) same answered_lines
+  came_to bytes left MayFail read more is (Err (Parse p)) result (other, ends, same) answered_lines = was_refused (Parse p) result (λ e. cc) (as_file bytes MayFail read more (Parse p) ends) same answered_lines
+  came_to bytes left MayFail read more is (Err TooLarge) result (other, ends, same) answered_lines = was_refused TooLarge result (λ e. cc) (as_file bytes MayFail read more TooLarge ends) same answered_lines
+  came_to bytes left MayFail read more is (Err NoSection) result (other, ends, same) answered_lines = was_refused NoSection result (λ e. cc) (as_file bytes MayFail read more NoSection ends) same answered_lines
+  came_to bytes left MayFail read more is (Err NoBytes) result (other, ends, same) answered_lines = was_refused NoBytes result (λ e. cc) (as_file bytes MayFail read more NoBytes ends) same answered_lines
+  came_to bytes left MayFail read more is (Err SharedAddresses) result (other, ends, same) answered_lines = was_refused SharedAddresses result (λ e. cc) (as_file bytes MayFail read more SharedAddresses ends) same answered_lines
+  came_to bytes left MayFail read more is (Err PastEnd) result (other, ends, same) answered_lines = was_refused PastEnd result (λ e. cc) (as_file bytes MayFail read more PastEnd ends) same answered_lines

@@ -55,7 +55,7 @@ module _ (asked : Asked) (may_fail : List ℕ → Bool) (held : List ℕ → Lis
       → Shows asked may_fail held are_several paths old mid before between all
       → (fate : Fate) → MayComeTo asked (may_fail path) (held path) fate → this ≡ is_shown fate → Appends mid new (written are_several path fate) → Reports between after (reported path fate)
       → Shows asked may_fail held are_several (paths ++ path ∷ []) old new before after (all && this)
-  one_shown paths path old mid new before between after all this shows fate may this_is wrote told =
+  one_shown paths path old mid new before between after all this shows fate may this_is wrote answered_lines =
       let f : List ℕ × Fate = (path, fate) in
       let text : List ℕ × Fate → List ℕ = λ f. written are_several f.0 f.1 in
       let report : List ℕ × Fate → List Refused = λ f. reported f.0 f.1 in
@@ -65,7 +65,7 @@ module _ (asked : Asked) (may_fail : List ℕ → Bool) (held : List ℕ → Lis
         paths_are = map-append (λ (f : List ℕ × Fate). f.0) shows.files (f ∷ []) ∙ ap (λ (xs : List (List ℕ)). xs ++ path ∷ []) shows.paths_are;
         each = All-push (λ (f : List ℕ × Fate). MayComeTo asked (may_fail f.0) (held f.0) f.1) shows.files f shows.each may;
         written_are = subst (Appends old new) (sym (flat_map-push text shows.files f)) (appends_more old mid new (flat_map text shows.files) (text f) shows.written_are wrote);
-        reported_are = subst (Reports before after) (sym (flat_map-push report shows.files f)) (reports_more before between after (flat_map report shows.files) (report f) shows.reported_are told);
+        reported_are = subst (Reports before after) (sym (flat_map-push report shows.files f)) (reports_more before between after (flat_map report shows.files) (report f) shows.reported_are answered_lines);
         all_is = ap (λ (b : Bool). b && this) shows.all_is ∙ ap (λ (b : Bool). list_all test shows.files && b) (this_is ∙ last (is_shown fate)) ∙ sym (list_all-append test shows.files (f ∷ []));
       }
     where
@@ -76,7 +76,7 @@ module _ (asked : Asked) (may_fail : List ℕ → Bool) (held : List ℕ → Lis
   -- the same, where no more was written or reported
   pub later : (paths : List (List ℕ)) (old mid new : Option (List ℕ)) (before between after : Option (List Refused)) (all : Bool)
       → Shows asked may_fail held are_several paths old mid before between all → Appends mid new [] → Reports between after [] → Shows asked may_fail held are_several paths old new before after all
-  later paths old mid new before between after all shows wrote told =
+  later paths old mid new before between after all shows wrote answered_lines =
       let text = flat_map (λ (f : List ℕ × Fate). written are_several f.0 f.1) shows.files in
       let reports = flat_map (λ (f : List ℕ × Fate). reported f.0 f.1) shows.files in
       record {
@@ -84,7 +84,7 @@ module _ (asked : Asked) (may_fail : List ℕ → Bool) (held : List ℕ → Lis
         paths_are = shows.paths_are;
         each = shows.each;
         written_are = subst (Appends old new) (append-nil text) (appends_more old mid new text [] shows.written_are wrote);
-        reported_are = subst (Reports before after) (append-nil reports) (reports_more before between after reports [] shows.reported_are told);
+        reported_are = subst (Reports before after) (append-nil reports) (reports_more before between after reports [] shows.reported_are answered_lines);
         all_is = shows.all_is;
       }
 
@@ -118,7 +118,7 @@ module _ (asked : Asked) (may_fail : List ℕ → Bool) (held : List ℕ → Lis
   -- a file ends it
   pub ends : (e : Fault) → ShowsOne asked (may_fail (get_or files i d).now) (held (get_or files i d).now) are_several (get_or files i d).now mid new taken between after (Err e)
       → ShowsAll asked may_fail held are_several (paths_of files) old new taken before after (Err e)
-  ends e (inl (is, (text, shown, begins)), told) = inl (
+  ends e (inl (is, (text, shown, begins)), answered_lines) = inl (
     is,
     record {
       first = paths_of (take i files);
@@ -127,20 +127,20 @@ module _ (asked : Asked) (may_fail : List ℕ → Bool) (held : List ℕ → Lis
       paths_are = paths_split files i d lt;
       between = mid;
       all = all;
-      shows = later asked may_fail held are_several (paths_of (take i files)) old mid mid before between after all shows (nothing_more mid) told;
+      shows = later asked may_fail held are_several (paths_of (take i files)) old mid mid before between after all shows (nothing_more mid) answered_lines;
       text = text;
       is = shown;
       begins = begins;
     },
   )
-  ends e (inr (is, none), told) = inr (
+  ends e (inr (is, none), answered_lines) = inr (
     is,
     record {
       first = paths_of (take i files);
       others = (get_or files i d).now ∷ paths_of (drop (suc i) files);
       paths_are = paths_split files i d lt;
       all = all;
-      shows = later asked may_fail held are_several (paths_of (take i files)) old mid new before between after all shows none told;
+      shows = later asked may_fail held are_several (paths_of (take i files)) old mid new before between after all shows none answered_lines;
     },
   )
 

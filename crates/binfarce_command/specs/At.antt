@@ -1,17 +1,22 @@
--- What addresses are asked for, and how those of standard input are answered.
-use Rattle.std.specs.Prelude.{◌≡◌, ◌⊎◌, ℕ, List, [], ◌∷◌, Option, Some, None, Result, Ok, Err}
+-- The requested addresses, and the answers to those of standard input.
+use Rattle.std.specs.Prelude.{◌≡◌, ◌⊎◌, ℕ, Bool, true, false, List, [], ◌∷◌, Option, Some, None, Result, Ok, Err}
 use Rattle.std.specs.Io.KnownBytes.{Appends, Consumes}
 use Rattle.binfarce.specs.Refusal.{Refusal}
-use Rattle.binfarce.specs.Symbol.{Listed}
+use Rattle.binfarce.specs.SectionEntries.{AllSymbols}
+use Rattle.binfarce.specs.Symbol.{Entry, Listed}
 use Rattle.binfarce_addresses.specs.Address.{address_of}
 use Rattle.binfarce_addresses.specs.PlacesViews.{IsMadeOf}
 use Rattle.binfarce_addresses.specs.Stream.{Streams}
 use Rattle.binfarce_addresses.specs.declared.stream.LinesError.{LinesError}
 use Rattle.binfarce_tools.specs.declared.list.ListError.{ListError}
+use Rattle.binfarce_tools.specs.AllAnswer.{all_answer_of, one_answer}
+use Rattle.binfarce_tools.specs.declared.SymbolTable.{SymbolTable}
 use Rattle.binfarce_command.specs.Faults.{lines_fault, list_fault}
+use Rattle.binfarce_command.specs.Show.{section_of}
+use Rattle.binfarce_command.specs.declared.show.Symbols.{Symbols}
 use Rattle.binfarce_words.specs.Words.{Wrong, no_address}
 use Rattle.binfarce_command.specs.declared.fault.Fault.{Fault}
-use Rattle.binfarce_command.specs.declared.fault.Fault.TheVariants.{Unreadable, OutOfMemory}
+use Rattle.binfarce_command.specs.declared.fault.Fault.TheVariants.{Unreadable, OutOfMemory, SharedAddresses}
 
 -- an address, and those of other words
 abbrev pub and_others : ℕ → Result (List ℕ) Wrong → Result (List ℕ) Wrong
@@ -22,7 +27,7 @@ abbrev pub first_and_others : (word : List ℕ) → Option ℕ → Result (List 
 first_and_others word None others = Err (no_address word)
 first_and_others word (Some address) others = and_others address others
 
--- the addresses that words write; the first word that writes none is wrong
+-- the addresses in words; the first word without one is wrong
 unfoldable pub addresses_of : List (List ℕ) → Result (List ℕ) Wrong
 addresses_of [] = Ok []
 addresses_of (word ∷ others) = first_and_others word (address_of word) (addresses_of others)
@@ -31,14 +36,39 @@ addresses_of (word ∷ others) = first_and_others word (address_of word) (addres
 abbrev pub IsUntouched : Option (List ℕ) → Option (List ℕ) → Option (List ℕ) → Option (List ℕ) → Type 0
 IsUntouched given left old new = Consumes given left [] × Appends old new []
 
--- how the answering of lines ended
+-- the result of answering lines
 abbrev pub lines_end : Result ℕ LinesError → Result ℕ Fault
 lines_end (Ok count) = Ok count
 lines_end (Err e) = Err (lines_fault e)
 
--- how the lines of standard input are answered, of a file whose answer is this: the file can't be read, which is reported only where MayFail says so, or an allocation failed; the file is refused; or its entries answer the lines
-abbrev pub AnswersLines : Type 0 → (Result Listed Refusal → Type 0) → Option (Result Listed Refusal) → ℕ → Option (List ℕ) → Option (List ℕ) → Option (List ℕ) → Option (List ℕ) → Result ℕ Fault → Type 0
-AnswersLines MayFail NeedsMemory answer base given left old new result =
+-- an answer is that of an object file, whose sections share addresses
+abbrev pub is_of_object : Option (Result AllSymbols Refusal) → Bool
+is_of_object None = false
+is_of_object (Some (Err refusal)) = false
+is_of_object (Some (Ok all)) = all.shares_addresses
+
+-- the function symbols that are taken share addresses: those of all sections of an object file
+abbrev pub share_in : (section : Option (List ℕ)) → SymbolTable → (file : List ℕ) → Bool
+share_in (Some section) which file = false
+share_in None which file = is_of_object (all_answer_of which file)
+
+abbrev pub share_addresses : Symbols → (file : List ℕ) → Bool
+share_addresses symbols file = share_in (section_of symbols) symbols.which file
+
+-- so they aren't looked up: that is reported, unless the file can't be read, which is reported only where MayFail says so, or an allocation failed
+abbrev pub IsShared : {T : Type 0} → (MayFail : Type 0) → Result T Fault → Type 0
+IsShared MayFail (Ok value) = ⊥
+IsShared MayFail (Err e) = (e ≡ SharedAddresses) ⊎ (MayFail × (e ≡ Unreadable)) ⊎ (e ≡ OutOfMemory)
+
+-- what is made of a file whose answer for all sections is this: places of its entries, unless it is an object file
+abbrev pub HasPlaces : (Result Listed Refusal → Type 0) → Option (Result AllSymbols Refusal) → Result (List Entry) Fault → Type 0
+HasPlaces NeedsMemory answer (Ok entries) = (is_of_object answer ≡ false) × IsMadeOf NeedsMemory (one_answer answer) (Ok entries)
+HasPlaces NeedsMemory answer (Err e) = ((is_of_object answer ≡ true) × (e ≡ SharedAddresses)) ⊎ ((error : ListError) × IsMadeOf NeedsMemory (one_answer answer) (Err error) × (e ≡ list_fault error))
+
+-- how the lines of standard input are answered, of a file whose answer is this: the file can't be read, which is reported only where MayFail says so, or an allocation failed; its function symbols share addresses; the file is refused; or its entries answer the lines
+abbrev pub AnswersLines : Type 0 → (share : Bool) → (Result Listed Refusal → Type 0) → Option (Result Listed Refusal) → ℕ → Option (List ℕ) → Option (List ℕ) → Option (List ℕ) → Option (List ℕ) → Result ℕ Fault → Type 0
+AnswersLines MayFail share NeedsMemory answer base given left old new result =
     (((MayFail × (result ≡ Err Unreadable)) ⊎ (result ≡ Err OutOfMemory)) × IsUntouched given left old new)
+    ⊎ ((share ≡ true) × (result ≡ Err SharedAddresses) × IsUntouched given left old new)
     ⊎ ((e : ListError) × IsMadeOf NeedsMemory answer (Err e) × (result ≡ Err (list_fault e)) × IsUntouched given left old new)
-    ⊎ ((listed : Listed) × (ended : Result ℕ LinesError) × (answer ≡ Some (Ok listed)) × Streams listed.entries base given left old new ended × (result ≡ lines_end ended))
+    ⊎ ((share ≡ false) × (listed : Listed) × (ended : Result ℕ LinesError) × (answer ≡ Some (Ok listed)) × Streams listed.entries base given left old new ended × (result ≡ lines_end ended))

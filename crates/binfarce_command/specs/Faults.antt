@@ -1,4 +1,4 @@
--- Which fault each error is, and how a command's work on a file ended.
+-- The fault of each error, and the outcome of a command for a file.
 use Rattle.std.specs.Prelude.{Result, Ok, Err}
 use Rattle.std.specs.declared.io.ErrorKind.{ErrorKind}
 use Rattle.std.specs.declared.io.ErrorKind.TheVariants as kinds
@@ -17,9 +17,9 @@ use Rattle.binfarce_filtering.specs.declared.stream.StreamError.TheVariants as s
 use Rattle.binfarce_sections.specs.declared.error.SectionError.{SectionError}
 use Rattle.binfarce_sections.specs.declared.error.SectionError.TheVariants as sections
 use Rattle.binfarce_command.specs.declared.fault.Fault.{Fault}
-use Rattle.binfarce_command.specs.declared.fault.Fault.TheVariants.{Unreadable, Input, OutOfMemory, Write, Unknown, Parse, TooLarge, NoSection, NoBytes, PastEnd, Missing}
+use Rattle.binfarce_command.specs.declared.fault.Fault.TheVariants.{Unreadable, Input, OutOfMemory, Write, Unknown, Parse, TooLarge, NoSection, NoBytes, PastEnd, SharedAddresses, Missing}
 
--- that an allocation failed is reported as such, and any other error of a read as a file that can't be read
+-- a failed allocation is `OutOfMemory`, and any other error of a read is an unreadable file
 abbrev pub io_fault : ErrorKind → Fault
 io_fault kinds.OutOfMemory = OutOfMemory
 io_fault kind = Unreadable
@@ -62,7 +62,7 @@ lines_fault lines.Read = Input
 lines_fault lines.OutOfMemory = OutOfMemory
 lines_fault lines.Write = Write
 
--- how the work on a file ended
+-- the outcome of the work on a file
 abbrev pub outcome_of : Result (Unit {0}) Fault → writing.Outcome
 outcome_of (Ok x) = writing.written
 outcome_of (Err Unreadable) = writing.unreadable
@@ -75,4 +75,5 @@ outcome_of (Err TooLarge) = writing.too_large
 outcome_of (Err NoSection) = writing.wrong_usage
 outcome_of (Err NoBytes) = writing.wrong_usage
 outcome_of (Err PastEnd) = writing.wrong_usage
+outcome_of (Err SharedAddresses) = writing.wrong_usage
 outcome_of (Err (Missing count)) = writing.wrong_usage

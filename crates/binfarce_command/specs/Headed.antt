@@ -3,11 +3,11 @@ use Rattle.std.specs.Prelude.{ℕ, Bool, List, ◌++◌, drop, Option, is_some}
 use Rattle.std.specs.Option.{option_map}
 use Rattle.binfarce_command.specs.declared.headed.Headed.{Headed}
 
--- the writer that the sink stands over
+-- the writer of the sink
 abbrev pub writer_of : {W : Type 0} → Headed W → W
 writer_of sink = sink.writer
 
--- what is left of the heading
+-- the rest of the heading
 abbrev pub pending : {W : Type 0} → Headed W → List ℕ
 pending sink = drop sink.done sink.heading.items
 
@@ -15,6 +15,6 @@ pending sink = drop sink.done sink.heading.items
 abbrev pub has_failed : {W : Type 0} → Headed W → Bool
 has_failed sink = is_some sink.reason
 
--- the bytes that were taken: those of the writer, and what is left of the heading
+-- the bytes that were taken: those of the writer, and the rest of the heading
 abbrev pub taken : {W : Type 0} → (W → Option (List ℕ)) → Headed W → Option (List ℕ)
 taken contents sink = option_map (λ bytes. bytes ++ pending sink) (contents (writer_of sink))

@@ -1,9 +1,9 @@
--- What is written of a file's sections.
+-- The output of the command `section`.
 use Rattle.std.specs.Prelude.{ℕ, Bool, List, Option, Some, None, Result}
 use Rattle.binfarce.specs.Format.{format_of}
 use Rattle.binfarce_sections.specs.Named.{bytes_named}
 use Rattle.binfarce_sections.specs.Section.{sections_of}
-use Rattle.binfarce_sections.specs.Telling.{TakesRead, TakesReadLines}
+use Rattle.binfarce_sections.specs.Results.{TakesRead, TakesReadLines}
 use Rattle.binfarce_sections.specs.declared.error.SectionError.{SectionError}
 
 -- the bytes of the section of this name were taken, or the lines of all sections where none is named

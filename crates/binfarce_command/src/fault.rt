@@ -25,19 +25,21 @@ pub enum Fault {
     OutOfMemory,
     /// A write failed.
     Write,
-    /// The file's first bytes name no format that is read.
+    /// The file's first bytes name no supported format.
     Unknown,
     /// The reader of the file's format refused it.
     Parse(ParseError),
-    /// The sum of all sizes doesn't fit.
+    /// The sum of all sizes exceeds 64 bits.
     TooLarge,
     /// No section has this name.
     NoSection,
     /// The section has no bytes in the file.
     NoBytes,
-    /// The section's bytes reach past the file's end.
+    /// The section's bytes end past the file.
     PastEnd,
-    /// So many lines of standard input write no address; all were answered.
+    /// The sections of an object file share addresses, so one has to be named.
+    SharedAddresses,
+    /// So many lines of standard input have no address; all were answered.
     Missing(u64),
 }
 
@@ -62,6 +64,10 @@ impl fmt::Display for Fault {
             Fault::NoSection => write!(f, "no section of this name"),
             Fault::NoBytes => write!(f, "section has no bytes in the file"),
             Fault::PastEnd => write!(f, "section reaches past the end of the file"),
+            Fault::SharedAddresses => write!(
+                f,
+                "its sections share addresses; use --section in place of --all"
+            ),
             Fault::Missing(1) => write!(f, "1 line without an address"),
             Fault::Missing(count) => write!(f, "{count} lines without an address"),
         }
@@ -83,7 +89,7 @@ impl From<io::Error> for Fault {
 
     ghost from_gives = { λ e f. f ≡ io_fault (error_kind e) };
 
-    /// A failed allocation is reported as such, and any other error as a file that can't be read.
+    /// A failed allocation becomes `OutOfMemory`, and any other error becomes `Unreadable`.
     fn from(e: io::Error) -> Self {
         match e.kind() {
             ErrorKind::OutOfMemory => Fault::OutOfMemory,

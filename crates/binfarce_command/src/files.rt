@@ -1,4 +1,4 @@
-//! Does a command's work on files, one after the other.
+//! Runs a command on files, one after the other.
 
 ghost use Rattle.std.specs.Prelude.{◌≡◌, [], ◌∷◌, ℕ, Bool, List, true, Option, Some, None, map, nat_lt, length, IfErr, IfOk, IfSome, MatchOption};
 ghost use Rattle.binfarce_command.specs.Files.{Refused, Reports, AreHeld, IsUnreadable, ReportsWhy, ShowsAll, ShowsHeld, ShowsOne, heading};
@@ -14,7 +14,7 @@ use binfarce_bytes::source::Source;
 use std::alloc::{AllocError, Global};
 use std::io::{self, Error, Read, Write};
 
-/// What a command reaches outside of it.
+/// The system around a command: opened files, and messages.
 pub trait System<F: Read + Source> {
     // The bytes of the file at a path, where they are known.
     ghost bytes_at: { Self → List ℕ → Option (List ℕ) } = { λ _ _. None };
@@ -39,8 +39,8 @@ pub trait System<F: Read + Source> {
         ensures may_fail { may_fail_at self.new ≡ may_fail_at self.old };
 }
 
-/// Shows each file, in order. Of several, each is shown under a line with its name. One that is refused is reported, and the others
-/// follow: then the result is `false`.
+/// Shows each file, in order. Of several, each is shown under a line with its name. A file that is refused is reported,
+/// and the others follow; the result is then `false`.
 ///
 /// # Errors
 ///
@@ -156,7 +156,7 @@ pub fn open_held<F: Read + Source + Drop, Y: System<F>>(
 ///
 /// # Errors
 ///
-/// What isn't of the file: `Write` and `Missing`.
+/// Faults that aren't the file's: `Write` and `Missing`.
 pub fn reported<F: Read + Source, Y: System<F>>(
     system: &mut Y,
     path: &str,

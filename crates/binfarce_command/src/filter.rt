@@ -1,4 +1,4 @@
-//! `binfarce filter [--full] [NAME..]`: the names in a text made readable.
+//! `binfarce filter [--full] [NAME..]`: demangles the names in a text.
 
 ghost use Rattle.std.specs.Prelude.{◌≡◌, map, IfOk};
 ghost use Rattle.binfarce_command.specs.Filter.{lines_of};

@@ -1,4 +1,4 @@
-//! What a command writes: a sink that writes a heading before the first byte that follows it.
+//! The output of a command: a sink that writes a heading before the first byte that follows it.
 
 ghost use Rattle.std.specs.Prelude.{◌≡◌, [], true, false, IfErr, IfSome, IfNone, OnOk};
 ghost use Rattle.std.specs.Io.KnownBytes.{Keeps};
@@ -10,8 +10,8 @@ use binfarce_tools::list::Sink;
 use std::alloc::Global;
 use std::io::{self, Error, ErrorKind, Write};
 
-/// A sink over a writer. A heading is written with the first byte behind it, or never. The system's reason is kept where a write
-/// fails.
+/// A sink over a writer. A heading is written with the first byte after it, or never. The system's reason is kept where
+/// a write fails.
 #[derive(Drop)]
 pub struct Headed<W> {
     writer: W,
@@ -36,7 +36,7 @@ impl<W: Write> Headed<W> {
         }
     }
 
-    /// Begins what has this heading.
+    /// Begins a part with this heading.
     pub fn begin(&mut self, heading: Vec<u8>)
         ensures pending { pending self.new ≡ heading.items }
         ensures writer { writer_of self.new ≡ writer_of self.old }
@@ -46,7 +46,7 @@ impl<W: Write> Headed<W> {
         self.done = 0;
     }
 
-    /// Writes what is left of the heading.
+    /// Writes the rest of the heading.
     ///
     /// # Errors
     ///
@@ -62,7 +62,7 @@ impl<W: Write> Headed<W> {
         }
     }
 
-    // Writes what is left of the heading.
+    // Writes the rest of the heading.
     fn write_heading(&mut self) -> Option<()>
         ensures kept { Keeps (taken W.contents self.old) (taken W.contents self.new) }
         ensures written { IfSome result (λ _. (pending self.new ≡ []) × (has_failed self.new ≡ has_failed self.old)) }
@@ -86,7 +86,7 @@ impl<W: Write> Headed<W> {
 }
 
 impl<W: Write + Drop> Headed<W> {
-    /// Why the last write failed that did.
+    /// The reason of the last failed write, if any.
     pub fn into_reason(self) -> Option<Error> {
         self.reason
     }

@@ -1,4 +1,4 @@
-//! A file that is read at offsets, or the bytes that were read of another.
+//! A file that is read at offsets, or the bytes of a file that can't be.
 
 ghost use Rattle.std.specs.Prelude.{◌≡◌, ℕ, List, [], Some};
 ghost use Rattle.binfarce_command.specs.Input.{ReadsJudged, ReadsFirst, ReadsByte, ReadsRest};
@@ -6,7 +6,7 @@ ghost use Rattle.binfarce_command.specs.Input.{ReadsJudged, ReadsFirst, ReadsByt
 use crate::fault::Fault;
 use binfarce_bytes::format::{Format, detect_format};
 use binfarce_bytes::source::Source;
-use binfarce_program::is_read_at_offsets;
+use binfarce_tools::program::is_read_at_offsets;
 use std::alloc::Global;
 use std::io::{self, ErrorKind, Read};
 
@@ -23,7 +23,7 @@ pub struct Held<F> {
 impl<F: Read + Source> Held<F> {
     ghost use Rattle.binfarce_command.specs.Input.{file_of, held_bytes, held_may_fail, Holds};
 
-    /// This file, of which nothing was read.
+    /// This file, before anything of it is read.
     pub fn new(file: F) -> Held<F>
         ensures file { file_of result ≡ file }
         ensures bytes { held_bytes F.bytes result ≡ F.bytes file }
@@ -39,7 +39,8 @@ impl<F: Read + Source> Held<F> {
         &self.file
     }
 
-    /// Reads the file, unless it can be read at offsets: to its end, or where its first 8 bytes name no format these alone.
+    /// Reads the file, unless it can be read at offsets: to its end, or only the first 8 bytes where these name no
+    /// format.
     ///
     /// # Errors
     ///
@@ -81,7 +82,7 @@ impl<F: Source> Source for Held<F> {
     }
 }
 
-/// The bytes up to the reader's end; where the first 8 name no format, these alone, and no more is read.
+/// The bytes up to the reader's end; only the first 8, with no further read, where these name no format.
 ///
 /// # Errors
 ///
@@ -100,7 +101,7 @@ pub fn read_judged<R: Read>(alloc: Global, reader: &mut R) -> Result<Vec<u8>, Fa
     }
 }
 
-// Reads what is left after these bytes.
+// Reads the rest after these bytes.
 fn read_rest<R: Read>(reader: &mut R, mut bytes: Vec<u8>) -> Result<Vec<u8>, Fault>
     ensures { ReadsRest (R.remaining reader.old) (R.remaining reader.new) bytes.items result }
 {
@@ -124,7 +125,7 @@ fn read_first<R: Read>(reader: &mut R, bytes: &mut Vec<u8>) -> Result<(), Fault>
     Err(Fault::Unreadable)
 }
 
-// Reads a byte, if no signal interrupts. `false` at the end.
+// Reads a byte, or none where a signal interrupts. `false` at the end.
 fn read_byte<R: Read>(reader: &mut R, bytes: &mut Vec<u8>) -> Result<bool, Fault>
     ensures { ReadsByte (R.remaining reader.old) (R.remaining reader.new) bytes.old.items bytes.new.items result }
 {

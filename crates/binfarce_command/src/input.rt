@@ -1,4 +1,4 @@
-//! What a command reads: files and standard input.
+//! The input of a command: files and standard input.
 
 ghost use Rattle.std.specs.Prelude.{◌≡◌};
 ghost use Rattle.std.specs.IoError.{error_kind};
@@ -63,7 +63,7 @@ impl<T> Noted<T> {
         }
     }
 
-    /// Why the last read failed that did.
+    /// The reason of the last failed read, if any.
     pub fn take_reason(&self) -> Option<Error> {
         self.reason.take()
     }

@@ -1,4 +1,4 @@
-//! `binfarce COMMAND [OPTION..] ..`: reads executables, and makes mangled Rust names readable.
+//! `binfarce COMMAND [OPTION..] ..`: reads executables, and demangles Rust names.
 #![tactic(auto)]
 
 mod at;
@@ -27,8 +27,8 @@ use crate::section::write_or_list;
 use crate::show::{Asked, Kind, Symbols};
 use binfarce_bytes::source::Source;
 use binfarce_filtering::stream::{StreamError, filter_stream};
-use binfarce_program::{Failure, arguments};
 use binfarce_tools::SymbolTable;
+use binfarce_tools::program::{Failure, arguments};
 use binfarce_words::words::{Call, Command, Given, Wrong, read_call};
 use std::alloc::Global;
 use std::fs::File;
@@ -47,7 +47,7 @@ fn main(rt: HostRuntime) -> ExitCode {
     ExitCode::from(status)
 }
 
-// Does what a call asks for, and gives the status that the program ends with.
+// Runs a call, and returns the program's exit status.
 fn run(rt: &HostRuntime, call: &Call<'_>) -> u8 {
     match addresses_of(rt.alloc(), call) {
         Ok(addresses) => run_with(rt, call, &addresses),
@@ -61,7 +61,7 @@ fn run_with(rt: &HostRuntime, call: &Call<'_>, addresses: &[u64]) -> u8 {
     ended(rt, done, out.into_reason())
 }
 
-// The addresses that a call gives.
+// The addresses of a call.
 fn addresses_of<'a>(alloc: Global, call: &Call<'a>) -> Result<Vec<u64>, Wrong<'a>> {
     match call {
         Call::Run(Command::At, given) => read_addresses(alloc, others(given)),
@@ -77,7 +77,7 @@ fn others<'b, 'a>(given: &'b Given<'a>) -> &'b [&'a str] {
     }
 }
 
-// Does what a call asks for, and flushes the output. `false` where a file was refused.
+// Runs a call, and flushes the output. `false` where a file was refused.
 fn answer<W: Write>(
     rt: &HostRuntime,
     call: &Call<'_>,
@@ -140,7 +140,7 @@ fn show_all<W: Write>(
     )
 }
 
-// Makes the names in standard input readable, or those that are given.
+// Demangles the names in standard input, or the given ones.
 fn filter_text<W: Write>(
     rt: &HostRuntime,
     given: &Given<'_>,
@@ -238,10 +238,12 @@ fn symbols_of<'a>(given: &Given<'a>) -> Symbols<'a> {
     } else {
         SymbolTable::Symtab
     };
-    Symbols {
-        which,
-        section: given.section.unwrap_or(".text"),
-    }
+    let section = if given.all {
+        None
+    } else {
+        Some(given.section.unwrap_or(".text"))
+    };
+    Symbols { which, section }
 }
 
 // The first operand.

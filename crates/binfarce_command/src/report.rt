@@ -1,4 +1,4 @@
-//! What is printed where a call or a file is refused, and the status that the program ends with.
+//! Messages for refused calls and files, and the program's exit status.
 
 ghost use Rattle.std.specs.Prelude.{◌≡◌};
 ghost use Rattle.std.specs.IoError.{error_kind};
@@ -9,7 +9,7 @@ use crate::fault::Fault;
 use binfarce_words::words::Wrong;
 use std::io::{Error, ErrorKind};
 
-/// Prints why a call is wrong, and gives the status that the program ends with.
+/// Prints why a call is wrong, and returns the program's exit status.
 pub fn refuse(rt: &HostRuntime, wrong: &Wrong<'_>) -> u8
     ensures { result ≡ wrong_status wrong.now }
 {
@@ -20,8 +20,8 @@ pub fn refuse(rt: &HostRuntime, wrong: &Wrong<'_>) -> u8
     }
 }
 
-/// Prints why the work failed, if it did, and gives the status that the program ends with. A reader of the output that went away
-/// is no failure.
+/// Prints why the work failed, if it did, and returns the program's exit status. A reader that closes the output is no
+/// failure.
 pub fn ended(rt: &HostRuntime, done: Result<bool, Fault>, reason: Option<Error>) -> u8
     ensures { result ≡ status_of done (option_map error_kind reason) }
 {
@@ -36,7 +36,7 @@ pub fn ended(rt: &HostRuntime, done: Result<bool, Fault>, reason: Option<Error>)
     }
 }
 
-// The status that the program ends with for a fault other than a failed write.
+// The program's exit status for a fault other than a failed write.
 fn status(fault: Fault) -> u8
     ensures { result ≡ fault_status fault }
 {
@@ -56,7 +56,7 @@ fn write_failed(rt: &HostRuntime, reason: Option<Error>) -> u8
     1
 }
 
-// Whether a reader of the output went away.
+// Whether the reader of the output has closed it.
 fn is_broken_pipe(reason: &Option<Error>) -> bool
     ensures { result ≡ is_broken_pipe (option_map error_kind reason.now) }
 {

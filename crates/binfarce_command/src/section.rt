@@ -2,7 +2,7 @@
 
 ghost use Rattle.std.specs.Prelude.{◌≡◌, ℕ, List, Some};
 ghost use Rattle.std.specs.Option.{option_map};
-ghost use Rattle.binfarce_sections.specs.Telling.{Fails};
+ghost use Rattle.binfarce_sections.specs.Results.{Fails};
 ghost use Rattle.binfarce_command.specs.Section.{TakesAsked};
 
 use binfarce_bytes::source::Source;
@@ -12,12 +12,12 @@ use binfarce_sections::list::list_source;
 use binfarce_tools::list::Sink;
 use std::alloc::Global;
 
-/// Writes the bytes of the first section of this name, or lists all sections where none is named. Of the source it reads the
-/// headers of the sections and their names, and the bytes of the one that is named.
+/// Writes the bytes of the first section of this name, or lists all sections where none is named. Only the section
+/// headers, the section names, and the bytes of the named section are read.
 ///
 /// # Errors
 ///
-/// As `write_section_of` and `list_source`.
+/// Those of `write_section_of` and `list_source`.
 pub fn write_or_list<S: Source, K: Sink>(
     alloc: Global,
     source: &S,

@@ -1,17 +1,20 @@
 //! Shows the function symbols of a file: as a listing, as sums by crate, or as a picture.
 
 ghost use Rattle.std.specs.Prelude.{◌≡◌, ◌≢◌, ℕ, List, true, Some, Err};
+ghost use Rattle.binfarce_tools.specs.AllAnswer.{all_answer_of, AllNeedsMemory};
+ghost use Rattle.binfarce_tools.specs.AllTables.{AreAllTablesOf};
 ghost use Rattle.binfarce_tools.specs.Answer.{answer_of, FileNeedsMemory};
 ghost use Rattle.binfarce_tools.specs.Tables.{AreTablesOf};
 ghost use Rattle.binfarce_tools.specs.declared.SymbolTable.{SymbolTable};
-ghost use Rattle.binfarce_tools.specs.Writing.{Tells, Takes, Fails, Leaves};
+ghost use Rattle.binfarce_tools.specs.Writing.{EndsAs, Takes, Fails, Leaves};
 ghost use Rattle.binfarce_command.specs.Faults.{outcome_of};
-ghost use Rattle.binfarce_command.specs.Show.{Fits, IsTextOf, MayEnd, TakesShown};
+ghost use Rattle.binfarce_command.specs.Show.{AllTells, Fits, IsTextOf, MayEnd, TakesAll, TakesShown};
 ghost use Rattle.binfarce_command.specs.declared.fault.Fault.TheVariants.{Input};
 
 use crate::fault::Fault;
 use binfarce_bytes::source::Source;
 use binfarce_tools::SymbolTable;
+use binfarce_tools::all::{AllTables, list_all, map_all, read_all, report_all};
 use binfarce_tools::list::{Sink, list_tables};
 use binfarce_tools::map::map_tables;
 use binfarce_tools::report::report_tables;
@@ -34,8 +37,8 @@ pub enum Kind {
 pub struct Symbols<'a> {
     /// The symbol table that they are read by.
     pub which: SymbolTable,
-    /// The section of an ELF file; of a Mach-O or PE file they are those of the code.
-    pub section: &'a str,
+    /// The section of an ELF file; of a Mach-O or PE file they are those of the code. Without it those of all sections.
+    pub section: Option<&'a str>,
 }
 
 /// What is shown of a file.
@@ -52,15 +55,15 @@ pub struct Asked<'a> {
 ///
 /// # Errors
 ///
-/// `Unreadable` where a read fails; `Unknown`, `Parse`, `OutOfMemory`, `TooLarge` and `Write` as `list` and `report` refuse. Only
-/// `Write` can leave a beginning written.
+/// `Unreadable` where a read fails; `Unknown`, `Parse`, `OutOfMemory`, `TooLarge` and `Write` as in `list` and
+/// `report`. Only after `Write` a beginning may be written.
 pub fn show<S: Source, K: Sink>(
     alloc: Global,
     asked: &Asked<'_>,
     source: &S,
     out: &mut K,
 ) -> Result<(), Fault>
-    ensures tells { (file : List ℕ) → S.bytes source.now ≡ Some file
+    ensures outcome { (file : List ℕ) → S.bytes source.now ≡ Some file
         → MayEnd (S.may_fail source.now ≡ true) asked.now file (outcome_of result) }
     ensures takes { (file : List ℕ) → S.bytes source.now ≡ Some file
         → TakesShown asked.now file (K.taken out.old) (K.taken out.new) (outcome_of result) }
@@ -68,19 +71,27 @@ pub fn show<S: Source, K: Sink>(
     ensures fails { Fails (K.has_failed out.old) (K.has_failed out.new) (outcome_of result) }
     ensures leaves { Leaves out.old out.new (outcome_of result) }
 {
-    let tables = read_by(alloc, source, asked.symbols.which, asked.symbols.section)?;
-    show_tables(alloc, asked.kind, &tables, out)
+    match asked.symbols.section {
+        Some(section) => {
+            let tables = read_by(alloc, source, asked.symbols.which, section)?;
+            show_tables(alloc, asked.kind, &tables, out)
+        }
+        None => {
+            let tables = read_all(alloc, source, asked.symbols.which)?;
+            show_all(alloc, asked.kind, &tables, out)
+        }
+    }
 }
 
-// The same, of the tables of the source.
+// The same of a section, of the tables of the source.
 fn show_tables<K: Sink>(
     alloc: Global,
     kind: Kind,
     tables: &Tables,
     out: &mut K,
 ) -> Result<(), Fault>
-    ensures tells { (which : SymbolTable) (file section : List ℕ) → AreTablesOf which file section tables.now
-        → Tells (Fits kind)
+    ensures outcome { (which : SymbolTable) (file section : List ℕ) → AreTablesOf which file section tables.now
+        → EndsAs (Fits kind)
         (FileNeedsMemory file) (answer_of which file section) (outcome_of result) }
     ensures takes { (which : SymbolTable) (file section : List ℕ) → AreTablesOf which file section tables.now
         → Takes (IsTextOf kind)
@@ -93,5 +104,27 @@ fn show_tables<K: Sink>(
         Kind::Listing => Ok(list_tables(alloc, tables, out)?),
         Kind::Sums => Ok(report_tables(alloc, tables, out)?),
         Kind::Picture => Ok(map_tables(alloc, tables, out)?),
+    }
+}
+
+// The same of all sections.
+fn show_all<K: Sink>(
+    alloc: Global,
+    kind: Kind,
+    tables: &AllTables,
+    out: &mut K,
+) -> Result<(), Fault>
+    ensures outcome { (which : SymbolTable) (file : List ℕ) → AreAllTablesOf which file tables.now
+        → AllTells kind (AllNeedsMemory file) (all_answer_of which file) (outcome_of result) }
+    ensures takes { (which : SymbolTable) (file : List ℕ) → AreAllTablesOf which file tables.now
+        → TakesAll kind (all_answer_of which file) (K.taken out.old) (K.taken out.new) (outcome_of result) }
+    ensures of_file { result ≢ Err Input }
+    ensures fails { Fails (K.has_failed out.old) (K.has_failed out.new) (outcome_of result) }
+    ensures leaves { Leaves out.old out.new (outcome_of result) }
+{
+    match kind {
+        Kind::Listing => Ok(list_all(alloc, tables, out)?),
+        Kind::Sums => Ok(report_all(alloc, tables, out)?),
+        Kind::Picture => Ok(map_all(alloc, tables, out)?),
     }
 }

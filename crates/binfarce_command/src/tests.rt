@@ -18,7 +18,7 @@ type Row<'a> = (&'a str, &'a [u8], Option<ErrorKind>);
 
 const TABLES: Symbols<'static> = Symbols {
     which: SymbolTable::Symtab,
-    section: ".text",
+    section: Some(".text"),
 };
 
 const FILES: [Row<'static>; 5] = [

@@ -2,8 +2,8 @@
 use Rattle.std.specs.Prelude.{Bool, true, false, Result, Ok, Err}
 use Rattle.binfarce_tools.specs.ListWords as call
 use Rattle.binfarce_tools.specs.Writing as writing
-use Rattle.binfarce_program.specs.declared.Failure.{Failure}
-use Rattle.binfarce_program.specs.declared.Failure.TheVariants as failures
+use Rattle.binfarce_tools.specs.declared.program.Failure.{Failure}
+use Rattle.binfarce_tools.specs.declared.program.Failure.TheVariants as failures
 use Rattle.binfarce_tables.specs.declared.error.ReadError.{ReadError}
 use Rattle.binfarce_tables.specs.declared.error.ReadError.TheVariants as reading
 use Rattle.binfarce_tools.specs.declared.list.ListError.TheVariants as errors

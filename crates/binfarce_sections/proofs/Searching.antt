@@ -8,7 +8,7 @@ use Rattle.binfarce_sections.specs.declared.error.SectionError.{SectionError}
 use Rattle.binfarce_sections.specs.declared.error.SectionError.TheVariants.{Unknown, Parse, NoSection, NoBytes, PastEnd, OutOfMemory, Write, Unreadable}
 use Rattle.binfarce_sections.specs.Named.{is_named, bytes_found, bytes_named, unknown_format, refused}
 use Rattle.binfarce_sections.specs.Section.{Section}
-use Rattle.binfarce_sections.specs.Telling.{Hands, TakesLines}
+use Rattle.binfarce_sections.specs.Results.{Hands, TakesLines}
 use Rattle.binfarce_sections.specs.declared.sections.Sections.{Sections}
 use Rattle.binfarce_sections.specs.Views.{Opens}
 use Rattle.binfarce_sections.specs.machine.Found.{Finds}

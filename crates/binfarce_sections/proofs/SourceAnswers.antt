@@ -20,7 +20,7 @@ use Rattle.binfarce_sections.specs.declared.sections.Sections.{Sections}
 use Rattle.binfarce_sections.specs.Lines.{section_lines}
 use Rattle.binfarce_sections.specs.Named.{Lack, unknown_format, refused, no_section, no_bytes, past_end, is_named, bytes_of, bytes_found, bytes_named}
 use Rattle.binfarce_sections.specs.Section.{Section, sections_of}
-use Rattle.binfarce_sections.specs.Telling.{IsLack, TakesBytes, TakesLines, TakesRead, TakesReadLines, Fails, error_of}
+use Rattle.binfarce_sections.specs.Results.{IsLack, TakesBytes, TakesLines, TakesRead, TakesReadLines, Fails, error_of}
 use Rattle.binfarce_sections.specs.Views.{Opens, section_view, sections_left}
 use Rattle.binfarce_sections.specs.machine.Found.{Finds, ReadsBytes}
 use Rattle.binfarce_sections.specs.machine.Tables.{Has, ReadsTables}

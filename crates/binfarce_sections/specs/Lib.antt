@@ -1,6 +1,6 @@
 pub mod Section
 pub mod Named
 pub mod Lines
-pub mod Telling
+pub mod Results
 pub mod Views
 pub mod machine

@@ -8,7 +8,7 @@ ghost use Rattle.binfarce.specs.Refusal.{Gives, refusal_of};
 ghost use Rattle.binfarce.specs.Walk.{first};
 ghost use Rattle.binfarce_sections.specs.Named.{full_name, is_named, bytes_of, bytes_named};
 ghost use Rattle.binfarce_sections.specs.Section.{sections_of};
-ghost use Rattle.binfarce_sections.specs.Telling.{Hands, TakesBytes, TakesRead, Fails};
+ghost use Rattle.binfarce_sections.specs.Results.{Hands, TakesBytes, TakesRead, Fails};
 ghost use Rattle.binfarce_sections.specs.Views.{section_view, sections_left};
 ghost use Rattle.binfarce_sections.specs.machine.Found.{Finds};
 

@@ -31,7 +31,7 @@ pub enum SectionError {
 }
 
 impl fmt::Display for SectionError {
-    ghost use Rattle.binfarce_sections.specs.Telling.{section_words};
+    ghost use Rattle.binfarce_sections.specs.Results.{section_words};
 
     ghost output = { λ e. Some (section_words e) };
 
@@ -72,7 +72,7 @@ impl From<AllocError> for SectionError {
 }
 
 impl From<ReadError> for SectionError {
-    ghost use Rattle.binfarce_sections.specs.Telling.{error_of};
+    ghost use Rattle.binfarce_sections.specs.Results.{error_of};
 
     ghost from_gives = { λ e s. s ≡ error_of e };
 

@@ -6,7 +6,7 @@ ghost use Rattle.std.specs.String.{string_bytes};
 ghost use Rattle.binfarce.specs.Format.{format_of};
 ghost use Rattle.binfarce_sections.specs.Lines.{section_line, line_head, name_text};
 ghost use Rattle.binfarce_sections.specs.Section.{sections_of};
-ghost use Rattle.binfarce_sections.specs.Telling.{TakesLines, TakesReadLines, Fails};
+ghost use Rattle.binfarce_sections.specs.Results.{TakesLines, TakesReadLines, Fails};
 ghost use Rattle.binfarce_sections.specs.Views.{section_view, sections_left};
 ghost use Rattle.binfarce_sections.specs.machine.Listed.{Lists};
 

@@ -6,8 +6,8 @@ mod program;
 mod tests;
 
 use crate::program::{Fault, run_file, words};
-use binfarce_program::{arguments, exit, finish, open};
 use binfarce_tools::list::Out;
+use binfarce_tools::program::{arguments, exit, finish, open};
 use std::io;
 use std::process::ExitCode;
 

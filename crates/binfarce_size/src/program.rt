@@ -5,16 +5,16 @@ ghost use Rattle.std.specs.String.{string_bytes};
 ghost use Rattle.binfarce_tools.specs.Answer.{file_answer, FileNeedsMemory};
 ghost use Rattle.binfarce_tools.specs.Report.{IsReportOf, ReportFits};
 ghost use Rattle.binfarce_tools.specs.Sink.{writer_of, has_failed};
-ghost use Rattle.binfarce_tools.specs.Writing.{ProgramTells, Takes, Fails, Leaves};
-ghost use Rattle.binfarce_program.specs.Given.{words_of};
-ghost use Rattle.binfarce_program.specs.Status.{status_of};
+ghost use Rattle.binfarce_tools.specs.Writing.{ProgramEndsAs, Takes, Fails, Leaves};
+ghost use Rattle.binfarce_tools.specs.Given.{words_of};
+ghost use Rattle.binfarce_tools.specs.Status.{status_of};
 ghost use Rattle.binfarce_size.specs.Program.{outcome_of, is_usage};
 ghost use Rattle.binfarce_size.specs.declared.program.Fault.TheVariants.{Usage};
 
 use binfarce_bytes::source::Source;
-use binfarce_program::{Failure, file_and_section, is_read_at_offsets, read_whole};
 use binfarce_tables::ReadError;
 use binfarce_tools::list::Out;
+use binfarce_tools::program::{Failure, file_and_section, is_read_at_offsets, read_whole};
 use binfarce_tools::report::{ReportError, report, report_tables};
 use binfarce_tools::tables::read;
 use std::alloc::Global;
@@ -65,7 +65,7 @@ impl From<ReadError> for Fault {
     }
 }
 
-impl binfarce_program::Fault for Fault {
+impl binfarce_tools::program::Fault for Fault {
     ghost use Rattle.binfarce_size.specs.Program.{is_usage};
 
     ghost is_usage = { is_usage };
@@ -94,9 +94,9 @@ pub fn run<R: Read, W: Write>(
     section: &str,
     out: &mut Out<W>,
 ) -> Result<(), Fault>
-    ensures tells { IfSome
+    ensures outcome { IfSome
         (R.remaining file.old)
-        (λ bytes. ProgramTells (Unit {0}) ReportFits (FileNeedsMemory bytes)
+        (λ bytes. ProgramEndsAs (Unit {0}) ReportFits (FileNeedsMemory bytes)
         (file_answer bytes section.now) (outcome_of result)) }
     ensures takes { IfSome
         (R.remaining file.old) (λ bytes. Takes IsReportOf (file_answer bytes section.now)
@@ -117,8 +117,8 @@ pub fn run_at<S: Source, W: Write>(
     section: &str,
     out: &mut Out<W>,
 ) -> Result<(), Fault>
-    ensures tells { (bytes : List ℕ) → S.bytes source.now ≡ Some bytes
-        → ProgramTells (S.may_fail source.now ≡ true) ReportFits (FileNeedsMemory bytes)
+    ensures outcome { (bytes : List ℕ) → S.bytes source.now ≡ Some bytes
+        → ProgramEndsAs (S.may_fail source.now ≡ true) ReportFits (FileNeedsMemory bytes)
         (file_answer bytes section.now) (outcome_of result) }
     ensures takes { (bytes : List ℕ) → S.bytes source.now ≡ Some bytes
         → Takes IsReportOf (file_answer bytes section.now)
@@ -140,8 +140,8 @@ pub fn run_file<F: Read + Source, W: Write>(
     section: &str,
     out: &mut Out<W>,
 ) -> Result<(), Fault>
-    ensures tells { (bytes : List ℕ) → F.bytes file.old ≡ Some bytes → F.remaining file.old ≡ Some bytes
-        → ProgramTells ((F.may_fail file.old ≡ true) ⊎ (bytes ≡ [])) ReportFits (FileNeedsMemory bytes)
+    ensures outcome { (bytes : List ℕ) → F.bytes file.old ≡ Some bytes → F.remaining file.old ≡ Some bytes
+        → ProgramEndsAs ((F.may_fail file.old ≡ true) ⊎ (bytes ≡ [])) ReportFits (FileNeedsMemory bytes)
         (file_answer bytes section.now) (outcome_of result) }
     ensures takes { (bytes : List ℕ) → F.bytes file.old ≡ Some bytes → F.remaining file.old ≡ Some bytes
         → Takes IsReportOf (file_answer bytes section.now)

@@ -1,4 +1,4 @@
--- What bytes that a Mach-O file begins with tell of it, where they hold its load commands.
+-- A prefix of a Mach-O file that has its load commands.
 use Rattle.std.proofs.Common.{◌≡◌, ℕ, zero, suc, ◌+◌, ◌-◌, ◌<◌, ◌≤◌, Bool, true, false, cond, ltb, leb, eqb, ◌&&◌, List, [], ◌∷◌, ◌++◌, length, drop, take, min, find, codes, Option, Some, None, Result, Ok, Err, refl, sym, ap, ap₂, ◌∙◌, arith}
 use Rattle.std.proofs.Math.Nat.{div-mul-le_self}
 use Rattle.std.proofs.lemmas.Bool.{and_parts, ltb-false, ltb-true, leb-true, eqb-true, le-ltb, le-leb}

@@ -80,8 +80,8 @@ pub table_past : (file : List ℕ) (places : TablePlaces) → places.symbols < l
 table_past file places begins past = rw (lt-leb (length file) places.symbols begins, lt-ltb (length file) (places.symbols + places.symbols_size) past) refl
 
 -- the signature's offset that was read is the file's
-pub signature_told : (file : List ℕ) (n : ℕ) → signature_step file ≡ Ok n → (64 ≤ length file) × (n ≡ signature_offset file)
-signature_told file n step = elim (cases_lt (length file) 64) [
+pub signature_known : (file : List ℕ) (n : ℕ) → signature_step file ≡ Ok n → (64 ≤ length file) × (n ≡ signature_offset file)
+signature_known file n step = elim (cases_lt (length file) 64) [
   | inl short ↦
       let none : signature_step file ≡ Err unexpected_eof = rw (lt-ltb (length file) 64 short) refl in
       let e : Path (Result ℕ Refusal) (Err unexpected_eof) (Ok n) = sym none ∙ step in
@@ -96,7 +96,7 @@ signature_told file n step = elim (cases_lt (length file) 64) [
 pub places_are : (file headers : List ℕ) (signature : ℕ) (places : TablePlaces) → signature_step file ≡ Ok signature → signature + 24 ≤ length file
     → headers ≡ bytes_at file signature 24 → places ≡ places_after signature (header_after headers 0) → places_step file ≡ Ok places
 places_are file headers signature places step inside is stated =
-    let told = signature_told file signature step in
-    let header : header_after headers 0 ≡ header_of file = ap (λ b. header_after b 0) is ∙ header_alone file signature ∙ ap (header_after file) told.1 in
-    let same : places ≡ places_of file = stated ∙ ap₂ places_after told.1 header in
-    rw (le-ltb (length file) (least_length file) (omega (arith, told.0, told.1, inside))) (ap Ok (sym same))
+    let is_known = signature_known file signature step in
+    let header : header_after headers 0 ≡ header_of file = ap (λ b. header_after b 0) is ∙ header_alone file signature ∙ ap (header_after file) is_known.1 in
+    let same : places ≡ places_of file = stated ∙ ap₂ places_after is_known.1 header in
+    rw (le-ltb (length file) (least_length file) (omega (arith, is_known.0, is_known.1, inside))) (ap Ok (sym same))

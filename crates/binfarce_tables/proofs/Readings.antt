@@ -24,9 +24,9 @@ after_err fails view next a f OutOfMemory step = tt
 pub instead : {X Y : Type 0} (fails : Bool) (view : X → Y) (a b : Result Y Refusal) (r : Result X ReadError) → a ≡ b → Reads fails view b r → Reads fails view a r
 instead fails view a b r same reads = subst (λ (answer : Result _ Refusal). Reads fails view answer r) (sym same) reads
 
--- a refusal that was told
+-- a refusal that was returned
 pub refused : {X Y : Type 0} (fails : Bool) (view : X → Y) (answer : Result Y Refusal) (p : ParseError) (e : ReadError) → e ≡ Refused p → answer ≡ Err (refusal_of p) → Reads fails view answer (Err e)
-refused fails view answer p e is told = subst (λ (error : ReadError). Reads fails view answer (Err error)) (sym is) told
+refused fails view answer p e is is_known = subst (λ (error : ReadError). Reads fails view answer (Err error)) (sym is) is_known
 
 -- a source that may fail
 by_kind : {X Y : Type 0} (fails : Bool) (view : X → Y) (answer : Result Y Refusal) (kind : ErrorKind) → fails ≡ true → Reads fails view answer (Err (read_error kind))
@@ -66,7 +66,7 @@ never_past (Some bytes) file offset size is inside past =
 pub unread : {X Y : Type 0} (fails : Bool) (view : X → Y) (answer : Result Y Refusal) (known : Option (List ℕ)) (file : List ℕ) (offset size : ℕ) (kind : ErrorKind) (r : Result X ReadError)
     → known ≡ Some file → offset + size ≤ length file → (kind ≡ kinds.OutOfMemory) ⊎ MayMiss fails known offset size
     → (IsErr r × IsErrAnd r (λ e. e ≡ read_error kind)) → Reads fails view answer r
-unread fails view answer known file offset size kind r is inside told error = elim told [
+unread fails view answer known file offset size kind r is inside is_known error = elim is_known [
   | inl out ↦ no_memory fails view answer kind r out error
   | inr (inl may) ↦ failed fails view answer kind r may error
   | inr (inr past) ↦ absurd (never_past known file offset size is inside past)
@@ -89,11 +89,11 @@ none_past (Some bytes) file items offset size is part long past =
     omega (arith, part.0, long, past, all)
 
 -- what a source says of its length is the file's
-pub length_told : (known : Option (List ℕ)) (file : List ℕ) (len : ℕ) → known ≡ Some file → IfSome known (λ all. len ≡ length all) → len ≡ length file
-length_told None file len is told = absurd cc
-length_told (Some bytes) file len is told =
+pub length_known : (known : Option (List ℕ)) (file : List ℕ) (len : ℕ) → known ≡ Some file → IfSome known (λ all. len ≡ length all) → len ≡ length file
+length_known None file len is is_known = absurd cc
+length_known (Some bytes) file len is is_known =
     let same : bytes ≡ file = cc in
-    told ∙ ap length same
+    is_known ∙ ap length same
 
 -- what was read is there
 pub taken : {Y : Type 0} {a b : Y} → Path (Result Y Refusal) (Ok a) (Ok b) → b ≡ a
@@ -102,8 +102,8 @@ taken step = cc
 -- a refusal of a reader, as `?` converts it
 pub converted : {X Y : Type 0} (fails : Bool) (view : X → Y) (answer : Result Y Refusal) (p : ParseError) (r : Result X ReadError)
     → (IsErr r × IsErrAnd r (λ e. e ≡ Refused p)) → answer ≡ Err (refusal_of p) → Reads fails view answer r
-converted fails view answer p (Ok x) is told = let never : false ≡ true = is.0 in absurd cc
-converted fails view answer p (Err e) is told = refused fails view answer p e is.1 told
+converted fails view answer p (Ok x) is is_known = let never : false ≡ true = is.0 in absurd cc
+converted fails view answer p (Err e) is is_known = refused fails view answer p e is.1 is_known
 
 -- an error of a step, as `?` passes it on
 pub passed : {X Y : Type 0} (fails : Bool) (view : X → Y) (answer : Result Y Refusal) (e : ReadError) (r : Result X ReadError)

@@ -1,4 +1,4 @@
--- What a reading of a file's beginning gives, of which its sections are read.
+-- The beginning of a file, from which its sections are read.
 use Rattle.std.specs.Prelude.{◌≡◌, ℕ, Bool, true, List, length, take, Result, Ok, Err, nat_lt, if◌then◌else◌}
 use Rattle.binfarce_bytes.specs.Refusal.{Refusal, refusal_of, unexpected_eof}
 use Rattle.binfarce_bytes.specs.Walk.{Walk}
@@ -8,7 +8,7 @@ use Rattle.binfarce_tables.specs.declared.beginning.Beginning.{Beginning}
 use Rattle.binfarce_tables.specs.declared.error.ReadError.{ReadError}
 use Rattle.binfarce_tables.specs.declared.error.ReadError.TheVariants.{Refused, Unreadable, OutOfMemory}
 
--- the sections of a file: one too short for its header ends before what it should hold
+-- the sections of a file: one too short for its header is truncated
 abbrev pub macho_sections : List ℕ → Result (Walk macho.Section) Refusal
 macho_sections file = if nat_lt (length file) macho.least_length then Err unexpected_eof else Ok (macho.walk file)
 
@@ -22,11 +22,12 @@ bytes_of b = b.bytes.items
 abbrev pub file_length_of : Beginning → ℕ
 file_length_of b = b.file_length
 
--- these are the file's first bytes, however many
+-- these are some first bytes of the file
 abbrev pub Begins : List ℕ → List ℕ → Type 0
 Begins file first = (count : ℕ) × (first ≡ take count file)
 
--- a file's beginning, which has the file's sections, and the file's length; or its refusal, or a source that may fail can't be read, or an allocation failed
+-- a file's beginning, which has the file's sections, and the file's length; or its refusal, or a source that may fail is unreadable, or an allocation
+-- failed
 abbrev pub ReadsBeginning : {Y : Type 0} → Bool → (List ℕ → Result Y Refusal) → List ℕ → Result Beginning ReadError → Type 0
 ReadsBeginning may_fail sections file (Ok b) = Begins file (bytes_of b) × (sections (bytes_of b) ≡ sections file) × (file_length_of b ≡ length file)
 ReadsBeginning may_fail sections file (Err (Refused e)) = sections file ≡ Err (refusal_of e)

@@ -1,4 +1,4 @@
--- What a source's error is told as.
+-- The error of a reading for a source's error.
 use Rattle.std.specs.declared.io.ErrorKind.{ErrorKind}
 use Rattle.std.specs.declared.io.ErrorKind.TheVariants as kinds
 use Rattle.binfarce_tables.specs.declared.error.ReadError.{ReadError}

@@ -1,4 +1,4 @@
--- What a reading of a Mach-O file's parts gives.
+-- The parts of a Mach-O file that were read.
 use Rattle.std.specs.Prelude.{List, ℕ, length, Option, Result, Err, nat_lt, if◌then◌else◌}
 use Rattle.std.specs.Option.{option_map}
 use Rattle.binfarce_bytes.specs.Refusal.{Refusal, unexpected_eof}
@@ -7,7 +7,7 @@ use Rattle.binfarce_macho.specs.MachoSymbols.{Located, located}
 use Rattle.binfarce_tables.specs.declared.macho.Parts.{Parts}
 use Rattle.binfarce_tables.specs.declared.macho.Tables.{Tables}
 
--- where a file's symbols are, of which its answer is made: one too short for its header ends before what it should hold
+-- where a file's symbols are, from which its answer is made: a file too short for its header is truncated
 abbrev pub located_answer : List ℕ → Result (Option Located) Refusal
 located_answer file = if nat_lt (length file) least_length then Err unexpected_eof else located file
 
@@ -15,6 +15,6 @@ located_answer file = if nat_lt (length file) least_length then Err unexpected_e
 abbrev pub tables_view : Tables → Located
 tables_view t = record { text_end = t.text_end; text_size = t.text_size; strings = t.strings.items; rows = t.rows.items }
 
--- what a file's parts hold: its tables, or that it has no symbol table
+-- the content of a file's parts: its tables, or None where it has no symbol table
 abbrev pub parts_view : Parts → Option Located
 parts_view p = option_map tables_view p.tables

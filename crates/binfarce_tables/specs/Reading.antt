@@ -1,4 +1,4 @@
--- What a reading of a file's parts gives.
+-- The parts of a file that were read.
 use Rattle.std.specs.Prelude.{◌≡◌, ℕ, Bool, true, List, length, Option, Some, Result, Ok, Err, nat_lt, if◌then◌else◌}
 use Rattle.binfarce_bytes.specs.declared.ByteOrder.{ByteOrder}
 use Rattle.binfarce_bytes.specs.Refusal.{Refusal, refusal_of, unexpected_eof}
@@ -11,30 +11,30 @@ use Rattle.binfarce_tables.specs.declared.error.ReadError.{ReadError}
 use Rattle.binfarce_tables.specs.declared.error.ReadError.TheVariants.{Refused, Unreadable, OutOfMemory}
 use Rattle.binfarce_tables.specs.declared.elf.Parts.{Parts}
 
--- where the file gives this, a reading of it gives the same, seen by a view; or a source that may fail can't be read, or an allocation failed
+-- a reading gives the file's answer, through a view; or a source that may fail is unreadable, or an allocation failed
 abbrev pub Reads : {X Y : Type 0} → Bool → (X → Y) → Result Y Refusal → Result X ReadError → Type 0
 Reads may_fail view answer (Ok x) = answer ≡ Ok (view x)
 Reads may_fail view answer (Err (Refused e)) = answer ≡ Err (refusal_of e)
 Reads may_fail view answer (Err Unreadable) = may_fail ≡ true
 Reads may_fail view answer (Err OutOfMemory) = Unit {0}
 
--- the bytes are known, and as many as that
+-- the bytes are known, and have this length
 abbrev pub Known : Option (List ℕ) → ℕ → List ℕ → Type 0
 Known bytes len file = (bytes ≡ Some file) × (len ≡ length file)
 
--- the answer of a file: one too short for its header ends before what it should hold
+-- the answer of a file: one too short for its header is truncated
 abbrev pub file_answer : ElfClass → ByteOrder → List ℕ → List ℕ → Result Listed Refusal
 file_answer class order file name =
     if nat_lt (length file) class.header_length then Err unexpected_eof
     else elf_answer class (section_table class (record { order = order; bytes = file })) name
 
--- the same of this symbol table
+-- the same for this symbol table
 abbrev pub file_answer_in : SymbolTable → ElfClass → ByteOrder → List ℕ → List ℕ → Result Listed Refusal
 file_answer_in which class order file name =
     if nat_lt (length file) class.header_length then Err unexpected_eof
     else answer_in which class (section_table class (record { order = order; bytes = file })) name
 
--- the entries that a file's parts hold, and the size of the section that was asked for
+-- the content of a file's parts: its entries, and the size of the requested section
 abbrev pub parts_view : {C : Type 0} → ElfClass → (C → ℕ) → Parts C → Listed
 parts_view class number p =
     let section = section_view number p.section in

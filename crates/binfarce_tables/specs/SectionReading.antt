@@ -1,4 +1,4 @@
--- What a reading of an ELF file's section headers and section names gives.
+-- The section headers and section names of an ELF file that were read.
 use Rattle.std.specs.Prelude.{ℕ, List, length, Option, Result, Ok, Err, nat_lt, if◌then◌else◌}
 use Rattle.std.specs.Option.{option_map}
 use Rattle.binfarce_bytes.specs.declared.ByteOrder.{ByteOrder}
@@ -8,20 +8,20 @@ use Rattle.binfarce_elf.specs.Elf.{ElfClass, Section, section_table, walk, name_
 use Rattle.binfarce_elf.specs.ElfParts.{headers_alone}
 use Rattle.binfarce_tables.specs.declared.sections.SectionParts.{SectionParts}
 
--- a file's sections, the name that each has, and how many bytes the file has
+-- a file's sections, the name of each, and the file's length
 pub record FileSections : Type 0 where
   pub sections : Walk Section
   pub name : Section → Option (List ℕ)
   pub file_length : ℕ
 
--- those of a file: one too short for its header ends before what it should hold
+-- those of a file: one too short for its header is truncated
 abbrev pub file_sections : ElfClass → ByteOrder → List ℕ → Result FileSections Refusal
 file_sections class order file =
     let table = section_table class (record { order = order; bytes = file }) in
     if nat_lt (length file) class.header_length then Err unexpected_eof
     else Ok (record { sections = walk class table; name = name_of class table; file_length = length file })
 
--- those that a file's parts hold
+-- those in a file's parts
 abbrev pub sections_view : {C : Type 0} → ElfClass → SectionParts C → FileSections
 sections_view class p = record {
   sections = walk class (headers_alone p.byte_order p.headers.items p.count);

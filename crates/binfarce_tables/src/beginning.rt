@@ -1,9 +1,9 @@
-//! The beginning of a Mach-O or PE file, of which its sections are read.
+//! The beginning of a Mach-O or PE file, from which its sections are read.
 
 ghost use Rattle.std.specs.Prelude.{◌≡◌};
 ghost use Rattle.binfarce_tables.specs.BeginningReading.{bytes_of, file_length_of};
 
-/// A file's first bytes, in memory, whose sections are those of the file, and the file's length.
+/// A prefix of a file, in memory, that has all of the file's sections, and the file's length.
 #[derive(Drop)]
 pub struct Beginning {
     pub(crate) bytes: Vec<u8>,

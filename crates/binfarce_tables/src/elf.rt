@@ -1,4 +1,4 @@
-//! The parts of an ELF file of either class that the function symbols of a section are read from.
+//! The parts of an ELF file of either class that have the function symbols of a section.
 
 ghost use Rattle.std.specs.Prelude.{◌≡◌, ◌⊎◌, ◌+◌, ◌<◌, ◌≤◌, List, ℕ, Ok, Some, length, MatchResult, IfOk, IfErr};
 ghost use Rattle.std.specs.Result.{IsErr};
@@ -24,7 +24,7 @@ use binfarce_elf::symbol_table::SymbolTable;
 use binfarce_elf::symbols::{Functions, whole_rows};
 use std::alloc::Global;
 
-/// The parts of a file that the function symbols of a section are read from.
+/// The parts of a file that have the function symbols of a section, in memory.
 #[derive(Drop)]
 pub struct Parts<C> {
     rows: Vec<u8>,
@@ -35,7 +35,7 @@ pub struct Parts<C> {
 
 impl<C: Class> Parts<C> {
     /// The function symbols of the section as the file stores them, in the order of the symbol table, and the section's
-    /// size in bytes. Nothing is read or allocated: names are parts of what was read.
+    /// size in bytes. Nothing is read or allocated: names are slices of the parts.
     pub fn functions(&self) -> (Functions<'_, C>, u64)
         ensures { functions_view C.table result ≡ parts_view C.table C.number_of self.now }
     {
@@ -43,7 +43,7 @@ impl<C: Class> Parts<C> {
     }
 }
 
-// Where the section headers of a file are, and the file's type, as its header says, and the order of its numbers' bytes.
+// Where the section headers of a file are, and the file's type, as its header states, and its byte order.
 #[derive(Clone, Copy)]
 pub(crate) struct Place {
     pub(crate) byte_order: ByteOrder,
@@ -248,8 +248,8 @@ pub(crate) fn read_section<C: Class, S: Source>(
 ///
 /// # Errors
 ///
-/// `Unreadable` where a read of the source fails, as where it ends before `offset + size` (an opened file doesn't fail where
-/// `size` is 0), and `OutOfMemory` where the allocation fails.
+/// `Unreadable` where a read of the source fails, for instance where it ends before `offset + size` (an opened file
+/// doesn't fail where `size` is 0). `OutOfMemory` where the allocation fails.
 pub fn part<S: Source>(
     alloc: Global,
     source: &S,

@@ -1,4 +1,4 @@
-//! 32-bit ELF files of either byte order, read where their tables are (System V gABI).
+//! 32-bit ELF files of either byte order, of which only the tables are read (System V gABI).
 
 ghost use Rattle.std.specs.Prelude.{◌≡◌, List, ℕ, Some};
 ghost use Rattle.binfarce_elf.specs.Elf.{elf32};
@@ -13,24 +13,24 @@ use binfarce_bytes::source::Source;
 use binfarce_elf::symbol_table::SymbolTable;
 use std::alloc::Global;
 
-/// The parts of a 32-bit file that the function symbols of a section are read from, in memory.
+/// The parts of a 32-bit file that have the function symbols of a section, in memory.
 pub type Parts = elf::Parts<u32>;
 
-/// The parts of a 32-bit file that the function symbols of all sections are read from, in memory.
+/// The parts of a 32-bit file that have the function symbols of all sections, in memory.
 pub type AllParts = elf_all::AllParts<u32>;
 
 /// The section headers of a 32-bit file and the section names, in memory.
 pub type SectionParts = sections::SectionParts<u32>;
 
-/// Reads the parts of a file that the function symbols of the section with this name are read from, numbers in the
-/// given order, without a look at the magic number: the file header of 52 bytes, the header of the section names' own
-/// section, the section names, all section headers, the symbol table and its strings. Each is read once, into memory of
-/// its size, which is never more than what the file holds of it. No other byte is read.
+/// Reads the parts of a file that have the function symbols of the section with this name, numbers in the given order.
+/// These are the file header of 52 bytes, the header of the section names' own section, the section names, all section
+/// headers, the symbol table and its strings. Each is read once, into memory of its size, which is never more than the
+/// file has of it. No other byte is read. The magic number isn't checked.
 ///
 /// # Errors
 ///
-/// `Refused` with what `parse` and `functions` of a reader of the whole file refuse; `Unreadable` where the source can't
-/// be read at offsets, or a read of it fails, and never of a source that can't fail, as bytes in memory are;
+/// `Refused` with the error of `parse` or `functions` of a reader of the whole file; `Unreadable` where the source
+/// can't be read at offsets, or a read of it fails, and never for a source that can't fail, such as bytes in memory;
 /// `OutOfMemory` where an allocation fails.
 #[tactic(auto, unfolding(binfarce_elf::specs::ElfSymbols::elf_answer, binfarce_elf::specs::ElfSymbols::located, binfarce_elf::specs::ElfSymbols::answer_in))]
 pub fn read<S: Source>(
@@ -46,11 +46,11 @@ pub fn read<S: Source>(
     read_by(alloc, source, byte_order, SymbolTable::Symtab, section_name)
 }
 
-/// Reads what `read` does, with this symbol table and its strings in place of the symbol table and its own.
+/// Reads the parts that `read` reads, but with this symbol table and its strings.
 ///
 /// # Errors
 ///
-/// As `read`, where `Refused` is for the dynamic symbol table what `dynamic_functions` of a reader refuses.
+/// Those of `read`; for the dynamic symbol table, `Refused` has the error of `dynamic_functions` of a reader.
 pub fn read_by<S: Source>(
     alloc: Global,
     source: &S,
@@ -65,15 +65,16 @@ pub fn read_by<S: Source>(
     elf::read_parts::<u32, S>(alloc, source, byte_order, which, section_name)
 }
 
-/// Reads the section headers and the section names of a file, numbers in the given order, without a look at the magic
-/// number: the file header of 52 bytes, the header of the section names' own section, the section names and all section
-/// headers. Each is read once, into memory of its size, which is never more than what the file holds of it. No other byte
-/// is read, but the first byte of a section header table without headers.
+/// Reads the section headers and the section names of a file, numbers in the given order: the file header of 52 bytes,
+/// the header of the section names' own section, the section names and all section headers. Each is read once, into
+/// memory of its size, which is never more than the file has of it. No other byte is read, except the first byte of a
+/// section header table without headers. The magic number isn't checked.
 ///
 /// # Errors
 ///
 /// `Refused` with `UnexpectedEof` for fewer than 52 bytes; `Unreadable` where the source can't be read at offsets, or a
-/// read of it fails, and never of a source that can't fail, as bytes in memory are; `OutOfMemory` where an allocation fails.
+/// read of it fails, and never for a source that can't fail, such as bytes in memory; `OutOfMemory` where an allocation
+/// fails.
 pub fn read_sections<S: Source>(
     alloc: Global,
     source: &S,
@@ -85,16 +86,16 @@ pub fn read_sections<S: Source>(
     sections::read_sections::<u32, S>(alloc, source, byte_order)
 }
 
-/// Reads the parts of a file that the function symbols of all sections are read from by this symbol table, and the
-/// section names, numbers in the given order, without a look at the magic number: the file header of 52 bytes, the header of
-/// the section names' own section, the section names, all section headers, the symbol table and its strings. Each is read
-/// once, into memory of its size, which is never more than what the file holds of it. No other byte is read, but the first
-/// byte of a section header table without headers.
+/// Reads the parts of a file that have the function symbols of all sections, by this symbol table, and the section
+/// names, numbers in the given order. These are the file header of 52 bytes, the header of the section names' own
+/// section, the section names, all section headers, the symbol table and its strings. Each is read once, into memory of
+/// its size, which is never more than the file has of it. No other byte is read, except the first byte of a section
+/// header table without headers. The magic number isn't checked.
 ///
 /// # Errors
 ///
-/// `Refused` with what `parse` and `all_functions` of a reader of the whole file refuse; `Unreadable` where the source
-/// can't be read at offsets, or a read of it fails, and never of a source that can't fail, as bytes in memory are;
+/// `Refused` with the error of `parse` or `all_functions` of a reader of the whole file; `Unreadable` where the source
+/// can't be read at offsets, or a read of it fails, and never for a source that can't fail, such as bytes in memory;
 /// `OutOfMemory` where an allocation fails.
 pub fn read_all<S: Source>(
     alloc: Global,

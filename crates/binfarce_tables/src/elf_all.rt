@@ -1,4 +1,4 @@
-//! The parts of an ELF file of either class that the function symbols of all sections are read from.
+//! The parts of an ELF file of either class that have the function symbols of all sections.
 
 ghost use Rattle.std.specs.Prelude.{◌≡◌, List, ℕ, Some};
 ghost use Rattle.std.specs.Option.{option_map};
@@ -25,7 +25,7 @@ use std::marker::PhantomData;
 /// `ET_REL`, the type of an object file.
 const RELOCATABLE: Half = 1;
 
-/// The parts of a file that the function symbols of all sections are read from, and the sections' names.
+/// The parts of a file that have the function symbols of all sections, and the sections' names.
 #[derive(Drop)]
 pub struct AllParts<C> {
     headers: Vec<u8>,
@@ -39,15 +39,15 @@ pub struct AllParts<C> {
 }
 
 impl<C: Class> AllParts<C> {
-    /// The function symbols of all sections as the file stores them, each with the index of its section, in the order of
-    /// the symbol table. Nothing is read or allocated: names are parts of what was read.
+    /// The function symbols of all sections as the file stores them, each with the index of its section, in the order
+    /// of the symbol table. Nothing is read or allocated: names are slices of the parts.
     pub fn functions(&self) -> AllFunctions<'_, C>
         ensures { all_left C.table result ≡ (all_view C.table self.entry.now).entries }
     {
         all_functions_in::<C>(&self.rows, &self.strings, self.byte_order, self.count)
     }
 
-    /// The name of the section of this index, a part of what was read; nothing is copied. `None` where there is no such
+    /// The name of the section of this index, a slice of the parts; nothing is copied. `None` where there is no such
     /// section, and where `name` of the section gives none.
     pub fn section_name(&self, number: u32) -> Option<&str>
         ensures { option_map (λ t. t.now) result ≡ (all_view C.table self.entry.now).section_name number }

@@ -7,9 +7,9 @@ use std::io::{self, ErrorKind};
 /// Why a file's parts were not read.
 #[derive(Debug, Clone, Copy, PartialEq)]
 pub enum ReadError {
-    /// The file is refused, as a reader of the whole refuses it.
+    /// The file is refused, with the error of a reader of the whole file.
     Refused(ParseError),
-    /// The file can't be read at offsets, or a read of it failed, as where it became shorter.
+    /// The file can't be read at offsets, or a read of it failed, for instance because it became shorter.
     Unreadable,
     /// An allocation failed.
     OutOfMemory,
@@ -22,7 +22,7 @@ impl From<io::Error> for ReadError {
 
     ghost from_gives = { λ x e. e ≡ read_error (error_kind x) };
 
-    /// A failed allocation is reported as such, and any other error as `Unreadable`.
+    /// A failed allocation becomes `OutOfMemory`, and any other error becomes `Unreadable`.
     fn from(e: io::Error) -> Self {
         match e.kind() {
             ErrorKind::OutOfMemory => ReadError::OutOfMemory,

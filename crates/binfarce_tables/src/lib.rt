@@ -1,4 +1,4 @@
-//! Files that are read where their tables are: each part once, into memory of its size. Names stay as they are stored.
+//! Files of which only the tables are read: each part once, into memory of its size. Names stay as they are stored.
 #![tactic(auto)]
 
 mod beginning;

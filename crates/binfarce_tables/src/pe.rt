@@ -1,4 +1,4 @@
-//! PE files, read where their tables are (Microsoft PE Format).
+//! PE files, of which only the tables are read (Microsoft PE Format).
 
 ghost use Rattle.std.specs.Prelude.{◌≡◌, List, ℕ, Ok, Some};
 ghost use Rattle.binfarce_bytes.specs.Entries.{Answers, ListsSome};
@@ -22,10 +22,10 @@ use binfarce_pe::parts::{
 };
 use std::alloc::Global;
 
-// How many bytes the MS-DOS stub has.
+// The length of the MS-DOS stub in bytes.
 const STUB_LENGTH: usize = 64;
 
-/// The parts of a file that the function symbols of `.text` are read from, in memory.
+/// The parts of a file that have the function symbols of `.text`, in memory.
 #[derive(Drop)]
 pub struct Parts {
     rows: Vec<u8>,
@@ -34,13 +34,13 @@ pub struct Parts {
 }
 
 impl Parts {
-    /// The function symbols of the section `.text`, by address and at equal addresses in table order, and the size in
-    /// bytes that the section has in the file: what `functions` of a reader of the whole file gives. Nothing is read:
-    /// names are parts of what was read.
+    /// The function symbols of the section `.text`, by address and at equal addresses in table order, and the section's
+    /// size in bytes in the file: the answer of `functions` of a reader of the whole file. Nothing is read: names are
+    /// slices of the parts.
     ///
     /// # Errors
     ///
-    /// `OutOfMemory`, only in place of a list that isn't empty.
+    /// `OutOfMemory`, only instead of a list that isn't empty.
     pub fn functions(&self, alloc: Global) -> Result<(Vec<FunctionSymbol<'_>>, u64), ParseError>
         ensures { Answers HoldsFunctions ListsSome (Ok (parts_view self.now)) result }
     {
@@ -49,15 +49,15 @@ impl Parts {
     }
 }
 
-/// Reads the parts of a file that the function symbols of the section `.text` are read from, without a look at the
-/// signature: the offset of the signature, the signature and the file header, which are 24 bytes, the section headers,
-/// the symbol table, and the strings, which are what follows it. Each is read once, into memory of its size, which is never
-/// more than what the file holds of it. No other byte is read.
+/// Reads the parts of a file that have the function symbols of the section `.text`: the offset of the signature, the
+/// signature and the file header, which are 24 bytes, the section headers, the symbol table, and the strings, which are
+/// all that follows it. Each is read once, into memory of its size, which is never more than the file has of it. No
+/// other byte is read. The signature isn't checked.
 ///
 /// # Errors
 ///
-/// `Refused` with what `parse` and `functions` of a reader of the whole file refuse; `Unreadable` where the source can't
-/// be read at offsets, or a read of it fails, and never of a source that can't fail, as bytes in memory are;
+/// `Refused` with the error of `parse` or `functions` of a reader of the whole file; `Unreadable` where the source
+/// can't be read at offsets, or a read of it fails, and never for a source that can't fail, such as bytes in memory;
 /// `OutOfMemory` where an allocation fails.
 pub fn read<S: Source>(alloc: Global, source: &S) -> Result<Parts, ReadError>
     ensures { (file : List ℕ) → S.bytes source.now ≡ Some file
@@ -69,15 +69,15 @@ pub fn read<S: Source>(alloc: Global, source: &S) -> Result<Parts, ReadError>
     read_symbols(alloc, source, len, places, text)
 }
 
-/// Reads the file's first bytes that its sections are read from, without a look at the signature: those up to the end of the
-/// section headers, or of the first byte after the file header where there are none. They take no more memory than what the
-/// file holds of them.
+/// Reads the prefix of a file that has its sections: up to the end of the section headers, or where there are none up
+/// to the end of the first byte after the file header. It takes no more memory than the file has bytes. The signature
+/// isn't checked.
 ///
 /// # Errors
 ///
-/// `Refused` with `UnexpectedEof` where the file is too short for its file header; `Unreadable` where the source can't be
-/// read at offsets, or a read of it fails, and never of a source that can't fail, as bytes in memory are; `OutOfMemory`
-/// where an allocation fails.
+/// `Refused` with `UnexpectedEof` where the file is too short for its file header; `Unreadable` where the source can't
+/// be read at offsets, or a read of it fails, and never for a source that can't fail, such as bytes in memory;
+/// `OutOfMemory` where an allocation fails.
 pub fn read_sections<S: Source>(alloc: Global, source: &S) -> Result<Beginning, ReadError>
     ensures { (file : List ℕ) → S.bytes source.now ≡ Some file
         → ReadsBeginning (S.may_fail source.now) pe_sections file result }
@@ -122,7 +122,7 @@ fn read_signature<S: Source>(alloc: Global, source: &S, len: usize) -> Result<u3
     Ok(signature_in(&pointer)?)
 }
 
-// The text, found in the bytes that the section headers have in the file.
+// The text, found in the bytes of the section headers.
 fn read_text<S: Source>(
     alloc: Global,
     source: &S,

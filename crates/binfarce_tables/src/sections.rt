@@ -1,4 +1,4 @@
-//! The section headers of an ELF file of either class and the section names, read where they are.
+//! The section headers and the section names of an ELF file of either class, read at their offsets.
 
 ghost use Rattle.std.specs.Prelude.{◌≡◌, List, ℕ, Ok, Some};
 ghost use Rattle.std.specs.Option.{option_map};
@@ -38,7 +38,8 @@ impl<C: Class> SectionParts<C> {
         sections_in::<C>(&self.headers, self.byte_order, self.count)
     }
 
-    /// The name of one of them, as `name` of a section gives it, a part of what was read; nothing is copied.
+    /// The name of one of them, as `name` of a section gives it: a slice of the section names that were read. Nothing
+    /// is copied.
     pub fn name(&self, section: &Section<C>) -> Option<&str>
         ensures { option_map
             (λ t. t.now) result ≡ (sections_view C.table self.entry.now).name (section_view C.number_of section.now) }
@@ -77,8 +78,8 @@ pub(crate) fn read_sections<C: Class, S: Source>(
     })
 }
 
-// Bytes whose sections are the file's: the section headers that are whole, up to the count. Of a table without headers they
-// are its first byte, where the file has one, and of a table that begins past the file's end none.
+// The section headers that are whole, up to the count. For a table without headers, its first byte if the file has it;
+// for a table that begins past the file's end, nothing.
 pub(crate) fn read_table<C: Class, S: Source>(
     alloc: Global,
     source: &S,

@@ -33,7 +33,7 @@ use Rattle.binfarce_tools.specs.Entries.{GetsAs, HoldsAll, all_left}
 use Rattle.binfarce_tools.specs.ListWords.{list_error_of}
 use Rattle.binfarce_tools.proofs.Lines.{AreLines}
 use Rattle.binfarce_tools.proofs.Listings.{as_memory, parse}
-use Rattle.binfarce_tools.proofs.Told.{Told, is_told, told_all_of}
+use Rattle.binfarce_tools.proofs.Reported.{Reported, is_reported, reported_all_of}
 
 -- the answer of a file is that of its format
 pub answer_32 : (which : SymbolTable) (order : _) (file : List ℕ) (given : Result AllSymbols Refusal) → format_of file ≡ formats.Elf32 order → all_file_answer which elf32 order file ≡ given → all_answer_of which file ≡ Some given
@@ -54,7 +54,7 @@ answer_pe which file format = ap (λ (f : Format). all_symbols_answer which f fi
 
 -- a Mach-O or PE file has no dynamic symbol table
 pub no_dynamic_table : (which : SymbolTable) (answer : Result AllSymbols Refusal) (p : ParseError) → (which ≡ Dynsym) × (refusal_of p ≡ section_is_missing (codes ".dynsym")) → Some (by_symbol_table which answer) ≡ Some (Err (refusal_of p))
-no_dynamic_table which answer p told = ap (λ (w : SymbolTable). Some (by_symbol_table w answer)) told.0 ∙ ap (λ (r : Refusal). Some (Err r)) (sym told.1)
+no_dynamic_table which answer p reported_is = ap (λ (w : SymbolTable). Some (by_symbol_table w answer)) reported_is.0 ∙ ap (λ (r : Refusal). Some (Err r)) (sym reported_is.1)
 
 -- a file of an unknown format
 pub of_unknown : (which : SymbolTable) (file : List ℕ) → format_of file ≡ formats.Unknown → GetsAs HoldsAll (AllNeedsMemory file) (all_answer_of which file) (Err errors.Unknown)
@@ -71,16 +71,16 @@ module _ (A B : Type 0) (names : ℕ → Option (List ℕ)) (shares_addresses : 
   listed (Ok entries) functions value answers is = is ∙ answers
   listed (Err refusal) functions value answers is = absurd answers
 
-  pub not_listed : (entries : Result (List SectionEntry) Refusal) (e : ParseError) (result : Result AllFunctions ListError) → Told entries → (A → B)
+  pub not_listed : (entries : Result (List SectionEntry) Refusal) (e : ParseError) (result : Result AllFunctions ListError) → Reported entries → (A → B)
       → AnswersAll HoldsSectionFunctions A entries (Err e) → IsErrAnd result (λ f. f ≡ list_error_of e) → GetsAs HoldsAll (λ _. B) (Some (with_entries entries)) result
-  not_listed entries e (Ok value) told needs answers is = absurd is
-  not_listed entries e (Err f) told needs answers is =
-      subst (λ (f : ListError). GetsAs HoldsAll (λ _. B) (Some (with_entries entries)) (Err f)) (sym is) (by_entries entries told answers)
+  not_listed entries e (Ok value) reported_is needs answers is = absurd is
+  not_listed entries e (Err f) reported_is needs answers is =
+      subst (λ (f : ListError). GetsAs HoldsAll (λ _. B) (Some (with_entries entries)) (Err f)) (sym is) (by_entries entries reported_is answers)
     where
-      by_entries : (entries : Result (List SectionEntry) Refusal) → Told entries → AnswersAll HoldsSectionFunctions A entries (Err e) → GetsAs HoldsAll (λ _. B) (Some (with_entries entries)) (Err (list_error_of e))
-      by_entries (Ok entries) told answers = (needs answers.1, as_memory e answers.0)
-      by_entries (Err refusal) told (inl is) = inl (e, is, parse e (ap is_told is ∙ told))
-      by_entries (Err refusal) told (inr h) = inr (needs h.1, as_memory e h.0)
+      by_entries : (entries : Result (List SectionEntry) Refusal) → Reported entries → AnswersAll HoldsSectionFunctions A entries (Err e) → GetsAs HoldsAll (λ _. B) (Some (with_entries entries)) (Err (list_error_of e))
+      by_entries (Ok entries) reported_is answers = (needs answers.1, as_memory e answers.0)
+      by_entries (Err refusal) reported_is (inl is) = inl (e, is, parse e (ap is_reported is ∙ reported_is))
+      by_entries (Err refusal) reported_is (inr h) = inr (needs h.1, as_memory e h.0)
 
 -- what is got of a file of this format
 got : (which : SymbolTable) (file : List ℕ) (format : Format) (answer : Result AllSymbols Refusal) (result : Result AllFunctions ListError) → format_of file ≡ format → all_answer_of which file ≡ Some answer
@@ -107,7 +107,7 @@ module _ (which : SymbolTable) (file : List ℕ) (found : macho.AllLocated)
       → GetsAs HoldsAll (AllNeedsMemory file) (all_answer_of which file) result
   not_given_macho e result needs answers err =
       got which file formats.Macho (macho.all_symbols found) result is.0 (is.1 ∙ ap Some same)
-      (not_listed SomeEnd (HasSections formats.Macho file) (macho_all.name_of found.names) found.shares_addresses (macho.all_entries found) e result (told_all_of found.ends found.symbols) needs answers err)
+      (not_listed SomeEnd (HasSections formats.Macho file) (macho_all.name_of found.names) found.shares_addresses (macho.all_entries found) e result (reported_all_of found.ends found.symbols) needs answers err)
 
 located_same : {a b : macho.AllLocated} → Path (Result macho.AllLocated Refusal) (Ok a) (Ok b) → b ≡ a
 located_same e = cc

@@ -60,7 +60,7 @@ none_got needs memory answer l (Err e) more gets is =
     by_answer : (answer : Option (Result AllSymbols Refusal)) → GetsAs HoldsAll needs answer (Err l) → GetsSums memory (one_answer answer) (Err (report_error_of l))
     by_answer None gets = subst (λ (l : ListError). GetsSums memory None (Err (report_error_of l))) (sym gets) ((λ no. absurd cc), refl)
     by_answer (Some (Ok all)) gets = subst (λ (l : ListError). GetsSums memory (one_answer (Some (Ok all))) (Err (report_error_of l))) (sym gets.1) ((λ no. absurd cc), inl refl)
-    by_answer (Some (Err refusal)) (inl told) =
-        subst (λ (l : ListError). GetsSums memory (Some (Err refusal)) (Err (report_error_of l))) (sym told.2)
-        (subst (λ (r : Refusal). GetsSums memory (Some (Err r)) (Err (report_errors.Parse told.0))) told.1 ((λ no. absurd cc), inl refl))
+    by_answer (Some (Err refusal)) (inl reported_is) =
+        subst (λ (l : ListError). GetsSums memory (Some (Err refusal)) (Err (report_error_of l))) (sym reported_is.2)
+        (subst (λ (r : Refusal). GetsSums memory (Some (Err r)) (Err (report_errors.Parse reported_is.0))) reported_is.1 ((λ no. absurd cc), inl refl))
     by_answer (Some (Err refusal)) (inr h) = subst (λ (l : ListError). GetsSums memory (Some (Err refusal)) (Err (report_error_of l))) (sym h.1) ((λ no. absurd cc), inr (more (Err refusal) (Err refusal) h.0, refl))

@@ -1,4 +1,4 @@
--- The lines of sums that stand by crate are those of the report.
+-- The lines of sums by crate are those of the report.
 use Rattle.std.proofs.Common.{◌≡◌, ℕ, Bool, true, false, cond, List, [], ◌∷◌, ◌++◌, ◌||◌, Some, String, string_bytes, refl, sym, ◌∙◌, ap, map, append_assoc, unwrap_or}
 use Rattle.std.specs.Global.{Global}
 use Rattle.std.specs.BTreeMap.{IsOrdered, is_at}

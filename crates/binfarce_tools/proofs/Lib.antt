@@ -1,7 +1,7 @@
 pub mod HeaderLengths
 pub mod Pads
 pub mod Heads
-pub mod Told
+pub mod Reported
 pub mod Listings
 pub mod Lines
 pub mod CrateSums
@@ -13,3 +13,13 @@ pub mod Totals
 pub mod Maps
 pub mod AllGiven
 pub mod AllSums
+mod Decided
+mod ElfHeld
+mod MachoSame
+mod MachoWalk
+mod PeSame
+mod Same
+mod Slices
+mod Split
+mod SymbolLaws
+mod PartTables

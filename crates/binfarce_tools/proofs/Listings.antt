@@ -16,7 +16,7 @@ use Rattle.binfarce.specs.declared.Format.{Format}
 use Rattle.binfarce_tools.specs.Answer.{symbols_answer, NeedsMemory}
 use Rattle.binfarce_tools.specs.ListWords.{list_error_of}
 use Rattle.binfarce_tools.specs.Entries.{HoldsLeft, Gets}
-use Rattle.binfarce_tools.proofs.Told.{is_told, Told}
+use Rattle.binfarce_tools.proofs.Reported.{is_reported, Reported}
 
 -- a failed allocation is reported as such
 pub as_memory : (e : ParseError) → refusal_of e ≡ out_of_memory → list_error_of e ≡ OutOfMemory
@@ -27,34 +27,34 @@ as_memory errors.MalformedInput is = absurd cc
 as_memory errors.UnexpectedEof is = absurd cc
 as_memory errors.OutOfMemory is = refl
 
--- any other refusal is told with its words
-pub parse : (e : ParseError) → is_told (refusal_of e) ≡ true → list_error_of e ≡ Parse e
-parse errors.SymbolsSectionIsMissing told = refl
-parse (errors.SectionIsMissing name) told = refl
-parse (errors.UnexpectedSectionType expected actual) told = refl
-parse errors.MalformedInput told = refl
-parse errors.UnexpectedEof told = refl
-parse errors.OutOfMemory told = absurd cc
+-- any other refusal is `Parse`
+pub parse : (e : ParseError) → is_reported (refusal_of e) ≡ true → list_error_of e ≡ Parse e
+parse errors.SymbolsSectionIsMissing reported_is = refl
+parse (errors.SectionIsMissing name) reported_is = refl
+parse (errors.UnexpectedSectionType expected actual) reported_is = refl
+parse errors.MalformedInput reported_is = refl
+parse errors.UnexpectedEof reported_is = refl
+parse errors.OutOfMemory reported_is = absurd cc
 
-gets_refusal : (memory : Result Listed Refusal → Type 0) (answer : Result Listed Refusal) (e : ParseError) → Told answer → Answers HoldsLeft memory answer (Err e) → Gets memory (Some answer) (Err (list_error_of e))
-gets_refusal memory (Ok listed) e told answers = (answers.1, as_memory e answers.0)
-gets_refusal memory (Err refusal) e told (inl is) = inl (e, is, parse e (ap is_told is ∙ told))
-gets_refusal memory (Err refusal) e told (inr h) = inr (h.1, as_memory e h.0)
+gets_refusal : (memory : Result Listed Refusal → Type 0) (answer : Result Listed Refusal) (e : ParseError) → Reported answer → Answers HoldsLeft memory answer (Err e) → Gets memory (Some answer) (Err (list_error_of e))
+gets_refusal memory (Ok listed) e reported_is answers = (answers.1, as_memory e answers.0)
+gets_refusal memory (Err refusal) e reported_is (inl is) = inl (e, is, parse e (ap is_reported is ∙ reported_is))
+gets_refusal memory (Err refusal) e reported_is (inr h) = inr (h.1, as_memory e h.0)
 
 -- as `?` passes it on
-pub told_refusal : (memory : Result Listed Refusal → Type 0) (answer : Result Listed Refusal) (e : ParseError) (result : Result (Functions × ℕ) ListError)
-    → Told answer → Answers HoldsLeft memory answer (Err e) → IsErrAnd result (λ f. f ≡ list_error_of e) → Gets memory (Some answer) result
-told_refusal memory answer e (Ok x) told answers is = absurd is
-told_refusal memory answer e (Err f) told answers is =
-    let P : ListError → Type 0 = λ f. Gets memory (Some answer) (Err f) in subst P (sym is) (gets_refusal memory answer e told answers)
+pub reported_refusal : (memory : Result Listed Refusal → Type 0) (answer : Result Listed Refusal) (e : ParseError) (result : Result (Functions × ℕ) ListError)
+    → Reported answer → Answers HoldsLeft memory answer (Err e) → IsErrAnd result (λ f. f ≡ list_error_of e) → Gets memory (Some answer) result
+reported_refusal memory answer e (Ok x) reported_is answers is = absurd is
+reported_refusal memory answer e (Err f) reported_is answers is =
+    let P : ListError → Type 0 = λ f. Gets memory (Some answer) (Err f) in subst P (sym is) (gets_refusal memory answer e reported_is answers)
 
 -- what the reader of a format refuses is what is got of a file of that format
 pub refused : (format found : Format) (file section : List ℕ) (answer : Result Listed Refusal) (e : ParseError) (result : Result (Functions × ℕ) ListError)
-    → format ≡ found → Some answer ≡ symbols_answer format file section → Told answer → Answers HoldsLeft (NeedsMemory format file) answer (Err e)
+    → format ≡ found → Some answer ≡ symbols_answer format file section → Reported answer → Answers HoldsLeft (NeedsMemory format file) answer (Err e)
     → IsErrAnd result (λ f. f ≡ list_error_of e) → Gets (NeedsMemory found file) (symbols_answer found file section) result
-refused format found file section answer e result same is told answers err =
+refused format found file section answer e result same is reported_is answers err =
     subst (λ (f : Format). Gets (NeedsMemory f file) (symbols_answer f file section) result) same
-    (subst (λ (o : Option (Result Listed Refusal)). Gets (NeedsMemory format file) o result) is (told_refusal (NeedsMemory format file) answer e result told answers err))
+    (subst (λ (o : Option (Result Listed Refusal)). Gets (NeedsMemory format file) o result) is (reported_refusal (NeedsMemory format file) answer e result reported_is answers err))
 
 -- bytes that stay as they were have grown by nothing more
 kept : (old mid new : Option (List ℕ)) (xs : List ℕ) → Appends old mid xs → Keeps mid new → Appends old new xs

@@ -1,4 +1,4 @@
--- The bars of sums that stand by crate are those of the crates.
+-- The bars of sums by crate are those of the crates.
 use Rattle.std.proofs.Common.{◌≡◌, ℕ, ◌<◌, ◌^◌, List, [], ◌∷◌, String, string_bytes, map, refl, sym, ap, subst, ◌∙◌}
 use Rattle.std.specs.Global.{Global}
 use Rattle.std.specs.BTreeMap.{IsOrdered}

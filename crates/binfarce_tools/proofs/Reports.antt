@@ -22,9 +22,9 @@ use Rattle.binfarce_tools.proofs.CrateSums.{total_is}
 abbrev pub size_of_all : List Entry → ℕ
 size_of_all entries = sum_by (λ (e : Entry). e.size) entries
 
--- what is told, by the answer
-abbrev pub Tells : (Result Listed Refusal → Type 0) → Option (Result Listed Refusal) → Result (Unit {0}) ReportError → Type 0
-Tells memory answer result = writing.Tells ReportFits memory answer (outcome_of result)
+-- the outcome, by the answer
+abbrev pub EndsAs : (Result Listed Refusal → Type 0) → Option (Result Listed Refusal) → Result (Unit {0}) ReportError → Type 0
+EndsAs memory answer result = writing.EndsAs ReportFits memory answer (outcome_of result)
 
 is_err : (result : Result (Unit {0}) ReportError) (e : ReportError) → IsErrAnd result (λ f. f ≡ e) → result ≡ Err e
 is_err (Ok x) e is = absurd is
@@ -69,24 +69,24 @@ fits listed sums are =
     let P : ℕ → Type 0 = λ n. n < 2 ^ 64 in subst P (sym shares.2.total_is ∙ total_is listed.entries shares.0 shares.1) shares.2.fits
 
 module _ (memory : Result Listed Refusal → Type 0) (answer : Option (Result Listed Refusal)) where
-  told : (sums : CrateSums) (result : Result (Unit {0}) ReportError) → GetsSums memory answer (Ok sums)
-      → (outcome_of result ≡ writing.written) ⊎ (outcome_of result ≡ writing.write_failed) → Tells memory answer result
-  told sums result gets is = let P : Option (Result Listed Refusal) → Type 0 = λ a. Tells memory a result in subst P (sym gets.1) (inr (inl (fits gets.0 sums gets.2, is)))
+  reported_is : (sums : CrateSums) (result : Result (Unit {0}) ReportError) → GetsSums memory answer (Ok sums)
+      → (outcome_of result ≡ writing.written) ⊎ (outcome_of result ≡ writing.write_failed) → EndsAs memory answer result
+  reported_is sums result gets is = let P : Option (Result Listed Refusal) → Type 0 = λ a. EndsAs memory a result in subst P (sym gets.1) (inr (inl (fits gets.0 sums gets.2, is)))
 
   -- the text was written
-  pub was_written : (sums : CrateSums) → GetsSums memory answer (Ok sums) → Tells memory answer (Ok tt)
-  was_written sums gets = told sums (Ok tt) gets (inl refl)
+  pub was_written : (sums : CrateSums) → GetsSums memory answer (Ok sums) → EndsAs memory answer (Ok tt)
+  was_written sums gets = reported_is sums (Ok tt) gets (inl refl)
 
   -- a write failed
-  pub not_written : (sums : CrateSums) (e : ListError) (result : Result (Unit {0}) ReportError) → GetsSums memory answer (Ok sums) → e ≡ errors.Write → IsErrAnd result (λ f. f ≡ report_error_of e) → Tells memory answer result
+  pub not_written : (sums : CrateSums) (e : ListError) (result : Result (Unit {0}) ReportError) → GetsSums memory answer (Ok sums) → e ≡ errors.Write → IsErrAnd result (λ f. f ≡ report_error_of e) → EndsAs memory answer result
   not_written sums e result gets write err =
-      told sums result gets (inr (ap outcome_of (is_err result (report_error_of e) err) ∙ ap (λ (e : ListError). outcome_of (Err (report_error_of e))) write))
+      reported_is sums result gets (inr (ap outcome_of (is_err result (report_error_of e) err) ∙ ap (λ (e : ListError). outcome_of (Err (report_error_of e))) write))
 
   -- an allocation failed after the sums were made
-  pub no_memory : (sums : CrateSums) (result : Result (Unit {0}) ReportError) → GetsSums memory answer (Ok sums) → IsErrAnd result (λ f. f ≡ OutOfMemory) → Tells memory answer result
-  no_memory sums result gets err = let P : Option (Result Listed Refusal) → Type 0 = λ a. Tells memory a result in subst P (sym gets.1) (inl (ap outcome_of (is_err result OutOfMemory err)))
+  pub no_memory : (sums : CrateSums) (result : Result (Unit {0}) ReportError) → GetsSums memory answer (Ok sums) → IsErrAnd result (λ f. f ≡ OutOfMemory) → EndsAs memory answer result
+  no_memory sums result gets err = let P : Option (Result Listed Refusal) → Type 0 = λ a. EndsAs memory a result in subst P (sym gets.1) (inl (ap outcome_of (is_err result OutOfMemory err)))
 
--- what a call returns whose text was written like this
+-- the result of a call after this write of its text
 abbrev pub written : Result (Unit {0}) ListError → Result (Unit {0}) ReportError
 written (Ok x) = Ok x
 written (Err e) = Err (report_error_of e)

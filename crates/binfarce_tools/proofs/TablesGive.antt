@@ -21,9 +21,9 @@ use Rattle.binfarce_tools.specs.declared.list.ListError.{ListError}
 use Rattle.binfarce_tools.specs.Answer.{macho_file_answer, symbols_answer, dynamic_symbols_answer, answer_of as answer_by, NeedsMemory}
 use Rattle.binfarce_tools.specs.Entries.{HoldsLeft, IsArranged, Gets}
 use Rattle.binfarce_tools.specs.ListWords.{list_error_of}
-use Rattle.binfarce_tools.proofs.Listings.{as_memory, told_refusal}
+use Rattle.binfarce_tools.proofs.Listings.{as_memory, reported_refusal}
 use Rattle.binfarce_tools.proofs.TablesRead.{macho_is}
-use Rattle.binfarce_tools.proofs.Told.{told_macho}
+use Rattle.binfarce_tools.proofs.Reported.{reported_macho}
 
 -- a list that is arranged
 arranged_left : (listed : Listed) (functions : Vec FunctionSymbol Global × ℕ) (value : Functions × ℕ) → HoldsFunctions listed functions → IsArranged functions value → HoldsLeft listed value
@@ -123,5 +123,5 @@ module _ (which : SymbolTable) (file section : List ℕ) (found : Option Located
   not_given_macho e result answers err =
       let some = addressed file found (whole_located (ltb (length file) 28) (located file) found is.2) in
       by_format result
-      (told_refusal (λ _. HasAddress file) (macho_file_answer file) e result (told_macho file)
+      (reported_refusal (λ _. HasAddress file) (macho_file_answer file) e result (reported_macho file)
       (subst (λ (a : Result Listed Refusal). Answers HoldsLeft (λ _. HasAddress file) a (Err e)) same (of_err (SomeAddress found) (HasAddress file) (answer_of found) e some answers)) err)

@@ -44,11 +44,11 @@ pub taken : {Y : Type 0} {a b : Y} → Path (Result Y Refusal) (Ok a) (Ok b) →
 taken step = cc
 
 -- what a source says of its length is the file's
-pub length_told : (known : Option (List ℕ)) (file : List ℕ) (len : ℕ) → known ≡ Some file → IfSome known (λ all. len ≡ length all) → len ≡ length file
-length_told None file len is told = absurd cc
-length_told (Some bytes) file len is told =
+pub length_known : (known : Option (List ℕ)) (file : List ℕ) (len : ℕ) → known ≡ Some file → IfSome known (λ all. len ≡ length all) → len ≡ length file
+length_known None file len is reported_is = absurd cc
+length_known (Some bytes) file len is reported_is =
     let same : bytes ≡ file = cc in
-    told ∙ ap length same
+    reported_is ∙ ap length same
 
 -- the answer of an ELF file by its symbol table
 by_symtab : (class : ElfClass) (order : ByteOrder) (file section : List ℕ) → elf_file_answer class order file section ≡ file_answer_in Symtab class order file section
@@ -134,9 +134,9 @@ refused_as AreTables may answered p (Err x) is err = subst (λ (e : ReadError). 
 
 pub no_table : (may : Type 0) (which : SymbolTable) (file section : List ℕ) (p : ParseError) (r : Result Tables ReadError)
     → IsWithout file section → (which ≡ Dynsym) × (refusal_of p ≡ section_is_missing (codes ".dynsym")) → (IsErr r × IsErrAnd r (λ x. x ≡ Refused p)) → ReadsTables may which file section r
-no_table may which file section p r without told err =
+no_table may which file section p r without reported_is err =
     refused_as (AreTablesOf which file section) may (answer which file section) p r
-    (ap (λ (w : SymbolTable). answer w file section) told.0 ∙ without ∙ ap (λ (r : Refusal). Some (Err r)) (sym told.1)) err
+    (ap (λ (w : SymbolTable). answer w file section) reported_is.0 ∙ without ∙ ap (λ (r : Refusal). Some (Err r)) (sym reported_is.1)) err
 
 -- a file of an unknown format
 pub of_unknown : (which : SymbolTable) (file section : List ℕ) → format_of file ≡ formats.Unknown → Gets (NeedsMemory (format_of file) file) (answer which file section) (Err errors.Unknown)

@@ -33,7 +33,7 @@ all_symbols_answer which Unknown file = None
 abbrev pub all_answer_of : SymbolTable → List ℕ → Option (Result AllSymbols Refusal)
 all_answer_of which file = all_symbols_answer which (format_of file) file
 
--- the files that need memory, in place of whose answer alone an allocation may be refused: those of Mach-O and PE with a section
+-- the files that need memory, whose answer alone a failed allocation may replace: those of Mach-O and PE with a section
 unfoldable pub HasSections : Format → List ℕ → Type 0
 HasSections (Elf32 order) file = ⊥
 HasSections (Elf64 order) file = ⊥

@@ -14,7 +14,7 @@ use Rattle.binfarce.specs.Pe.{least_length}
 use Rattle.binfarce.specs.PeSymbols.{pe_answer}
 use Rattle.binfarce.specs.Symbol.{Listed, ListsSome}
 
--- what the reader of a class answers for a section: a file too short for its header ends before what it should hold
+-- the answer of the reader of a class for a section: a file too short for its header is truncated
 abbrev pub elf_file_answer : ElfClass → ByteOrder → List ℕ → List ℕ → Result Listed Refusal
 elf_file_answer class order file section =
     if nat_lt (length file) class.header_length then Err unexpected_eof
@@ -26,7 +26,7 @@ pe_file_answer file = if nat_lt (length file) (least_length file) then Err unexp
 abbrev pub macho_file_answer : List ℕ → Result Listed Refusal
 macho_file_answer file = if nat_lt (length file) 28 then Err unexpected_eof else macho_answer file
 
--- what the reader of the format answers: the section is that of an ELF file, and no reader reads an unknown format
+-- the answer of the format's reader: the section is that of an ELF file; none for an unknown format
 unfoldable pub symbols_answer : Format → List ℕ → List ℕ → Option (Result Listed Refusal)
 symbols_answer (Elf32 order) file section = Some (elf_file_answer elf32 order file section)
 symbols_answer (Elf64 order) file section = Some (elf_file_answer elf64 order file section)
@@ -34,13 +34,13 @@ symbols_answer Macho file section = Some (macho_file_answer file)
 symbols_answer PE file section = Some (pe_file_answer file)
 symbols_answer Unknown file section = None
 
--- what it answers by the dynamic symbol table
+-- its answer by the dynamic symbol table
 abbrev pub elf_dynamic_answer : ElfClass → ByteOrder → List ℕ → List ℕ → Result Listed Refusal
 elf_dynamic_answer class order file section =
     if nat_lt (length file) class.header_length then Err unexpected_eof
     else dynamic_answer class (section_table class (record { order = order; bytes = file })) section
 
--- what the reader of the format answers by the dynamic symbol table: a Mach-O or PE file has none
+-- the answer of the format's reader by the dynamic symbol table: a Mach-O or PE file has none
 unfoldable pub dynamic_symbols_answer : Format → List ℕ → List ℕ → Option (Result Listed Refusal)
 dynamic_symbols_answer (Elf32 order) file section = Some (elf_dynamic_answer elf32 order file section)
 dynamic_symbols_answer (Elf64 order) file section = Some (elf_dynamic_answer elf64 order file section)
@@ -48,12 +48,13 @@ dynamic_symbols_answer Macho file section = Some (Err (section_is_missing (codes
 dynamic_symbols_answer PE file section = Some (Err (section_is_missing (codes ".dynsym")))
 dynamic_symbols_answer Unknown file section = None
 
--- what a file answers for a section by this symbol table
+-- the answer of a file for a section by this symbol table
 abbrev pub answer_of : SymbolTable → List ℕ → List ℕ → Option (Result Listed Refusal)
 answer_of Symtab file section = symbols_answer (format_of file) file section
 answer_of Dynsym file section = dynamic_symbols_answer (format_of file) file section
 
--- the answers that need memory, in whose place alone an allocation may be refused: a list that isn't empty, and of a Mach-O file whose table holds an address any
+-- the answers that need memory, which alone a failed allocation may replace: a list that isn't empty, and any answer of a Mach-O file whose table has
+-- an address
 unfoldable pub NeedsMemory : Format → List ℕ → Result Listed Refusal → Type 0
 NeedsMemory (Elf32 order) file answer = ListsSome answer
 NeedsMemory (Elf64 order) file answer = ListsSome answer

@@ -1,4 +1,4 @@
--- The entries of a file of any format: what is left of them, and what a call returns that reads them.
+-- The entries of a file of any format: iterators over them, and the result of a call that reads them.
 use Rattle.std.specs.Prelude.{◌≡◌, ◌⊎◌, ℕ, List, map, drop, Option, Some, None, Result, Ok, Err}
 use Rattle.std.specs.Global.{Vec}
 use Rattle.binfarce.specs.declared.FunctionSymbol.{FunctionSymbol}
@@ -40,11 +40,11 @@ functions_left (variants.Elf64 functions) = elf.functions_left elf64 functions
 functions_left (variants.Arranged functions) = arranged_left functions
 functions_left (variants.All functions) = map (λ e. e.entry) (all_left functions)
 
--- what is left are these entries, and the size is that of their section
+-- these entries are left, and the size is that of their section
 abbrev pub HoldsLeft : Listed → Functions × ℕ → Type 0
 HoldsLeft listed answer = (functions_left answer.0 ≡ listed.entries) × (answer.1 ≡ listed.section_size)
 
--- all functions of a list are left, beside the same size
+-- all functions of a list are left, with the same size
 abbrev pub IsArranged : Vec FunctionSymbol × ℕ → Functions × ℕ → Type 0
 IsArranged listed answer = (functions_left answer.0 ≡ map function_view listed.0.items) × (answer.1 ≡ listed.1)
 

@@ -6,7 +6,7 @@ use Rattle.binfarce_names.specs.Name.{Name}
 use Rattle.binfarce_names.specs.Named.{IsNamed}
 use Rattle.binfarce.specs.Symbol.{Entry, Listed}
 
--- a text, with as many of a character before it as it is short of the width
+-- a text, padded on the left to a width
 abbrev pub pad_left : ℕ → ℕ → List ℕ → List ℕ
 pad_left fill width text = replicate (width - length text) fill ++ text
 
@@ -18,7 +18,7 @@ address_text address = pad_left 48 16 (digits 16 false address)
 abbrev pub size_text : ℕ → List ℕ
 size_text size = pad_left 32 10 (decimal size)
 
--- `{address:016x} {size:>10} `, which stands before a name
+-- `{address:016x} {size:>10} `, the text before a name
 abbrev pub line_head : ℕ → ℕ → List ℕ
 line_head address size = address_text address ++ (codes " " ++ (size_text size ++ codes " "))
 
@@ -34,7 +34,7 @@ IsLineOf entry line = (name : Name) × IsNamed entry.name name × (line ≡ entr
 abbrev pub size_line : ℕ → List ℕ
 size_line size = codes "text " ++ (decimal size ++ 10 ∷ [])
 
--- text is the listing of what a file holds: a line for each entry, in order, and then that of the section's size
+-- text is the listing of a file's answer: a line for each entry, in order, and then that of the section's size
 abbrev pub IsListingOf : Listed → List ℕ → Type 0
 IsListingOf listed text = (lines : List (List ℕ)) × AllZip IsLineOf listed.entries lines × (text ≡ concat lines ++ size_line listed.section_size)
 

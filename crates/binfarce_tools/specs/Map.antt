@@ -14,6 +14,6 @@ crate_rows shares names = map (λ name. record { name = name; size = sum_of shar
 abbrev pub IsMapOfShares : List Share → ℕ → List ℕ → Type 0
 IsMapOfShares shares size text = (names : List (List ℕ)) × AreCratesOf shares names × IsChartOf (crate_rows shares names) size text
 
--- text is the picture of what a file holds: each entry adds its share
+-- text is the picture of a file's answer: each entry adds its share
 abbrev pub IsMapOf : Listed → List ℕ → Type 0
 IsMapOf listed text = (shares : List Share) × AllZip IsShareOf listed.entries shares × IsMapOfShares shares listed.section_size text

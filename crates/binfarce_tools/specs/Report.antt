@@ -12,15 +12,15 @@ use Rattle.binfarce_names.specs.Named.{IsNamed}
 use Rattle.binfarce.specs.Symbol.{Entry, Listed}
 use Rattle.binfarce_tools.specs.Listing.{size_text, size_line}
 
--- what stands in place of a crate that no name tells
+-- the label for symbols without a crate
 abbrev pub unknown_crate : List ℕ
 unknown_crate = codes "[unknown]"
 
--- the crate that a name is counted for: the one that it tells, if it tells one
+-- the crate that a name is counted for: its own, if it has one
 abbrev pub crate_text : Name → List ℕ
 crate_text name = unwrap_or (crate_of name) unknown_crate
 
--- what one entry adds to a report: its crate's name, and its size
+-- the share of one entry: its crate's name, and its size
 pub record Share : Type 0 where
   pub name : List ℕ
   pub size : ℕ
@@ -74,7 +74,7 @@ IsSumsOf listed text = (shares : List Share) × AllZip IsShareOf listed.entries 
 abbrev pub IsReportOfShares : List Share → ℕ → List ℕ → Type 0
 IsReportOfShares shares size text = (names : List (List ℕ)) × AreCratesOf shares names × (text ≡ report shares names size)
 
--- text is the report of what a file holds: each entry adds its share
+-- text is the report of a file's answer: each entry adds its share
 abbrev pub IsReportOf : Listed → List ℕ → Type 0
 IsReportOf listed text = (shares : List Share) × AllZip IsShareOf listed.entries shares × IsReportOfShares shares listed.section_size text
 

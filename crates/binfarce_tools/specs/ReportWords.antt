@@ -1,4 +1,4 @@
--- Which `ReportError` an error of `list` becomes, the printed words, and how a report ended.
+-- The `ReportError` of an error of `list`, its printed text, and the outcome of a report.
 use Rattle.std.specs.Prelude.{ℕ, List, codes, Result, Ok, Err}
 use Rattle.binfarce.specs.Refusal.{refusal_of}
 use Rattle.binfarce_tools.specs.declared.list.ListError.{ListError}
@@ -8,14 +8,14 @@ use Rattle.binfarce_tools.specs.declared.report.ReportError.TheVariants.{Unknown
 use Rattle.binfarce_tools.specs.ListWords.{list_words}
 use Rattle.binfarce_tools.specs.Writing as writing
 
--- what keeps a file from being listed keeps it from being reported
+-- a file that can't be listed can't be reported, for the same reason
 abbrev pub report_error_of : ListError → ReportError
 report_error_of listing.Unknown = Unknown
 report_error_of (listing.Parse e) = Parse e
 report_error_of listing.OutOfMemory = OutOfMemory
 report_error_of listing.Write = Write
 
--- what is printed: of what `list` reports too, its words
+-- the printed text; for the errors of `list`, its text
 abbrev pub report_words : ReportError → List ℕ
 report_words Unknown = list_words listing.Unknown
 report_words (Parse e) = list_words (listing.Parse e)
@@ -23,7 +23,7 @@ report_words OutOfMemory = list_words listing.OutOfMemory
 report_words TooLarge = codes "sizes are too large"
 report_words Write = list_words listing.Write
 
--- how a report ended
+-- the outcome of a report
 abbrev pub outcome_of : Result (Unit {0}) ReportError → writing.Outcome
 outcome_of (Ok _) = writing.written
 outcome_of (Err Unknown) = writing.unknown_format

@@ -2,7 +2,7 @@
 use Rattle.std.specs.Prelude.{Bool}
 use Rattle.binfarce_tools.specs.declared.list.Out.{Out}
 
--- the writer that the sink stands over
+-- the writer of the sink
 abbrev pub writer_of : {W : Type 0} → Out W → W
 writer_of out = out.writer
 

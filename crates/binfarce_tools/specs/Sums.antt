@@ -11,7 +11,7 @@ use Rattle.binfarce_tools.specs.declared.report.ReportError.{ReportError}
 use Rattle.binfarce_tools.specs.declared.report.ReportError.TheVariants.{Write}
 use Rattle.binfarce_tools.specs.Report.{Share, IsShareOf, ReportFits, total, sum_of}
 use Rattle.binfarce_tools.specs.ReportWords.{outcome_of}
-use Rattle.binfarce_tools.specs.Writing.{Tells}
+use Rattle.binfarce_tools.specs.Writing.{EndsAs}
 
 -- the sum at a crate's name, 0 where it has none
 abbrev pub sum_at : {Y : Type 0} → BTreeMap (String Y) ℕ → List ℕ → ℕ
@@ -28,11 +28,11 @@ pub record AreSumsOf (shares : List Share) (sums : CrateSums) : Type 0 where
   pub total_is : total shares ≡ sums.total
   pub fits : sums.total < 2 ^ 64
 
--- they are the sums of what a file holds, beside the size of its section
+-- they are the sums of a file's answer, with the size of its section
 abbrev pub AreSumsOfFile : Listed → CrateSums → Type 0
 AreSumsOfFile listed sums = (sums.section_size ≡ listed.section_size) × ((shares : List Share) × AllZip IsShareOf listed.entries shares × AreSumsOf shares sums)
 
--- what summing by crate returns of a file whose answer is this: the sums of what it holds, or what a report tells in their place
+-- the result of summing by crate for a file with this answer: its sums, or the error of a report
 abbrev pub GetsSums : (Result Listed Refusal → Type 0) → Option (Result Listed Refusal) → Result CrateSums ReportError → Type 0
 GetsSums NeedsMemory answer (Ok sums) = (listed : Listed) × (answer ≡ Some (Ok listed)) × AreSumsOfFile listed sums
-GetsSums NeedsMemory answer (Err e) = (e ≢ Write) × Tells ReportFits NeedsMemory answer (outcome_of (Err e))
+GetsSums NeedsMemory answer (Err e) = (e ≢ Write) × EndsAs ReportFits NeedsMemory answer (outcome_of (Err e))

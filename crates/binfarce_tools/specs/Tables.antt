@@ -1,4 +1,4 @@
--- What was read of a file to list its function symbols, and what such a reading gives.
+-- The tables of a file's function symbols, and the result of reading them.
 use Rattle.std.specs.Prelude.{◌≡◌, ℕ, List, Option, Some, Result, Ok, Err}
 use Rattle.binfarce.specs.declared.Format.TheVariants as formats
 use Rattle.binfarce.specs.Elf.{elf32, elf64}
@@ -14,7 +14,8 @@ use Rattle.binfarce_tools.specs.Answer.{answer_of, macho_file_answer}
 use Rattle.binfarce_tools.specs.declared.tables.Tables.{Tables}
 use Rattle.binfarce_tools.specs.declared.tables.Tables.TheVariants.{Elf32, Elf64, Macho, Pe, Unknown}
 
--- what was read is what this file answers for the section by this symbol table: the parts of an ELF or PE file hold its entries, those of a Mach-O file where its symbols are, and of an unknown format there is nothing
+-- the tables are those of this file's answer for the section by this symbol table: the parts of an ELF or PE file have its entries, those of a Mach-O
+-- file the location of its symbols; for an unknown format there are none
 unfoldable pub AreTablesOf : SymbolTable → List ℕ → List ℕ → Tables → Type 0
 AreTablesOf which file section (Elf32 parts) = answer_of which file section ≡ Some (Ok (parts_view elf32 (λ n. n) parts))
 AreTablesOf which file section (Elf64 parts) = answer_of which file section ≡ Some (Ok (parts_view elf64 (λ n. n) parts))

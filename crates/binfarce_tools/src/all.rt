@@ -16,7 +16,7 @@ ghost use Rattle.binfarce_tools.specs.Map.{IsMapOf};
 ghost use Rattle.binfarce_tools.specs.Report.{Share, IsSumsOf, ReportFits};
 ghost use Rattle.binfarce_tools.specs.ReportWords as reporting;
 ghost use Rattle.binfarce_tools.specs.Sums.{AreSumsOf, GetsSums};
-ghost use Rattle.binfarce_tools.specs.Writing.{Tells, Takes, Fails, Leaves};
+ghost use Rattle.binfarce_tools.specs.Writing.{EndsAs, Takes, Fails, Leaves};
 ghost use Rattle.binfarce_tools.specs.declared.list.ListError.TheVariants.{Write};
 ghost use Rattle.binfarce_tools.specs.declared.report.ReportError.TheVariants as errors;
 
@@ -33,7 +33,7 @@ use binfarce_names::demangle::Demangler;
 use binfarce_tables::{ReadError, elf32, elf64, macho, pe};
 use std::alloc::{AllocError, Global};
 
-/// What was read of a file to list the function symbols of all sections.
+/// The tables that were read of a file for the function symbols of all sections.
 #[derive(Drop)]
 pub enum AllTables {
     /// The parts of an ELF file of 32 bits.
@@ -44,18 +44,18 @@ pub enum AllTables {
     Macho(macho::AllParts),
     /// The parts of a PE file.
     Pe(pe::AllParts),
-    /// Nothing of a file whose first bytes name no format that is read.
+    /// Nothing: the file's first bytes name no supported format.
     Unknown,
 }
 
 impl AllTables {
-    /// The function symbols of all sections, each with its section's number, by the symbol table that the tables were read
-    /// by: what `all_functions` of a reader gives of the file.
+    /// The function symbols of all sections, each with its section's number, by the symbol table that the tables were
+    /// read by: the answer of `all_functions` of a reader.
     ///
     /// # Errors
     ///
-    /// `Unknown` where the format isn't one that is read; `Parse` where a Mach-O file's rows are refused; `OutOfMemory`
-    /// where an allocation failed, which an ELF file never needs.
+    /// `Unknown` where the format isn't supported; `Parse` where a Mach-O file's rows are refused; `OutOfMemory` where
+    /// an allocation failed; an ELF file needs none.
     #[tactic(auto, unfolding(crate::specs::AllTables::AreAllTablesOf))]
     pub fn functions(&self, alloc: Global) -> Result<AllFunctions<'_>, ListError>
         ensures gets { (which : SymbolTable) (file : List ℕ) → AreAllTablesOf which file self.entry.now
@@ -77,8 +77,8 @@ impl AllTables {
         }
     }
 
-    /// The name of the section of this number, a part of what was read. `None` where there is no such section, and where it
-    /// has no valid name.
+    /// The name of the section of this number, a slice of the tables. `None` where there is no such section, and where
+    /// it has no valid name.
     pub fn section_name(&self, number: u32) -> Option<&str>
         ensures read { option_map (λ t. t.now) result ≡ section_names self.entry.now number }
         ensures file { (which : SymbolTable) (file : List ℕ) (all : AllSymbols) → AreAllTablesOf which file self.entry.now
@@ -122,7 +122,7 @@ impl AllTables {
     }
 }
 
-/// The function symbols of all sections of a file that are left, in the order of its listing.
+/// An iterator over the function symbols of all sections of a file, in the order of its listing.
 #[derive(Drop)]
 pub enum AllFunctions<'a> {
     Elf32(binfarce::elf32::AllFunctions<'a>),
@@ -130,7 +130,7 @@ pub enum AllFunctions<'a> {
     Arranged(AllArranged<'a>),
 }
 
-/// Function symbols with their sections that stand in a list, from a place on.
+/// The function symbols of a list with their sections, from an index on.
 #[derive(Drop)]
 pub struct AllArranged<'a> {
     functions: Vec<SectionFunction<'a>>,
@@ -168,15 +168,15 @@ impl<'a> AllArranged<'a> {
     }
 }
 
-/// Reads of a file what the function symbols of all sections are made of, by this symbol table: its first 8 bytes, which
-/// name its format, and the parts that `binfarce_tables` reads of a file of that format. Of a file of an unknown format no
-/// other byte is read. Each part that is kept takes no more memory than what the file holds of it.
+/// Reads the tables of a file for the function symbols of all sections, by this symbol table: its first 8 bytes, which
+/// name its format, and the parts that `binfarce_tables` reads of a file of that format. Of a file of an unknown format
+/// no other byte is read. Each part that is kept takes no more memory than the file has bytes of it.
 ///
 /// # Errors
 ///
-/// `Refused` with what the reader of the file's format refuses, and `SectionIsMissing` of `.dynsym` for the dynamic symbol
-/// table of a Mach-O or PE file; `Unreadable` where the source can't be read at offsets, or a read of it fails, and never
-/// of a source that can't fail, as bytes in memory are; `OutOfMemory` where an allocation fails.
+/// `Refused` with the error of the format's reader, and `SectionIsMissing` of `.dynsym` for the dynamic symbol table of
+/// a Mach-O or PE file; `Unreadable` where the source can't be read at offsets, or a read of it fails, and never for a
+/// source that can't fail, such as bytes in memory; `OutOfMemory` where an allocation fails.
 #[tactic(auto, unfolding(crate::specs::AllTables::AreAllTablesOf))]
 pub fn read_all<S: Source>(
     alloc: Global,
@@ -210,17 +210,17 @@ pub fn read_all<S: Source>(
     }
 }
 
-/// Lists the function symbols of all sections of a file: a line `{address:016x} {size:>10} {section} {trimmed}` for each,
-/// where the section is shown by its name, or by its number in brackets where it has none. The listing is made before its
-/// first byte is written.
+/// Lists the function symbols of all sections of a file: a line `{address:016x} {size:>10} {section} {trimmed}` for
+/// each, with the section's name, or its number in brackets where it has none. The listing is made before its first
+/// byte is written.
 ///
 /// # Errors
 ///
-/// As `functions`, and `OutOfMemory` where any other allocation failed; `Write` where a write failed, which alone can leave
-/// a beginning of the listing written.
+/// Those of `functions`, and `OutOfMemory` where any other allocation failed. Nothing is written then. `Write` where a
+/// write failed: a beginning of the listing may then be written.
 pub fn list_all<S: Sink>(alloc: Global, tables: &AllTables, out: &mut S) -> Result<(), ListError>
-    ensures tells { (which : SymbolTable) (file : List ℕ) → AreAllTablesOf which file tables.now
-        → Tells AllListingFits (AllNeedsMemory file) (all_answer_of which file) (outcome_of result) }
+    ensures outcome { (which : SymbolTable) (file : List ℕ) → AreAllTablesOf which file tables.now
+        → EndsAs AllListingFits (AllNeedsMemory file) (all_answer_of which file) (outcome_of result) }
     ensures takes { (which : SymbolTable) (file : List ℕ) → AreAllTablesOf which file tables.now
         → Takes IsAllListingOf (all_answer_of which file) (S.taken out.old) (S.taken out.new) (outcome_of result) }
     ensures fails { Fails (S.has_failed out.old) (S.has_failed out.new) (outcome_of result) }
@@ -236,15 +236,15 @@ pub fn list_all<S: Sink>(alloc: Global, tables: &AllTables, out: &mut S) -> Resu
 ///
 /// # Errors
 ///
-/// As `list_all`; `TooLarge` where the sum of all sizes is 2^64 or more. Only `Write` can leave a beginning of the report
-/// written.
+/// Those of `list_all`; `TooLarge` where the sum of all sizes is 2^64 or more. Only after `Write` a beginning of the
+/// report may be written.
 pub fn report_all<S: Sink>(
     alloc: Global,
     tables: &AllTables,
     out: &mut S,
 ) -> Result<(), ReportError>
-    ensures tells { (which : SymbolTable) (file : List ℕ) → AreAllTablesOf which file tables.now
-        → Tells ReportFits (AllNeedsMemory file) (one_answer (all_answer_of which file)) (reporting.outcome_of result) }
+    ensures outcome { (which : SymbolTable) (file : List ℕ) → AreAllTablesOf which file tables.now
+        → EndsAs ReportFits (AllNeedsMemory file) (one_answer (all_answer_of which file)) (reporting.outcome_of result) }
     ensures takes { (which : SymbolTable) (file : List ℕ) → AreAllTablesOf which file tables.now
         → Takes IsSumsOf (one_answer (all_answer_of which file)) (S.taken out.old) (S.taken out.new)
         (reporting.outcome_of result) }
@@ -262,10 +262,10 @@ pub fn report_all<S: Sink>(
 ///
 /// # Errors
 ///
-/// As `report_all`. Only `Write` can leave a beginning of the picture written.
+/// Those of `report_all`. Only after `Write` a beginning of the picture may be written.
 pub fn map_all<S: Sink>(alloc: Global, tables: &AllTables, out: &mut S) -> Result<(), ReportError>
-    ensures tells { (which : SymbolTable) (file : List ℕ) → AreAllTablesOf which file tables.now
-        → Tells ReportFits (AllNeedsMemory file) (one_answer (all_answer_of which file)) (reporting.outcome_of result) }
+    ensures outcome { (which : SymbolTable) (file : List ℕ) → AreAllTablesOf which file tables.now
+        → EndsAs ReportFits (AllNeedsMemory file) (one_answer (all_answer_of which file)) (reporting.outcome_of result) }
     ensures takes { (which : SymbolTable) (file : List ℕ) → AreAllTablesOf which file tables.now
         → Takes IsMapOf (one_answer (all_answer_of which file)) (S.taken out.old) (S.taken out.new)
         (reporting.outcome_of result) }

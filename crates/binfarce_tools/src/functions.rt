@@ -15,7 +15,7 @@ use binfarce::{
 };
 use std::alloc::Global;
 
-/// The function symbols of a file that are left, in the order of its listing.
+/// An iterator over the function symbols of a file, in the order of its listing.
 #[derive(Drop)]
 pub enum Functions<'a> {
     Elf32(elf32::Functions<'a>),
@@ -24,7 +24,7 @@ pub enum Functions<'a> {
     All(AllFunctions<'a>),
 }
 
-/// Function symbols that stand in a list, from a place on.
+/// The function symbols of a list, from an index on.
 #[derive(Drop)]
 pub struct Arranged<'a> {
     functions: Vec<FunctionSymbol<'a>>,
@@ -67,8 +67,8 @@ impl<'a> Arranged<'a> {
 ///
 /// # Errors
 ///
-/// `Unknown` where the format isn't one that is read; `Parse` where its reader refuses, other than for memory;
-/// `OutOfMemory` where an allocation failed.
+/// `Unknown` where the format isn't supported; `Parse` where its reader refuses the file; `OutOfMemory` where an
+/// allocation failed.
 #[tactic(auto, unfolding(crate::specs::Answer::symbols_answer, crate::specs::Answer::NeedsMemory))]
 pub fn functions_of_file<'a>(
     alloc: Global,
@@ -124,7 +124,7 @@ fn read_pe(alloc: Global, data: &[u8]) -> Result<(Functions<'_>, u64), ParseErro
     Ok(all_of(listed))
 }
 
-// All functions of a list, beside a size.
+// All functions of a list, with a size.
 pub(crate) fn all_of<'a>(listed: (Vec<FunctionSymbol<'a>>, u64)) -> (Functions<'a>, u64)
     ensures { IsArranged listed.entry result }
 {

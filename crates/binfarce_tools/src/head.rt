@@ -1,4 +1,4 @@
-//! What stands before the name of a line: the address and the size.
+//! The head of a line, before the name: the address and the size.
 
 ghost use Rattle.std.specs.Prelude.{◌≡◌, ◌++◌, ◌<◌, ◌^◌, OnOk, false, length, replicate};
 ghost use Rattle.std.specs.Fmt.{digit_glyph};
@@ -8,7 +8,7 @@ ghost use Rattle.binfarce_tools.specs.Listing.{address_text, line_head, size_tex
 use std::alloc::AllocError;
 use std::fmt::Write;
 
-/// Writes the head of a line after the text.
+/// Appends the head of a line to the text.
 #[tactic(auto, using(crate::proofs::Pads::address_padded, crate::proofs::Pads::size_padded))]
 pub fn push_head(text: &mut String, address: u64, size: u64) -> Result<(), AllocError>
     ensures { OnOk result (string_bytes text.new ≡ string_bytes text.old ++ line_head address size) }

@@ -1,11 +1,13 @@
-//! What the programs are made of: listings of the function symbols of executables, and reports of their sizes by crate.
+//! Listings of the function symbols of executables, and reports and pictures of their sizes by crate.
 #![tactic(auto)]
 
 pub mod all;
 pub mod functions;
 mod head;
+pub mod laws;
 pub mod list;
 pub mod map;
+pub mod program;
 pub mod report;
 pub mod tables;
 pub mod writing;

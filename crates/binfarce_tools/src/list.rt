@@ -9,7 +9,7 @@ ghost use Rattle.binfarce.specs.declared.SymbolTable.{SymbolTable};
 ghost use Rattle.binfarce_tools.specs.Answer.{answer_of, file_answer, FileNeedsMemory};
 ghost use Rattle.binfarce_tools.specs.Listing.{IsLineOf, IsListingOf, ListingFits};
 ghost use Rattle.binfarce_tools.specs.ListWords.{outcome_of};
-ghost use Rattle.binfarce_tools.specs.Writing.{Tells, Takes, Fails, Leaves};
+ghost use Rattle.binfarce_tools.specs.Writing.{EndsAs, Takes, Fails, Leaves};
 ghost use Rattle.binfarce_tools.specs.Entries.{HoldsLeft};
 ghost use Rattle.binfarce_tools.specs.Tables.{AreTablesOf};
 
@@ -24,9 +24,9 @@ use std::error::Error;
 use std::fmt;
 use std::io::Write;
 
-/// What bytes are written to.
+/// A sink of bytes.
 pub trait Sink {
-    // The bytes that were taken so far, where the sink tells them.
+    // The bytes that were taken so far, where they are known.
     ghost taken: { Self → Option (List ℕ) } = { λ _. None };
 
     // A write has failed.
@@ -104,13 +104,13 @@ impl<W: Write> Sink for Out<W> {
 /// Why a file was not listed.
 #[derive(Debug, PartialEq, Drop)]
 pub enum ListError {
-    /// The file's first bytes name no format that is read.
+    /// The file's first bytes name no supported format.
     Unknown,
     /// The reader of the file's format refused it.
     Parse(ParseError),
     /// An allocation failed.
     OutOfMemory,
-    /// A write of the sink failed. What it took before is a beginning of the listing.
+    /// A write of the sink failed. It took a beginning of the listing.
     Write,
 }
 
@@ -146,7 +146,7 @@ impl From<ParseError> for ListError {
 
     ghost from_gives = { λ e l. l ≡ list_error_of e };
 
-    /// A failed allocation is reported as such, whichever call it comes from.
+    /// A failed allocation becomes `OutOfMemory`, and any other error becomes `Parse`.
     fn from(e: ParseError) -> Self {
         match e {
             ParseError::OutOfMemory => ListError::OutOfMemory,
@@ -163,8 +163,8 @@ impl From<ParseError> for ListError {
 ///
 /// # Errors
 ///
-/// `Unknown` where the format isn't one that is read; `Parse` where its reader refuses, other than for memory;
-/// `OutOfMemory` where an allocation failed; `Write` where a write failed, which alone can leave a beginning of the listing
+/// `Unknown` where the format isn't supported; `Parse` where its reader refuses the file; `OutOfMemory` where an
+/// allocation failed. Nothing is written then. `Write` where a write failed: a beginning of the listing may then be
 /// written.
 pub fn list<S: Sink>(
     alloc: Global,
@@ -172,7 +172,7 @@ pub fn list<S: Sink>(
     section: &str,
     out: &mut S,
 ) -> Result<(), ListError>
-    ensures tells { Tells ListingFits (FileNeedsMemory data.now)
+    ensures outcome { EndsAs ListingFits (FileNeedsMemory data.now)
         (file_answer data.now section.now) (outcome_of result) }
     ensures takes { Takes IsListingOf (file_answer data.now section.now) (S.taken out.old)
         (S.taken out.new) (outcome_of result) }
@@ -184,14 +184,14 @@ pub fn list<S: Sink>(
     write_whole(out, text.as_bytes())
 }
 
-/// Lists what `list` does, of a file's tables: for the section that they were read for.
+/// As `list`, from the tables of a file: for the section that they were read for.
 ///
 /// # Errors
 ///
 /// As `list`.
 pub fn list_tables<S: Sink>(alloc: Global, tables: &Tables, out: &mut S) -> Result<(), ListError>
-    ensures tells { (which : SymbolTable) (file section : List ℕ) → AreTablesOf which file section tables.now
-        → Tells ListingFits (FileNeedsMemory file) (answer_of which file section) (outcome_of result) }
+    ensures outcome { (which : SymbolTable) (file section : List ℕ) → AreTablesOf which file section tables.now
+        → EndsAs ListingFits (FileNeedsMemory file) (answer_of which file section) (outcome_of result) }
     ensures takes { (which : SymbolTable) (file section : List ℕ) → AreTablesOf which file section tables.now
         → Takes IsListingOf (answer_of which file section) (S.taken out.old) (S.taken out.new) (outcome_of result) }
     ensures fails { Fails (S.has_failed out.old) (S.has_failed out.new) (outcome_of result) }
@@ -216,7 +216,7 @@ fn listing(alloc: Global, functions: Functions<'_>, size: u64) -> Result<String,
     Ok(text)
 }
 
-// Writes the line of a function after the text.
+// Appends the line of a function to the text.
 fn push_line(
     demangler: &mut Demangler,
     text: &mut String,

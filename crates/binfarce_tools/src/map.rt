@@ -9,7 +9,7 @@ ghost use Rattle.binfarce_tools.specs.ReportWords.{outcome_of};
 ghost use Rattle.binfarce_tools.specs.Sums.{AreSumsOf};
 ghost use Rattle.binfarce_tools.specs.Tables.{AreTablesOf};
 ghost use Rattle.binfarce.specs.declared.SymbolTable.{SymbolTable};
-ghost use Rattle.binfarce_tools.specs.Writing.{Tells, Takes, Fails, Leaves};
+ghost use Rattle.binfarce_tools.specs.Writing.{EndsAs, Takes, Fails, Leaves};
 ghost use Rattle.binfarce_tools.specs.Map.{IsMapOf, IsMapOfShares, crate_rows};
 
 use crate::list::Sink;
@@ -20,22 +20,22 @@ use binfarce_chart::bars::Bar;
 use binfarce_chart::svg::chart;
 use std::alloc::{AllocError, Global};
 
-/// Draws how many bytes the function symbols of a file's section take: an SVG document with a bar for each crate, the
+/// Draws the sizes of the function symbols of a file's section by crate: an SVG document with a bar for each crate, the
 /// greatest first.
 ///
-/// The sums are those that `report` shows, and the picture is that of `binfarce_chart::svg::chart`: of more than 40 crates the
-/// last bar stands for all from the 40th on. The picture is made before its first byte is written.
+/// The sums are those that `report` shows, and the picture is that of `binfarce_chart::svg::chart`: of more than 40
+/// crates, the last bar sums up all from the 40th on. The picture is made before its first byte is written.
 ///
 /// # Errors
 ///
-/// As `report`. Only `Write` can leave a beginning of the picture written.
+/// Those of `report`. Only after `Write` a beginning of the picture may be written.
 pub fn map<S: Sink>(
     alloc: Global,
     data: &[u8],
     section: &str,
     out: &mut S,
 ) -> Result<(), ReportError>
-    ensures tells { Tells ReportFits (FileNeedsMemory data.now) (file_answer data.now section.now) (outcome_of result) }
+    ensures outcome { EndsAs ReportFits (FileNeedsMemory data.now) (file_answer data.now section.now) (outcome_of result) }
     ensures takes { Takes IsMapOf (file_answer data.now section.now) (S.taken out.old)
         (S.taken out.new) (outcome_of result) }
     ensures fails { Fails (S.has_failed out.old) (S.has_failed out.new) (outcome_of result) }
@@ -47,14 +47,14 @@ pub fn map<S: Sink>(
     Ok(())
 }
 
-/// Draws what `map` does, of a file's tables: for the section that they were read for.
+/// As `map`, from the tables of a file: for the section that they were read for.
 ///
 /// # Errors
 ///
 /// As `map`.
 pub fn map_tables<S: Sink>(alloc: Global, tables: &Tables, out: &mut S) -> Result<(), ReportError>
-    ensures tells { (which : SymbolTable) (file section : List ℕ) → AreTablesOf which file section tables.now
-        → Tells ReportFits (FileNeedsMemory file) (answer_of which file section) (outcome_of result) }
+    ensures outcome { (which : SymbolTable) (file section : List ℕ) → AreTablesOf which file section tables.now
+        → EndsAs ReportFits (FileNeedsMemory file) (answer_of which file section) (outcome_of result) }
     ensures takes { (which : SymbolTable) (file section : List ℕ) → AreTablesOf which file section tables.now
         → Takes IsMapOf (answer_of which file section) (S.taken out.old) (S.taken out.new) (outcome_of result) }
     ensures fails { Fails (S.has_failed out.old) (S.has_failed out.new) (outcome_of result) }

@@ -10,7 +10,7 @@ ghost use Rattle.binfarce.specs.declared.SymbolTable.{SymbolTable};
 ghost use Rattle.binfarce_tools.specs.Answer.{answer_of, file_answer, FileNeedsMemory};
 ghost use Rattle.binfarce_tools.specs.Report.{Share, IsShareOf, IsReportOf, IsReportOfShares, IsSumsOfShares, ReportFits, crate_text, crate_line};
 ghost use Rattle.binfarce_tools.specs.ReportWords.{outcome_of};
-ghost use Rattle.binfarce_tools.specs.Writing.{Tells, Takes, Fails, Leaves};
+ghost use Rattle.binfarce_tools.specs.Writing.{EndsAs, Takes, Fails, Leaves};
 ghost use Rattle.binfarce_tools.specs.declared.report.ReportError.TheVariants.{OutOfMemory, TooLarge, Write};
 ghost use Rattle.binfarce_tools.specs.Entries.{functions_left};
 ghost use Rattle.binfarce_tools.specs.Tables.{AreTablesOf};
@@ -28,13 +28,13 @@ use std::collections::BTreeMap;
 use std::error::Error;
 use std::fmt;
 
-// What stands in a report for a crate that no name tells.
+// The label in a report for symbols without a crate.
 const UNKNOWN_CRATE: &str = "[unknown]";
 
 /// Why a report was not made.
 #[derive(Debug, PartialEq, Drop)]
 pub enum ReportError {
-    /// The file's first bytes name no format that is read.
+    /// The file's first bytes name no supported format.
     Unknown,
     /// The reader of the file's format refused it.
     Parse(ParseError),
@@ -42,7 +42,7 @@ pub enum ReportError {
     OutOfMemory,
     /// The sum of all sizes is 2^64 or more.
     TooLarge,
-    /// A write of the sink failed. What it took before is a beginning of the report.
+    /// A write of the sink failed. It took a beginning of the report.
     Write,
 }
 
@@ -51,7 +51,7 @@ impl fmt::Display for ReportError {
 
     ghost output = { λ e. Some (report_words e) };
 
-    /// What `list` reports too has its words.
+    /// The errors of `list` have its text.
     fn fmt<W: fmt::Write>(&self, f: &mut fmt::Formatter<W>) -> fmt::Result {
         match self {
             ReportError::Unknown => write!(f, "{}", ListError::Unknown),
@@ -80,7 +80,7 @@ impl From<ListError> for ReportError {
 
     ghost from_gives = { λ l e. e ≡ report_error_of l };
 
-    /// What keeps a file from being listed keeps it from being reported.
+    /// A file that can't be listed can't be reported, for the same reason.
     fn from(e: ListError) -> Self {
         match e {
             ListError::Unknown => ReportError::Unknown,
@@ -96,20 +96,20 @@ impl From<ListError> for ReportError {
 ///
 /// The symbols are those that `list` lists. The line of a crate is `{sum:>10} {name}`, with the sum of the sizes of its
 /// symbols; after these come `sum {total}`, with the sum of all sizes, and `text {size}`, with that of the section. The
-/// crate of a symbol is the one that its name tells, and for a legacy name the first part of its path, unless that
-/// begins with `<`; all other symbols are counted for `[unknown]`. The report is made before its first byte is written.
+/// crate of a symbol is that of its v0 name, or the first part of the path of its legacy name, unless that begins with
+/// `<`. All other symbols are counted for `[unknown]`. The report is made before its first byte is written.
 ///
 /// # Errors
 ///
-/// As `list`; `TooLarge` where the sum of all sizes is 2^64 or more. Only `Write` can leave a beginning of the report
-/// written.
+/// Those of `list`; `TooLarge` where the sum of all sizes is 2^64 or more. Only after `Write` a beginning of the report
+/// may be written.
 pub fn report<S: Sink>(
     alloc: Global,
     data: &[u8],
     section: &str,
     out: &mut S,
 ) -> Result<(), ReportError>
-    ensures tells { Tells ReportFits (FileNeedsMemory data.now)
+    ensures outcome { EndsAs ReportFits (FileNeedsMemory data.now)
         (file_answer data.now section.now) (outcome_of result) }
     ensures takes { Takes IsReportOf (file_answer data.now section.now) (S.taken out.old)
         (S.taken out.new) (outcome_of result) }
@@ -122,7 +122,7 @@ pub fn report<S: Sink>(
     Ok(())
 }
 
-/// Reports what `report` does, of a file's tables: for the section that they were read for.
+/// As `report`, from the tables of a file: for the section that they were read for.
 ///
 /// # Errors
 ///
@@ -132,8 +132,8 @@ pub fn report_tables<S: Sink>(
     tables: &Tables,
     out: &mut S,
 ) -> Result<(), ReportError>
-    ensures tells { (which : SymbolTable) (file section : List ℕ) → AreTablesOf which file section tables.now
-        → Tells ReportFits (FileNeedsMemory file) (answer_of which file section) (outcome_of result) }
+    ensures outcome { (which : SymbolTable) (file section : List ℕ) → AreTablesOf which file section tables.now
+        → EndsAs ReportFits (FileNeedsMemory file) (answer_of which file section) (outcome_of result) }
     ensures takes { (which : SymbolTable) (file section : List ℕ) → AreTablesOf which file section tables.now
         → Takes IsReportOf (answer_of which file section) (S.taken out.old) (S.taken out.new) (outcome_of result) }
     ensures fails { Fails (S.has_failed out.old) (S.has_failed out.new) (outcome_of result) }
@@ -184,7 +184,7 @@ pub fn sums_of_tables(alloc: Global, tables: &Tables) -> Result<CrateSums, Repor
     crate_sums(alloc, functions, size)
 }
 
-// The sums of the functions, beside the section's size. `TooLarge` where the sum of all doesn't fit.
+// The sums of the functions, with the section's size. `TooLarge` where the sum of all exceeds 64 bits.
 pub(crate) fn crate_sums(
     alloc: Global,
     functions: Functions<'_>,
@@ -211,8 +211,8 @@ pub(crate) fn crate_sums(
     })
 }
 
-// Adds a function's size to the sum of its crate, whose name is written in place of the text: it is kept from one function
-// to the next, so that no memory is taken for a name that the sums have.
+// Adds a function's size to the sum of its crate. The text is overwritten by the crate's name; it is reused for all
+// functions, so a name that the sums already have allocates nothing.
 fn add_function(
     alloc: Global,
     crates: &mut BTreeMap<String, u64>,
@@ -246,7 +246,7 @@ fn add_size(
     Ok(())
 }
 
-// Writes the crate that a function of this name is counted for in place of the text.
+// Overwrites the text by the crate that a function of this name is counted for.
 fn put_crate(alloc: Global, text: &mut String, name: &str) -> Result<(), AllocError>
     ensures { OnOk result ((n : Name) × IsNamed name.now n × (string_bytes text.new ≡ crate_text n)) }
 {
@@ -282,7 +282,7 @@ pub(crate) fn sums_text(alloc: Global, sums: &CrateSums) -> Result<String, Alloc
     Ok(text)
 }
 
-// `{sum:>10} {name}` and a line feed, after the text.
+// Appends `{sum:>10} {name}` and a line feed to the text.
 #[tactic(auto, using(crate::proofs::Pads::size_padded))]
 fn push_crate_line(text: &mut String, name: &str, sum: u64) -> Result<(), AllocError>
     ensures { OnOk result (string_bytes text.new ≡ string_bytes text.old ++ crate_line name.now sum) }

@@ -1,12 +1,12 @@
--- Names that are looked up: the nearest of those that are known.
+-- Lookup of names: the nearest of the known ones.
 use Rattle.std.specs.Prelude.{◌<◌, ◌≤◌, ◌==◌, ℕ, List, All, Contains, length, take_while, Option, MatchOption}
 use Rattle.std.specs.List.{zip}
 
--- how many bytes two names begin with alike
+-- the length of the longest common prefix of two names
 abbrev pub shared : (a b : List ℕ) → ℕ
 shared a b = length (take_while (λ p. p.0 == p.1) (zip a b))
 
--- the nearest of these to a name: one that shares most of its beginning, which is more than `least` bytes; none where no one shares so many
+-- the nearest of these to a name: one with the longest common prefix, of more than `least` bytes; none where no prefix is so long
 abbrev pub IsNearest : {T : Type 0} → (T → List ℕ) → List T → (name : List ℕ) → (least : ℕ) → Option T → Type 0
 IsNearest text known name least found = MatchOption found
     (All (λ it. shared (text it) name ≤ least) known)

@@ -1,4 +1,4 @@
--- What clauses see of a call, of what words give, and of why they are wrong.
+-- What clauses see of a call, of its options and operands, and of a wrong call.
 use Rattle.std.specs.Prelude.{◌≡◌, ◌⊎◌, map, Option, Some, None, Result, Ok, Err}
 use Rattle.std.specs.Option.{option_map}
 use Rattle.binfarce_words.specs.Named.{IsNearest}
@@ -35,17 +35,17 @@ IsWrong wrong (TooMany word) = wrong ≡ words.too_many word.now
 IsWrong wrong NotUtf8 = ⊥
 IsWrong wrong OutOfMemory = ⊥
 
--- what is wrong, if anything is
+-- the reason why the call is wrong, if any
 abbrev pub IsFault : Option words.Wrong → Option Wrong → Type 0
 IsFault fault None = fault ≡ None
 IsFault fault (Some e) = (wrong : words.Wrong) × (fault ≡ Some wrong) × IsWrong wrong e
 
--- what is returned for this answer: the answer, or why the call is wrong; or an allocation failed
+-- the result for this answer: the answer, or why the call is wrong; or an allocation failed
 abbrev pub Gives : {T X : Type 0} → (T → X) → Result X words.Wrong → Result T Wrong → Type 0
 Gives view answer (Ok x) = answer ≡ Ok (view x)
 Gives view answer (Err e) = (e ≡ OutOfMemory) ⊎ ((wrong : words.Wrong) × (answer ≡ Err wrong) × IsWrong wrong e)
 
--- what a value is after a call that changes it to this answer, or why the call is wrong; or an allocation failed
+-- a value after a call that changes it to this answer, or why the call is wrong; or an allocation failed
 abbrev pub Changes : {T X : Type 0} → (T → X) → Result X words.Wrong → T → Result (Unit {0}) Wrong → Type 0
 Changes view answer new (Ok x) = answer ≡ Ok (view new)
 Changes view answer new (Err e) = (e ≡ OutOfMemory) ⊎ ((wrong : words.Wrong) × (answer ≡ Err wrong) × IsWrong wrong e)

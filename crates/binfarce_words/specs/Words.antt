@@ -1,4 +1,4 @@
--- What the words of a call ask for: `COMMAND [OPTION..] [OPERAND..]`.
+-- The call that the words mean: `COMMAND [OPTION..] [OPERAND..]`.
 use Rattle.std.specs.Prelude.{◌==◌, ◌++◌, ◌&&◌, ◌||◌, ℕ, Bool, true, false, not, List, [], ◌∷◌, codes, find, length, Option, Some, None, is_some, Result, Ok, Err, if◌then◌else◌}
 use Rattle.std.specs.List.{position_or_len, before_first, after_first}
 use Rattle.std.specs.Str.{byte, bytes_eq}
@@ -57,7 +57,7 @@ pub data Wrong : Type 0 where
   no_file : (command : Command) → Wrong
   too_many : (word : List ℕ) → Wrong
 
--- what the words after a command give: the options' values, and the other words in their order
+-- the options' values, and the other words in their order
 pub record Given : Type 0 where
   pub help : Bool
   pub section : Option (List ℕ)
@@ -67,16 +67,16 @@ pub record Given : Type 0 where
   pub all : Bool
   pub operands : List (List ℕ)
 
--- nothing is given
+-- no options and no operands
 abbrev pub nothing : Given
 nothing = record { help = false; section = None; full = false; base = 0; dynamic = false; all = false; operands = [] }
 
--- what is given with this base, if that is an address
+-- the options with this base, if it is an address
 abbrev pub with_base : Given → (word : List ℕ) → Option ℕ → Result Given Wrong
 with_base given word None = Err (no_address word)
 with_base given word (Some base) = Ok (record given { base = base })
 
--- what is given with this option and its value
+-- the options with this option and its value
 abbrev pub with_flag : Given → Flag → (value : List ℕ) → Result Given Wrong
 with_flag given flags.Help value = Ok (record given { help = true })
 with_flag given flags.Section value = Ok (record given { section = Some value })
@@ -88,7 +88,7 @@ with_flag given flags.All value = Ok (record given { all = true })
 abbrev pub with_operand : Given → List ℕ → Given
 with_operand given word = record given { operands = given.operands ++ word ∷ [] }
 
--- words that were read up to here: what they give, the option whose value comes next, and whether `--` came, behind which all are operands
+-- the state after some words: the options and operands, the option whose value comes next, and whether `--` came, after which all are operands
 pub record Reading : Type 0 where
   pub given : Given
   pub waiting : Option Flag
@@ -129,7 +129,7 @@ abbrev pub after_option : Command → Given → (word : List ℕ) → Option (Li
 after_option command given word None = after_name command given word (flag_named command word)
 after_option command given word (Some parts) = after_value command given word parts.1 (flag_named command parts.0)
 
--- the reading after one word more: the value that is waited for, an operand, `--`, or an option
+-- the reading after one word more: the value of the option before, an operand, `--`, or an option
 abbrev pub after_waiting : Command → Given → Bool → (word : List ℕ) → Option Flag → Result Reading Wrong
 after_waiting command given are_operands word (Some flag) = read_on are_operands (with_flag given flag word)
 after_waiting command given are_operands word None =
@@ -140,7 +140,7 @@ after_waiting command given are_operands word None =
 unfoldable pub after_word : Command → Reading → List ℕ → Result Reading Wrong
 after_word command r word = after_waiting command r.given r.are_operands word r.waiting
 
--- what is given once all words were read
+-- the options and operands after all words
 abbrev pub finished : Given → Option Flag → Result Given Wrong
 finished given None = Ok given
 finished given (Some flag) = Err (no_value flag)
@@ -149,7 +149,7 @@ abbrev pub go_on : (Reading → Result Given Wrong) → Result Reading Wrong →
 go_on others (Err wrong) = Err wrong
 go_on others (Ok next) = others next
 
--- what these further words give, one after the other
+-- the options and operands after these further words
 unfoldable pub given_after : Command → Reading → List (List ℕ) → Result Given Wrong
 given_after command r [] = finished r.given r.waiting
 given_after command r (word ∷ others) = go_on (λ next. given_after command next others) (after_word command r word)
@@ -158,11 +158,11 @@ given_after command r (word ∷ others) = go_on (λ next. given_after command ne
 abbrev pub begun : Reading
 begun = record { given = nothing; waiting = None; are_operands = false }
 
--- what the words after a command give
+-- the options and operands of the words after a command
 abbrev pub given_of : Command → List (List ℕ) → Result Given Wrong
 given_of command words = given_after command begun words
 
--- what a call asks for
+-- a call
 pub data Call : Type 0 where
   show_help : (topic : Option Command) → Call
   show_version : Call
@@ -181,12 +181,12 @@ abbrev pub help_of : (word : List ℕ) → Option Command → Result Call Wrong
 help_of word None = Err (unknown_command word)
 help_of word (Some command) = Ok (show_help (Some command))
 
--- `help`, and the command that it is wanted of, if one is named
+-- `help`, and the command that it is about, if one is named
 abbrev pub help_call : List (List ℕ) → Result Call Wrong
 help_call [] = Ok (show_help None)
 help_call (word ∷ others) = help_of word (command_named word)
 
--- what is wrong with the operands of a command: it needs a file, or it takes no more than two
+-- the fault of a command's operands: it needs a file, or it takes no more than two
 abbrev pub operand_fault : Command → List (List ℕ) → Option Wrong
 operand_fault Filter operands = None
 operand_fault command [] = Some (no_file command)
@@ -201,7 +201,7 @@ abbrev pub unless_fault : Option Wrong → Call → Result Call Wrong
 unless_fault (Some wrong) call = Err wrong
 unless_fault None call = Ok call
 
--- the command's work, or help on it, where that is asked for
+-- the command, or help on it, where that is requested
 abbrev pub call_with : Command → Given → Result Call Wrong
 call_with command given = if given.help then Ok (show_help (Some command)) else unless_fault (fault_of command given) (run command given)
 
@@ -213,7 +213,7 @@ abbrev pub command_call : (word : List ℕ) → (others : List (List ℕ)) → O
 command_call word others None = Err (unknown_command word)
 command_call word others (Some command) = run_of command (given_of command others)
 
--- what a call asks for by its words, or why they are wrong
+-- the call that the words mean, or why they are wrong
 abbrev pub call_of : List (List ℕ) → Result Call Wrong
 call_of [] = Err no_command
 call_of (word ∷ others) = if asks_help word then help_call others

@@ -1,4 +1,4 @@
-//! What the words of a call of the command ask for.
+//! The command line of `binfarce`: words to a call.
 #![tactic(auto)]
 
 pub mod named;

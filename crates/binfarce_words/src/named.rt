@@ -1,10 +1,10 @@
-//! Names that are looked up.
+//! Lookup of names.
 
 ghost use Rattle.std.specs.Prelude.{◌≡◌, List, ℕ, find};
 ghost use Rattle.std.specs.Str.{bytes_eq};
 ghost use Rattle.binfarce_words.specs.Named.{shared, IsNearest};
 
-/// What has a name.
+/// An item with a name.
 pub trait Named: Copy {
     // The name.
     ghost text: { Self → List ℕ };
@@ -21,8 +21,8 @@ pub fn find_named<T: Named>(known: &[T], name: &str) -> Option<T>
     known.iter().copied().find(|it| it.name() == name)
 }
 
-/// One of these that shares the longest beginning with the name, where that is more than `least` bytes. `None` where none
-/// shares so many. Allocates nothing.
+/// One of these with the longest common prefix with the name, if that has more than `least` bytes; otherwise `None`.
+/// Allocates nothing.
 pub fn nearest<T: Named>(known: &[T], name: &str, least: usize) -> Option<T>
     ensures { IsNearest T.text known.now name.now least result }
 {
@@ -38,7 +38,7 @@ pub fn nearest<T: Named>(known: &[T], name: &str, least: usize) -> Option<T>
     found
 }
 
-// How many bytes two names begin with alike.
+// The length of the longest common prefix of two names.
 fn shared_len(a: &str, b: &str) -> usize
     ensures { result ≡ shared a.now b.now }
 {

@@ -1,4 +1,4 @@
-//! What the words of a call ask for.
+//! The command line of a call.
 
 ghost use Rattle.std.specs.Prelude.{◌≡◌, ◌∷◌, map, Ok, None, false};
 ghost use Rattle.std.specs.Option.{option_map};
@@ -11,7 +11,7 @@ use binfarce_addresses::address::parse_address;
 use std::alloc::Global;
 use std::fmt;
 
-/// What the program does.
+/// A command.
 #[derive(Debug, Clone, Copy, PartialEq)]
 pub enum Command {
     /// Lists function symbols.
@@ -140,7 +140,7 @@ pub enum Wrong<'a> {
     NoValue(Flag),
     /// Two options that exclude each other.
     Exclusive(Flag, Flag),
-    /// The word is no address.
+    /// The word isn't an address.
     NoAddress(&'a str),
     /// The command has no file.
     NoFile(Command),
@@ -197,26 +197,26 @@ impl<'a> fmt::Display for Wrong<'a> {
     }
 }
 
-/// What the words after a command give.
+/// The options and operands of a command.
 #[derive(Debug, Drop)]
 pub struct Given<'a> {
-    /// Help is asked for.
+    /// Help is requested.
     pub help: bool,
     /// The section of an ELF file that is named.
     pub section: Option<&'a str>,
     /// Names keep their hashes.
     pub full: bool,
-    /// What is subtracted from each address.
+    /// The base, which is subtracted from each address.
     pub base: u64,
     /// The dynamic symbol table is read.
     pub dynamic: bool,
     /// The function symbols of all sections are taken.
     pub all: bool,
-    /// The words that are no options.
+    /// The words that aren't options.
     pub operands: Vec<&'a str>,
 }
 
-/// What a call asks for.
+/// A call.
 #[derive(Debug, Drop)]
 pub enum Call<'a> {
     /// Help on the program, or on a command.
@@ -227,7 +227,7 @@ pub enum Call<'a> {
     Run(Command, Given<'a>),
 }
 
-/// What a call asks for by the words after the program's own name.
+/// The call that the words after the program's own name mean.
 ///
 /// # Errors
 ///
@@ -265,7 +265,7 @@ fn asks_version(word: &str) -> bool
     word == "--version" || word == "-V"
 }
 
-// `help`, and the command that it is asked for.
+// `help`, and the command that it is about.
 fn read_help<'a>(others: &'a [String]) -> Result<Call<'a>, Wrong<'a>>
     ensures { Gives call_view (help_call (map string_bytes others.entry.now)) result }
 {
@@ -284,7 +284,7 @@ fn help_on(word: &str) -> Result<Call<'_>, Wrong<'_>>
     }
 }
 
-// The command of this name, and what the other words give.
+// The command of this name, with its options and operands.
 fn read_command<'a>(
     alloc: Global,
     word: &'a str,
@@ -312,7 +312,7 @@ fn read_options<'a>(
     }
 }
 
-// The command's work, or help on it, where that is asked for.
+// The command, or help on it, where that is requested.
 fn call_with<'a>(command: Command, given: Given<'a>) -> Result<Call<'a>, Wrong<'a>>
     ensures { Gives call_view (call_with command (given_view given.entry)) result }
 {
@@ -335,7 +335,7 @@ fn fault_of<'a>(command: Command, given: &Given<'a>) -> Option<Wrong<'a>>
     operand_fault(command, given.operands.as_slice())
 }
 
-// What is wrong with a command's operands.
+// The fault of a command's operands.
 fn operand_fault<'a>(command: Command, operands: &[&'a str]) -> Option<Wrong<'a>>
     ensures { IsFault (operand_fault command (map (λ t. t.now) operands.entry.now)) result }
 {
@@ -347,7 +347,7 @@ fn operand_fault<'a>(command: Command, operands: &[&'a str]) -> Option<Wrong<'a>
     }
 }
 
-// What the words after a command give.
+// The options and operands of a command.
 fn read_given<'a>(
     alloc: Global,
     command: Command,
@@ -473,7 +473,7 @@ impl<'a> Reading<'a> {
         }
     }
 
-    // What is given, once all words were read.
+    // The options and operands, after all words were read.
     fn finish(self) -> Result<Given<'a>, Wrong<'a>>
         ensures { Gives given_view (finished (given_view self.entry.given) self.entry.waiting) result }
     {
@@ -485,7 +485,7 @@ impl<'a> Reading<'a> {
 }
 
 impl<'a> Given<'a> {
-    // Sets an option. The value of one that takes none isn't looked at.
+    // Sets an option. The value of one that takes none is ignored.
     fn set(&mut self, flag: Flag, value: &'a str) -> Result<(), Wrong<'a>>
         ensures { Changes given_view (with_flag (given_view self.old) flag value.now) self.new result }
     {

@@ -1,6 +1,6 @@
 // From crates/binfarce_addresses/src/lib.rt, by tools/erase.
 
-//! What stands at addresses in an executable: the function symbol that holds each, and the offset into it.
+//! Symbolizes addresses in an executable: the function symbol that holds each, and the offset into it.
 
 pub mod address;
 pub mod at;

@@ -1,6 +1,6 @@
 // From crates/binfarce_command/src/main.rt, by tools/erase.
 
-//! `binfarce COMMAND [OPTION..] ..`: reads executables, and makes mangled Rust names readable.
+//! `binfarce COMMAND [OPTION..] ..`: reads executables, and demangles Rust names.
 
 mod at;
 mod fault;
@@ -29,8 +29,8 @@ use crate::erased::binfarce_command::section::write_or_list;
 use crate::erased::binfarce_command::show::{Asked, Kind, Symbols};
 use crate::erased::binfarce_bytes::source::Source;
 use crate::erased::binfarce_filtering::stream::{StreamError, filter_stream};
-use crate::erased::binfarce_program::{Failure, arguments};
 use crate::erased::binfarce_tools::SymbolTable;
+use crate::erased::binfarce_tools::program::{Failure, arguments};
 use crate::erased::binfarce_words::words::{Call, Command, Given, Wrong, read_call};
 use crate::shim::alloc::Global;
 use crate::shim::fs::File;
@@ -49,7 +49,7 @@ pub fn main(rt: HostRuntime) -> ExitCode {
     ExitCode::from(status)
 }
 
-// Does what a call asks for, and gives the status that the program ends with.
+// Runs a call, and returns the program's exit status.
 fn run(rt: &HostRuntime, call: &Call<'_>) -> u8 {
     match addresses_of(rt.alloc(), call) {
         Ok(addresses) => run_with(rt, call, &addresses),
@@ -63,7 +63,7 @@ fn run_with(rt: &HostRuntime, call: &Call<'_>, addresses: &[u64]) -> u8 {
     ended(rt, done, out.into_reason())
 }
 
-// The addresses that a call gives.
+// The addresses of a call.
 fn addresses_of<'a>(alloc: Global, call: &Call<'a>) -> Result<Vec<u64>, Wrong<'a>> {
     match call {
         Call::Run(Command::At, given) => read_addresses(alloc, others(given)),
@@ -79,7 +79,7 @@ fn others<'b, 'a>(given: &'b Given<'a>) -> &'b [&'a str] {
     }
 }
 
-// Does what a call asks for, and flushes the output. `false` where a file was refused.
+// Runs a call, and flushes the output. `false` where a file was refused.
 fn answer<W: Write>(
     rt: &HostRuntime,
     call: &Call<'_>,
@@ -142,7 +142,7 @@ fn show_all<W: Write>(
     )
 }
 
-// Makes the names in standard input readable, or those that are given.
+// Demangles the names in standard input, or the given ones.
 fn filter_text<W: Write>(
     rt: &HostRuntime,
     given: &Given<'_>,
@@ -240,10 +240,12 @@ fn symbols_of<'a>(given: &Given<'a>) -> Symbols<'a> {
     } else {
         SymbolTable::Symtab
     };
-    Symbols {
-        which,
-        section: given.section.unwrap_or(".text"),
-    }
+    let section = if given.all {
+        None
+    } else {
+        Some(given.section.unwrap_or(".text"))
+    };
+    Symbols { which, section }
 }
 
 // The first operand.

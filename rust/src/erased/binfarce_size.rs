@@ -8,8 +8,8 @@ mod tests;
 
 use crate::shim::HostRuntime;
 use crate::erased::binfarce_size::program::{Fault, run_file, words};
-use crate::erased::binfarce_program::{arguments, exit, finish, open};
 use crate::erased::binfarce_tools::list::Out;
+use crate::erased::binfarce_tools::program::{arguments, exit, finish, open};
 use crate::shim::io;
 use std::process::ExitCode;
 

@@ -1,6 +1,6 @@
 // From crates/binfarce_tables/src/lib.rt, by tools/erase.
 
-//! Files that are read where their tables are: each part once, into memory of its size. Names stay as they are stored.
+//! Files of which only the tables are read: each part once, into memory of its size. Names stay as they are stored.
 
 mod beginning;
 pub mod elf;

@@ -1,12 +1,13 @@
 // From crates/binfarce_tools/src/lib.rt, by tools/erase.
 
-//! What the programs are made of: listings of the function symbols of executables, and reports of their sizes by crate.
+//! Listings of the function symbols of executables, and reports and pictures of their sizes by crate.
 
 pub mod all;
 pub mod functions;
 mod head;
 pub mod list;
 pub mod map;
+pub mod program;
 pub mod report;
 pub mod tables;
 pub mod writing;

@@ -1,6 +1,6 @@
 // From crates/binfarce_words/src/lib.rt, by tools/erase.
 
-//! What the words of a call of the command ask for.
+//! The command line of `binfarce`: words to a call.
 
 pub mod named;
 pub mod words;

@@ -22,11 +22,9 @@ pub mod binfarce_reading;
 pub mod binfarce_image;
 pub mod binfarce_chart;
 pub mod binfarce_tools;
-pub mod binfarce_parts;
 pub mod binfarce_addresses;
 pub mod binfarce_words;
 pub mod binfarce_sections;
-pub mod binfarce_program;
 pub mod binfarce_c;
 #[cfg(test)]
 pub mod test_samples;

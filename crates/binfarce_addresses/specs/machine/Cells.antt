@@ -1,4 +1,4 @@
--- What cells tell of addresses, and where the names stand that they tell of.
+-- Cells: spans of addresses, and the positions of their names.
 use Rattle.std.specs.Prelude.{◌≡◌, ℕ, ◌+◌, ◌-◌, ◌<◌, List, length, slice_index_or, Some}
 use Rattle.binfarce.specs.Name.{Name}
 use Rattle.binfarce.specs.Named.{IsNamed}
@@ -8,7 +8,7 @@ use Rattle.binfarce_addresses.specs.Range.{IsSpanOf}
 use Rattle.binfarce_addresses.specs.Lines.{in_file, found_at}
 use Rattle.binfarce_addresses.specs.declared.cells.Cell.{Cell}
 
--- what is read past the end
+-- the cell that is read past the end
 abbrev pub no_cell : Cell
 no_cell = record { address = 0; size = 0; until = 0; start = 0; len = 0 }
 
@@ -26,7 +26,7 @@ pub record IsCellOf (ranges : List AddressRange) (bounds : List ℕ) (cell : Cel
 pub record AreCellsOf (ranges : List AddressRange) (bounds : List ℕ) (cells : List Cell) : Type 0 where
   pub each : (k : ℕ) → k < length cells → IsCellOf ranges bounds (cell_at cells k)
 
--- the address is shown by an entry of this trimmed name, with this offset into it
+-- the address symbolizes to an entry of this trimmed name, with this offset into it
 abbrev pub IsNameAt : List Entry → ℕ → ℕ → List ℕ → ℕ → Type 0
 IsNameAt entries base address text offset =
     (entry : Entry) × (found_at entries (in_file base address) ≡ Some entry) × (offset ≡ address - base - entry.address) × ((name : Name) × IsNamed entry.name name × (text ≡ name.trimmed))

@@ -1,10 +1,10 @@
--- What the index of ranges keeps.
+-- The index of ranges.
 use Rattle.std.specs.Prelude.{◌≡◌, ℕ, ◌+◌, ◌-◌, ◌^◌, ◌<◌, ◌≤◌, ◌⊎◌, max, min, List, length, slice_index_or}
 use Rattle.binfarce_addresses.specs.declared.ranges.AddressRange.{AddressRange}
 use Rattle.binfarce_addresses.specs.declared.ranges.Row.{Row}
 use Rattle.binfarce_addresses.specs.declared.ranges.Node.{Node}
 
--- what is read past the end
+-- the range that is read past the end
 abbrev pub no_range : AddressRange
 no_range = record { address = 0; size = 0 }
 
@@ -48,7 +48,7 @@ pub record IsBound (rows : List Row) (address place : ℕ) : Type 0 where
   pub before : (k : ℕ) → k < place → (row_at rows k).address ≤ address
   pub behind : (k : ℕ) → place ≤ k → k < length rows → address < (row_at rows k).address
 
--- a node before all rows, and one for each: behind its links to earlier nodes stand none that reach further
+-- a node before all rows, and one for each: no node that a link skips reaches further
 pub record AreLinked (nodes : List Node) : Type 0 where
   pub some : 0 < length nodes
   pub root : (node_at nodes 0).last ≡ 2 ^ 64 - 1
@@ -77,7 +77,7 @@ pub record AreNodesOf (rows : List Row) (nodes : List Node) : Type 0 where
 abbrev pub ArePast : List Row → ℕ → ℕ → ℕ → Type 0
 ArePast rows address from to = (k : ℕ) → from ≤ k → k < to → (row_at rows k).last < address
 
--- what stands in an index of ranges
+-- the content of an index of ranges
 pub record IsIndexed (ranges : List AddressRange) (rows : List Row) (nodes : List Node) : Type 0 where
   pub rows_are : AreRowsOf ranges rows
   pub nodes_are : AreNodesOf rows nodes
@@ -93,7 +93,7 @@ pub record JumpsOver (nodes : List Node) (outer jump : ℕ) : Type 0 where
   pub below : jump ≤ outer
   pub covers : (k : ℕ) → jump ≤ k → k ≤ outer → (node_at nodes k).last ≤ (node_at nodes jump).last
 
--- the node may stand behind these
+-- the node may follow these
 pub record Follows (nodes : List Node) (node : Node) : Type 0 where
   pub outer : IsOuter nodes node.last node.outer
   pub jump : JumpsOver nodes node.outer node.jump

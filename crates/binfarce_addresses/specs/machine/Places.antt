@@ -1,4 +1,4 @@
--- What places are made of: function symbols, their ranges, and names that are readable already.
+-- Places: function symbols, their ranges, and readable names that are kept.
 use Rattle.std.specs.Prelude.{◌≡◌, ℕ, ◌+◌, ◌-◌, ◌<◌, ◌≤◌, List, map, length, take, drop, slice_index_or, String, Option, Some, None, MatchOption}
 use Rattle.std.specs.Global.{Global}
 use Rattle.std.specs.String.{string_bytes}
@@ -23,15 +23,15 @@ ranges_of functions = map (λ f. range_of (function_view f)) functions
 abbrev pub IsNameOf : FunctionSymbol → String Global → Type 0
 IsNameOf function text = (name : Name) × IsNamed (function_view function).name name × (string_bytes text ≡ name.trimmed)
 
--- the entry stands at the place
-abbrev pub StandsAt : List Entry → ℕ → Entry → Type 0
-StandsAt entries place entry = (place < length entries) × (slice_index_or entries place entry ≡ entry)
+-- the entry is at the place
+abbrev pub IsAtPlace : List Entry → ℕ → Entry → Type 0
+IsAtPlace entries place entry = (place < length entries) × (slice_index_or entries place entry ≡ entry)
 
 -- the text is the trimmed name of the entry at the place
 abbrev pub IsNamedAt : List Entry → ℕ → List ℕ → Type 0
-IsNamedAt entries place text = (entry : Entry) → StandsAt entries place entry → (name : Name) × IsNamed entry.name name × (text ≡ name.trimmed)
+IsNamedAt entries place text = (entry : Entry) → IsAtPlace entries place entry → (name : Name) × IsNamed entry.name name × (text ≡ name.trimmed)
 
--- the trimmed names of the first of the entries stand in the text, between these bounds
+-- the text has the trimmed names of the first entries, between these bounds
 pub record AreNamesOf (entries : List Entry) (text bounds : List ℕ) : Type 0 where
   pub rise : (place : ℕ) → place + 1 < length bounds → (slice_index_or bounds place 0 ≤ slice_index_or bounds (place + 1) 0) × (slice_index_or bounds (place + 1) 0 ≤ length text)
   pub named : (place : ℕ) → place + 1 < length bounds → IsNamedAt entries place (take (slice_index_or bounds (place + 1) 0 - slice_index_or bounds place 0) (drop (slice_index_or bounds place 0) text))
@@ -41,8 +41,8 @@ pub record ArePlacesOf (functions : List FunctionSymbol) (ranges : List AddressR
   pub named : AreNamesOf (map function_view functions) text bounds
   pub cells_are : AreCellsOf ranges bounds cells
 
--- the address is shown by this: the place of an entry, and the offset into that
+-- the address symbolizes to this: the place of an entry, and the offset into it
 abbrev pub IsShownAt : List Entry → ℕ → ℕ → Option Found → Type 0
 IsShownAt entries base address shown =
     MatchOption shown (found_at entries (in_file base address) ≡ None)
-    (λ f. (entry : Entry) × (found_at entries (in_file base address) ≡ Some entry) × (f.offset ≡ address - base - entry.address) × StandsAt entries f.place entry)
+    (λ f. (entry : Entry) × (found_at entries (in_file base address) ≡ Some entry) × (f.offset ≡ address - base - entry.address) × IsAtPlace entries f.place entry)

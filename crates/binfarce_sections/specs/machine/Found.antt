@@ -9,7 +9,7 @@ use Rattle.binfarce_sections.specs.declared.error.SectionError.TheVariants.{Unkn
 use Rattle.binfarce_sections.specs.declared.sections.Section as code
 use Rattle.binfarce_sections.specs.Named.{is_named, Lack}
 use Rattle.binfarce_sections.specs.Section.{Section}
-use Rattle.binfarce_sections.specs.Telling.{IsLack}
+use Rattle.binfarce_sections.specs.Results.{IsLack}
 use Rattle.binfarce_sections.specs.Views.{section_view}
 
 -- the first section that the word names, or why the walk doesn't reach it

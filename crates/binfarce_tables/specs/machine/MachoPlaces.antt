@@ -1,4 +1,4 @@
--- Which bytes of a Mach-O file its load commands are read from, and what is found there.
+-- The bytes of a Mach-O file that have its load commands, and the sections and tables found in them.
 use Rattle.std.specs.Prelude.{ℕ, ◌+◌, Bool, List, length, map, min, nat_eq, Option, Result, Ok, if◌then◌else◌}
 use Rattle.std.specs.Option.{option_map}
 use Rattle.std.specs.String.{string_bytes}
@@ -10,11 +10,11 @@ use Rattle.binfarce_macho.specs.MachoParts.{holds_commands, table_of, table_view
 use Rattle.binfarce_macho.specs.MachoSymbols.{SymbolTable}
 use Rattle.binfarce_tables.specs.declared.macho_all.Found.{Found}
 
--- where the commands end, as the header says, in the file
+-- where the commands end, as the header states, but within the file
 abbrev pub said_end : List ℕ → ℕ
 said_end file = min (header_length + (header_of file).sizeofcmds) (length file)
 
--- the file's bytes up to there; or all, where the commands or what is read of them go on
+-- the file's bytes up to there; or all, where the commands or their fields extend past it
 abbrev pub command_bytes : List ℕ → List ℕ
 command_bytes file = if holds_commands (bytes_at file 0 (said_end file)) then bytes_at file 0 (said_end file) else file
 

@@ -1,6 +1,6 @@
-ghost use Rattle.binfarce_parts.specs.Parts.{PartsDecide};
+ghost use Rattle.binfarce_tools.specs.Parts.{PartsDecide};
 
-use binfarce_parts::laws::parts_decide;
+use binfarce_tools::laws::parts_decide;
 
 /// The law of the parts of two files.
 pub fn cite(file: &[u8], other: &[u8])

@@ -2,7 +2,7 @@ ghost use Rattle.std.specs.Prelude.{codes};
 ghost use Rattle.binfarce.specs.Format.{format_of};
 ghost use Rattle.binfarce_sections.specs.Named.{bytes_named};
 ghost use Rattle.binfarce_sections.specs.Section.{sections_of};
-ghost use Rattle.binfarce_sections.specs.Telling.{Hands};
+ghost use Rattle.binfarce_sections.specs.Results.{Hands};
 
 use binfarce_sections::bytes::section_bytes;
 use binfarce_sections::error::SectionError;

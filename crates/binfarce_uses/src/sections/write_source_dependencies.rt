@@ -2,7 +2,7 @@ ghost use Rattle.std.specs.Prelude.{◌≡◌, List, ℕ, Some, codes};
 ghost use Rattle.binfarce.specs.Format.{format_of};
 ghost use Rattle.binfarce_sections.specs.Named.{bytes_named};
 ghost use Rattle.binfarce_sections.specs.Section.{sections_of};
-ghost use Rattle.binfarce_sections.specs.Telling.{TakesRead};
+ghost use Rattle.binfarce_sections.specs.Results.{TakesRead};
 
 use binfarce_bytes::source::Source;
 use binfarce_sections::bytes::write_section_of;

@@ -1,4 +1,4 @@
-use binfarce_program::{Failure, file_and_section, finish, read_whole};
+use binfarce_tools::program::{Failure, file_and_section, finish, read_whole};
 use std::alloc::{AllocError, Global};
 use std::io::{self, ErrorKind, Write};
 use test_samples::streams::Source;

@@ -2,8 +2,8 @@
 
 //! Addresses as words.
 
-/// The address that a word writes: 1 to 16 hexadecimal digits, in upper or lower case, before which `0x` or `0X` may come.
-/// `None` for any other word.
+/// The address in a word: 1 to 16 hexadecimal digits, in upper or lower case, optionally after `0x` or `0X`. `None` for
+/// any other word. Nothing is allocated.
 pub fn parse_address(word: &[u8]) -> Option<u64> {
     if word.starts_with(b"0x") || word.starts_with(b"0X") {
         hex_number(&word[2..])
@@ -12,8 +12,8 @@ pub fn parse_address(word: &[u8]) -> Option<u64> {
     }
 }
 
-/// The address that the first line of the bytes writes, and how many bytes the line has, where these are 1 to 16 digits and
-/// nothing else. `None` doesn't say that the line writes no address: it may have `0x` before its digits.
+/// The address in the first line of the bytes, and the line's length in bytes, if it has 1 to 16 digits and nothing
+/// else. `None` doesn't mean that the line has no address: it may have `0x` before its digits.
 pub fn hex_line(bytes: &[u8]) -> Option<(u64, usize)> {
     let mut number = 0;
     for (len, byte) in bytes.iter().enumerate() {
@@ -48,7 +48,7 @@ fn hex_number(digits: &[u8]) -> Option<u64> {
     Some(number)
 }
 
-// What each byte is worth as a digit; 16 where it is none.
+// The value of each byte as a digit; 16 for any other byte.
 const VALUES: [u8; 256] = [
     16, 16, 16, 16, 16, 16, 16, 16, 16, 16, 16, 16, 16, 16, 16, 16, 16, 16, 16, 16, 16, 16, 16, 16,
     16, 16, 16, 16, 16, 16, 16, 16, 16, 16, 16, 16, 16, 16, 16, 16, 16, 16, 16, 16, 16, 16, 16, 16,
@@ -63,7 +63,7 @@ const VALUES: [u8; 256] = [
     16, 16, 16, 16, 16, 16, 16, 16, 16, 16, 16, 16, 16, 16,
 ];
 
-// What a digit is worth: one look, since branches on digits are guessed wrong.
+// The value of a digit, by one table lookup: branches on digits are mispredicted.
 #[cfg_attr(not(debug_assertions), inline(always))]
 fn hex_digit(digit: u8) -> Option<u64> {
     let value = VALUES[digit as usize];

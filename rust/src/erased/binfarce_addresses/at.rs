@@ -1,6 +1,6 @@
 // From crates/binfarce_addresses/src/at.rt, by tools/erase.
 
-//! What stands at addresses in an executable, a line each.
+//! Symbolizes addresses in an executable, a line for each.
 
 use crate::shim::{String, Vec};
 use crate::erased::binfarce_addresses::cells::Cells;
@@ -10,11 +10,12 @@ use crate::erased::binfarce_addresses::ranges::{AddressRange, Found, Ranges};
 use crate::erased::binfarce::FunctionSymbol;
 use crate::erased::binfarce_tools::functions::{Functions, functions_of_file};
 use crate::erased::binfarce_tools::list::{ListError, Sink};
+use crate::erased::binfarce_tools::all::AllTables;
 use crate::erased::binfarce_tools::tables::Tables;
 use crate::erased::binfarce_tools::writing::write_whole;
 use crate::shim::alloc::{AllocError, Global};
 
-/// The function symbols of a file, arranged so that what stands at an address takes a search.
+/// The function symbols of a file, arranged for lookups by address.
 ///
 /// Clauses see the entries in their order.
 pub struct Places<'a> {
@@ -29,7 +30,7 @@ impl<'a> Places<'a> {
     ///
     /// # Errors
     ///
-    /// As `list`, but for `Write`.
+    /// Those of `list`, except `Write`.
     pub fn of_file(alloc: Global, data: &'a [u8], section: &str) -> Result<Places<'a>, ListError> {
         let (functions, _) = functions_of_file(alloc, data, section)?;
         let places = places_of(alloc, functions)?;
@@ -47,7 +48,19 @@ impl<'a> Places<'a> {
         Ok(places)
     }
 
-    /// Makes each name readable and keeps it: lines of many addresses take less time then.
+    /// The places of the function symbols of all sections of a file. Those of an object file share addresses, so that an address
+    /// names no place there.
+    ///
+    /// # Errors
+    ///
+    /// As `AllTables::functions`; `OutOfMemory` where any other allocation failed.
+    pub fn of_all(alloc: Global, tables: &'a AllTables) -> Result<Places<'a>, ListError> {
+        let functions = tables.functions(alloc)?;
+        let places = places_of(alloc, Functions::All(functions))?;
+        Ok(places)
+    }
+
+    /// Demangles and keeps each name: this saves time with many addresses.
     ///
     /// # Errors
     ///
@@ -59,7 +72,7 @@ impl<'a> Places<'a> {
         Ok(())
     }
 
-    /// The function symbol that an address is shown by once the base is taken off, and the offset into it.
+    /// The function symbol that an address minus the base symbolizes to, and the offset into it.
     pub fn find(&self, base: u64, address: u64) -> Option<(FunctionSymbol<'a>, u64)> {
         let (_, function, offset) = self.find_place(base, address)?;
         Some((function, offset))
@@ -73,8 +86,8 @@ impl<'a> Places<'a> {
         Some((place, function, in_file - function.address))
     }
 
-    /// Writes the line of an address after the text: the address, the symbol that it is shown by once the base is taken
-    /// off, and the offset into that; or `??` where there is none.
+    /// Appends the line of an address to the text: the address, the symbol that the address minus the base symbolizes
+    /// to, and the offset into it; or `??` where there is none.
     ///
     /// # Errors
     ///
@@ -90,8 +103,8 @@ impl<'a> Places<'a> {
         self.push_shown(alloc, text, base, address, shown)
     }
 
-    // Writes the answers of lines that write these addresses, or none, after the text. What all need of memory is read before
-    // the first is written: it comes sooner where many wait at once.
+    // Appends the answers of lines with these addresses, or none, to the text. The memory of all is read before the
+    // first answer is written, so that cache misses overlap.
     pub(crate) fn push_all(
         &self,
         alloc: Global,
@@ -108,8 +121,7 @@ impl<'a> Places<'a> {
         Ok(())
     }
 
-    // Writes the answer of a line that writes this address, or none, after the text: what the cell at this place says, or what
-    // is found.
+    // Appends the answer of a line with this address, or none, to the text: by the cell at this place, or by a search.
     fn push_answer(
         &self,
         alloc: Global,
@@ -124,7 +136,7 @@ impl<'a> Places<'a> {
         }
     }
 
-    // Writes the line of an address after the text: what the cell at this place tells, or what is found.
+    // Appends the line of an address to the text: by the cell at this place, or by a search.
     fn push_near(
         &self,
         alloc: Global,
@@ -145,8 +157,8 @@ impl<'a> Places<'a> {
         self.push_line(alloc, text, base, address)
     }
 
-    // The kept name of the function symbol that an address is shown by, and the offset into that, if the cell at this place
-    // tells it.
+    // The kept name of the function symbol that an address symbolizes to, and the offset into it, if the cell at this
+    // place has it.
     #[cfg_attr(not(debug_assertions), inline(always))]
     fn near_name(&self, base: u64, address: u64, near: usize) -> Option<(&[u8], u64)> {
         let cell = *self.cells.cells.get(near)?;
@@ -163,7 +175,7 @@ impl<'a> Places<'a> {
         Some((&text[start..stop], in_file - cell.address))
     }
 
-    // Whether the cell at this place tells that none is shown at the address.
+    // Whether the cell at this place shows that the address has no symbol.
     #[cfg_attr(not(debug_assertions), inline(always))]
     fn is_free(&self, base: u64, address: u64, near: usize) -> bool {
         match self.cells.cells.get(near) {
@@ -175,7 +187,7 @@ impl<'a> Places<'a> {
         }
     }
 
-    // What an address is shown by: the place of a function symbol, and the offset into that.
+    // The symbol of an address: the place of a function symbol, and the offset into it.
     fn find_shown(&self, base: u64, address: u64) -> Option<Found> {
         match self.find_place(base, address) {
             Some(found) => Some(Found {
@@ -186,7 +198,7 @@ impl<'a> Places<'a> {
         }
     }
 
-    // Writes the line of an address, which is shown by this, after the text.
+    // Appends the line of an address with this symbol to the text.
     fn push_shown(
         &self,
         alloc: Global,
@@ -209,7 +221,7 @@ impl<'a> Places<'a> {
         }
     }
 
-    // Writes the trimmed name of the function symbol at a place after the text.
+    // Appends the trimmed name of the function symbol at a place to the text.
     fn push_name(&self, alloc: Global, text: &mut Vec<u8>, place: usize) -> Result<(), AllocError> {
         match self.kept_name(place) {
             Some(name) => {
@@ -259,17 +271,17 @@ fn places_of(alloc: Global, functions: Functions<'_>) -> Result<Places<'_>, Allo
     })
 }
 
-/// Writes what stands at each of the addresses in an executable: a line each, in their order.
+/// Symbolizes addresses in an executable: a line for each, in their order.
 ///
-/// The format and the section are as `list` has them. A line is `{address:016x} {trimmed}+0x{offset:x}`: the address, the
-/// trimmed name of the function symbol that it is shown by, and the offset into that. The base is taken off first. A symbol
-/// holds the addresses of its range, of size 0 its own; of several that hold an address it is shown by the one of greatest
-/// address, and of these by the first in the order of the listing. `{address:016x} ??` stands for an address that none holds,
-/// and for one below the base.
+/// The format and the section are as in `list`. A line is `{address:016x} {trimmed}+0x{offset:x}`: the address, the
+/// trimmed name of its function symbol, and the offset into it. The base is subtracted first. A symbol holds the
+/// addresses of its range, or of size 0 its own. Of several that hold an address, it is the one of greatest address,
+/// and of several there the first in the order of the listing. The line is `{address:016x} ??` for an address that none
+/// holds, and for one below the base.
 ///
 /// # Errors
 ///
-/// As `list`; only `Write` can leave a beginning of the lines written.
+/// Those of `list`. Only after `Write` a beginning of the lines may be written.
 pub fn at<S: Sink>(
     alloc: Global,
     data: &[u8],
@@ -283,7 +295,7 @@ pub fn at<S: Sink>(
     write_whole(out, text.as_slice())
 }
 
-/// Writes what `at` does, of a file's tables: for the section that they were read for.
+/// As `at`, from the tables of a file: for the section that they were read for.
 ///
 /// # Errors
 ///
@@ -297,6 +309,23 @@ pub fn at_tables<S: Sink>(
 ) -> Result<(), ListError> {
     let places = Places::of_tables(alloc, tables)?;
     let text = lines(alloc, &places, base, addresses)?;
+    write_whole(out, text.as_slice())
+}
+
+/// Writes what stands at each of the addresses by these places, which are those of a file: a line each, as `at` has them.
+///
+/// # Errors
+///
+/// `OutOfMemory` where an allocation failed; `Write` where a write failed, which alone can leave a beginning of the lines
+/// written.
+pub fn write_lines<S: Sink>(
+    alloc: Global,
+    places: &Places<'_>,
+    base: u64,
+    addresses: &[u64],
+    out: &mut S,
+) -> Result<(), ListError> {
+    let text = lines(alloc, places, base, addresses)?;
     write_whole(out, text.as_slice())
 }
 

@@ -5,7 +5,7 @@
 use crate::shim::Vec;
 use crate::shim::alloc::AllocError;
 
-/// Writes an address and a blank after the text.
+/// Appends an address and a blank to the text.
 pub(crate) fn push_address(text: &mut Vec<u8>, address: u64) -> Result<(), AllocError> {
     let mut shown = [b' '; 17];
     put_all_digits(&mut shown, address);
@@ -13,7 +13,7 @@ pub(crate) fn push_address(text: &mut Vec<u8>, address: u64) -> Result<(), Alloc
     Ok(())
 }
 
-/// Writes an offset and a line feed after the text.
+/// Appends an offset and a line feed to the text.
 pub(crate) fn push_offset(text: &mut Vec<u8>, offset: u64) -> Result<(), AllocError> {
     let mut shown = [b'0'; 16];
     let at = put_digits(&mut shown, offset);
@@ -23,7 +23,7 @@ pub(crate) fn push_offset(text: &mut Vec<u8>, offset: u64) -> Result<(), AllocEr
     Ok(())
 }
 
-// Puts all 16 digits of a number before a last byte: how many of them there are in steps is known, so none is guessed wrong.
+// Puts all 16 digits of a number before a last byte: the number of steps is fixed, so no branch is mispredicted.
 fn put_all_digits(shown: &mut [u8], number: u64) {
     let mut rest = number;
     for k in 0..16 {
@@ -32,7 +32,7 @@ fn put_all_digits(shown: &mut [u8], number: u64) {
     }
 }
 
-// Puts a number in the last of 16 zeros, and gives where it begins.
+// Puts a number into the last of 16 zeros, and returns where it begins.
 fn put_digits(shown: &mut [u8], number: u64) -> usize {
     let mut rest = number;
     let mut at = 15;

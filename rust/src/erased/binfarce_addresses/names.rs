@@ -7,7 +7,7 @@ use crate::erased::binfarce::FunctionSymbol;
 use crate::erased::binfarce::demangle::{Demangler, push_trimmed};
 use crate::shim::alloc::{AllocError, Global};
 
-/// The trimmed names of the first function symbols, one behind the other.
+/// The trimmed names of the first function symbols, one after the other.
 pub(crate) struct Names {
     pub(crate) text: String,
     // Where each begins, and where the last one ends.

@@ -1,6 +1,6 @@
 // From crates/binfarce_addresses/src/ranges.rt, by tools/erase.
 
-//! Which of several ranges is found at an address.
+//! Lookup of the range that holds an address.
 
 use crate::shim::Vec;
 use crate::shim::alloc::{AllocError, Global};
@@ -13,8 +13,8 @@ pub struct AddressRange {
     pub size: u64,
 }
 
-/// What is found at the addresses from a range's own on: from `address` up to `end` this range, and from there up to `until`
-/// none.
+/// A span of addresses from a range's own on: from `address` up to `end` this range is found, and from there up to
+/// `until` none.
 #[derive(Debug, Clone, Copy, PartialEq)]
 pub struct Span {
     pub place: usize,
@@ -23,14 +23,14 @@ pub struct Span {
     pub until: u64,
 }
 
-/// What is found at an address: the place of a range, and the offset of the address into that.
+/// The answer for an address: the place of a range, and the offset of the address into it.
 #[derive(Debug, Clone, Copy, PartialEq)]
 pub struct Found {
     pub place: usize,
     pub offset: u64,
 }
 
-/// Ranges, arranged so that what is found at an address takes a search.
+/// Ranges, arranged for lookups by address.
 ///
 /// Clauses see the ranges in the order in which they were given.
 pub struct Ranges {
@@ -39,8 +39,8 @@ pub struct Ranges {
     nodes: Vec<Node>,
 }
 
-// A range's address, its place, and the last address that it holds. Rows stand in the order of their addresses, those of one
-// address from the last place to the first.
+// A range's address, its place, and the last address that it holds. Rows are in the order of their addresses, those of
+// one address from the last place to the first.
 #[derive(Clone, Copy, PartialEq, Eq, PartialOrd, Ord)]
 struct Row {
     address: u64,
@@ -48,8 +48,9 @@ struct Row {
     last: u64,
 }
 
-// Which earlier rows reach further than one. Node 0 stands before all rows, node k + 1 for row k. Where each row reaches as
-// far as the one before it, there are no nodes: no row that ends before an address has an earlier one that holds it.
+// Which earlier rows reach further than one. Node 0 comes before all rows; node k + 1 is that of row k. Where each row
+// reaches as far as the one before it, there are no nodes: no row that ends before an address has an earlier one that
+// holds it.
 #[derive(Clone, Copy)]
 struct Node {
     // The last address that the range holds; of node 0 the last of all.
@@ -70,7 +71,7 @@ const ROOT: Node = Node {
 };
 
 impl Ranges {
-    /// Arranges the ranges. The only error is that an allocation failed.
+    /// Arranges the ranges. The only error is a failed allocation.
     pub fn new(alloc: Global, ranges: Vec<AddressRange>) -> Result<Ranges, AllocError> {
         let rows = rows_of(alloc, &ranges)?;
         let nodes = nodes_of(alloc, &rows)?;
@@ -88,8 +89,8 @@ impl Ranges {
         Some(found.place)
     }
 
-    /// The span of the range that has this place in the order of addresses, where ranges of one address stand from the last
-    /// to the first; `None` past the end.
+    /// The span of the range with this place in the order of addresses, in which ranges of one address come from the
+    /// last to the first. `None` past the end.
     pub fn span(&self, row: usize) -> Option<Span> {
         if row >= self.rows.len() {
             return None;
@@ -106,7 +107,7 @@ impl Ranges {
         })
     }
 
-    // What is found at an address.
+    // The answer for an address.
     fn find_from(&self, address: u64) -> Option<Found> {
         let mut node = rows_up_to(&self.rows, address);
         while last_at(&self.rows, node) < address {
@@ -142,7 +143,7 @@ fn rows_up_to(rows: &[Row], address: u64) -> usize {
     rows.partition_point(|row| row.address <= address)
 }
 
-// The address of the row behind this one, or the last of all.
+// The address of the row after this one, or the last of all.
 fn address_behind(rows: &[Row], row: usize) -> u64 {
     match rows.get(row + 1) {
         Some(next) => next.address,
@@ -150,7 +151,7 @@ fn address_behind(rows: &[Row], row: usize) -> u64 {
     }
 }
 
-// Up to where nothing is found behind a range's end: the next row's address, if no earlier row reaches as far as this one.
+// The end of the gap after a range: the next row's address, if no earlier row reaches as far as this one.
 fn free_until(outer: usize, behind: u64, end: u64) -> u64 {
     if outer == 0 { behind } else { end }
 }
@@ -241,7 +242,7 @@ fn outer_of(nodes: &[Node], last: u64) -> usize {
     outer
 }
 
-// Where the node behind this one jumps to: to this one, or as far as the two jumps from it where these are equally long.
+// The jump of the node after this one: to this one, or as far as the two jumps from it if these are equally long.
 fn jump_over(nodes: &[Node], outer: usize) -> usize {
     let jump = nodes[outer].jump;
     let next = nodes[jump].jump;

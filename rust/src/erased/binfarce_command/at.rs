@@ -5,21 +5,22 @@
 use crate::shim::Vec;
 use crate::erased::binfarce_command::fault::Fault;
 use crate::erased::binfarce_command::show::Symbols;
-use crate::erased::binfarce_addresses::at::{Places, at_tables};
+use crate::erased::binfarce_addresses::at::{Places, at_tables, write_lines};
 use crate::erased::binfarce_addresses::parse_address;
 use crate::erased::binfarce_addresses::stream::answer_lines;
 use crate::erased::binfarce_bytes::source::Source;
+use crate::erased::binfarce_tools::all::{AllTables, read_all};
 use crate::erased::binfarce_tools::list::{ListError, Sink};
 use crate::erased::binfarce_tools::tables::{Tables, read_by};
 use crate::erased::binfarce_words::words::Wrong;
 use crate::shim::alloc::Global;
 use crate::shim::io::Read;
 
-/// The addresses that the words write.
+/// The addresses in the words.
 ///
 /// # Errors
 ///
-/// `NoAddress` with the first word that writes none; `OutOfMemory` where an allocation fails.
+/// `NoAddress` with the first word that isn't an address; `OutOfMemory` where an allocation fails.
 pub fn read_addresses<'a>(alloc: Global, words: &[&'a str]) -> Result<Vec<u64>, Wrong<'a>> {
     let mut addresses = Vec::new(alloc);
     for word in words {
@@ -39,7 +40,8 @@ pub fn read_addresses<'a>(alloc: Global, words: &[&'a str]) -> Result<Vec<u64>, 
 ///
 /// # Errors
 ///
-/// `Unreadable` where a read fails; `Unknown`, `Parse`, `OutOfMemory` and `Write` as `at` refuses.
+/// `Unreadable` where a read fails; `Unknown`, `Parse`, `OutOfMemory` and `Write` as `at` refuses; `SharedAddresses` for all
+/// sections of an object file.
 pub fn answer_all<S: Source, K: Sink>(
     alloc: Global,
     source: &S,
@@ -48,11 +50,19 @@ pub fn answer_all<S: Source, K: Sink>(
     addresses: &[u64],
     out: &mut K,
 ) -> Result<(), Fault> {
-    let tables = read_by(alloc, source, symbols.which, symbols.section)?;
-    answer_tables(alloc, &tables, base, addresses, out)
+    match symbols.section {
+        Some(section) => {
+            let tables = read_by(alloc, source, symbols.which, section)?;
+            answer_tables(alloc, &tables, base, addresses, out)
+        }
+        None => {
+            let tables = read_all(alloc, source, symbols.which)?;
+            answer_all_tables(alloc, &tables, base, addresses, out)
+        }
+    }
 }
 
-// The same, of the tables of the source.
+// The same of a section, of the tables of the source.
 fn answer_tables<K: Sink>(
     alloc: Global,
     tables: &Tables,
@@ -63,12 +73,33 @@ fn answer_tables<K: Sink>(
     Ok(at_tables(alloc, tables, base, addresses, out)?)
 }
 
-/// Symbolizes the addresses that the lines of `input` write, each as soon as its line feed has come, and returns how many lines
-/// write none.
+// The same of all sections.
+fn answer_all_tables<K: Sink>(
+    alloc: Global,
+    tables: &AllTables,
+    base: u64,
+    addresses: &[u64],
+    out: &mut K,
+) -> Result<(), Fault> {
+    let places = places_of_all(alloc, tables)?;
+    Ok(write_lines(alloc, &places, base, addresses, out)?)
+}
+
+// The places of the function symbols of all sections.
+fn places_of_all(alloc: Global, tables: &AllTables) -> Result<Places<'_>, Fault> {
+    let places = Places::of_all(alloc, tables)?;
+    if tables.shares_addresses() {
+        return Err(Fault::SharedAddresses);
+    }
+    Ok(places)
+}
+
+/// Symbolizes the addresses in the lines of `input`, each as soon as its line feed has come, and returns how many lines
+/// have none.
 ///
 /// # Errors
 ///
-/// As `answer_all`, before anything is read of `input`; `Input` where it can't be read.
+/// Those of `answer_all`, before anything of `input` is read; `Input` where it can't be read.
 pub fn answer_input<S: Source, I: Read, K: Sink>(
     alloc: Global,
     source: &S,
@@ -77,11 +108,19 @@ pub fn answer_input<S: Source, I: Read, K: Sink>(
     input: &mut I,
     out: &mut K,
 ) -> Result<u64, Fault> {
-    let tables = read_by(alloc, source, symbols.which, symbols.section)?;
-    answer_in_tables(alloc, &tables, base, input, out)
+    match symbols.section {
+        Some(section) => {
+            let tables = read_by(alloc, source, symbols.which, section)?;
+            answer_in_tables(alloc, &tables, base, input, out)
+        }
+        None => {
+            let tables = read_all(alloc, source, symbols.which)?;
+            answer_in_all(alloc, &tables, base, input, out)
+        }
+    }
 }
 
-// The same, of the tables of the source.
+// The same of a section, of the tables of the source.
 fn answer_in_tables<I: Read, K: Sink>(
     alloc: Global,
     tables: &Tables,
@@ -90,6 +129,20 @@ fn answer_in_tables<I: Read, K: Sink>(
     out: &mut K,
 ) -> Result<u64, Fault> {
     let places = named_places(alloc, tables)?;
+    let missing = answer_lines(alloc, &places, base, input, out)?;
+    Ok(missing)
+}
+
+// The same of all sections.
+fn answer_in_all<I: Read, K: Sink>(
+    alloc: Global,
+    tables: &AllTables,
+    base: u64,
+    input: &mut I,
+    out: &mut K,
+) -> Result<u64, Fault> {
+    let mut places = places_of_all(alloc, tables)?;
+    places.keep_names(alloc)?;
     let missing = answer_lines(alloc, &places, base, input, out)?;
     Ok(missing)
 }

@@ -1,6 +1,6 @@
 // From crates/binfarce_command/src/files.rt, by tools/erase.
 
-//! Does a command's work on files, one after the other.
+//! Runs a command on files, one after the other.
 
 use crate::shim::{String, Vec};
 use crate::erased::binfarce_command::fault::Fault;
@@ -12,7 +12,7 @@ use crate::erased::binfarce_bytes::source::Source;
 use crate::shim::alloc::{AllocError, Global};
 use crate::shim::io::{self, Error, Read, Write};
 
-/// What a command reaches outside of it.
+/// The system around a command: opened files, and messages.
 pub trait System<F: Read + Source> {
     /// The file at this path, to be read.
     fn open(&self, path: &str) -> io::Result<F>;
@@ -21,8 +21,8 @@ pub trait System<F: Read + Source> {
     fn report(&mut self, path: &str, fault: Fault, reason: Option<Error>);
 }
 
-/// Shows each file, in order. Of several, each is shown under a line with its name. One that is refused is reported, and the others
-/// follow: then the result is `false`.
+/// Shows each file, in order. Of several, each is shown under a line with its name. A file that is refused is reported,
+/// and the others follow; the result is then `false`.
 ///
 /// # Errors
 ///
@@ -111,7 +111,7 @@ pub fn open_held<F: Read + Source, Y: System<F>>(
 ///
 /// # Errors
 ///
-/// What isn't of the file: `Write` and `Missing`.
+/// Faults that aren't the file's: `Write` and `Missing`.
 pub fn reported<F: Read + Source, Y: System<F>>(
     system: &mut Y,
     path: &str,

@@ -1,6 +1,6 @@
 // From crates/binfarce_command/src/filter.rt, by tools/erase.
 
-//! `binfarce filter [--full] [NAME..]`: the names in a text made readable.
+//! `binfarce filter [--full] [NAME..]`: demangles the names in a text.
 
 use crate::shim::Vec;
 use crate::shim::alloc::{AllocError, Global};

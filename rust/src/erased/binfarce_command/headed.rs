@@ -1,6 +1,6 @@
 // From crates/binfarce_command/src/headed.rt, by tools/erase.
 
-//! What a command writes: a sink that writes a heading before the first byte that follows it.
+//! The output of a command: a sink that writes a heading before the first byte that follows it.
 
 use crate::shim::Vec;
 use crate::erased::binfarce_command::fault::Fault;
@@ -8,8 +8,8 @@ use crate::erased::binfarce_tools::list::Sink;
 use crate::shim::alloc::Global;
 use crate::shim::io::{self, Error, ErrorKind, Write};
 
-/// A sink over a writer. A heading is written with the first byte behind it, or never. The system's reason is kept where a write
-/// fails.
+/// A sink over a writer. A heading is written with the first byte after it, or never. The system's reason is kept where
+/// a write fails.
 pub struct Headed<W> {
     writer: W,
     heading: Vec<u8>,
@@ -29,13 +29,13 @@ impl<W: Write> Headed<W> {
         }
     }
 
-    /// Begins what has this heading.
+    /// Begins a part with this heading.
     pub fn begin(&mut self, heading: Vec<u8>) {
         self.heading = heading;
         self.done = 0;
     }
 
-    /// Writes what is left of the heading.
+    /// Writes the rest of the heading.
     ///
     /// # Errors
     ///
@@ -47,7 +47,7 @@ impl<W: Write> Headed<W> {
         }
     }
 
-    // Writes what is left of the heading.
+    // Writes the rest of the heading.
     fn write_heading(&mut self) -> Option<()> {
         while self.done < self.heading.len() {
             match self.writer.write(&self.heading[self.done..]) {
@@ -67,7 +67,7 @@ impl<W: Write> Headed<W> {
 }
 
 impl<W: Write> Headed<W> {
-    /// Why the last write failed that did.
+    /// The reason of the last failed write, if any.
     pub fn into_reason(self) -> Option<Error> {
         self.reason
     }

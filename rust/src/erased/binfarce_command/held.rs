@@ -1,12 +1,12 @@
 // From crates/binfarce_command/src/held.rt, by tools/erase.
 
-//! A file that is read at offsets, or the bytes that were read of another.
+//! A file that is read at offsets, or the bytes of a file that can't be.
 
 use crate::shim::Vec;
 use crate::erased::binfarce_command::fault::Fault;
 use crate::erased::binfarce_bytes::format::{Format, detect_format};
 use crate::erased::binfarce_bytes::source::Source;
-use crate::erased::binfarce_program::is_read_at_offsets;
+use crate::erased::binfarce_tools::program::is_read_at_offsets;
 use crate::shim::alloc::Global;
 use crate::shim::io::{self, ErrorKind, Read};
 
@@ -20,7 +20,7 @@ pub struct Held<F> {
 }
 
 impl<F: Read + Source> Held<F> {
-    /// This file, of which nothing was read.
+    /// This file, before anything of it is read.
     pub fn new(file: F) -> Held<F> {
         Held { file, bytes: None }
     }
@@ -30,7 +30,8 @@ impl<F: Read + Source> Held<F> {
         &self.file
     }
 
-    /// Reads the file, unless it can be read at offsets: to its end, or where its first 8 bytes name no format these alone.
+    /// Reads the file, unless it can be read at offsets: to its end, or only the first 8 bytes where these name no
+    /// format.
     ///
     /// # Errors
     ///
@@ -60,7 +61,7 @@ impl<F: Source> Source for Held<F> {
     }
 }
 
-/// The bytes up to the reader's end; where the first 8 name no format, these alone, and no more is read.
+/// The bytes up to the reader's end; only the first 8, with no further read, where these name no format.
 ///
 /// # Errors
 ///
@@ -77,7 +78,7 @@ pub fn read_judged<R: Read>(alloc: Global, reader: &mut R) -> Result<Vec<u8>, Fa
     }
 }
 
-// Reads what is left after these bytes.
+// Reads the rest after these bytes.
 fn read_rest<R: Read>(reader: &mut R, mut bytes: Vec<u8>) -> Result<Vec<u8>, Fault> {
     reader.read_to_end(&mut bytes)?;
     Ok(bytes)
@@ -96,7 +97,7 @@ fn read_first<R: Read>(reader: &mut R, bytes: &mut Vec<u8>) -> Result<(), Fault>
     Err(Fault::Unreadable)
 }
 
-// Reads a byte, if no signal interrupts. `false` at the end.
+// Reads a byte, or none where a signal interrupts. `false` at the end.
 fn read_byte<R: Read>(reader: &mut R, bytes: &mut Vec<u8>) -> Result<bool, Fault> {
     let mut byte = [0; 1];
     match reader.read(&mut byte) {

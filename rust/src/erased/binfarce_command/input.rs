@@ -1,6 +1,6 @@
 // From crates/binfarce_command/src/input.rt, by tools/erase.
 
-//! What a command reads: files and standard input.
+//! The input of a command: files and standard input.
 
 use crate::erased::binfarce_bytes::source::Source;
 use std::cell::Cell;
@@ -56,7 +56,7 @@ impl<T> Noted<T> {
         }
     }
 
-    /// Why the last read failed that did.
+    /// The reason of the last failed read, if any.
     pub fn take_reason(&self) -> Option<Error> {
         self.reason.take()
     }

@@ -1,13 +1,13 @@
 // From crates/binfarce_command/src/report.rt, by tools/erase.
 
-//! What is printed where a call or a file is refused, and the status that the program ends with.
+//! Messages for refused calls and files, and the program's exit status.
 
 use crate::shim::{HostRuntime, String};
 use crate::erased::binfarce_command::fault::Fault;
 use crate::erased::binfarce_words::words::Wrong;
 use crate::shim::io::{Error, ErrorKind};
 
-/// Prints why a call is wrong, and gives the status that the program ends with.
+/// Prints why a call is wrong, and returns the program's exit status.
 pub fn refuse(rt: &HostRuntime, wrong: &Wrong<'_>) -> u8 {
     let _ = rt.eprintln(format_args!("binfarce: {wrong}"));
     match wrong {
@@ -16,8 +16,8 @@ pub fn refuse(rt: &HostRuntime, wrong: &Wrong<'_>) -> u8 {
     }
 }
 
-/// Prints why the work failed, if it did, and gives the status that the program ends with. A reader of the output that went away
-/// is no failure.
+/// Prints why the work failed, if it did, and returns the program's exit status. A reader that closes the output is no
+/// failure.
 pub fn ended(rt: &HostRuntime, done: Result<bool, Fault>, reason: Option<Error>) -> u8 {
     match done {
         Ok(true) => 0,
@@ -30,7 +30,7 @@ pub fn ended(rt: &HostRuntime, done: Result<bool, Fault>, reason: Option<Error>)
     }
 }
 
-// The status that the program ends with for a fault other than a failed write.
+// The program's exit status for a fault other than a failed write.
 fn status(fault: Fault) -> u8 {
     match fault {
         Fault::Missing(_) => 2,
@@ -46,7 +46,7 @@ fn write_failed(rt: &HostRuntime, reason: Option<Error>) -> u8 {
     1
 }
 
-// Whether a reader of the output went away.
+// Whether the reader of the output has closed it.
 fn is_broken_pipe(reason: &Option<Error>) -> bool {
     match reason {
         Some(e) => match e.kind() {

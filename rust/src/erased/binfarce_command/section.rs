@@ -9,12 +9,12 @@ use crate::erased::binfarce_sections::list::list_source;
 use crate::erased::binfarce_tools::list::Sink;
 use crate::shim::alloc::Global;
 
-/// Writes the bytes of the first section of this name, or lists all sections where none is named. Of the source it reads the
-/// headers of the sections and their names, and the bytes of the one that is named.
+/// Writes the bytes of the first section of this name, or lists all sections where none is named. Only the section
+/// headers, the section names, and the bytes of the named section are read.
 ///
 /// # Errors
 ///
-/// As `write_section_of` and `list_source`.
+/// Those of `write_section_of` and `list_source`.
 pub fn write_or_list<S: Source, K: Sink>(
     alloc: Global,
     source: &S,

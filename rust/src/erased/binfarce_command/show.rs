@@ -5,6 +5,7 @@
 use crate::erased::binfarce_command::fault::Fault;
 use crate::erased::binfarce_bytes::source::Source;
 use crate::erased::binfarce_tools::SymbolTable;
+use crate::erased::binfarce_tools::all::{AllTables, list_all, map_all, read_all, report_all};
 use crate::erased::binfarce_tools::list::{Sink, list_tables};
 use crate::erased::binfarce_tools::map::map_tables;
 use crate::erased::binfarce_tools::report::report_tables;
@@ -27,8 +28,8 @@ pub enum Kind {
 pub struct Symbols<'a> {
     /// The symbol table that they are read by.
     pub which: SymbolTable,
-    /// The section of an ELF file; of a Mach-O or PE file they are those of the code.
-    pub section: &'a str,
+    /// The section of an ELF file; of a Mach-O or PE file they are those of the code. Without it those of all sections.
+    pub section: Option<&'a str>,
 }
 
 /// What is shown of a file.
@@ -45,19 +46,27 @@ pub struct Asked<'a> {
 ///
 /// # Errors
 ///
-/// `Unreadable` where a read fails; `Unknown`, `Parse`, `OutOfMemory`, `TooLarge` and `Write` as `list` and `report` refuse. Only
-/// `Write` can leave a beginning written.
+/// `Unreadable` where a read fails; `Unknown`, `Parse`, `OutOfMemory`, `TooLarge` and `Write` as in `list` and
+/// `report`. Only after `Write` a beginning may be written.
 pub fn show<S: Source, K: Sink>(
     alloc: Global,
     asked: &Asked<'_>,
     source: &S,
     out: &mut K,
 ) -> Result<(), Fault> {
-    let tables = read_by(alloc, source, asked.symbols.which, asked.symbols.section)?;
-    show_tables(alloc, asked.kind, &tables, out)
+    match asked.symbols.section {
+        Some(section) => {
+            let tables = read_by(alloc, source, asked.symbols.which, section)?;
+            show_tables(alloc, asked.kind, &tables, out)
+        }
+        None => {
+            let tables = read_all(alloc, source, asked.symbols.which)?;
+            show_all(alloc, asked.kind, &tables, out)
+        }
+    }
 }
 
-// The same, of the tables of the source.
+// The same of a section, of the tables of the source.
 fn show_tables<K: Sink>(
     alloc: Global,
     kind: Kind,
@@ -68,5 +77,19 @@ fn show_tables<K: Sink>(
         Kind::Listing => Ok(list_tables(alloc, tables, out)?),
         Kind::Sums => Ok(report_tables(alloc, tables, out)?),
         Kind::Picture => Ok(map_tables(alloc, tables, out)?),
+    }
+}
+
+// The same of all sections.
+fn show_all<K: Sink>(
+    alloc: Global,
+    kind: Kind,
+    tables: &AllTables,
+    out: &mut K,
+) -> Result<(), Fault> {
+    match kind {
+        Kind::Listing => Ok(list_all(alloc, tables, out)?),
+        Kind::Sums => Ok(report_all(alloc, tables, out)?),
+        Kind::Picture => Ok(map_all(alloc, tables, out)?),
     }
 }

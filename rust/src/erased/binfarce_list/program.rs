@@ -4,9 +4,11 @@
 
 use crate::shim::String;
 use crate::erased::binfarce_bytes::source::Source;
-use crate::erased::binfarce_program::{Failure, file_and_section, is_read_at_offsets, read_whole};
 use crate::erased::binfarce_tables::ReadError;
 use crate::erased::binfarce_tools::list::{ListError, Out, list, list_tables};
+use crate::erased::binfarce_tools::program::{
+    Failure, file_and_section, is_read_at_offsets, read_whole,
+};
 use crate::erased::binfarce_tools::tables::read;
 use crate::shim::alloc::Global;
 use crate::shim::io::{Read, Write};
@@ -56,7 +58,7 @@ impl From<ReadError> for Fault {
     }
 }
 
-impl crate::erased::binfarce_program::Fault for Fault {
+impl crate::erased::binfarce_tools::program::Fault for Fault {
     fn status(&self) -> u8 {
         status(self)
     }

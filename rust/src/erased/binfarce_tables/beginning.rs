@@ -1,10 +1,10 @@
 // From crates/binfarce_tables/src/beginning.rt, by tools/erase.
 
-//! The beginning of a Mach-O or PE file, of which its sections are read.
+//! The beginning of a Mach-O or PE file, from which its sections are read.
 
 use crate::shim::Vec;
 
-/// A file's first bytes, in memory, whose sections are those of the file, and the file's length.
+/// A prefix of a file, in memory, that has all of the file's sections, and the file's length.
 pub struct Beginning {
     pub(crate) bytes: Vec<u8>,
     pub(crate) file_length: u64,

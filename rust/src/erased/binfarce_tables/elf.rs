@@ -1,6 +1,6 @@
 // From crates/binfarce_tables/src/elf.rt, by tools/erase.
 
-//! The parts of an ELF file of either class that the function symbols of a section are read from.
+//! The parts of an ELF file of either class that have the function symbols of a section.
 
 use crate::shim::Vec;
 use crate::erased::binfarce_tables::error::ReadError;
@@ -14,7 +14,7 @@ use crate::erased::binfarce_elf::symbol_table::SymbolTable;
 use crate::erased::binfarce_elf::symbols::{Functions, whole_rows};
 use crate::shim::alloc::Global;
 
-/// The parts of a file that the function symbols of a section are read from.
+/// The parts of a file that have the function symbols of a section, in memory.
 pub struct Parts<C> {
     rows: Vec<u8>,
     strings: Vec<u8>,
@@ -24,13 +24,13 @@ pub struct Parts<C> {
 
 impl<C: Class> Parts<C> {
     /// The function symbols of the section as the file stores them, in the order of the symbol table, and the section's
-    /// size in bytes. Nothing is read or allocated: names are parts of what was read.
+    /// size in bytes. Nothing is read or allocated: names are slices of the parts.
     pub fn functions(&self) -> (Functions<'_, C>, u64) {
         functions_in::<C>(&self.rows, &self.strings, self.byte_order, self.section)
     }
 }
 
-// Where the section headers of a file are, and the file's type, as its header says, and the order of its numbers' bytes.
+// Where the section headers of a file are, and the file's type, as its header states, and its byte order.
 #[derive(Clone, Copy)]
 pub(crate) struct Place {
     pub(crate) byte_order: ByteOrder,
@@ -197,8 +197,8 @@ pub(crate) fn read_section<C: Class, S: Source>(
 ///
 /// # Errors
 ///
-/// `Unreadable` where a read of the source fails, as where it ends before `offset + size` (an opened file doesn't fail where
-/// `size` is 0), and `OutOfMemory` where the allocation fails.
+/// `Unreadable` where a read of the source fails, for instance where it ends before `offset + size` (an opened file
+/// doesn't fail where `size` is 0). `OutOfMemory` where the allocation fails.
 pub fn part<S: Source>(
     alloc: Global,
     source: &S,

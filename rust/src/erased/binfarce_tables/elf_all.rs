@@ -1,6 +1,6 @@
 // From crates/binfarce_tables/src/elf_all.rt, by tools/erase.
 
-//! The parts of an ELF file of either class that the function symbols of all sections are read from.
+//! The parts of an ELF file of either class that have the function symbols of all sections.
 
 use crate::shim::Vec;
 use crate::erased::binfarce_tables::elf::{Place, read_names, read_place, read_section, slice_of};
@@ -19,7 +19,7 @@ use std::marker::PhantomData;
 /// `ET_REL`, the type of an object file.
 const RELOCATABLE: Half = 1;
 
-/// The parts of a file that the function symbols of all sections are read from, and the sections' names.
+/// The parts of a file that have the function symbols of all sections, and the sections' names.
 pub struct AllParts<C> {
     headers: Vec<u8>,
     names: Option<Vec<u8>>,
@@ -32,13 +32,13 @@ pub struct AllParts<C> {
 }
 
 impl<C: Class> AllParts<C> {
-    /// The function symbols of all sections as the file stores them, each with the index of its section, in the order of
-    /// the symbol table. Nothing is read or allocated: names are parts of what was read.
+    /// The function symbols of all sections as the file stores them, each with the index of its section, in the order
+    /// of the symbol table. Nothing is read or allocated: names are slices of the parts.
     pub fn functions(&self) -> AllFunctions<'_, C> {
         all_functions_in::<C>(&self.rows, &self.strings, self.byte_order, self.count)
     }
 
-    /// The name of the section of this index, a part of what was read; nothing is copied. `None` where there is no such
+    /// The name of the section of this index, a slice of the parts; nothing is copied. `None` where there is no such
     /// section, and where `name` of the section gives none.
     pub fn section_name(&self, number: u32) -> Option<&str> {
         name_of_index::<C>(

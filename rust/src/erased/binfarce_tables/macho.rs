@@ -1,6 +1,6 @@
 // From crates/binfarce_tables/src/macho.rt, by tools/erase.
 
-//! 64-bit Mach-O files, read where their tables are (Apple's `<mach-o/loader.h>` and `<mach-o/nlist.h>`).
+//! 64-bit Mach-O files, of which only the tables are read (Apple's `<mach-o/loader.h>` and `<mach-o/nlist.h>`).
 
 use crate::shim::Vec;
 use crate::erased::binfarce_tables::beginning::Beginning;
@@ -15,10 +15,10 @@ use crate::erased::binfarce_macho::parts::{self, Located, Needed, SYMBOL_LENGTH,
 use crate::erased::binfarce_macho::sections::Section;
 use crate::shim::alloc::Global;
 
-// The header's bytes that are read.
+// The number of the header's bytes that are read.
 pub(crate) const HEADER: usize = 28;
 
-/// The parts of a file that its function symbols are read from, in memory.
+/// The parts of a file that have its function symbols, in memory.
 pub struct Parts {
     tables: Option<Tables>,
 }
@@ -33,12 +33,12 @@ struct Tables {
 
 impl Parts {
     /// The function symbols that `functions` of a reader of the whole file gives, in its order, and the text's size in
-    /// bytes. Nothing is read: names are parts of what was read.
+    /// bytes. Nothing is read: names are slices of the parts.
     ///
     /// # Errors
     ///
     /// `MalformedInput` where a row that would be kept lies past the text's end with no address above it. `OutOfMemory`
-    /// comes only where the table has a value that isn't 0, and may stand in place of that refusal.
+    /// only where the table has a value that isn't 0; it may replace that error.
     pub fn functions(&self, alloc: Global) -> Result<(Vec<FunctionSymbol<'_>>, u64), ParseError> {
         match &self.tables {
             None => Ok((Vec::new(alloc), 0)),
@@ -57,17 +57,17 @@ fn listed(alloc: Global, tables: &Tables) -> Result<(Vec<FunctionSymbol<'_>>, u6
     parts::functions_of(alloc, found)
 }
 
-/// Reads the parts of a file that its function symbols are read from, without a look at the magic number: the header of
-/// 28 bytes, the file's first bytes up to where the load commands end as the header says (`sizeofcmds`), the string table
-/// and the symbol table. Each is read into memory of its size, which is never more than what the file holds of it. No other
-/// byte is read, unless the commands, or the sections of a segment command, go on past that end: then the whole file is
-/// read for them.
+/// Reads the parts of a file that have its function symbols: the header of 28 bytes, the file's first bytes up to the
+/// end of the load commands that the header states (`sizeofcmds`), the string table and the symbol table. Each is read
+/// into memory of its size, which is never more than the file has of it. No other byte is read, unless the commands, or
+/// the sections of a segment command, extend past that end: then the whole file is read for them. The magic number
+/// isn't checked.
 ///
 /// # Errors
 ///
-/// `Refused` with what `parse` and `functions` of a reader of the whole file refuse before they look at the symbol table's
-/// rows; `Unreadable` where the source can't be read at offsets, or a read of it fails, and never of a source that can't
-/// fail, as bytes in memory are; `OutOfMemory` where an allocation fails.
+/// `Refused` with the error of `parse` or `functions` of a reader of the whole file, if it comes before they read the
+/// symbol table's rows; `Unreadable` where the source can't be read at offsets, or a read of it fails, and never for a
+/// source that can't fail, such as bytes in memory; `OutOfMemory` where an allocation fails.
 pub fn read<S: Source>(alloc: Global, source: &S) -> Result<Parts, ReadError> {
     let len = source.length()? as usize;
     if len < HEADER {
@@ -78,14 +78,16 @@ pub fn read<S: Source>(alloc: Global, source: &S) -> Result<Parts, ReadError> {
     read_tables(alloc, source, len, needed)
 }
 
-/// Reads the file's first bytes that its sections are read from, without a look at the magic number: the header of 28 bytes,
-/// and the bytes up to where the load commands end as the header says (`sizeofcmds`), or where the commands, or the sections
-/// of a segment command, go on past that end, all bytes. They take no more memory than what the file holds of them.
+/// Reads the prefix of a file that has its sections: the header of 28 bytes, and the bytes up to the end of the load
+/// commands that the header states (`sizeofcmds`). Where the commands, or the sections of a segment command, extend
+/// past that end, it reads the whole file. It takes no more memory than the file has bytes. The magic number isn't
+/// checked.
 ///
 /// # Errors
 ///
 /// `Refused` with `UnexpectedEof` for fewer than 28 bytes; `Unreadable` where the source can't be read at offsets, or a
-/// read of it fails, and never of a source that can't fail, as bytes in memory are; `OutOfMemory` where an allocation fails.
+/// read of it fails, and never for a source that can't fail, such as bytes in memory; `OutOfMemory` where an allocation
+/// fails.
 pub fn read_sections<S: Source>(alloc: Global, source: &S) -> Result<Beginning, ReadError> {
     let file_length = source.length()?;
     let len = file_length as usize;
@@ -96,7 +98,7 @@ pub fn read_sections<S: Source>(alloc: Global, source: &S) -> Result<Beginning, 
     Ok(Beginning { bytes, file_length })
 }
 
-// The bytes that the load commands are in, from the file's first on.
+// The prefix of the file that has the load commands.
 pub(crate) fn read_commands<S: Source>(
     alloc: Global,
     source: &S,
@@ -111,7 +113,7 @@ pub(crate) fn read_commands<S: Source>(
     }
 }
 
-// Where the load commands end, as the header says, in the file.
+// Where the load commands end, as the header states, but within the file.
 fn read_end<S: Source>(alloc: Global, source: &S, len: usize) -> Result<usize, ReadError> {
     let bytes = part(alloc, source, 0, HEADER)?;
     let header = header_in(&bytes)?;

@@ -1,6 +1,6 @@
 // From crates/binfarce_tables/src/macho_all.rt, by tools/erase.
 
-//! The parts of a 64-bit Mach-O file that the function symbols of all sections are read from.
+//! The parts of a 64-bit Mach-O file that have the function symbols of all sections.
 
 use crate::shim::{String, Vec};
 use crate::erased::binfarce_tables::error::ReadError;
@@ -13,7 +13,7 @@ use crate::erased::binfarce_macho::numbered::{is_object, section_names, section_
 use crate::erased::binfarce_macho::parts::{SYMBOL_LENGTH, SymbolTable, symbol_table};
 use crate::shim::alloc::Global;
 
-/// The parts of a file that the function symbols of all sections are read from, and the sections' names.
+/// The parts of a file that have the function symbols of all sections, and the sections' names.
 pub struct AllParts {
     extents: Vec<Extent>,
     names: Vec<Option<String>>,
@@ -28,14 +28,14 @@ struct SymbolParts {
 }
 
 impl AllParts {
-    /// The function symbols that `all_functions` of a reader of the whole file gives, in its order. Nothing is read: names are
-    /// parts of what was read.
+    /// The function symbols that `all_functions` of a reader of the whole file gives, in its order. Nothing is read:
+    /// names are slices of the parts.
     ///
     /// # Errors
     ///
-    /// `MalformedInput` where the end of a section passes an address that a row of it would be kept with, or such a row lies
-    /// past that end with no address above it. `OutOfMemory` comes only where the file has a section, and may stand in place
-    /// of that refusal.
+    /// `MalformedInput` where the end of a section with a row to keep exceeds 64 bits, or where such a row lies past
+    /// its section's end with no address above it. `OutOfMemory` only where the file has a section; it may replace that
+    /// error.
     pub fn functions(&self, alloc: Global) -> Result<Vec<SectionFunction<'_>>, ParseError> {
         match &self.symbols {
             None => Ok(Vec::new(alloc)),
@@ -66,17 +66,17 @@ fn bytes_of(symbols: &SymbolParts) -> SymbolBytes<'_> {
     }
 }
 
-/// Reads the parts of a file that the function symbols of all sections are read from, without a look at the magic number:
-/// the header of 28 bytes, the file's first bytes up to where the load commands end as the header says (`sizeofcmds`), the
-/// string table and the symbol table. Each is read into memory of its size, which is never more than what the file holds of
-/// it. No other byte is read, unless the commands, or the sections of a segment command, go on past that end: then the whole
-/// file is read for them.
+/// Reads the parts of a file that have the function symbols of all sections: the header of 28 bytes, the file's first
+/// bytes up to the end of the load commands that the header states (`sizeofcmds`), the string table and the symbol
+/// table. Each is read into memory of its size, which is never more than the file has of it. No other byte is read,
+/// unless the commands, or the sections of a segment command, extend past that end: then the whole file is read for
+/// them. The magic number isn't checked.
 ///
 /// # Errors
 ///
-/// `Refused` with what `parse` and `all_functions` of a reader of the whole file refuse before they look at the symbol
-/// table's rows; `Unreadable` where the source can't be read at offsets, or a read of it fails, and never of a source that
-/// can't fail, as bytes in memory are; `OutOfMemory` where an allocation fails.
+/// `Refused` with the error of `parse` or `all_functions` of a reader of the whole file, if it comes before they read
+/// the symbol table's rows; `Unreadable` where the source can't be read at offsets, or a read of it fails, and never
+/// for a source that can't fail, such as bytes in memory; `OutOfMemory` where an allocation fails.
 pub fn read_all<S: Source>(alloc: Global, source: &S) -> Result<AllParts, ReadError> {
     let len = source.length()? as usize;
     if len < HEADER {
@@ -93,7 +93,7 @@ pub fn read_all<S: Source>(alloc: Global, source: &S) -> Result<AllParts, ReadEr
     })
 }
 
-// What the load commands say: where the sections are in memory, their names, and where the symbol table is.
+// The content of the load commands: where the sections are in memory, their names, and where the symbol table is.
 struct Found {
     extents: Vec<Extent>,
     names: Vec<Option<String>>,

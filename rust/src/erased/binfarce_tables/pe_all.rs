@@ -1,6 +1,6 @@
 // From crates/binfarce_tables/src/pe_all.rt, by tools/erase.
 
-//! The parts of a PE file that the function symbols of all sections are read from.
+//! The parts of a PE file that have the function symbols of all sections.
 
 use crate::shim::Vec;
 use crate::erased::binfarce_tables::elf::part;
@@ -16,7 +16,7 @@ use crate::shim::alloc::Global;
 // How many bytes at the end of the last section header may be missing.
 const SECTION_UNREAD: usize = 16;
 
-/// The parts of a file that the function symbols of all sections are read from, and the section headers.
+/// The parts of a file that have the function symbols of all sections, and the section headers.
 pub struct AllParts {
     headers: Vec<u8>,
     section_count: u16,
@@ -30,8 +30,8 @@ struct Records {
 }
 
 impl AllParts {
-    /// The function symbols that `all_functions` of a reader of the whole file gives, in its order. Nothing is read: names are
-    /// parts of what was read.
+    /// The function symbols that `all_functions` of a reader of the whole file gives, in its order. Nothing is read:
+    /// names are slices of the parts.
     ///
     /// # Errors
     ///
@@ -47,24 +47,24 @@ impl AllParts {
         )?)
     }
 
-    /// The name of the section of this number, which is one more than its index, as its header has it: as `/4` for a name of
-    /// more than 8 bytes, which is in the string table. It is a part of what was read; nothing is copied. `None` where there
-    /// is no such section, and where its name isn't UTF-8.
+    /// The name of the section of this number, which is one more than its index, as its header has it: as `/4` for a
+    /// name of more than 8 bytes, which is in the string table. It is a slice of the parts; nothing is copied. `None`
+    /// where there is no such section, and where its name isn't UTF-8.
     pub fn section_name(&self, number: u32) -> Option<&str> {
         section_name(&self.headers, self.section_count, number)
     }
 }
 
-/// Reads the parts of a file that the function symbols of all sections are read from, without a look at the signature: the
-/// offset of the signature, the signature and the file header, which are 24 bytes, the section headers, the symbol table,
-/// and the strings, which are what follows it. Each is read once, into memory of its size, which is never more than what the
-/// file holds of it. No other byte is read.
+/// Reads the parts of a file that have the function symbols of all sections: the offset of the signature, the signature
+/// and the file header, which are 24 bytes, the section headers, the symbol table, and the strings, which are all that
+/// follows it. Each is read once, into memory of its size, which is never more than the file has of it. No other byte
+/// is read. The signature isn't checked.
 ///
 /// # Errors
 ///
-/// `Refused` with what `parse` and `all_functions` of a reader of the whole file refuse; `Unreadable` where the source can't
-/// be read at offsets, or a read of it fails, and never of a source that can't fail, as bytes in memory are; `OutOfMemory`
-/// where an allocation fails.
+/// `Refused` with the error of `parse` or `all_functions` of a reader of the whole file; `Unreadable` where the source
+/// can't be read at offsets, or a read of it fails, and never for a source that can't fail, such as bytes in memory;
+/// `OutOfMemory` where an allocation fails.
 pub fn read_all<S: Source>(alloc: Global, source: &S) -> Result<AllParts, ReadError> {
     let len = source.length()? as usize;
     let places = read_places(alloc, source, len)?;

@@ -16,7 +16,7 @@ use crate::erased::binfarce_names::demangle::Demangler;
 use crate::erased::binfarce_tables::{ReadError, elf32, elf64, macho, pe};
 use crate::shim::alloc::{AllocError, Global};
 
-/// What was read of a file to list the function symbols of all sections.
+/// The tables that were read of a file for the function symbols of all sections.
 pub enum AllTables {
     /// The parts of an ELF file of 32 bits.
     Elf32(elf32::AllParts),
@@ -26,18 +26,18 @@ pub enum AllTables {
     Macho(macho::AllParts),
     /// The parts of a PE file.
     Pe(pe::AllParts),
-    /// Nothing of a file whose first bytes name no format that is read.
+    /// Nothing: the file's first bytes name no supported format.
     Unknown,
 }
 
 impl AllTables {
-    /// The function symbols of all sections, each with its section's number, by the symbol table that the tables were read
-    /// by: what `all_functions` of a reader gives of the file.
+    /// The function symbols of all sections, each with its section's number, by the symbol table that the tables were
+    /// read by: the answer of `all_functions` of a reader.
     ///
     /// # Errors
     ///
-    /// `Unknown` where the format isn't one that is read; `Parse` where a Mach-O file's rows are refused; `OutOfMemory`
-    /// where an allocation failed, which an ELF file never needs.
+    /// `Unknown` where the format isn't supported; `Parse` where a Mach-O file's rows are refused; `OutOfMemory` where
+    /// an allocation failed; an ELF file needs none.
     pub fn functions(&self, alloc: Global) -> Result<AllFunctions<'_>, ListError> {
         match self {
             AllTables::Elf32(parts) => Ok(AllFunctions::Elf32(parts.functions())),
@@ -54,8 +54,8 @@ impl AllTables {
         }
     }
 
-    /// The name of the section of this number, a part of what was read. `None` where there is no such section, and where it
-    /// has no valid name.
+    /// The name of the section of this number, a slice of the tables. `None` where there is no such section, and where
+    /// it has no valid name.
     pub fn section_name(&self, number: u32) -> Option<&str> {
         self.name_read(number)
     }
@@ -87,14 +87,14 @@ impl AllTables {
     }
 }
 
-/// The function symbols of all sections of a file that are left, in the order of its listing.
+/// An iterator over the function symbols of all sections of a file, in the order of its listing.
 pub enum AllFunctions<'a> {
     Elf32(crate::erased::binfarce::elf32::AllFunctions<'a>),
     Elf64(crate::erased::binfarce::elf64::AllFunctions<'a>),
     Arranged(AllArranged<'a>),
 }
 
-/// Function symbols with their sections that stand in a list, from a place on.
+/// The function symbols of a list with their sections, from an index on.
 pub struct AllArranged<'a> {
     functions: Vec<SectionFunction<'a>>,
     next: usize,
@@ -121,15 +121,15 @@ impl<'a> AllArranged<'a> {
     }
 }
 
-/// Reads of a file what the function symbols of all sections are made of, by this symbol table: its first 8 bytes, which
-/// name its format, and the parts that `binfarce_tables` reads of a file of that format. Of a file of an unknown format no
-/// other byte is read. Each part that is kept takes no more memory than what the file holds of it.
+/// Reads the tables of a file for the function symbols of all sections, by this symbol table: its first 8 bytes, which
+/// name its format, and the parts that `binfarce_tables` reads of a file of that format. Of a file of an unknown format
+/// no other byte is read. Each part that is kept takes no more memory than the file has bytes of it.
 ///
 /// # Errors
 ///
-/// `Refused` with what the reader of the file's format refuses, and `SectionIsMissing` of `.dynsym` for the dynamic symbol
-/// table of a Mach-O or PE file; `Unreadable` where the source can't be read at offsets, or a read of it fails, and never
-/// of a source that can't fail, as bytes in memory are; `OutOfMemory` where an allocation fails.
+/// `Refused` with the error of the format's reader, and `SectionIsMissing` of `.dynsym` for the dynamic symbol table of
+/// a Mach-O or PE file; `Unreadable` where the source can't be read at offsets, or a read of it fails, and never for a
+/// source that can't fail, such as bytes in memory; `OutOfMemory` where an allocation fails.
 pub fn read_all<S: Source>(
     alloc: Global,
     source: &S,
@@ -159,14 +159,14 @@ pub fn read_all<S: Source>(
     }
 }
 
-/// Lists the function symbols of all sections of a file: a line `{address:016x} {size:>10} {section} {trimmed}` for each,
-/// where the section is shown by its name, or by its number in brackets where it has none. The listing is made before its
-/// first byte is written.
+/// Lists the function symbols of all sections of a file: a line `{address:016x} {size:>10} {section} {trimmed}` for
+/// each, with the section's name, or its number in brackets where it has none. The listing is made before its first
+/// byte is written.
 ///
 /// # Errors
 ///
-/// As `functions`, and `OutOfMemory` where any other allocation failed; `Write` where a write failed, which alone can leave
-/// a beginning of the listing written.
+/// Those of `functions`, and `OutOfMemory` where any other allocation failed. Nothing is written then. `Write` where a
+/// write failed: a beginning of the listing may then be written.
 pub fn list_all<S: Sink>(alloc: Global, tables: &AllTables, out: &mut S) -> Result<(), ListError> {
     let functions = tables.functions(alloc)?;
     let text = listing(alloc, functions, tables)?;
@@ -178,8 +178,8 @@ pub fn list_all<S: Sink>(alloc: Global, tables: &AllTables, out: &mut S) -> Resu
 ///
 /// # Errors
 ///
-/// As `list_all`; `TooLarge` where the sum of all sizes is 2^64 or more. Only `Write` can leave a beginning of the report
-/// written.
+/// Those of `list_all`; `TooLarge` where the sum of all sizes is 2^64 or more. Only after `Write` a beginning of the
+/// report may be written.
 pub fn report_all<S: Sink>(
     alloc: Global,
     tables: &AllTables,
@@ -196,7 +196,7 @@ pub fn report_all<S: Sink>(
 ///
 /// # Errors
 ///
-/// As `report_all`. Only `Write` can leave a beginning of the picture written.
+/// Those of `report_all`. Only after `Write` a beginning of the picture may be written.
 pub fn map_all<S: Sink>(alloc: Global, tables: &AllTables, out: &mut S) -> Result<(), ReportError> {
     let sums = sums_of_all(alloc, tables)?;
     let text = picture(alloc, &sums)?;

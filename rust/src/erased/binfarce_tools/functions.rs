@@ -10,7 +10,7 @@ use crate::erased::binfarce::{
 };
 use crate::shim::alloc::Global;
 
-/// The function symbols of a file that are left, in the order of its listing.
+/// An iterator over the function symbols of a file, in the order of its listing.
 pub enum Functions<'a> {
     Elf32(elf32::Functions<'a>),
     Elf64(elf64::Functions<'a>),
@@ -18,7 +18,7 @@ pub enum Functions<'a> {
     All(AllFunctions<'a>),
 }
 
-/// Function symbols that stand in a list, from a place on.
+/// The function symbols of a list, from an index on.
 pub struct Arranged<'a> {
     functions: Vec<FunctionSymbol<'a>>,
     next: usize,
@@ -50,8 +50,8 @@ impl<'a> Arranged<'a> {
 ///
 /// # Errors
 ///
-/// `Unknown` where the format isn't one that is read; `Parse` where its reader refuses, other than for memory;
-/// `OutOfMemory` where an allocation failed.
+/// `Unknown` where the format isn't supported; `Parse` where its reader refuses the file; `OutOfMemory` where an
+/// allocation failed.
 pub fn functions_of_file<'a>(
     alloc: Global,
     data: &'a [u8],
@@ -94,7 +94,7 @@ fn read_pe(alloc: Global, data: &[u8]) -> Result<(Functions<'_>, u64), ParseErro
     Ok(all_of(listed))
 }
 
-// All functions of a list, beside a size.
+// All functions of a list, with a size.
 pub(crate) fn all_of<'a>(listed: (Vec<FunctionSymbol<'a>>, u64)) -> (Functions<'a>, u64) {
     let (functions, size) = listed;
     (Functions::Arranged(Arranged { functions, next: 0 }), size)

@@ -1,11 +1,11 @@
 // From crates/binfarce_tools/src/head.rt, by tools/erase.
 
-//! What stands before the name of a line: the address and the size.
+//! The head of a line, before the name: the address and the size.
 
 use crate::shim::String;
 use crate::shim::alloc::AllocError;
 
-/// Writes the head of a line after the text.
+/// Appends the head of a line to the text.
 pub fn push_head(text: &mut String, address: u64, size: u64) -> Result<(), AllocError> {
     if size < 10_000_000_000 {
         return push_head_of_28(text, address, size);

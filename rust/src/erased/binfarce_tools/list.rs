@@ -14,7 +14,7 @@ use std::error::Error;
 use std::fmt;
 use crate::shim::io::Write;
 
-/// What bytes are written to.
+/// A sink of bytes.
 pub trait Sink {
     /// Takes some of the bytes, of which there is at least one.
     ///
@@ -67,13 +67,13 @@ impl<W: Write> Sink for Out<W> {
 /// Why a file was not listed.
 #[derive(Debug, PartialEq)]
 pub enum ListError {
-    /// The file's first bytes name no format that is read.
+    /// The file's first bytes name no supported format.
     Unknown,
     /// The reader of the file's format refused it.
     Parse(ParseError),
     /// An allocation failed.
     OutOfMemory,
-    /// A write of the sink failed. What it took before is a beginning of the listing.
+    /// A write of the sink failed. It took a beginning of the listing.
     Write,
 }
 
@@ -97,7 +97,7 @@ impl From<AllocError> for ListError {
 }
 
 impl From<ParseError> for ListError {
-    /// A failed allocation is reported as such, whichever call it comes from.
+    /// A failed allocation becomes `OutOfMemory`, and any other error becomes `Parse`.
     fn from(e: ParseError) -> Self {
         match e {
             ParseError::OutOfMemory => ListError::OutOfMemory,
@@ -114,8 +114,8 @@ impl From<ParseError> for ListError {
 ///
 /// # Errors
 ///
-/// `Unknown` where the format isn't one that is read; `Parse` where its reader refuses, other than for memory;
-/// `OutOfMemory` where an allocation failed; `Write` where a write failed, which alone can leave a beginning of the listing
+/// `Unknown` where the format isn't supported; `Parse` where its reader refuses the file; `OutOfMemory` where an
+/// allocation failed. Nothing is written then. `Write` where a write failed: a beginning of the listing may then be
 /// written.
 pub fn list<S: Sink>(
     alloc: Global,
@@ -128,7 +128,7 @@ pub fn list<S: Sink>(
     write_whole(out, text.as_bytes())
 }
 
-/// Lists what `list` does, of a file's tables: for the section that they were read for.
+/// As `list`, from the tables of a file: for the section that they were read for.
 ///
 /// # Errors
 ///
@@ -150,7 +150,7 @@ fn listing(alloc: Global, functions: Functions<'_>, size: u64) -> Result<String,
     Ok(text)
 }
 
-// Writes the line of a function after the text.
+// Appends the line of a function to the text.
 fn push_line(
     demangler: &mut Demangler,
     text: &mut String,

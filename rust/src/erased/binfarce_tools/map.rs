@@ -11,15 +11,15 @@ use crate::erased::binfarce_chart::bars::Bar;
 use crate::erased::binfarce_chart::svg::chart;
 use crate::shim::alloc::{AllocError, Global};
 
-/// Draws how many bytes the function symbols of a file's section take: an SVG document with a bar for each crate, the
+/// Draws the sizes of the function symbols of a file's section by crate: an SVG document with a bar for each crate, the
 /// greatest first.
 ///
-/// The sums are those that `report` shows, and the picture is that of `binfarce_chart::svg::chart`: of more than 40 crates the
-/// last bar stands for all from the 40th on. The picture is made before its first byte is written.
+/// The sums are those that `report` shows, and the picture is that of `binfarce_chart::svg::chart`: of more than 40
+/// crates, the last bar sums up all from the 40th on. The picture is made before its first byte is written.
 ///
 /// # Errors
 ///
-/// As `report`. Only `Write` can leave a beginning of the picture written.
+/// Those of `report`. Only after `Write` a beginning of the picture may be written.
 pub fn map<S: Sink>(
     alloc: Global,
     data: &[u8],
@@ -32,7 +32,7 @@ pub fn map<S: Sink>(
     Ok(())
 }
 
-/// Draws what `map` does, of a file's tables: for the section that they were read for.
+/// As `map`, from the tables of a file: for the section that they were read for.
 ///
 /// # Errors
 ///

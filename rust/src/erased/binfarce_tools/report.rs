@@ -14,13 +14,13 @@ use crate::shim::collections::BTreeMap;
 use std::error::Error;
 use std::fmt;
 
-// What stands in a report for a crate that no name tells.
+// The label in a report for symbols without a crate.
 const UNKNOWN_CRATE: &str = "[unknown]";
 
 /// Why a report was not made.
 #[derive(Debug, PartialEq)]
 pub enum ReportError {
-    /// The file's first bytes name no format that is read.
+    /// The file's first bytes name no supported format.
     Unknown,
     /// The reader of the file's format refused it.
     Parse(ParseError),
@@ -28,12 +28,12 @@ pub enum ReportError {
     OutOfMemory,
     /// The sum of all sizes is 2^64 or more.
     TooLarge,
-    /// A write of the sink failed. What it took before is a beginning of the report.
+    /// A write of the sink failed. It took a beginning of the report.
     Write,
 }
 
 impl fmt::Display for ReportError {
-    /// What `list` reports too has its words.
+    /// The errors of `list` have its text.
     fn fmt(&self, f: &mut fmt::Formatter<'_>) -> fmt::Result {
         match self {
             ReportError::Unknown => write!(f, "{}", ListError::Unknown),
@@ -54,7 +54,7 @@ impl From<AllocError> for ReportError {
 }
 
 impl From<ListError> for ReportError {
-    /// What keeps a file from being listed keeps it from being reported.
+    /// A file that can't be listed can't be reported, for the same reason.
     fn from(e: ListError) -> Self {
         match e {
             ListError::Unknown => ReportError::Unknown,
@@ -70,13 +70,13 @@ impl From<ListError> for ReportError {
 ///
 /// The symbols are those that `list` lists. The line of a crate is `{sum:>10} {name}`, with the sum of the sizes of its
 /// symbols; after these come `sum {total}`, with the sum of all sizes, and `text {size}`, with that of the section. The
-/// crate of a symbol is the one that its name tells, and for a legacy name the first part of its path, unless that
-/// begins with `<`; all other symbols are counted for `[unknown]`. The report is made before its first byte is written.
+/// crate of a symbol is that of its v0 name, or the first part of the path of its legacy name, unless that begins with
+/// `<`. All other symbols are counted for `[unknown]`. The report is made before its first byte is written.
 ///
 /// # Errors
 ///
-/// As `list`; `TooLarge` where the sum of all sizes is 2^64 or more. Only `Write` can leave a beginning of the report
-/// written.
+/// Those of `list`; `TooLarge` where the sum of all sizes is 2^64 or more. Only after `Write` a beginning of the report
+/// may be written.
 pub fn report<S: Sink>(
     alloc: Global,
     data: &[u8],
@@ -89,7 +89,7 @@ pub fn report<S: Sink>(
     Ok(())
 }
 
-/// Reports what `report` does, of a file's tables: for the section that they were read for.
+/// As `report`, from the tables of a file: for the section that they were read for.
 ///
 /// # Errors
 ///
@@ -135,7 +135,7 @@ pub fn sums_of_tables(alloc: Global, tables: &Tables) -> Result<CrateSums, Repor
     crate_sums(alloc, functions, size)
 }
 
-// The sums of the functions, beside the section's size. `TooLarge` where the sum of all doesn't fit.
+// The sums of the functions, with the section's size. `TooLarge` where the sum of all exceeds 64 bits.
 pub(crate) fn crate_sums(
     alloc: Global,
     functions: Functions<'_>,
@@ -157,8 +157,8 @@ pub(crate) fn crate_sums(
     })
 }
 
-// Adds a function's size to the sum of its crate, whose name is written in place of the text: it is kept from one function
-// to the next, so that no memory is taken for a name that the sums have.
+// Adds a function's size to the sum of its crate. The text is overwritten by the crate's name; it is reused for all
+// functions, so a name that the sums already have allocates nothing.
 fn add_function(
     alloc: Global,
     crates: &mut BTreeMap<String, u64>,
@@ -185,7 +185,7 @@ fn add_size(
     Ok(())
 }
 
-// Writes the crate that a function of this name is counted for in place of the text.
+// Overwrites the text by the crate that a function of this name is counted for.
 fn put_crate(alloc: Global, text: &mut String, name: &str) -> Result<(), AllocError> {
     text.clear();
     if push_crate(alloc, text, name)? {
@@ -212,7 +212,7 @@ pub(crate) fn sums_text(alloc: Global, sums: &CrateSums) -> Result<String, Alloc
     Ok(text)
 }
 
-// `{sum:>10} {name}` and a line feed, after the text.
+// Appends `{sum:>10} {name}` and a line feed to the text.
 fn push_crate_line(text: &mut String, name: &str, sum: u64) -> Result<(), AllocError> {
     writeln!(text, "{sum:>10} {name}")?;
     Ok(())

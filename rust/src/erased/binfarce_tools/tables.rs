@@ -1,6 +1,6 @@
 // From crates/binfarce_tools/src/tables.rt, by tools/erase.
 
-//! What is read of a file to list its function symbols.
+//! The tables of a file's function symbols, read from a source.
 
 use crate::shim::Vec;
 use crate::erased::binfarce_tools::functions::{Functions, all_of};
@@ -13,7 +13,7 @@ use crate::shim::alloc::Global;
 // How many of a file's first bytes name its format.
 const MAGIC_LENGTH: usize = 8;
 
-/// What was read of a file to list the function symbols of a section.
+/// The tables that were read of a file for the function symbols of a section.
 pub enum Tables {
     /// The parts of an ELF file of 32 bits.
     Elf32(elf32::Parts),
@@ -23,13 +23,13 @@ pub enum Tables {
     Macho(macho::Parts),
     /// The parts of a PE file.
     Pe(pe::Parts),
-    /// Nothing of a file whose first bytes name no format that is read.
+    /// Nothing: the file's first bytes name no supported format.
     Unknown,
 }
 
 impl Tables {
-    /// The function symbols of the section that the tables were read for, by the symbol table that they were read by, and
-    /// the section's size: of the symbol table what `functions_of_file` gives of the file.
+    /// The function symbols of the section and the symbol table that the tables were read for, and the section's size.
+    /// For the symbol table these are the answer of `functions_of_file`.
     ///
     /// # Errors
     ///
@@ -57,26 +57,25 @@ impl Tables {
     }
 }
 
-/// Reads of a file what its function symbols in a section are made of: its first 8 bytes, which name its format, and the
+/// Reads the tables of a file for the function symbols of a section: its first 8 bytes, which name its format, and the
 /// parts that `binfarce_tables` reads of a file of that format. Of a file of an unknown format no other byte is read.
-/// Each part that is kept takes no more memory than what the file holds of it.
+/// Each part that is kept takes no more memory than the file has bytes of it.
 ///
 /// # Errors
 ///
-/// `Refused` with what the reader of the file's format refuses; `Unreadable` where the source can't be read at offsets,
-/// or a read of it fails, and never of a source that can't fail, as bytes in memory are; `OutOfMemory` where an
-/// allocation fails.
+/// `Refused` with the error of the format's reader; `Unreadable` where the source can't be read at offsets, or a read
+/// of it fails, and never for a source that can't fail, such as bytes in memory; `OutOfMemory` where an allocation
+/// fails.
 pub fn read<S: Source>(alloc: Global, source: &S, section: &str) -> Result<Tables, ReadError> {
     read_by(alloc, source, SymbolTable::Symtab, section)
 }
 
-/// Reads what `read` does, by this symbol table: of an ELF file that table and its strings in place of the symbol table
-/// and its own.
+/// As `read`, but of an ELF file it reads this symbol table and its strings.
 ///
 /// # Errors
 ///
-/// As `read`, where `Refused` is for the dynamic symbol table what `dynamic_functions` of a reader of an ELF file refuses,
-/// and `SectionIsMissing` of `.dynsym` for a Mach-O or PE file.
+/// Those of `read`. For the dynamic symbol table, `Refused` has the error of `dynamic_functions` of an ELF reader, and
+/// `SectionIsMissing` of `.dynsym` for a Mach-O or PE file.
 pub fn read_by<S: Source>(
     alloc: Global,
     source: &S,

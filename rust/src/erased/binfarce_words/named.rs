@@ -1,8 +1,8 @@
 // From crates/binfarce_words/src/named.rt, by tools/erase.
 
-//! Names that are looked up.
+//! Lookup of names.
 
-/// What has a name.
+/// An item with a name.
 pub trait Named: Copy {
     /// The name.
     fn name(self) -> &'static str;
@@ -13,8 +13,8 @@ pub fn find_named<T: Named>(known: &[T], name: &str) -> Option<T> {
     known.iter().copied().find(|it| it.name() == name)
 }
 
-/// One of these that shares the longest beginning with the name, where that is more than `least` bytes. `None` where none
-/// shares so many. Allocates nothing.
+/// One of these with the longest common prefix with the name, if that has more than `least` bytes; otherwise `None`.
+/// Allocates nothing.
 pub fn nearest<T: Named>(known: &[T], name: &str, least: usize) -> Option<T> {
     let mut found = None;
     let mut most = least;
@@ -28,7 +28,7 @@ pub fn nearest<T: Named>(known: &[T], name: &str, least: usize) -> Option<T> {
     found
 }
 
-// How many bytes two names begin with alike.
+// The length of the longest common prefix of two names.
 fn shared_len(a: &str, b: &str) -> usize {
     a.bytes().zip(b.bytes()).take_while(|(x, y)| x == y).count()
 }

@@ -1,6 +1,6 @@
 // From crates/binfarce_words/src/words.rt, by tools/erase.
 
-//! What the words of a call ask for.
+//! The command line of a call.
 
 use crate::shim::{String, Vec};
 use crate::erased::binfarce_words::named::{Named, find_named, nearest};
@@ -8,7 +8,7 @@ use crate::erased::binfarce_addresses::address::parse_address;
 use crate::shim::alloc::Global;
 use std::fmt;
 
-/// What the program does.
+/// A command.
 #[derive(Debug, Clone, Copy, PartialEq)]
 pub enum Command {
     /// Lists function symbols.
@@ -125,7 +125,7 @@ pub enum Wrong<'a> {
     NoValue(Flag),
     /// Two options that exclude each other.
     Exclusive(Flag, Flag),
-    /// The word is no address.
+    /// The word isn't an address.
     NoAddress(&'a str),
     /// The command has no file.
     NoFile(Command),
@@ -182,26 +182,26 @@ impl<'a> fmt::Display for Wrong<'a> {
     }
 }
 
-/// What the words after a command give.
+/// The options and operands of a command.
 #[derive(Debug)]
 pub struct Given<'a> {
-    /// Help is asked for.
+    /// Help is requested.
     pub help: bool,
     /// The section of an ELF file that is named.
     pub section: Option<&'a str>,
     /// Names keep their hashes.
     pub full: bool,
-    /// What is subtracted from each address.
+    /// The base, which is subtracted from each address.
     pub base: u64,
     /// The dynamic symbol table is read.
     pub dynamic: bool,
     /// The function symbols of all sections are taken.
     pub all: bool,
-    /// The words that are no options.
+    /// The words that aren't options.
     pub operands: Vec<&'a str>,
 }
 
-/// What a call asks for.
+/// A call.
 #[derive(Debug)]
 pub enum Call<'a> {
     /// Help on the program, or on a command.
@@ -212,7 +212,7 @@ pub enum Call<'a> {
     Run(Command, Given<'a>),
 }
 
-/// What a call asks for by the words after the program's own name.
+/// The call that the words after the program's own name mean.
 ///
 /// # Errors
 ///
@@ -242,7 +242,7 @@ fn asks_version(word: &str) -> bool {
     word == "--version" || word == "-V"
 }
 
-// `help`, and the command that it is asked for.
+// `help`, and the command that it is about.
 fn read_help<'a>(others: &'a [String]) -> Result<Call<'a>, Wrong<'a>> {
     match others {
         [] => Ok(Call::Help(None)),
@@ -257,7 +257,7 @@ fn help_on(word: &str) -> Result<Call<'_>, Wrong<'_>> {
     }
 }
 
-// The command of this name, and what the other words give.
+// The command of this name, with its options and operands.
 fn read_command<'a>(
     alloc: Global,
     word: &'a str,
@@ -280,7 +280,7 @@ fn read_options<'a>(
     }
 }
 
-// The command's work, or help on it, where that is asked for.
+// The command, or help on it, where that is requested.
 fn call_with<'a>(command: Command, given: Given<'a>) -> Result<Call<'a>, Wrong<'a>> {
     if given.help {
         return Ok(Call::Help(Some(command)));
@@ -299,7 +299,7 @@ fn fault_of<'a>(command: Command, given: &Given<'a>) -> Option<Wrong<'a>> {
     operand_fault(command, given.operands.as_slice())
 }
 
-// What is wrong with a command's operands.
+// The fault of a command's operands.
 fn operand_fault<'a>(command: Command, operands: &[&'a str]) -> Option<Wrong<'a>> {
     match operands {
         _ if command == Command::Filter => None,
@@ -309,7 +309,7 @@ fn operand_fault<'a>(command: Command, operands: &[&'a str]) -> Option<Wrong<'a>
     }
 }
 
-// What the words after a command give.
+// The options and operands of a command.
 fn read_given<'a>(
     alloc: Global,
     command: Command,
@@ -411,7 +411,7 @@ impl<'a> Reading<'a> {
         }
     }
 
-    // What is given, once all words were read.
+    // The options and operands, after all words were read.
     fn finish(self) -> Result<Given<'a>, Wrong<'a>> {
         match self.waiting {
             None => Ok(self.given),
@@ -421,7 +421,7 @@ impl<'a> Reading<'a> {
 }
 
 impl<'a> Given<'a> {
-    // Sets an option. The value of one that takes none isn't looked at.
+    // Sets an option. The value of one that takes none is ignored.
     fn set(&mut self, flag: Flag, value: &'a str) -> Result<(), Wrong<'a>> {
         match flag {
             Flag::Help => self.help = true,

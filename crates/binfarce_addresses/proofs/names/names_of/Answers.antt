@@ -22,11 +22,11 @@ loop-place-preserved c =
     let named = c.in_ok-push_trimmed.ensures.trimmed in
     let text = string_bytes c.push_trimmed.new.text in
     let bounds = c.loop-place.bounds.items in
-    let stands : get_or (map function_view functions) i (function_view f) ≡ function_view f = get_or-map function_view functions i f (function_view f) lt ∙ ap function_view (sym c.index-function.ensures) in
+    let is_placed : get_or (map function_view functions) i (function_view f) ≡ function_view f = get_or-map function_view functions i f (function_view f) lt ∙ ap function_view (sym c.index-function.ensures) in
     let within : i < length (map function_view functions) = omega (arith, lt, length-map functions function_view) in
     let grown : c.push-in-loop-place.new.self.items ≡ bounds ++ length text ∷ [] = c.in_ok-push-2.ensures.items ∙ ap (λ n. bounds ++ n ∷ []) (ap (length {A = ℕ}) c.as_bytes.ensures.value) in
     record {
       len = omega (arith, ap (length {A = ℕ}) grown, length-append bounds (length text ∷ []), c.loop-place.invariant.len);
       last = ap (λ (bs : List ℕ). get_or bs (i + 1) 0) grown ∙ ap (λ n. get_or (bounds ++ length text ∷ []) n 0) (sym c.loop-place.invariant.len) ∙ get_or-append_seam bounds (length text) [] 0;
-      names = one_name (map function_view functions) (string_bytes c.loop-place.text) bounds i (function_view f) named.0 c.loop-place.invariant.len c.loop-place.invariant.last c.loop-place.invariant.names (within, stands) named.1 text c.push-in-loop-place.new.self.items named.2 grown;
+      names = one_name (map function_view functions) (string_bytes c.loop-place.text) bounds i (function_view f) named.0 c.loop-place.invariant.len c.loop-place.invariant.last c.loop-place.invariant.names (within, is_placed) named.1 text c.push-in-loop-place.new.self.items named.2 grown;
     }

@@ -2,7 +2,7 @@ use Rattle.std.proofs.Common.{Ok, ap, sym, ◌∙◌}
 use Rattle.binfarce.specs.Format.{format_of}
 use Rattle.binfarce_sections.specs.Named.{bytes_named}
 use Rattle.binfarce_sections.specs.Section.{sections_of}
-use Rattle.binfarce_sections.specs.Telling.{TakesRead, Fails}
+use Rattle.binfarce_sections.specs.Results.{TakesRead, Fails}
 use Rattle.binfarce_sections.proofs.SourceAnswers.{err_is, bytes_taken, bytes_untaken, unfailed}
 use Rattle.binfarce_sections.proofs.bytes.write_section_of.Goals as goal
 

@@ -1,6 +1,6 @@
 use Rattle.binfarce.specs.Format.{format_of}
 use Rattle.binfarce_sections.specs.Section.{sections_of}
-use Rattle.binfarce_sections.specs.Telling.{TakesReadLines, Fails, error_of}
+use Rattle.binfarce_sections.specs.Results.{TakesReadLines, Fails, error_of}
 use Rattle.binfarce_sections.proofs.SourceAnswers.{err_is, lines_opened, lines_unopened, lines_read, lines_unread, unfailed}
 use Rattle.binfarce_sections.proofs.list.list_source.Goals as goal
 

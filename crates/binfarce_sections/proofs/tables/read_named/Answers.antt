@@ -5,7 +5,7 @@ use Rattle.binfarce.specs.Refusal.{refusal_of}
 use Rattle.binfarce_sections.specs.declared.sections.Section as code
 use Rattle.binfarce_sections.specs.Named.{refused, no_section, bytes_named, bytes_of}
 use Rattle.binfarce_sections.specs.Section.{sections_of}
-use Rattle.binfarce_sections.specs.Telling.{error_of}
+use Rattle.binfarce_sections.specs.Results.{error_of}
 use Rattle.binfarce_sections.specs.Views.{section_view}
 use Rattle.binfarce_sections.specs.declared.error.SectionError.TheVariants.{Parse}
 use Rattle.binfarce_sections.specs.machine.Found.{ReadsBytes}

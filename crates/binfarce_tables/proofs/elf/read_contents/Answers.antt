@@ -12,5 +12,5 @@ returns-in-Ok g c = λ file known.
 pub returns-in-Err-Refused : goal.returns-in-Err-Refused
 returns-in-Err-Refused g c = λ file known.
     let short : length file < 2 ^ 64 = omega (arith, known.1, c.ranges.len.fits) in
-    let told = rw c.in-Err-Refused.field-0-is at c.in-Err-Refused.ensures in
-    ap Ok (contents_refused file (refusal_of c.in-Err-Refused.field-0-0) (section_view g.C.Class.number_of c.args.section) short (told file known))
+    let is_known = rw c.in-Err-Refused.field-0-is at c.in-Err-Refused.ensures in
+    ap Ok (contents_refused file (refusal_of c.in-Err-Refused.field-0-0) (section_view g.C.Class.number_of c.args.section) short (is_known file known))

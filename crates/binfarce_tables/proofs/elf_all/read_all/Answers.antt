@@ -6,7 +6,7 @@ use Rattle.binfarce_tables.specs.Reading.{Known}
 use Rattle.binfarce_tables.specs.ElfAllReading.{all_file_answer, all_view}
 use Rattle.binfarce_tables.specs.machine.Places.{table_at, rows_of_all, rows_view}
 use Rattle.binfarce_tables.proofs.AllRead.{symbols_of, symbols_by, answer_from, all_read}
-use Rattle.binfarce_tables.proofs.Readings.{instead, after_err, passed, taken, length_told}
+use Rattle.binfarce_tables.proofs.Readings.{instead, after_err, passed, taken, length_known}
 use Rattle.binfarce_tables.proofs.elf_all.read_all.Goals as goal
 
 pub returns-in_err-table : goal.returns-in_err-table
@@ -17,21 +17,21 @@ returns-in_err-table g c = λ file known.
     let order = c.args.byte_order in
     let place = c.in_ok-place.place in
     let table = table_at file place in
-    let told : Known (g.S.Source.bytes c.args.source.now) c.in_ok-len.len file = (known, length_told _ file c.in_ok-len.len known c.in_ok-len.ensures.length) in
+    let is_known : Known (g.S.Source.bytes c.args.source.now) c.in_ok-len.len file = (known, length_known _ file c.in_ok-len.len known c.in_ok-len.ensures.length) in
     let walked : walk class (headers_alone place.byte_order c.deref.result.now place.shnum) ≡ walk class table =
-    ap (λ (h : List ℕ). walk class (headers_alone place.byte_order h place.shnum)) c.deref.ensures.value ∙ taken (c.in_ok-headers.ensures file told) in
+    ap (λ (h : List ℕ). walk class (headers_alone place.byte_order h place.shnum)) c.deref.ensures.value ∙ taken (c.in_ok-headers.ensures file is_known) in
     let elf_type = (header_of class order file).elf_type in
     let e = c.in_err-table.field-0.0 in
     passed fails next _ e c.from_residual-in_err-table.result c.from_residual-in_err-table.ensures
-    (instead fails next (all_file_answer c.args.which class order file) (symbols_by c.args.which class elf_type table) (Err e) (answer_from c.args.which class order file table (c.in_ok-place.ensures.table file told))
-    (after_err fails rows_view next (rows_of_all c.args.which class table) (λ found. Ok (symbols_of class table (names_bytes class table) (walk class table) elf_type found)) e (c.in_err-table.ensures file told walked)))
+    (instead fails next (all_file_answer c.args.which class order file) (symbols_by c.args.which class elf_type table) (Err e) (answer_from c.args.which class order file table (c.in_ok-place.ensures.table file is_known))
+    (after_err fails rows_view next (rows_of_all c.args.which class table) (λ found. Ok (symbols_of class table (names_bytes class table) (walk class table) elf_type found)) e (c.in_err-table.ensures file is_known walked)))
 
 pub returns : goal.returns
 returns g c = λ file known.
     let class = g.C.Class.table in
     let place = c.in_ok-place.place in
-    let told : Known (g.S.Source.bytes c.args.source.now) c.in_ok-len.len file = (known, length_told _ file c.in_ok-len.len known c.in_ok-len.ensures.length) in
+    let is_known : Known (g.S.Source.bytes c.args.source.now) c.in_ok-len.len file = (known, length_known _ file c.in_ok-len.len known c.in_ok-len.ensures.length) in
     let walked : walk class (headers_alone place.byte_order c.deref.result.now place.shnum) ≡ walk class (table_at file place) =
-    ap (λ (h : List ℕ). walk class (headers_alone place.byte_order h place.shnum)) c.deref.ensures.value ∙ taken (c.in_ok-headers.ensures file told) in
+    ap (λ (h : List ℕ). walk class (headers_alone place.byte_order h place.shnum)) c.deref.ensures.value ∙ taken (c.in_ok-headers.ensures file is_known) in
     all_read c.args.which class c.args.byte_order file (table_at file place) (rows_view c.in_ok-table.table) (walk class (headers_alone place.byte_order c.in_ok-headers.headers.items place.shnum)) (option_map (λ v. v.items) c.in_ok-names.names) place.elf_type
-    (c.in_ok-place.ensures.table file told) (c.in_ok-table.ensures file told walked) (taken (c.in_ok-headers.ensures file told)) (taken (c.in_ok-names.ensures file told)) (c.in_ok-place.ensures.type_is file told)
+    (c.in_ok-place.ensures.table file is_known) (c.in_ok-table.ensures file is_known walked) (taken (c.in_ok-headers.ensures file is_known)) (taken (c.in_ok-names.ensures file is_known)) (c.in_ok-place.ensures.type_is file is_known)

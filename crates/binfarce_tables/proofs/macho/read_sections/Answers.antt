@@ -1,10 +1,10 @@
 use Rattle.std.proofs.Common.{arith}
 use Rattle.binfarce_tables.specs.Reading.{Known}
 use Rattle.binfarce_tables.proofs.MachoPrefix.{begins_with_commands, sections_of_bytes}
-use Rattle.binfarce_tables.proofs.Readings.{length_told, taken}
+use Rattle.binfarce_tables.proofs.Readings.{length_known, taken}
 use Rattle.binfarce_tables.proofs.macho.read_sections.Goals as goal
 
 pub returns : goal.returns
 returns g c = λ file known.
-    let told : Known (g.S.Source.bytes c.args.source.now) c.in_ok-file_length.file_length file = (known, length_told _ file c.in_ok-file_length.file_length known c.in_ok-file_length.ensures.length) in
-    (begins_with_commands file c.in_ok-bytes.bytes.items (taken (c.in_ok-bytes.ensures file told)), sections_of_bytes file c.in_ok-bytes.bytes.items (omega (arith, told.1, c.if-len-lt-HEADER.false)) (taken (c.in_ok-bytes.ensures file told)), told.1)
+    let is_known : Known (g.S.Source.bytes c.args.source.now) c.in_ok-file_length.file_length file = (known, length_known _ file c.in_ok-file_length.file_length known c.in_ok-file_length.ensures.length) in
+    (begins_with_commands file c.in_ok-bytes.bytes.items (taken (c.in_ok-bytes.ensures file is_known)), sections_of_bytes file c.in_ok-bytes.bytes.items (omega (arith, is_known.1, c.if-len-lt-HEADER.false)) (taken (c.in_ok-bytes.ensures file is_known)), is_known.1)

@@ -4,21 +4,21 @@ use Rattle.binfarce_tables.specs.PeReading.{parts_view}
 use Rattle.binfarce_tables.specs.Reading.{Known}
 use Rattle.binfarce_tables.specs.machine.PePlaces.{text_at, answer_at}
 use Rattle.binfarce_tables.proofs.PeSteps.{from_places, from_text}
-use Rattle.binfarce_tables.proofs.Readings.{after_err, passed, length_told}
+use Rattle.binfarce_tables.proofs.Readings.{after_err, passed, length_known}
 use Rattle.binfarce_tables.proofs.pe.read.Goals as goal
 
 pub returns-in_err-text : goal.returns-in_err-text
 returns-in_err-text g c = λ file known.
-    let told : Known (g.S.Source.bytes c.args.source.now) c.in_ok-len.len file = (known, length_told _ file c.in_ok-len.len known c.in_ok-len.ensures.length) in
+    let is_known : Known (g.S.Source.bytes c.args.source.now) c.in_ok-len.len file = (known, length_known _ file c.in_ok-len.len known c.in_ok-len.ensures.length) in
     let fails = g.S.Source.may_fail c.args.source.now in
     let places = places_view c.in_ok-places.places in
     let e = c.in_err-text.field-0.0 in
     passed fails parts_view _ e c.from_residual-in_err-text.result c.from_residual-in_err-text.ensures
-    (from_places fails parts_view file places (Err e) (c.in_ok-places.ensures file told)
-    (after_err fails text_view parts_view (text_at file places) (answer_at file places) e (c.in_err-text.ensures file told)))
+    (from_places fails parts_view file places (Err e) (c.in_ok-places.ensures file is_known)
+    (after_err fails text_view parts_view (text_at file places) (answer_at file places) e (c.in_err-text.ensures file is_known)))
 
 pub returns : goal.returns
 returns g c = λ file known.
-    let told : Known (g.S.Source.bytes c.args.source.now) c.in_ok-len.len file = (known, length_told _ file c.in_ok-len.len known c.in_ok-len.ensures.length) in
+    let is_known : Known (g.S.Source.bytes c.args.source.now) c.in_ok-len.len file = (known, length_known _ file c.in_ok-len.len known c.in_ok-len.ensures.length) in
     from_text (g.S.Source.may_fail c.args.source.now) parts_view file (places_view c.in_ok-places.places) (text_view c.in_ok-text.text) c.read_symbols.result
-    (c.in_ok-places.ensures file told) (c.in_ok-text.ensures file told) (c.read_symbols.ensures file told)
+    (c.in_ok-places.ensures file is_known) (c.in_ok-text.ensures file is_known) (c.read_symbols.ensures file is_known)

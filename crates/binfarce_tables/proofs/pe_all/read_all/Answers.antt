@@ -4,37 +4,37 @@ use Rattle.binfarce_tables.specs.PeAllReading.{all_view, all_file_answer}
 use Rattle.binfarce_tables.specs.Reading.{Known}
 use Rattle.binfarce_tables.specs.machine.PePlaces.{whole_at, table_at, records_view}
 use Rattle.binfarce_tables.proofs.PeAllLocated.{after_places, after_sections, from_places, from_sections, all_read, count_is}
-use Rattle.binfarce_tables.proofs.Readings.{after_err, instead, passed, length_told}
+use Rattle.binfarce_tables.proofs.Readings.{after_err, instead, passed, length_known}
 use Rattle.binfarce_tables.proofs.pe_all.read_all.Goals as goal
 
 pub returns-in_err-headers-clause-parts : goal.returns-in_err-headers-clause-parts
 returns-in_err-headers-clause-parts g c = λ file known.
-    let told : Known (g.S.Source.bytes c.args.source.now) c.in_ok-len.len file = (known, length_told _ file c.in_ok-len.len known c.in_ok-len.ensures.length) in
+    let is_known : Known (g.S.Source.bytes c.args.source.now) c.in_ok-len.len file = (known, length_known _ file c.in_ok-len.len known c.in_ok-len.ensures.length) in
     let fails = g.S.Source.may_fail c.args.source.now in
     let places = places_view c.in_ok-places.places in
     let e = c.in_err-headers.field-0.0 in
     passed fails all_view _ e c.from_residual-in_err-headers.result c.from_residual-in_err-headers.ensures
-    (instead fails all_view (all_file_answer file) (after_places file places) (Err e) (from_places file places (c.in_ok-places.ensures file told))
-    (after_err fails (λ (v : Vec ℕ Global). headers_alone v.items places.section_count) all_view (whole_at file places) (after_sections file places) e (c.in_err-headers.ensures.headers file told)))
+    (instead fails all_view (all_file_answer file) (after_places file places) (Err e) (from_places file places (c.in_ok-places.ensures file is_known))
+    (after_err fails (λ (v : Vec ℕ Global). headers_alone v.items places.section_count) all_view (whole_at file places) (after_sections file places) e (c.in_err-headers.ensures.headers file is_known)))
 
 pub returns-in_err-records-clause-parts : goal.returns-in_err-records-clause-parts
 returns-in_err-records-clause-parts g c = λ file known.
-    let told : Known (g.S.Source.bytes c.args.source.now) c.in_ok-len.len file = (known, length_told _ file c.in_ok-len.len known c.in_ok-len.ensures.length) in
+    let is_known : Known (g.S.Source.bytes c.args.source.now) c.in_ok-len.len file = (known, length_known _ file c.in_ok-len.len known c.in_ok-len.ensures.length) in
     let fails = g.S.Source.may_fail c.args.source.now in
     let places = places_view c.in_ok-places.places in
     let sections = headers_alone c.in_ok-headers.headers.items places.section_count in
     let e = c.in_err-records.field-0.0 in
     passed fails all_view _ e c.from_residual-in_err-records.result c.from_residual-in_err-records.ensures
-    (instead fails all_view (all_file_answer file) (after_sections file places sections) (Err e) (from_sections file places sections (c.in_ok-places.ensures file told) (c.in_ok-headers.ensures.headers file told))
-    (after_err fails records_view all_view (table_at file places) _ e (c.in_err-records.ensures file told)))
+    (instead fails all_view (all_file_answer file) (after_sections file places sections) (Err e) (from_sections file places sections (c.in_ok-places.ensures file is_known) (c.in_ok-headers.ensures.headers file is_known))
+    (after_err fails records_view all_view (table_at file places) _ e (c.in_err-records.ensures file is_known)))
 
 pub returns-clause-parts : goal.returns-clause-parts
 returns-clause-parts g c = λ file known.
-    let told : Known (g.S.Source.bytes c.args.source.now) c.in_ok-len.len file = (known, length_told _ file c.in_ok-len.len known c.in_ok-len.ensures.length) in
+    let is_known : Known (g.S.Source.bytes c.args.source.now) c.in_ok-len.len file = (known, length_known _ file c.in_ok-len.len known c.in_ok-len.ensures.length) in
     let places = places_view c.in_ok-places.places in
     all_read file places (headers_alone c.in_ok-headers.headers.items places.section_count) (records_view c.in_ok-records.records)
-    (c.in_ok-places.ensures file told) (c.in_ok-headers.ensures.headers file told) (c.in_ok-records.ensures file told)
+    (c.in_ok-places.ensures file is_known) (c.in_ok-headers.ensures.headers file is_known) (c.in_ok-records.ensures file is_known)
 
 pub returns-clause-count : goal.returns-clause-count
 returns-clause-count g c = λ file known.
-    count_is file (places_view c.in_ok-places.places) (c.in_ok-places.ensures file (known, length_told _ file c.in_ok-len.len known c.in_ok-len.ensures.length))
+    count_is file (places_view c.in_ok-places.places) (c.in_ok-places.ensures file (known, length_known _ file c.in_ok-len.len known c.in_ok-len.ensures.length))

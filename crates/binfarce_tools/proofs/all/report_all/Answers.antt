@@ -4,12 +4,12 @@ use Rattle.binfarce_tools.specs.Report.{IsSumsOf}
 use Rattle.binfarce_tools.proofs.Reports.{no_memory, not_written, sums_of_listed, takes, takes_beginning, was_written}
 use Rattle.binfarce_tools.proofs.all.report_all.Goals as goal
 
-pub returns-in_err-text-clause-tells : goal.returns-in_err-text-clause-tells
-returns-in_err-text-clause-tells g c = λ which file are.
+pub returns-in_err-text-clause-outcome : goal.returns-in_err-text-clause-outcome
+returns-in_err-text-clause-outcome g c = λ which file are.
     no_memory (AllNeedsMemory file) (one_answer (all_answer_of which file)) c.in_ok-sums.sums c.from_residual-in_err-text.result (c.in_ok-sums.ensures.sums which file are) c.from_residual-in_err-text.ensures.1
 
-pub returns-in_err-write_whole-clause-tells : goal.returns-in_err-write_whole-clause-tells
-returns-in_err-write_whole-clause-tells g c = λ which file are.
+pub returns-in_err-write_whole-clause-outcome : goal.returns-in_err-write_whole-clause-outcome
+returns-in_err-write_whole-clause-outcome g c = λ which file are.
     not_written (AllNeedsMemory file) (one_answer (all_answer_of which file)) c.in_ok-sums.sums
     c.in_err-write_whole.field-0.0 c.from_residual-in_err-write_whole.result (c.in_ok-sums.ensures.sums which file are) c.in_err-write_whole.ensures.takes.0 c.from_residual-in_err-write_whole.ensures.1
 
@@ -19,8 +19,8 @@ returns-in_err-write_whole-clause-takes g c = λ which file are.
     takes_beginning IsSumsOf (one_answer (all_answer_of which file)) listed.0 c.as_bytes.result.now _ _ c.in_err-write_whole.field-0.0 c.from_residual-in_err-write_whole.result
     listed.1 (subst (IsSumsOf listed.0) (sym c.as_bytes.ensures.value) (sums_of_listed listed.0 c.in_ok-sums.sums _ listed.2 c.in_ok-text.ensures)) c.in_err-write_whole.ensures.takes c.from_residual-in_err-write_whole.ensures.1
 
-pub returns-clause-tells : goal.returns-clause-tells
-returns-clause-tells g c = λ which file are.
+pub returns-clause-outcome : goal.returns-clause-outcome
+returns-clause-outcome g c = λ which file are.
     was_written (AllNeedsMemory file) (one_answer (all_answer_of which file)) c.in_ok-sums.sums (c.in_ok-sums.ensures.sums which file are)
 
 pub returns-clause-takes : goal.returns-clause-takes

@@ -6,8 +6,8 @@ use Rattle.binfarce_tools.proofs.Reports.{not_written, takes_beginning, was_writ
 use Rattle.binfarce_tools.proofs.Maps.{of_listed}
 use Rattle.binfarce_tools.proofs.map.map.Goals as goal
 
-pub returns-in_err-write_whole-clause-tells : goal.returns-in_err-write_whole-clause-tells
-returns-in_err-write_whole-clause-tells g c =
+pub returns-in_err-write_whole-clause-outcome : goal.returns-in_err-write_whole-clause-outcome
+returns-in_err-write_whole-clause-outcome g c =
     not_written (NeedsMemory (format_of c.args.data.now) c.args.data.now) (symbols_answer (format_of c.args.data.now) c.args.data.now c.args.section.now) c.in_ok-sums.sums
     c.in_err-write_whole.field-0.0 c.from_residual-in_err-write_whole.result c.in_ok-sums.ensures c.in_err-write_whole.ensures.takes.0 c.from_residual-in_err-write_whole.ensures.1
 
@@ -17,6 +17,6 @@ returns-in_err-write_whole-clause-takes g c =
     takes_beginning IsMapOf (symbols_answer (format_of c.args.data.now) c.args.data.now c.args.section.now) listed.0 c.as_bytes.result.now _ _ c.in_err-write_whole.field-0.0 c.from_residual-in_err-write_whole.result
     listed.1 (subst (IsMapOf listed.0) (sym c.as_bytes.ensures.value) (of_listed listed.0 c.in_ok-sums.sums _ listed.2 c.in_ok-text.ensures)) c.in_err-write_whole.ensures.takes c.from_residual-in_err-write_whole.ensures.1
 
-pub returns-clause-tells : goal.returns-clause-tells
-returns-clause-tells g c =
+pub returns-clause-outcome : goal.returns-clause-outcome
+returns-clause-outcome g c =
     was_written (NeedsMemory (format_of c.args.data.now) c.args.data.now) (symbols_answer (format_of c.args.data.now) c.args.data.now c.args.section.now) c.in_ok-sums.sums c.in_ok-sums.ensures

@@ -5,6 +5,6 @@ use Rattle.binfarce_tools.proofs.report.add_function.Goals as goal
 
 pub returns : goal.returns
 returns c =
-    let told = c.in_ok-put_crate.ensures in
+    let reported_is = c.in_ok-put_crate.ensures in
     let share : Share = record { name = c.as_str.result.now; size = c.args.function.size } in
-    on_ok _ _ c.add_size.result (λ added. (share, (told.0, told.1, ap (λ text. record { name = text; size = c.args.function.size }) (c.as_str.ensures.value ∙ told.2)), added)) c.add_size.ensures
+    on_ok _ _ c.add_size.result (λ added. (share, (reported_is.0, reported_is.1, ap (λ text. record { name = text; size = c.args.function.size }) (c.as_str.ensures.value ∙ reported_is.2)), added)) c.add_size.ensures

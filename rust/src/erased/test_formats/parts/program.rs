@@ -1,7 +1,7 @@
 // From crates/test_formats/src/parts/program.rt, by tools/erase.
 
 use crate::shim::{HostRuntime, String, Vec};
-use crate::erased::binfarce_program::{Failure, file_and_section, finish, read_whole};
+use crate::erased::binfarce_tools::program::{Failure, file_and_section, finish, read_whole};
 use crate::shim::alloc::{AllocError, Global};
 use crate::shim::io::{self, ErrorKind, Write};
 use crate::erased::test_samples::streams::Source;

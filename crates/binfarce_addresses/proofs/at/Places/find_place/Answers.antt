@@ -1,7 +1,7 @@
 use Rattle.std.proofs.Common.{◌≡◌, ◌-◌, ℕ, Some, None, ap}
 use Rattle.binfarce.specs.SymbolViews.{function_view}
 use Rattle.binfarce_addresses.specs.Lines.{in_file, found_at}
-use Rattle.binfarce_addresses.proofs.Shown.{at_none, without_base, taken_off, found_none, found_some, begins_before, stands_at}
+use Rattle.binfarce_addresses.proofs.Shown.{at_none, without_base, taken_off, found_none, found_some, begins_before, is_at_place}
 use Rattle.binfarce_addresses.proofs.at.Places.find_place.Goals as goal
 
 pub returns-in_err-place : goal.returns-in_err-place
@@ -20,5 +20,5 @@ returns c =
     let inside = without_base c.args.base c.args.address c.in_ok-in_file.in_file c.checked_sub.result c.checked_sub.ensures c.in_ok-in_file.was in
     let found : found_at c.args.self.now (in_file c.args.base c.args.address) ≡ Some (function_view c.index-function.result.now) = found_some c.self.inside.functions.items c.self.inside.ranges c.args.self.now c.self.invariant.are c.self.view_is c.args.base c.args.address c.in_ok-in_file.in_file inside c.in_ok-place.place c.index-function.result.now c.in_ok-place.ensures c.index-function.ensures in
     let left : c.in_ok-in_file.in_file ≡ c.args.address - c.args.base = (taken_off c.args.base c.args.address c.in_ok-in_file.in_file c.checked_sub.result c.checked_sub.ensures c.in_ok-in_file.was) in
-    let stands = stands_at c.self.inside.functions.items c.self.inside.ranges c.args.self.now c.self.invariant.are c.self.view_is c.args.base c.args.address c.in_ok-in_file.in_file inside c.in_ok-place.place c.index-function.result.now c.in_ok-place.ensures c.index-function.ensures in
-    (found, ap (λ (n : ℕ). n - c.index-function.result.now.address) left, stands)
+    let is_placed = is_at_place c.self.inside.functions.items c.self.inside.ranges c.args.self.now c.self.invariant.are c.self.view_is c.args.base c.args.address c.in_ok-in_file.in_file inside c.in_ok-place.place c.index-function.result.now c.in_ok-place.ensures c.index-function.ensures in
+    (found, ap (λ (n : ℕ). n - c.index-function.result.now.address) left, is_placed)

@@ -1,0 +1,20 @@
+use Rattle.std.proofs.Common.{Ok}
+use Rattle.binfarce_tools.specs.AllAnswer.{all_answer_of, AllNeedsMemory, one_answer}
+use Rattle.binfarce_command.specs.At.{is_of_object}
+use Rattle.binfarce_command.proofs.Lines.{answered_lines, answered_less, without_places}
+use Rattle.binfarce_command.proofs.at.answer_in_all.Goals as goal
+
+pub returns-in_err-places : goal.returns-in_err-places
+returns-in_err-places g c = λ which file are.
+    without_places ⊥ (AllNeedsMemory file) (all_answer_of which file) c.args.base _ _ c.in_err-places.field-0.0 c.from_residual.result (c.in_err-places.ensures which file are) c.from_residual.ensures.1
+
+pub returns-in_err-missing : goal.returns-in_err-missing
+returns-in_err-missing g c = λ which file are.
+    let has = c.in_ok-places.ensures which file are in
+    answered_less ⊥ (is_of_object (all_answer_of which file)) (AllNeedsMemory file) (one_answer (all_answer_of which file)) c.in_ok-places.places c.args.base _ _ _ _ c.in_err-missing.field-0.0 c.from_residual-in_err-missing.result
+    has.0 has.1 c.in_err-missing.ensures c.from_residual-in_err-missing.ensures.1
+
+pub returns : goal.returns
+returns g c = λ which file are.
+    let has = c.in_ok-places.ensures which file are in
+    answered_lines ⊥ (is_of_object (all_answer_of which file)) (AllNeedsMemory file) (one_answer (all_answer_of which file)) c.in_ok-places.places c.args.base _ _ _ _ (Ok c.in_ok-missing.missing) has.0 has.1 c.in_ok-missing.ensures

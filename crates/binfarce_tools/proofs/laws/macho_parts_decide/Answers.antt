@@ -1,0 +1,5 @@
+use Rattle.binfarce_tools.proofs.MachoSame.{file_answer_same}
+use Rattle.binfarce_tools.proofs.laws.macho_parts_decide.Goals as goal
+
+pub returns : goal.returns
+returns c = file_answer_same c.args.file.now c.args.other.now

@@ -1,0 +1,23 @@
+-- The input of a program: its arguments, and a file to read.
+use Rattle.std.specs.Prelude.{ℕ, List, [], ◌∷◌, codes, Option, Some, None}
+use Rattle.std.specs.declared.io.ErrorKind.{ErrorKind}
+use Rattle.std.specs.declared.io.ErrorKind.TheVariants as kinds
+use Rattle.binfarce_tools.specs.declared.program.Failure.{Failure}
+use Rattle.binfarce_tools.specs.declared.program.Failure.TheVariants.{Usage, File, OutOfMemory}
+
+-- the file and the section of one or two arguments; an argument that isn't UTF-8 is refused before, as a wrong call
+abbrev pub words_of : List (List ℕ) → Option (List ℕ × List ℕ)
+words_of [] = None
+words_of (file ∷ []) = Some (file, codes ".text")
+words_of (file ∷ section ∷ []) = Some (file, section)
+words_of (file ∷ section ∷ more ∷ others) = None
+
+-- the failure for an error of this kind: a failed allocation is `OutOfMemory`
+abbrev pub failure_of : ErrorKind → Failure
+failure_of kinds.OutOfMemory = OutOfMemory
+failure_of kind = File
+
+-- why the arguments can't be taken, where an error of this kind came: a failed allocation is reported as such, and else one isn't UTF-8
+abbrev pub arguments_failure_of : ErrorKind → Failure
+arguments_failure_of kinds.OutOfMemory = OutOfMemory
+arguments_failure_of kind = Usage

@@ -1,0 +1,134 @@
+//! The law of parts, proved from the definitions. Worked examples, computed from the definitions alone.
+
+ghost use Rattle.std.specs.Prelude.{◌≡◌, ◌++◌, [], ◌∷◌, replicate, Err, List, ℕ};
+ghost use Rattle.binfarce.specs.declared.ByteOrder.TheVariants.{LittleEndian};
+ghost use Rattle.binfarce.specs.Refusal.{symbols_section_is_missing, malformed_input, unexpected_eof};
+ghost use Rattle.binfarce.specs.Elf.{elf32, elf64};
+ghost use Rattle.binfarce_tools.specs.Answer.{elf_file_answer, macho_file_answer, pe_file_answer};
+ghost use Rattle.binfarce_tools.specs.Part.{SameParts, part};
+ghost use Rattle.binfarce_tools.specs.ElfParts.{elf_parts, headers_size};
+ghost use Rattle.binfarce_tools.specs.MachoParts.{macho_parts};
+ghost use Rattle.binfarce_tools.specs.PeParts.{pe_parts};
+ghost use Rattle.binfarce_tools.specs.Parts.{PartsDecide};
+ghost use Rattle.binfarce.specs.Symbol.{AreSymbolsOf, Listed};
+ghost use Rattle.binfarce_tools.specs.Listing.{IsListingOf};
+ghost use Rattle.binfarce_tools.specs.Report.{IsReportOf};
+ghost use Rattle.binfarce_tools.specs.machine.Symbols.{IsReportOfSymbols, symbols_listing};
+
+use binfarce::ByteOrder;
+use binfarce::demangle::SymbolData;
+
+/// Two files of one length that agree in the parts of the first have one format, and one answer for each section.
+///
+/// No other byte matters to a listing or a report. The first eight bytes are a part of every file. Of an ELF file the
+/// others are the file header, the section headers, the section names, the symbol table and its string table; of a
+/// Mach-O file the load commands as far as they are read, the symbol table and its string table; of a PE file the file
+/// header, the section headers, the symbol table and the rest of the file after it; any other file has none.
+pub fn parts_decide(file: &[u8], other: &[u8])
+    ensures { PartsDecide file.now other.now }
+{
+    let _ = file;
+    let _ = other;
+}
+
+/// The same for the answers of the readers of both classes, in either order.
+pub fn elf_parts_decide(file: &[u8], other: &[u8], byte_order: ByteOrder, section: &str)
+    ensures of_32_bits { SameParts (elf_parts elf32 byte_order file.now) file.now other.now
+        → elf_file_answer elf32 byte_order other.now section.now
+        ≡ elf_file_answer elf32 byte_order file.now section.now }
+    ensures of_64_bits { SameParts (elf_parts elf64 byte_order file.now) file.now other.now
+        → elf_file_answer elf64 byte_order other.now section.now
+        ≡ elf_file_answer elf64 byte_order file.now section.now }
+{
+    let _ = file;
+    let _ = other;
+    let _ = byte_order;
+    let _ = section;
+}
+
+/// The same for the answer of the Mach-O reader.
+pub fn macho_parts_decide(file: &[u8], other: &[u8])
+    ensures { SameParts (macho_parts file.now) file.now other.now
+        → macho_file_answer other.now ≡ macho_file_answer file.now }
+{
+    let _ = file;
+    let _ = other;
+}
+
+/// The same for the answer of the PE reader.
+pub fn pe_parts_decide(file: &[u8], other: &[u8])
+    ensures { SameParts (pe_parts file.now) file.now other.now → pe_file_answer other.now ≡ pe_file_answer file.now }
+{
+    let _ = file;
+    let _ = other;
+}
+
+/// The section headers of a table at 2 that has three by its count: all three, and two where the file ends in the third.
+#[tactic(auto, unfolding(binfarce_elf::specs::Elf::elf32))]
+fn worked_sizes()
+    ensures whole { headers_size elf32
+        (record { order = LittleEndian; file = replicate 130 0; shoff = 2; shnum = 3; shstrndx = 0 }) ≡ 120 }
+    ensures truncated { headers_size elf32
+        (record { order = LittleEndian; file = replicate 121 0; shoff = 2; shnum = 3; shstrndx = 0 }) ≡ 80 }
+{}
+
+/// Every byte of a part counts: two headers that differ in the last byte of `shoff` alone.
+#[tactic(auto, unfolding(binfarce_elf::specs::Elf::elf32, binfarce_elf::specs::Elf::section_table, binfarce_elf::specs::Elf::header_of, binfarce_elf::specs::Elf::walk, binfarce_elf::specs::ElfSymbols::elf_answer, binfarce_elf::specs::ElfSymbols::located, binfarce_elf::specs::ElfSymbols::located_in, binfarce_elf::specs::ElfSymbols::rows_in, binfarce_bytes::proofs::Computing::computing))]
+fn worked_answers()
+    ensures no_sections { elf_file_answer elf32 LittleEndian (replicate 52 0) (0x66 ∷ [])
+        ≡ Err symbols_section_is_missing }
+    ensures past_the_end { elf_file_answer elf32 LittleEndian (replicate 35 0 ++ 1 ∷ replicate 16 0) (0x66 ∷ [])
+        ≡ Err unexpected_eof }
+{}
+
+/// The same of Mach-O and PE: two counts of load commands, and two headers that differ in the last byte of the size of the
+/// optional header.
+#[tactic(auto, unfolding(binfarce_macho::specs::Macho::header_fields, binfarce_macho::specs::Macho::header_of, binfarce_macho::specs::Macho::commands_from, binfarce_macho::specs::Macho::sections_of, binfarce_macho::specs::Macho::walk, binfarce_macho::specs::MachoSymbols::macho_answer, binfarce_macho::specs::MachoSymbols::located, binfarce_pe::specs::Pe::header_fields, binfarce_pe::specs::Pe::header_after, binfarce_pe::specs::Pe::walk, binfarce_pe::specs::PeSymbols::pe_answer, binfarce_pe::specs::PeSymbols::located, binfarce_bytes::proofs::Computing::computing))]
+fn worked_other_answers()
+    ensures no_command { macho_file_answer (replicate 40 0) ≡ Err symbols_section_is_missing }
+    ensures refused_command { macho_file_answer (replicate 16 0 ++ 1 ∷ replicate 23 0) ≡ Err malformed_input }
+    ensures no_section { pe_file_answer (replicate 64 0) ≡ Err symbols_section_is_missing }
+    ensures past_the_end { pe_file_answer (replicate 21 0 ++ 1 ∷ replicate 42 0) ≡ Err unexpected_eof }
+{}
+
+/// The parts of a file with one load command: a symbol table's, whose strings lie in the file or end past it; a segment's
+/// of two sections, of which the file has room for one; one that is refused for its size, and is a part all the same.
+#[tactic(auto, unfolding(crate::specs::MachoParts::macho_parts, crate::specs::MachoParts::heads_from, binfarce_macho::specs::Macho::header_fields, binfarce_macho::specs::Macho::header_of, binfarce_macho::specs::Macho::commands_from, binfarce_macho::specs::MachoSymbols::symbol_table_fields, binfarce_macho::specs::MachoSymbols::symbol_table_at, binfarce_bytes::proofs::Computing::computing))]
+fn worked_macho_parts()
+    ensures symbol_table { macho_parts
+        (replicate 16 0 ++ 1 ∷ replicate 15 0 ++ 2 ∷ 0 ∷ 0 ∷ 0 ∷ 24 ∷ 0 ∷ 0 ∷ 0 ∷ 56 ∷ 0 ∷ 0 ∷ 0 ∷ 1 ∷ 0 ∷ 0 ∷ 0 ∷ 72
+        ∷ 0 ∷ 0 ∷ 0 ∷ 4 ∷ 0 ∷ 0 ∷ 0 ∷ replicate 20 0)
+        ≡ part 16 4 ∷ part 32 8 ∷ part 40 16 ∷ part 72 4 ∷ part 56 16 ∷ [] }
+    ensures truncated_strings { macho_parts
+        (replicate 16 0 ++ 1 ∷ replicate 15 0 ++ 2 ∷ 0 ∷ 0 ∷ 0 ∷ 24 ∷ 0 ∷ 0 ∷ 0 ∷ 56 ∷ 0 ∷ 0 ∷ 0 ∷ 1 ∷ 0 ∷ 0 ∷ 0 ∷ 72
+        ∷ 0 ∷ 0 ∷ 0 ∷ 4 ∷ 0 ∷ 0 ∷ 0 ∷ replicate 19 0) ≡ part 16 4 ∷ part 32 8 ∷ part 40 16 ∷ part 56 16 ∷ [] }
+    ensures segment { macho_parts
+        (replicate 16 0 ++ 1 ∷ replicate 15 0 ++ 0x19 ∷ 0 ∷ 0 ∷ 0 ∷ 232 ∷ replicate 59 0 ++ 2 ∷ replicate 138 0)
+        ≡ part 16 4 ∷ part 32 8 ∷ part 96 4 ∷ part 104 52 ∷ [] }
+    ensures refused_command { macho_parts (replicate 16 0 ++ 1 ∷ replicate 23 0) ≡ part 16 4 ∷ part 32 8 ∷ [] }
+{}
+
+/// The parts of a file with one section header right after the file header, and a symbol table of one record at 112: that
+/// with a string byte after it, or cut off in it.
+#[tactic(auto, unfolding(crate::specs::PeParts::pe_parts, binfarce_pe::specs::Pe::header_fields, binfarce_pe::specs::Pe::header_after, binfarce_bytes::proofs::Computing::computing))]
+fn worked_pe_parts()
+    ensures whole { pe_parts
+        (replicate 60 0 ++ 64 ∷ replicate 9 0 ++ 1 ∷ replicate 5 0 ++ 112 ∷ 0 ∷ 0 ∷ 0 ∷ 1 ∷ replicate 50 0)
+        ≡ part 60 4 ∷ part 68 18 ∷ part 88 24 ∷ part 112 19 ∷ [] }
+    ensures truncated { pe_parts
+        (replicate 60 0 ++ 64 ∷ replicate 9 0 ++ 1 ∷ replicate 5 0 ++ 112 ∷ 0 ∷ 0 ∷ 0 ∷ 1 ∷ replicate 48 0)
+        ≡ part 60 4 ∷ part 68 18 ∷ part 88 24 ∷ [] }
+{}
+
+/// The lines of the symbols of a file's entries are the file's listing, and the report of their shares is the file's
+/// report.
+#[tactic(auto, using(crate::proofs::SymbolLaws::listing_of_symbols))]
+fn symbols_list_and_report(symbols: &[SymbolData], size: u64)
+    ensures listing { (listed : Listed) → AreSymbolsOf listed.entries symbols.now → size ≡ listed.section_size
+        → IsListingOf listed (symbols_listing symbols.now size) }
+    ensures report { (listed : Listed) (text : List ℕ) → AreSymbolsOf listed.entries symbols.now
+        → size ≡ listed.section_size → IsReportOfSymbols symbols.now size text → IsReportOf listed text }
+{
+    let _ = symbols;
+    let _ = size;
+}

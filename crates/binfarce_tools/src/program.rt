@@ -1,0 +1,139 @@
+//! Code that the programs share: for arguments, for the file that they read, and for their exit.
+
+ghost use Rattle.std.specs.Prelude.{◌≡◌, ◌≢◌, ◌⊎◌, [], Bool, true, false, map, Err, Some, None, MatchResult, IfSome, IfOk, IfErr, OnOk};
+ghost use Rattle.std.specs.IoError.{error_kind};
+ghost use Rattle.std.specs.Process.{exit_status};
+ghost use Rattle.std.specs.String.{string_bytes};
+ghost use Rattle.binfarce_tools.specs.Given.{words_of, failure_of, arguments_failure_of};
+ghost use Rattle.binfarce_tools.specs.Status.{status_of};
+ghost use Rattle.binfarce_tools.specs.declared.program.Failure.TheVariants.{Usage, File as Unreadable, OutOfMemory, Write as Unwritten};
+
+use binfarce_bytes::source::Source;
+use std::alloc::Global;
+use std::fs::File;
+use std::io::{self, ErrorKind, Read, Write};
+use std::process::ExitCode;
+use std::{env, fmt};
+
+/// A failure that every program can have. A program's own fault is made of it.
+#[derive(Debug, Clone, Copy, PartialEq)]
+pub enum Failure {
+    /// The arguments are wrong.
+    Usage,
+    /// The file can't be opened or read.
+    File,
+    /// An allocation failed.
+    OutOfMemory,
+    /// A write failed.
+    Write,
+}
+
+/// Why a program ended early. Its text is the printed line.
+pub trait Fault: fmt::Display + From<Failure> {
+    // The arguments are wrong.
+    ghost is_usage: { Self → Bool };
+
+    /// The program's exit status: 2 for wrong arguments, and 1 for any other fault.
+    fn status(&self) -> u8
+        ensures { result ≡ status_of (is_usage self.now) };
+}
+
+/// The arguments after the program's own name. `Usage` where one isn't UTF-8, and `OutOfMemory` where an allocation fails.
+pub fn arguments(rt: &HostRuntime) -> Result<Vec<String>, Failure>
+    ensures { IfErr result (λ e. (e ≡ Usage) ⊎ (e ≡ OutOfMemory)) }
+{
+    let words = env::args(rt).map_err(arguments_failure)?.skip(1);
+    words.collect(rt.alloc()).map_err(|_| Failure::OutOfMemory)
+}
+
+/// The failure that an error of the arguments is: `OutOfMemory` where an allocation failed, and `Usage` for any other.
+pub fn arguments_failure(e: io::Error) -> Failure
+    ensures { result ≡ arguments_failure_of (error_kind e) }
+{
+    match e.kind() {
+        ErrorKind::OutOfMemory => Failure::OutOfMemory,
+        _ => Failure::Usage,
+    }
+}
+
+/// The file and the section in the arguments after the program's own name. The section is by default `.text`.
+///
+/// `Usage` for none, and for more than two.
+pub fn file_and_section(arguments: &[String]) -> Result<(&str, &str), Failure>
+    ensures { let given = words_of (map string_bytes arguments.now) in MatchResult result
+        (λ w. given ≡ Some (w.0.now, w.1.now)) (λ e. (given ≡ None) × (e ≡ Usage)) }
+{
+    match arguments {
+        [file] => Ok((file.as_str(), ".text")),
+        [file, section] => Ok((file.as_str(), section.as_str())),
+        _ => Err(Failure::Usage),
+    }
+}
+
+/// The file at this path, to be read. `File` where it can't be opened.
+pub fn open(rt: &HostRuntime, path: &str) -> Result<File, Failure>
+    ensures { IfErr result (λ e. e ≡ Unreadable) }
+{
+    File::open(rt, path).map_err(|_| Failure::File)
+}
+
+/// Whether the file can be read at offsets: it has a length above 0, and the last byte of that length.
+///
+/// A pipe has no length, a file of `/proc` has one of 0, and a file of `/sys` may have fewer bytes than its length: these are
+/// read to their end.
+pub fn is_read_at_offsets<S: Source>(file: &S) -> bool
+    ensures yes { result ≡ true → IfSome (S.bytes file.now) (λ bytes. bytes ≢ []) }
+    ensures no { result ≡ false → IfSome (S.bytes file.now) (λ bytes. (bytes ≡ []) ⊎ (S.may_fail file.now ≡ true)) }
+{
+    match file.length() {
+        Ok(length) if length > 0 => file.fill_at(length - 1, &mut [0]).is_ok(),
+        _ => false,
+    }
+}
+
+/// The failure for a reader's error: `OutOfMemory` where an allocation failed, and `File` for any other.
+pub fn read_failure(e: io::Error) -> Failure
+    ensures { result ≡ failure_of (error_kind e) }
+{
+    match e.kind() {
+        ErrorKind::OutOfMemory => Failure::OutOfMemory,
+        _ => Failure::File,
+    }
+}
+
+/// The bytes up to the reader's end.
+///
+/// `File` where the reader fails; `OutOfMemory` where an allocation fails, or the reader reports that one did.
+pub fn read_whole<R: Read>(alloc: Global, file: &mut R) -> Result<Vec<u8>, Failure>
+    ensures read { IfOk result (λ v. IfSome (R.remaining file.old) (λ bytes. v.items ≡ bytes)) }
+    ensures refused { IfErr result (λ e. (e ≡ Unreadable) ⊎ (e ≡ OutOfMemory)) }
+{
+    let mut bytes = Vec::new(alloc);
+    file.read_to_end(&mut bytes).map_err(read_failure)?;
+    Ok(bytes)
+}
+
+/// Flushes the output, and returns the result of a program's work: its own fault if it has one, and else `Write` where
+/// the flush fails.
+pub fn finish<W: Write + Drop, F: From<Failure>>(mut out: W, ended: Result<(), F>) -> Result<(), F>
+    ensures first { IfErr ended (λ f. result ≡ Err f) }
+    ensures flush { OnOk ended (IfErr result (λ f. F.from_gives Unwritten f)) }
+{
+    let flushed = out.flush();
+    ended?;
+    flushed.map_err(|_| Failure::Write)?;
+    Ok(())
+}
+
+/// Prints a program's fault to standard error, if it has one, and returns its exit status.
+pub fn exit<F: Fault + Drop>(rt: &HostRuntime, ended: Result<(), F>) -> ExitCode
+    ensures { MatchResult ended (λ _. exit_status result ≡ 0) (λ f. exit_status result ≡ status_of (F.is_usage f)) }
+{
+    match ended {
+        Ok(()) => ExitCode::SUCCESS,
+        Err(fault) => {
+            let _ = eprintln!(rt; "{fault}");
+            ExitCode::from(fault.status())
+        }
+    }
+}

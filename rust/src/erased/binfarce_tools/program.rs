@@ -1,0 +1,109 @@
+// From crates/binfarce_tools/src/program.rt, by tools/erase.
+
+//! Code that the programs share: for arguments, for the file that they read, and for their exit.
+
+use crate::shim::{CollectIn, HostRuntime, String, Vec};
+use crate::erased::binfarce_bytes::source::Source;
+use crate::shim::alloc::Global;
+use crate::shim::fs::File;
+use crate::shim::io::{self, ErrorKind, Read, Write};
+use std::process::ExitCode;
+use crate::shim::env;
+use std::fmt;
+
+/// A failure that every program can have. A program's own fault is made of it.
+#[derive(Debug, Clone, Copy, PartialEq)]
+pub enum Failure {
+    /// The arguments are wrong.
+    Usage,
+    /// The file can't be opened or read.
+    File,
+    /// An allocation failed.
+    OutOfMemory,
+    /// A write failed.
+    Write,
+}
+
+/// Why a program ended early. Its text is the printed line.
+pub trait Fault: fmt::Display + From<Failure> {
+    /// The program's exit status: 2 for wrong arguments, and 1 for any other fault.
+    fn status(&self) -> u8;
+}
+
+/// The arguments after the program's own name. `Usage` where one isn't UTF-8, and `OutOfMemory` where an allocation fails.
+pub fn arguments(rt: &HostRuntime) -> Result<Vec<String>, Failure> {
+    let words = env::args(rt).map_err(arguments_failure)?.skip(1);
+    words.collect_in(rt.alloc()).map_err(|_| Failure::OutOfMemory)
+}
+
+/// The failure that an error of the arguments is: `OutOfMemory` where an allocation failed, and `Usage` for any other.
+pub fn arguments_failure(e: io::Error) -> Failure {
+    match e.kind() {
+        ErrorKind::OutOfMemory => Failure::OutOfMemory,
+        _ => Failure::Usage,
+    }
+}
+
+/// The file and the section in the arguments after the program's own name. The section is by default `.text`.
+///
+/// `Usage` for none, and for more than two.
+pub fn file_and_section(arguments: &[String]) -> Result<(&str, &str), Failure> {
+    match arguments {
+        [file] => Ok((file.as_str(), ".text")),
+        [file, section] => Ok((file.as_str(), section.as_str())),
+        _ => Err(Failure::Usage),
+    }
+}
+
+/// The file at this path, to be read. `File` where it can't be opened.
+pub fn open(rt: &HostRuntime, path: &str) -> Result<File, Failure> {
+    File::open(rt, path).map_err(|_| Failure::File)
+}
+
+/// Whether the file can be read at offsets: it has a length above 0, and the last byte of that length.
+///
+/// A pipe has no length, a file of `/proc` has one of 0, and a file of `/sys` may have fewer bytes than its length: these are
+/// read to their end.
+pub fn is_read_at_offsets<S: Source>(file: &S) -> bool {
+    match file.length() {
+        Ok(length) if length > 0 => file.fill_at(length - 1, &mut [0]).is_ok(),
+        _ => false,
+    }
+}
+
+/// The failure for a reader's error: `OutOfMemory` where an allocation failed, and `File` for any other.
+pub fn read_failure(e: io::Error) -> Failure {
+    match e.kind() {
+        ErrorKind::OutOfMemory => Failure::OutOfMemory,
+        _ => Failure::File,
+    }
+}
+
+/// The bytes up to the reader's end.
+///
+/// `File` where the reader fails; `OutOfMemory` where an allocation fails, or the reader reports that one did.
+pub fn read_whole<R: Read>(alloc: Global, file: &mut R) -> Result<Vec<u8>, Failure> {
+    let mut bytes = Vec::new(alloc);
+    file.read_to_end(&mut bytes).map_err(read_failure)?;
+    Ok(bytes)
+}
+
+/// Flushes the output, and returns the result of a program's work: its own fault if it has one, and else `Write` where
+/// the flush fails.
+pub fn finish<W: Write, F: From<Failure>>(mut out: W, ended: Result<(), F>) -> Result<(), F> {
+    let flushed = out.flush();
+    ended?;
+    flushed.map_err(|_| Failure::Write)?;
+    Ok(())
+}
+
+/// Prints a program's fault to standard error, if it has one, and returns its exit status.
+pub fn exit<F: Fault>(rt: &HostRuntime, ended: Result<(), F>) -> ExitCode {
+    match ended {
+        Ok(()) => ExitCode::SUCCESS,
+        Err(fault) => {
+            let _ = rt.eprintln(format_args!("{fault}"));
+            ExitCode::from(fault.status())
+        }
+    }
+}

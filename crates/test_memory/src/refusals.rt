@@ -55,6 +55,11 @@ const ELF: [(&str, &[(Field, u64)], &str, Counted, Counted); 2] = [
     ("an empty list in ELF", &[], ".shstrtab", Ok((0, 33)), Ok((0, 33))),
 ];
 
+// Where the first row has its value in Mach-O, whose rows have 16 bytes, and its class in PE, whose rows have 18.
+const VALUE: usize = macho::ROWS + macho::N_VALUE;
+
+const CLASS: usize = pe::CLASS;
+
 // What is changed in another sample, and what is found.
 #[rattlefmt::skip]
 const OTHERS: [(&str, File, &[Patch<'static>], Counted); 9] = [
@@ -67,9 +72,9 @@ const OTHERS: [(&str, File, &[Patch<'static>], Counted); 9] = [
     // Empty lists.
     ("no symbol table in Mach-O", File::Macho, &[(macho::NCMDS, &[1])], Ok((0, 0))),
     ("no value in the table of Mach-O", File::Macho,
-        &[(216, &[0, 0]), (232, &[0, 0]), (248, &[0, 0]), (264, &[0, 0])], Ok((0, 256))),
+        &[(VALUE, &[0, 0]), (VALUE + 16, &[0, 0]), (VALUE + 32, &[0, 0]), (VALUE + 48, &[0, 0])], Ok((0, 256))),
     ("no external symbol in PE", File::Pe,
-        &[(144, &[3]), (162, &[3]), (180, &[3]), (198, &[3]), (216, &[3])], Ok((0, 256))),
+        &[(CLASS, &[3]), (CLASS + 18, &[3]), (CLASS + 36, &[3]), (CLASS + 54, &[3]), (CLASS + 72, &[3])], Ok((0, 256))),
 ];
 
 fn is_answered_of_elf(

@@ -7,6 +7,7 @@ use binfarce_tools::list::Out;
 use std::alloc::{AllocError, Global};
 use std::fmt;
 use std::test::Fail;
+use test_image_samples::FIRST_SIZE;
 use test_samples::elf::{LAYOUTS, Layout};
 use test_samples::fields::{Field, sample_with};
 use test_samples::files::{FILES, File};
@@ -70,7 +71,7 @@ const OTHERS: [(&str, File, &[Patch<'static>], SymbolTable, Call, &str); 10] = [
     ("a section name that isn't UTF-8", ELF64, &[(234 + 8, &[0xFF])], SYMTAB, Call::List, UNNAMED),
     ("a line feed in a section name", ELF64, &[(234 + 8, b"\n")], SYMTAB, Call::List,
         "0000000000001000         16 .text foo\n0000000000001010         16 .\nymtab bad\n"),
-    ("sizes of 2^64", ELF64, &[(112, &[0xF0, 0xFF, 0xFF, 0xFF, 0xFF, 0xFF, 0xFF, 0xFF])], SYMTAB, Call::Report,
+    ("sizes of 2^64", ELF64, &[(FIRST_SIZE, &[0xF0, 0xFF, 0xFF, 0xFF, 0xFF, 0xFF, 0xFF, 0xFF])], SYMTAB, Call::Report,
         "sizes are too large"),
     ("Mach-O", File::Macho, &[], SYMTAB, Call::List, MACHO_LISTING),
     ("crates of Mach-O", File::Macho, &[], SYMTAB, Call::Report, "       320 [unknown]\nsum 320\n"),

@@ -17,6 +17,9 @@ pub const LAYOUTS: [(ElfLayout, Layout); 4] = [
     (ElfLayout::Elf64Big, Layout::Elf64Big),
 ];
 
+/// The offset of the size of the symbol table's first row in a file of 64 bits that is laid out here.
+pub const FIRST_SIZE: usize = 112;
+
 const STRINGS: &[u8] = b"\0_ZN3foo3barE\0bad\0";
 
 const SECTION_NAMES: &[u8] = b"\0.text\0.symtab\0.strtab\0.shstrtab\0";

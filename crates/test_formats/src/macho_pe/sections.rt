@@ -5,7 +5,7 @@ use binfarce::{ParseError, macho, pe};
 use std::alloc::{AllocError, Global};
 use std::ops::Range;
 use std::test::Fail;
-use test_samples::macho::{ADDR, NCMDS, NSECTS, OFFSET, SECTNAME, SEGNAME, SIZE};
+use test_samples::macho::{ADDR, CMDSIZE, NCMDS, NSECTS, OFFSET, SECTNAME, SEGNAME, SIZE};
 use test_samples::pe::{NAME, RAW_POINTER, RAW_SIZE, SECTIONS, VIRTUAL_ADDRESS, VIRTUAL_SIZE};
 use test_samples::question::{Question, wrong_despite, wrong_with};
 use test_samples::{Patch, first_bytes, patched};
@@ -228,7 +228,7 @@ const LISTED: [(Format, usize, &[Patch<'static>], &str); 9] = [
     (
         Format::Macho,
         281,
-        &[(188, &[7])],
+        &[(CMDSIZE, &[7])],
         "__TEXT __text 1000 0 256 Ok(256), malformed input file, ",
     ),
     (Format::Macho, 155, &[], "unexpected end of file, "),

@@ -13,7 +13,7 @@ use std::alloc::{AllocError, Global};
 use std::io::ErrorKind;
 use std::test::Fail;
 use test_samples::files::File;
-use test_samples::macho::{MACHO, SECTNAME};
+use test_samples::macho::{FILETYPE, MACHO, SECTNAME};
 use test_samples::pe::{NAME, PE};
 use test_samples::{first_bytes, patched};
 
@@ -130,7 +130,7 @@ fn is_pe_of(alloc: Global, file: &[u8], name: Option<&str>) -> bool {
 #[test]
 fn names_of_sections(rt: HostRuntime) -> Result<(), Fail> {
     assert!(rt; is_macho_of(rt.alloc(), &MACHO, Some("__TEXT,__text"), false));
-    let object = patched(rt.alloc(), &MACHO, &[(12, &[1]), (SECTNAME, &[0xFF])])?;
+    let object = patched(rt.alloc(), &MACHO, &[(FILETYPE, &[1]), (SECTNAME, &[0xFF])])?;
     assert!(rt; is_macho_of(rt.alloc(), &object, None, true));
     assert!(rt; is_pe_of(rt.alloc(), &PE, Some(".text")));
     let unnamed = patched(rt.alloc(), &PE, &[(NAME, &[0xFF])])?;

@@ -2,7 +2,7 @@
 
 use super::{Ask, Call, NO_SECTION, answered};
 use std::test::Fail;
-use test_image_samples::{file_beside, file_of};
+use test_image_samples::{FIRST_SIZE, file_beside, file_of};
 use test_samples::question::{wrong_despite, wrong_with};
 
 // A name, and the lines of the crates of a file with a function of this name beside `foo::bar`, both of 16 bytes.
@@ -80,7 +80,7 @@ fn sizes_may_be_too_large(rt: HostRuntime) -> Result<(), Fail> {
         section: ".text",
     };
     for (size, text) in &GREAT_SIZES {
-        let wrong = wrong_with(rt.alloc(), &ask, &file, &[(112, &size[..])], text)?;
+        let wrong = wrong_with(rt.alloc(), &ask, &file, &[(FIRST_SIZE, &size[..])], text)?;
         assert!(rt; wrong.is_none(), "{size:?}: {wrong:?}");
     }
     Ok(())
@@ -94,7 +94,13 @@ fn a_refusal_comes_first(rt: HostRuntime) -> Result<(), Fail> {
         call: Call::Report,
         section: "text",
     };
-    let wrong = wrong_despite(rt.alloc(), &ask, &file, &[(112, &[0xFF; 8])], NO_SECTION)?;
+    let wrong = wrong_despite(
+        rt.alloc(),
+        &ask,
+        &file,
+        &[(FIRST_SIZE, &[0xFF; 8])],
+        NO_SECTION,
+    )?;
     assert!(rt; wrong.is_none(), "{wrong:?}");
     Ok(())
 }

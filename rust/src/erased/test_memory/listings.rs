@@ -11,8 +11,8 @@ use crate::erased::binfarce_tools::list::{ListError, Out, list};
 use crate::erased::binfarce_tools::map::map;
 use crate::erased::binfarce_tools::report::{ReportError, report};
 use crate::shim::alloc::{AllocError, Global};
-use crate::erased::test_image_samples::file_beside;
 use crate::erased::test_image_samples::tally::{Row, Tally};
+use crate::erased::test_image_samples::{FIRST_SIZE, file_beside};
 use crate::erased::test_samples::expected::Expected;
 use crate::erased::test_samples::files::{FILES, File};
 use crate::erased::test_samples::macho::{FOURTH, N_VALUE};
@@ -103,7 +103,7 @@ const PICTURE: &str =
     "<svg xmlns=\"http://www.w3.org/2000/svg\" width=\"800\" height=\"96\" viewBox=\"0 0 800 96\" font-family=\"sans-serif\" font-size=\"14\">\n<title>Size by crate</title>\n<rect width=\"800\" height=\"100%\" fill=\"#fff\"/>\n<text x=\"8\" y=\"25\">sum 32, text 32: bytes and share of the sum by crate</text>\n<svg y=\"40\" height=\"24\"><svg width=\"236\"><text x=\"8\" y=\"17\">123foo</text></svg><svg x=\"240\" width=\"360\"><rect y=\"3\" width=\"100%\" height=\"18\" fill=\"#e6e6e6\"/><rect y=\"3\" width=\"50.00%\" height=\"18\" fill=\"#245\"/></svg><text x=\"672\" y=\"17\" text-anchor=\"end\">50.00%</text><text x=\"792\" y=\"17\" text-anchor=\"end\">16</text></svg>\n<svg y=\"64\" height=\"24\"><svg width=\"236\"><text x=\"8\" y=\"17\">foo</text></svg><svg x=\"240\" width=\"360\"><rect y=\"3\" width=\"100%\" height=\"18\" fill=\"#e6e6e6\"/><rect y=\"3\" width=\"50.00%\" height=\"18\" fill=\"#245\"/></svg><text x=\"672\" y=\"17\" text-anchor=\"end\">50.00%</text><text x=\"792\" y=\"17\" text-anchor=\"end\">16</text></svg>\n</svg>\n";
 
 // The name of a function before `foo::bar`, and the report of both or its picture; `TooLarge` where the first
-// function's size, at offset 112, is 2^64 - 1.
+// function's size is 2^64 - 1.
 const REPORTS: [(&str, Reported); 4] = [
     ("_RNvC6_123foo3bar", Reported::Picture(PICTURE)),
     (
@@ -125,7 +125,7 @@ fn is_reported_beside(alloc: Global, name: &str, expected: Reported) -> Row {
     };
     match expected {
         Reported::TooLarge => {
-            let file = patched(alloc, &file, &[(112, &[0xFF; 8])])?;
+            let file = patched(alloc, &file, &[(FIRST_SIZE, &[0xFF; 8])])?;
             is_reported(alloc, &file, expected)
         }
         _ => is_reported(alloc, &file, expected),

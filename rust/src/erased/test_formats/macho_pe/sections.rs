@@ -8,7 +8,9 @@ use crate::erased::binfarce::{ParseError, macho, pe};
 use crate::shim::alloc::{AllocError, Global};
 use std::ops::Range;
 use crate::shim::test::Fail;
-use crate::erased::test_samples::macho::{ADDR, NCMDS, NSECTS, OFFSET, SECTNAME, SEGNAME, SIZE};
+use crate::erased::test_samples::macho::{
+    ADDR, CMDSIZE, NCMDS, NSECTS, OFFSET, SECTNAME, SEGNAME, SIZE,
+};
 use crate::erased::test_samples::pe::{
     NAME, RAW_POINTER, RAW_SIZE, SECTIONS, VIRTUAL_ADDRESS, VIRTUAL_SIZE,
 };
@@ -228,7 +230,7 @@ const LISTED: [(Format, usize, &[Patch<'static>], &str); 9] = [
     (
         Format::Macho,
         281,
-        &[(188, &[7])],
+        &[(CMDSIZE, &[7])],
         "__TEXT __text 1000 0 256 Ok(256), malformed input file, ",
     ),
     (Format::Macho, 155, &[], "unexpected end of file, "),

@@ -16,7 +16,7 @@ use crate::shim::alloc::{AllocError, Global};
 use crate::shim::io::ErrorKind;
 use crate::shim::test::Fail;
 use crate::erased::test_samples::files::File;
-use crate::erased::test_samples::macho::{MACHO, SECTNAME};
+use crate::erased::test_samples::macho::{FILETYPE, MACHO, SECTNAME};
 use crate::erased::test_samples::pe::{NAME, PE};
 use crate::erased::test_samples::{first_bytes, patched};
 
@@ -136,7 +136,7 @@ fn is_pe_of(alloc: Global, file: &[u8], name: Option<&str>) -> bool {
 fn names_of_sections() -> Result<(), Fail> {
     let rt = HostRuntime::new();
     assert!(is_macho_of(rt.alloc(), &MACHO, Some("__TEXT,__text"), false));
-    let object = patched(rt.alloc(), &MACHO, &[(12, &[1]), (SECTNAME, &[0xFF])])?;
+    let object = patched(rt.alloc(), &MACHO, &[(FILETYPE, &[1]), (SECTNAME, &[0xFF])])?;
     assert!(is_macho_of(rt.alloc(), &object, None, true));
     assert!(is_pe_of(rt.alloc(), &PE, Some(".text")));
     let unnamed = patched(rt.alloc(), &PE, &[(NAME, &[0xFF])])?;

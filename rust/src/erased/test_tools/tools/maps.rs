@@ -6,7 +6,7 @@ use crate::shim::HostRuntime;
 use super::pictures::{FOO, Row, UNKNOWN_320, UNKNOWN_448, document};
 use super::{Ask, Call, NO_SECTION, answered};
 use crate::shim::test::Fail;
-use crate::erased::test_image_samples::{file_beside, file_of};
+use crate::erased::test_image_samples::{FIRST_SIZE, file_beside, file_of};
 use crate::erased::test_samples::elf::LAYOUTS;
 use crate::erased::test_samples::files::File;
 use crate::erased::test_samples::question::{wrong_despite, wrong_with};
@@ -95,7 +95,13 @@ fn sizes_may_be_too_large() -> Result<(), Fail> {
     let (call, section) = (Call::Map, ".text");
     let ask = Ask { call, section };
     let too_large = "sizes are too large";
-    let wrong = wrong_with(rt.alloc(), &ask, &file, &[(112, &[0xFF; 8])], too_large)?;
+    let wrong = wrong_with(
+        rt.alloc(),
+        &ask,
+        &file,
+        &[(FIRST_SIZE, &[0xFF; 8])],
+        too_large,
+    )?;
     assert!(wrong.is_none(), "{wrong:?}");
     let greatest: [u8; 8] = [0xEF, 0xFF, 0xFF, 0xFF, 0xFF, 0xFF, 0xFF, 0xFF];
     let rows = [
@@ -103,7 +109,13 @@ fn sizes_may_be_too_large() -> Result<(), Fail> {
         ("foo", "0.01", 16),
     ];
     let want = document(rt.alloc(), &rows, u64::MAX, 32)?;
-    let wrong = wrong_with(rt.alloc(), &ask, &file, &[(112, &greatest)], want.as_str())?;
+    let wrong = wrong_with(
+        rt.alloc(),
+        &ask,
+        &file,
+        &[(FIRST_SIZE, &greatest)],
+        want.as_str(),
+    )?;
     assert!(wrong.is_none(), "{wrong:?}");
     Ok(())
 }
@@ -115,7 +127,13 @@ fn a_refusal_comes_first() -> Result<(), Fail> {
     let file = file_beside(rt.alloc(), "a")?;
     let (call, section) = (Call::Map, "text");
     let ask = Ask { call, section };
-    let wrong = wrong_despite(rt.alloc(), &ask, &file, &[(112, &[0xFF; 8])], NO_SECTION)?;
+    let wrong = wrong_despite(
+        rt.alloc(),
+        &ask,
+        &file,
+        &[(FIRST_SIZE, &[0xFF; 8])],
+        NO_SECTION,
+    )?;
     assert!(wrong.is_none(), "{wrong:?}");
     Ok(())
 }

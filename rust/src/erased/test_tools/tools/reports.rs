@@ -5,7 +5,7 @@
 use crate::shim::{HostRuntime, String};
 use super::{Ask, Call, NO_SECTION, answered};
 use crate::shim::test::Fail;
-use crate::erased::test_image_samples::{file_beside, file_of};
+use crate::erased::test_image_samples::{FIRST_SIZE, file_beside, file_of};
 use crate::erased::test_samples::question::{wrong_despite, wrong_with};
 
 // A name, and the lines of the crates of a file with a function of this name beside `foo::bar`, both of 16 bytes.
@@ -86,7 +86,7 @@ fn sizes_may_be_too_large() -> Result<(), Fail> {
         section: ".text",
     };
     for (size, text) in &GREAT_SIZES {
-        let wrong = wrong_with(rt.alloc(), &ask, &file, &[(112, &size[..])], text)?;
+        let wrong = wrong_with(rt.alloc(), &ask, &file, &[(FIRST_SIZE, &size[..])], text)?;
         assert!(wrong.is_none(), "{size:?}: {wrong:?}");
     }
     Ok(())
@@ -101,7 +101,13 @@ fn a_refusal_comes_first() -> Result<(), Fail> {
         call: Call::Report,
         section: "text",
     };
-    let wrong = wrong_despite(rt.alloc(), &ask, &file, &[(112, &[0xFF; 8])], NO_SECTION)?;
+    let wrong = wrong_despite(
+        rt.alloc(),
+        &ask,
+        &file,
+        &[(FIRST_SIZE, &[0xFF; 8])],
+        NO_SECTION,
+    )?;
     assert!(wrong.is_none(), "{wrong:?}");
     Ok(())
 }

@@ -56,7 +56,7 @@ copy() {
     mkdir "$gate" "$gate/.git"
     of_tests=$(sed '1,/^# Tests/d; s|^\([a-z_]*\):.*|--exclude=crates/\1|' crates.txt)
     tar -c --exclude=.git --exclude=out --exclude=target --exclude=must-fail $of_tests . | tar -x -C "$gate"
-    sed -i '/^# Tests/,$d' "$gate/crates.txt"
+    sed -i '/^# Tests/,$d; s/ test_samples//' "$gate/crates.txt"
     rm -f "$gate"/crates/binfarce_*/src/tests.rt
     sed -i '/^#\[cfg(test)\]$/,/^mod tests;$/d' "$gate"/crates/binfarce_*/src/main.rt
 }

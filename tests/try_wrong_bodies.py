@@ -62,7 +62,7 @@ def with_holes(room, crate, kept):
 class Prover:
     """Checks crates over the libraries that `rt ci` has proved. This alone knows how the toolchain is laid out and called."""
     def __init__(self, crates):
-        rows = re.findall(r"^([a-z]\w*)( staticlib)?.*?:(.*)$", read("crates.txt"), re.M)
+        rows = re.findall(r"^([a-z]\w*)( staticlib)?.*?:(.*)$", pathlib.Path(crates, "../crates.txt").read_text(), re.M)
         self.uses, self.static = {name: used.split() for name, _, used in rows}, [name for name, static, _ in rows if static]
         self.crates = os.path.abspath(crates)
         self.kit = os.path.dirname(subprocess.run(["rt", "doc"], stdout=subprocess.PIPE, text=True, check=True).stdout.strip())

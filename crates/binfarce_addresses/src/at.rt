@@ -1,13 +1,12 @@
 //! Symbolizes addresses in an executable, a line for each.
 
-ghost use Rattle.std.specs.Prelude.{◌≡◌, ◌≢◌, ◌++◌, ◌-◌, ◌<◌, ℕ, List, length, Option, Some, None, Result, Ok, true, map, IfErr, IfOk, IfSome, MatchOption, OnOk};
+ghost use Rattle.std.specs.Prelude.{◌≡◌, ◌≢◌, ◌++◌, ◌-◌, ◌<◌, ℕ, List, length, Some, None, Ok, true, map, IfErr, IfOk, IfSome, MatchOption, OnOk};
 ghost use Rattle.std.specs.String.{string_bytes};
-ghost use Rattle.binfarce.specs.Refusal.{Refusal};
 ghost use Rattle.binfarce.specs.Symbol.{Entry, Listed};
 ghost use Rattle.binfarce.specs.SymbolViews.{function_view};
 ghost use Rattle.binfarce_tools.specs.AllAnswer.{all_answer_of, AllNeedsMemory, one_answer};
 ghost use Rattle.binfarce_tools.specs.AllTables.{AreAllTablesOf};
-ghost use Rattle.binfarce_tools.specs.Answer.{answer_of, NeedsMemory, file_answer, FileNeedsMemory};
+ghost use Rattle.binfarce_tools.specs.Answer.{answer_of, file_answer, FileNeedsMemory};
 ghost use Rattle.binfarce_tools.specs.Entries.{functions_left};
 ghost use Rattle.binfarce_tools.specs.Listing.{ListingFits};
 ghost use Rattle.binfarce_tools.specs.ListWords.{outcome_of};
@@ -422,11 +421,10 @@ pub fn write_lines<S: Sink>(
     addresses: &[u64],
     out: &mut S,
 ) -> Result<(), ListError>
-    ensures outcome { (NeedsMemory : Result Listed Refusal → Type 0) (answer : Option (Result Listed Refusal))
-        → IsMadeOf NeedsMemory answer (Ok places.now) → EndsAs ListingFits NeedsMemory answer (outcome_of result) }
-    ensures takes { (NeedsMemory : Result Listed Refusal → Type 0) (answer : Option (Result Listed Refusal))
-        → IsMadeOf NeedsMemory answer (Ok places.now)
-        → Takes (AreLinesAt base addresses.now) answer (S.taken out.old) (S.taken out.new) (outcome_of result) }
+    ensures outcome { (listed : Listed) → places.now ≡ listed.entries
+        → EndsAs ListingFits (λ _. ⊥) (Some (Ok listed)) (outcome_of result) }
+    ensures takes { (listed : Listed) → places.now ≡ listed.entries → Takes (AreLinesAt base addresses.now)
+        (Some (Ok listed)) (S.taken out.old) (S.taken out.new) (outcome_of result) }
     ensures fails { Fails (S.has_failed out.old) (S.has_failed out.new) (outcome_of result) }
     ensures leaves { Leaves out.old out.new (outcome_of result) }
 {

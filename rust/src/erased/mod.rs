@@ -26,11 +26,11 @@ pub mod binfarce_addresses;
 pub mod binfarce_words;
 pub mod binfarce_sections;
 pub mod binfarce_c;
-#[cfg(test)]
-pub mod test_samples;
 pub mod binfarce_list;
 pub mod binfarce_size;
 pub mod binfarce_command;
+#[cfg(test)]
+pub mod test_samples;
 #[cfg(test)]
 pub mod test_image_samples;
 #[cfg(test)]

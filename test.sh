@@ -12,7 +12,6 @@ set -eu
 cd "$(dirname "$0")"
 [ "$*" != --whole ] || exec rt ci
 [ $# -eq 0 ] || { echo "usage: ./test.sh [--whole]" >&2; exit 2; }
-[ "$#" -eq 0 ] || { echo "usage: ./test.sh" >&2; exit 2; }
 
 tools="rt python3 cargo gcc g++ nm readelf strip valgrind pkg-config groff tar pgrep"
 missing=$(for tool in $tools; do command -v "$tool" >/dev/null || echo "$tool"; done)

@@ -22,7 +22,7 @@ use Rattle.binfarce_command.specs.Faults.{outcome_of}
 use Rattle.binfarce_command.specs.Files.{Fate, IsUnreadable, MayComeTo, Refused, Reports, ReportsWhy, ShowsHeld, ShowsOne, heading, refused, shown}
 use Rattle.binfarce_command.specs.Headed.{pending, taken, writer_of}
 use Rattle.binfarce_command.specs.Input.{IsReadOf}
-use Rattle.binfarce_command.specs.Show.{AllTells, Fits, IsDueIn, IsDueOfAll, IsShownText, IsTextOf, MayEnd, TakesIn, TakesShown, TellsIn, section_of}
+use Rattle.binfarce_command.specs.Show.{Fits, IsDueIn, IsDueOfAll, IsShownText, IsTextOf, MayEnd, TakesIn, TakesShown, TellsIn, section_of}
 use Rattle.binfarce_command.specs.declared.fault.Fault.{Fault}
 use Rattle.binfarce_command.specs.declared.fault.Fault.TheVariants.{Unreadable, Input, OutOfMemory, Write, Unknown, Parse, TooLarge, NoSection, NoBytes, PastEnd, SharedAddresses, Missing}
 use Rattle.binfarce_command.specs.declared.headed.Headed.{Headed}
@@ -57,15 +57,15 @@ text_of_file asked file bytes text (inr (unknown, first)) is = absurd (due_in (s
 -- of a file of an unknown format that is told, and nothing else
 tells_unknown : (section : Option (List ℕ)) (kind : Kind) (which : SymbolTable) (bytes : List ℕ) (o : Outcome) → format_of bytes ≡ formats.Unknown → TellsIn section kind which bytes o → o ≡ unknown_format
 tells_unknown (Some section) kind which bytes o unknown outcome = subst (λ (answer : Option (Result Listed Refusal)). EndsAs (Fits kind) (NeedsMemory (format_of bytes) bytes) answer o) (no_answer which bytes section unknown) outcome
-tells_unknown None Listing which bytes o unknown outcome = subst (λ (answer : Option (Result AllSymbols Refusal)). AllTells Listing (AllNeedsMemory bytes) answer o) (no_all_answer which bytes unknown) outcome
-tells_unknown None Sums which bytes o unknown outcome = subst (λ (answer : Option (Result AllSymbols Refusal)). AllTells Sums (AllNeedsMemory bytes) answer o) (no_all_answer which bytes unknown) outcome
-tells_unknown None Picture which bytes o unknown outcome = subst (λ (answer : Option (Result AllSymbols Refusal)). AllTells Picture (AllNeedsMemory bytes) answer o) (no_all_answer which bytes unknown) outcome
+tells_unknown None Listing which bytes o unknown outcome = subst (λ (answer : Option (Result AllSymbols Refusal)). EndsAs AllListingFits (AllNeedsMemory bytes) answer o) (no_all_answer which bytes unknown) outcome
+tells_unknown None Sums which bytes o unknown outcome = subst (λ (answer : Option (Result AllSymbols Refusal)). EndsAs ReportFits (AllNeedsMemory bytes) (one_answer answer) o) (no_all_answer which bytes unknown) outcome
+tells_unknown None Picture which bytes o unknown outcome = subst (λ (answer : Option (Result AllSymbols Refusal)). EndsAs ReportFits (AllNeedsMemory bytes) (one_answer answer) o) (no_all_answer which bytes unknown) outcome
 
 unknown_tells : (section : Option (List ℕ)) (kind : Kind) (which : SymbolTable) (file : List ℕ) (o : Outcome) → format_of file ≡ formats.Unknown → o ≡ unknown_format → TellsIn section kind which file o
 unknown_tells (Some section) kind which file o unknown is = subst (λ (answer : Option (Result Listed Refusal)). EndsAs (Fits kind) (NeedsMemory (format_of file) file) answer o) (sym (no_answer which file section unknown)) is
-unknown_tells None Listing which file o unknown is = subst (λ (answer : Option (Result AllSymbols Refusal)). AllTells Listing (AllNeedsMemory file) answer o) (sym (no_all_answer which file unknown)) is
-unknown_tells None Sums which file o unknown is = subst (λ (answer : Option (Result AllSymbols Refusal)). AllTells Sums (AllNeedsMemory file) answer o) (sym (no_all_answer which file unknown)) is
-unknown_tells None Picture which file o unknown is = subst (λ (answer : Option (Result AllSymbols Refusal)). AllTells Picture (AllNeedsMemory file) answer o) (sym (no_all_answer which file unknown)) is
+unknown_tells None Listing which file o unknown is = subst (λ (answer : Option (Result AllSymbols Refusal)). EndsAs AllListingFits (AllNeedsMemory file) answer o) (sym (no_all_answer which file unknown)) is
+unknown_tells None Sums which file o unknown is = subst (λ (answer : Option (Result AllSymbols Refusal)). EndsAs ReportFits (AllNeedsMemory file) (one_answer answer) o) (sym (no_all_answer which file unknown)) is
+unknown_tells None Picture which file o unknown is = subst (λ (answer : Option (Result AllSymbols Refusal)). EndsAs ReportFits (AllNeedsMemory file) (one_answer answer) o) (sym (no_all_answer which file unknown)) is
 
 tells_of_file : (asked : Asked) (file bytes : List ℕ) (o : Outcome) → IsReadOf file bytes → TellsIn (section_of asked.symbols) asked.kind asked.symbols.which bytes o → TellsIn (section_of asked.symbols) asked.kind asked.symbols.which file o
 tells_of_file asked file bytes o (inl same) outcome = subst (λ (f : List ℕ). TellsIn (section_of asked.symbols) asked.kind asked.symbols.which f o) same outcome

@@ -3,5 +3,6 @@ pub mod Streams
 pub mod Shown
 pub mod Lines
 pub mod AddressWords
+mod Sections
 mod FileLoop
 mod FileFates

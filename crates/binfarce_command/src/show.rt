@@ -1,7 +1,7 @@
 //! Shows the function symbols of a file: as a listing, as sums by crate, or as a picture.
 
 ghost use Rattle.std.specs.Prelude.{◌≡◌, ◌≢◌, ℕ, List, true, Some, Err};
-ghost use Rattle.binfarce_tools.specs.AllAnswer.{all_answer_of, AllNeedsMemory};
+ghost use Rattle.binfarce_tools.specs.AllAnswer.{all_answer_of};
 ghost use Rattle.binfarce_tools.specs.AllTables.{AreAllTablesOf};
 ghost use Rattle.binfarce_tools.specs.Answer.{answer_of, FileNeedsMemory};
 ghost use Rattle.binfarce_tools.specs.Tables.{AreTablesOf};
@@ -115,7 +115,7 @@ fn show_all<K: Sink>(
     out: &mut K,
 ) -> Result<(), Fault>
     ensures outcome { (which : SymbolTable) (file : List ℕ) → AreAllTablesOf which file tables.now
-        → AllTells kind (AllNeedsMemory file) (all_answer_of which file) (outcome_of result) }
+        → AllTells kind which file (outcome_of result) }
     ensures takes { (which : SymbolTable) (file : List ℕ) → AreAllTablesOf which file tables.now
         → TakesAll kind (all_answer_of which file) (K.taken out.old) (K.taken out.new) (outcome_of result) }
     ensures of_file { result ≢ Err Input }

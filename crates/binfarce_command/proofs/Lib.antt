@@ -4,5 +4,6 @@ pub mod Shown
 pub mod Lines
 pub mod AddressWords
 mod Sections
+mod AllPlaces
 mod FileLoop
 mod FileFates

@@ -1,6 +1,6 @@
 //! `binfarce at [--base=ADDRESS] FILE [ADDRESS..]`: the function symbol at each address.
 
-ghost use Rattle.std.specs.Prelude.{◌≡◌, ℕ, List, true, false, map, Some};
+ghost use Rattle.std.specs.Prelude.{◌≡◌, ◌≢◌, ℕ, List, true, false, map, Some, IfErr};
 ghost use Rattle.binfarce_addresses.specs.Lines.{AreLinesAt};
 ghost use Rattle.binfarce_addresses.specs.PlacesViews.{IsMadeOf};
 ghost use Rattle.binfarce_tools.specs.AllAnswer.{all_answer_of, AllNeedsMemory, one_answer};
@@ -13,6 +13,7 @@ ghost use Rattle.binfarce_tools.specs.Writing.{EndsAs, ProgramEndsAs, Takes, Fai
 ghost use Rattle.binfarce_command.specs.At.{AnswersLines, HasPlaces, IsShared, addresses_of, is_of_object, share_addresses};
 ghost use Rattle.binfarce_command.specs.Faults.{outcome_of};
 ghost use Rattle.binfarce_command.specs.Show.{MemoryFor, answer_for};
+ghost use Rattle.binfarce_command.specs.declared.fault.Fault.TheVariants.{Write as Unwritten};
 ghost use Rattle.binfarce_words.specs.WordViews.{Gives};
 
 use crate::fault::Fault;
@@ -131,8 +132,9 @@ fn answer_all_tables<K: Sink>(
 
 // The places of the function symbols of all sections.
 fn places_of_all(alloc: Global, tables: &AllTables) -> Result<Places<'_>, Fault>
-    ensures { (which : SymbolTable) (file : List ℕ) → AreAllTablesOf which file tables.entry.now
+    ensures has { (which : SymbolTable) (file : List ℕ) → AreAllTablesOf which file tables.entry.now
         → HasPlaces (AllNeedsMemory file) (all_answer_of which file) result }
+    ensures unwritten { IfErr result (λ e. e ≢ Unwritten) }
 {
     let places = Places::of_all(alloc, tables)?;
     if tables.shares_addresses() {

@@ -16,7 +16,7 @@ use Rattle.binfarce_tools.specs.AllTables.{ReadsAllTables}
 use Rattle.binfarce_tools.specs.Tables.{ReadsTables}
 use Rattle.binfarce_tools.specs.declared.SymbolTable.{SymbolTable}
 use Rattle.binfarce_tools.specs.declared.list.ListError.TheVariants as errors
-use Rattle.binfarce_command.specs.At.{AnswersLines, HasPlaces, IsUntouched, is_of_object, lines_end}
+use Rattle.binfarce_command.specs.At.{AnswersLines, HasPlaces, IsUntouched, addresses_are_shared, lines_end}
 use Rattle.binfarce_command.specs.Faults.{lines_fault, list_fault, read_fault}
 use Rattle.binfarce_command.specs.declared.fault.Fault.{Fault}
 use Rattle.binfarce_command.specs.declared.fault.Fault.TheVariants.{OutOfMemory as Full}
@@ -92,15 +92,15 @@ failed fault = Err fault
 
 -- nothing was answered of a file whose places can't be had
 no_places : (may : Type 0) (memory : Result Listed Refusal → Type 0) (answer : Option (Result AllSymbols Refusal)) (base : ℕ) (given old : Option (List ℕ)) (e : Fault) → HasPlaces memory answer (Err e)
-    → AnswersLines may (is_of_object answer) memory (one_answer answer) base given given old old (Err e)
+    → AnswersLines may (addresses_are_shared answer) memory (one_answer answer) base given given old old (Err e)
 no_places may memory answer base given old e (inl (shared, is)) = inr (inl (shared, ap failed is, untouched given old))
 no_places may memory answer base given old e (inr (error, made, is)) = inr (inr (inl (error, made, ap failed is, untouched given old)))
 
 pub without_places : (may : Type 0) (memory : Result Listed Refusal → Type 0) (answer : Option (Result AllSymbols Refusal)) (base : ℕ) (given old : Option (List ℕ)) (e : Fault) (result : Result ℕ Fault) → HasPlaces memory answer (Err e) → IsErrAnd result (λ x. x ≡ e)
-    → AnswersLines may (is_of_object answer) memory (one_answer answer) base given given old old result
+    → AnswersLines may (addresses_are_shared answer) memory (one_answer answer) base given given old old result
 without_places may memory answer base given old e (Ok x) has is = absurd is
 without_places may memory answer base given old e (Err x) has is =
-    let P : Fault → Type 0 = λ f. AnswersLines may (is_of_object answer) memory (one_answer answer) base given given old old (Err f) in subst P (sym is) (no_places may memory answer base given old e has)
+    let P : Fault → Type 0 = λ f. AnswersLines may (addresses_are_shared answer) memory (one_answer answer) base given given old old (Err f) in subst P (sym is) (no_places may memory answer base given old e has)
 
 -- nothing was answered where an allocation failed
 pub no_memory : (may : Type 0) (share : Bool) (memory : Result Listed Refusal → Type 0) (answer : Option (Result Listed Refusal)) (base : ℕ) (given old : Option (List ℕ)) (result : Result ℕ Fault) → IsErrAnd result (λ x. x ≡ Full)

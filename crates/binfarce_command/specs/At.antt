@@ -42,15 +42,15 @@ lines_end (Ok count) = Ok count
 lines_end (Err e) = Err (lines_fault e)
 
 -- an answer is that of an object file, whose sections share addresses
-abbrev pub is_of_object : Option (Result AllSymbols Refusal) → Bool
-is_of_object None = false
-is_of_object (Some (Err refusal)) = false
-is_of_object (Some (Ok all)) = all.shares_addresses
+abbrev pub addresses_are_shared : Option (Result AllSymbols Refusal) → Bool
+addresses_are_shared None = false
+addresses_are_shared (Some (Err refusal)) = false
+addresses_are_shared (Some (Ok all)) = all.shares_addresses
 
 -- the function symbols that are taken share addresses: those of all sections of an object file
 abbrev pub share_in : (section : Option (List ℕ)) → SymbolTable → (file : List ℕ) → Bool
 share_in (Some section) which file = false
-share_in None which file = is_of_object (all_answer_of which file)
+share_in None which file = addresses_are_shared (all_answer_of which file)
 
 abbrev pub share_addresses : Symbols → (file : List ℕ) → Bool
 share_addresses symbols file = share_in (section_of symbols) symbols.which file
@@ -62,8 +62,8 @@ IsShared MayFail (Err e) = (e ≡ SharedAddresses) ⊎ (MayFail × (e ≡ Unread
 
 -- what is made of a file whose answer for all sections is this: places of its entries, unless it is an object file
 abbrev pub HasPlaces : (Result Listed Refusal → Type 0) → Option (Result AllSymbols Refusal) → Result (List Entry) Fault → Type 0
-HasPlaces NeedsMemory answer (Ok entries) = (is_of_object answer ≡ false) × IsMadeOf NeedsMemory (one_answer answer) (Ok entries)
-HasPlaces NeedsMemory answer (Err e) = ((is_of_object answer ≡ true) × (e ≡ SharedAddresses)) ⊎ ((error : ListError) × IsMadeOf NeedsMemory (one_answer answer) (Err error) × (e ≡ list_fault error))
+HasPlaces NeedsMemory answer (Ok entries) = (addresses_are_shared answer ≡ false) × IsMadeOf NeedsMemory (one_answer answer) (Ok entries)
+HasPlaces NeedsMemory answer (Err e) = ((addresses_are_shared answer ≡ true) × (e ≡ SharedAddresses)) ⊎ ((error : ListError) × IsMadeOf NeedsMemory (one_answer answer) (Err error) × (e ≡ list_fault error))
 
 -- how the lines of standard input are answered, of a file whose answer is this: the file can't be read, which is reported only where MayFail says so, or an allocation failed; its function symbols share addresses; the file is refused; or its entries answer the lines
 abbrev pub AnswersLines : Type 0 → (share : Bool) → (Result Listed Refusal → Type 0) → Option (Result Listed Refusal) → ℕ → Option (List ℕ) → Option (List ℕ) → Option (List ℕ) → Option (List ℕ) → Result ℕ Fault → Type 0

@@ -37,10 +37,10 @@ IsDueOfAll Sums answer text = IsDue IsSumsOf (one_answer answer) text
 IsDueOfAll Picture answer text = IsDue IsMapOf (one_answer answer) text
 
 -- what is told of a file, and what is taken of its text
-abbrev pub AllTells : Kind → SymbolTable → (file : List ℕ) → Outcome → Type 0
-AllTells Listing which file outcome = EndsAs AllListingFits (AllNeedsMemory file) (all_answer_of which file) outcome
-AllTells Sums which file outcome = EndsAs ReportFits (AllNeedsMemory file) (one_answer (all_answer_of which file)) outcome
-AllTells Picture which file outcome = EndsAs ReportFits (AllNeedsMemory file) (one_answer (all_answer_of which file)) outcome
+abbrev pub AllEndsAs : Kind → SymbolTable → (file : List ℕ) → Outcome → Type 0
+AllEndsAs Listing which file outcome = EndsAs AllListingFits (AllNeedsMemory file) (all_answer_of which file) outcome
+AllEndsAs Sums which file outcome = EndsAs ReportFits (AllNeedsMemory file) (one_answer (all_answer_of which file)) outcome
+AllEndsAs Picture which file outcome = EndsAs ReportFits (AllNeedsMemory file) (one_answer (all_answer_of which file)) outcome
 
 abbrev pub TakesAll : Kind → Option (Result AllSymbols Refusal) → (old new : Option (List ℕ)) → Outcome → Type 0
 TakesAll Listing answer old new outcome = Takes IsAllListingOf answer old new outcome
@@ -58,7 +58,7 @@ IsDueIn None kind which file text = IsDueOfAll kind (all_answer_of which file) t
 
 abbrev pub TellsIn : (section : Option (List ℕ)) → Kind → SymbolTable → (file : List ℕ) → Outcome → Type 0
 TellsIn (Some section) kind which file outcome = EndsAs (Fits kind) (NeedsMemory (format_of file) file) (answer_of which file section) outcome
-TellsIn None kind which file outcome = AllTells kind which file outcome
+TellsIn None kind which file outcome = AllEndsAs kind which file outcome
 
 abbrev pub TakesIn : (section : Option (List ℕ)) → Kind → SymbolTable → (file : List ℕ) → (old new : Option (List ℕ)) → Outcome → Type 0
 TakesIn (Some section) kind which file old new outcome = Takes (IsTextOf kind) (answer_of which file section) old new outcome

@@ -10,7 +10,7 @@ ghost use Rattle.binfarce_tools.specs.Listing.{ListingFits};
 ghost use Rattle.binfarce_tools.specs.Tables.{AreTablesOf};
 ghost use Rattle.binfarce_tools.specs.declared.SymbolTable.{SymbolTable};
 ghost use Rattle.binfarce_tools.specs.Writing.{EndsAs, ProgramEndsAs, Takes, Fails, Leaves};
-ghost use Rattle.binfarce_command.specs.At.{AnswersLines, HasPlaces, IsShared, addresses_of, is_of_object, share_addresses};
+ghost use Rattle.binfarce_command.specs.At.{AnswersLines, HasPlaces, IsShared, addresses_of, addresses_are_shared, share_addresses};
 ghost use Rattle.binfarce_command.specs.Faults.{outcome_of};
 ghost use Rattle.binfarce_command.specs.Show.{MemoryFor, answer_for};
 ghost use Rattle.binfarce_command.specs.declared.fault.Fault.TheVariants.{Write as Unwritten};
@@ -116,10 +116,10 @@ fn answer_all_tables<K: Sink>(
     out: &mut K,
 ) -> Result<(), Fault>
     ensures outcome { (which : SymbolTable) (file : List ℕ) → AreAllTablesOf which file tables.now
-        → is_of_object (all_answer_of which file) ≡ false
+        → addresses_are_shared (all_answer_of which file) ≡ false
         → EndsAs ListingFits (AllNeedsMemory file) (one_answer (all_answer_of which file)) (outcome_of result) }
     ensures shared { (which : SymbolTable) (file : List ℕ) → AreAllTablesOf which file tables.now
-        → is_of_object (all_answer_of which file) ≡ true → IsShared ⊥ result }
+        → addresses_are_shared (all_answer_of which file) ≡ true → IsShared ⊥ result }
     ensures takes { (which : SymbolTable) (file : List ℕ) → AreAllTablesOf which file tables.now
         → Takes (AreLinesAt base addresses.now)
         (one_answer (all_answer_of which file)) (K.taken out.old) (K.taken out.new) (outcome_of result) }
@@ -199,7 +199,7 @@ fn answer_in_all<I: Read, K: Sink>(
     out: &mut K,
 ) -> Result<u64, Fault>
     ensures { (which : SymbolTable) (file : List ℕ) → AreAllTablesOf which file tables.now → AnswersLines ⊥
-        (is_of_object (all_answer_of which file)) (AllNeedsMemory file) (one_answer (all_answer_of which file)) base
+        (addresses_are_shared (all_answer_of which file)) (AllNeedsMemory file) (one_answer (all_answer_of which file)) base
         (I.remaining input.old) (I.remaining input.new) (K.taken out.old) (K.taken out.new) result }
 {
     let mut places = places_of_all(alloc, tables)?;

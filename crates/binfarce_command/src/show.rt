@@ -8,7 +8,7 @@ ghost use Rattle.binfarce_tools.specs.Tables.{AreTablesOf};
 ghost use Rattle.binfarce_tools.specs.declared.SymbolTable.{SymbolTable};
 ghost use Rattle.binfarce_tools.specs.Writing.{EndsAs, Takes, Fails, Leaves};
 ghost use Rattle.binfarce_command.specs.Faults.{outcome_of};
-ghost use Rattle.binfarce_command.specs.Show.{AllTells, Fits, IsTextOf, MayEnd, TakesAll, TakesShown};
+ghost use Rattle.binfarce_command.specs.Show.{AllEndsAs, Fits, IsTextOf, MayEnd, TakesAll, TakesShown};
 ghost use Rattle.binfarce_command.specs.declared.fault.Fault.TheVariants.{Input};
 
 use crate::fault::Fault;
@@ -115,7 +115,7 @@ fn show_all<K: Sink>(
     out: &mut K,
 ) -> Result<(), Fault>
     ensures outcome { (which : SymbolTable) (file : List ℕ) → AreAllTablesOf which file tables.now
-        → AllTells kind which file (outcome_of result) }
+        → AllEndsAs kind which file (outcome_of result) }
     ensures takes { (which : SymbolTable) (file : List ℕ) → AreAllTablesOf which file tables.now
         → TakesAll kind (all_answer_of which file) (K.taken out.old) (K.taken out.new) (outcome_of result) }
     ensures of_file { result ≢ Err Input }

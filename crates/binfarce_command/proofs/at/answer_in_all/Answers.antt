@@ -1,7 +1,7 @@
 use Rattle.std.proofs.Common.{Ok, List, sym, subst}
 use Rattle.binfarce.specs.Symbol.{Entry}
 use Rattle.binfarce_tools.specs.AllAnswer.{all_answer_of, AllNeedsMemory, one_answer}
-use Rattle.binfarce_command.specs.At.{HasPlaces, is_of_object}
+use Rattle.binfarce_command.specs.At.{HasPlaces, addresses_are_shared}
 use Rattle.binfarce_command.proofs.Lines.{no_memory, answered_lines, answered_less, without_places}
 use Rattle.binfarce_command.proofs.at.answer_in_all.Goals as goal
 
@@ -11,15 +11,15 @@ returns-in_err-places g c = λ which file are.
 
 pub returns-in_err-keep_names : goal.returns-in_err-keep_names
 returns-in_err-keep_names g c = λ which file are.
-    no_memory ⊥ (is_of_object (all_answer_of which file)) (AllNeedsMemory file) (one_answer (all_answer_of which file)) c.args.base _ _ c.from_residual-in_err-keep_names.result c.from_residual-in_err-keep_names.ensures.1
+    no_memory ⊥ (addresses_are_shared (all_answer_of which file)) (AllNeedsMemory file) (one_answer (all_answer_of which file)) c.args.base _ _ c.from_residual-in_err-keep_names.result c.from_residual-in_err-keep_names.ensures.1
 
 pub returns-in_err-missing : goal.returns-in_err-missing
 returns-in_err-missing g c = λ which file are.
     let has = subst (λ (entries : List Entry). HasPlaces (AllNeedsMemory file) (all_answer_of which file) (Ok entries)) (sym c.keep_names.ensures) (c.in_ok-places.ensures.has which file are) in
-    answered_less ⊥ (is_of_object (all_answer_of which file)) (AllNeedsMemory file) (one_answer (all_answer_of which file)) c.keep_names.new.self c.args.base _ _ _ _ c.in_err-missing.field-0.0 c.from_residual-in_err-missing.result
+    answered_less ⊥ (addresses_are_shared (all_answer_of which file)) (AllNeedsMemory file) (one_answer (all_answer_of which file)) c.keep_names.new.self c.args.base _ _ _ _ c.in_err-missing.field-0.0 c.from_residual-in_err-missing.result
     has.0 has.1 c.in_err-missing.ensures c.from_residual-in_err-missing.ensures.1
 
 pub returns : goal.returns
 returns g c = λ which file are.
     let has = subst (λ (entries : List Entry). HasPlaces (AllNeedsMemory file) (all_answer_of which file) (Ok entries)) (sym c.keep_names.ensures) (c.in_ok-places.ensures.has which file are) in
-    answered_lines ⊥ (is_of_object (all_answer_of which file)) (AllNeedsMemory file) (one_answer (all_answer_of which file)) c.keep_names.new.self c.args.base _ _ _ _ (Ok c.in_ok-missing.missing) has.0 has.1 c.in_ok-missing.ensures
+    answered_lines ⊥ (addresses_are_shared (all_answer_of which file)) (AllNeedsMemory file) (one_answer (all_answer_of which file)) c.keep_names.new.self c.args.base _ _ _ _ (Ok c.in_ok-missing.missing) has.0 has.1 c.in_ok-missing.ensures

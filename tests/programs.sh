@@ -180,7 +180,6 @@ lacks="binfarce: $scratch/stripped: no symbol table (.symtab); --dynamic lists i
 ends 1 /dev/null "$lacks" binfarce list "$scratch/stripped"
 call binfarce list --dynamic --all "$scratch/stripped" | cut -c1-16 >"$scratch/lines"
 readelf -W --dyn-syms "$library" | awk '$4 == "FUNC" && $3 != "0" && $7 ~ /^[0-9]+$/ { print $2 }' | cmp "$scratch/lines" -
-
 # The symbols of all sections, in an object file with a section for each function, as readelf has them.
 printf 'int f(int x) { return x + 1; }\nint g(int x) { return x * x; }\nint h(int x) { return f(x) - g(x); }\n' >"$scratch/functions.c"
 object="$scratch/functions.o"

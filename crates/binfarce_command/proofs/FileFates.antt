@@ -6,8 +6,7 @@ use Rattle.std.specs.Io.KnownBytes.{Appends, Keeps}
 use Rattle.binfarce_bytes.specs.Entries.{Listed}
 use Rattle.binfarce_bytes.specs.SectionEntries.{AllSymbols}
 use Rattle.binfarce_bytes.specs.Format.{format_of}
-use Rattle.binfarce_bytes.specs.Refusal.{Refusal, refusal_of}
-use Rattle.binfarce_bytes.specs.declared.error.ParseError.{ParseError}
+use Rattle.binfarce_bytes.specs.Refusal.{Refusal}
 use Rattle.binfarce_bytes.specs.declared.format.Format.{Format}
 use Rattle.binfarce_bytes.specs.declared.format.Format.TheVariants as formats
 use Rattle.binfarce_tools.specs.declared.SymbolTable.{SymbolTable}
@@ -19,7 +18,7 @@ use Rattle.binfarce_tools.specs.Report.{ReportFits}
 use Rattle.binfarce_tools.specs.Answer.{NeedsMemory, answer_of, dynamic_symbols_answer, symbols_answer}
 use Rattle.binfarce_tools.specs.Writing.{AppendsBeginning, IsDue, Leaves, Outcome, EndsAs, unknown_format, write_failed, written as has_written, wrong_usage}
 use Rattle.binfarce_command.specs.Faults.{outcome_of}
-use Rattle.binfarce_command.specs.Files.{Fate, IsUnreadable, MayComeTo, Refused, Reports, ReportsWhy, ShowsHeld, ShowsOne, heading, refused, shown}
+use Rattle.binfarce_command.specs.Files.{IsUnreadable, Refused, Reports, ReportsWhy, ShowsHeld, ShowsOne, heading, refused, shown}
 use Rattle.binfarce_command.specs.Headed.{pending, taken, writer_of}
 use Rattle.binfarce_command.specs.Input.{IsReadOf}
 use Rattle.binfarce_command.specs.Show.{Fits, IsDueIn, IsDueOfAll, IsShownText, IsTextOf, MayEnd, TakesIn, TakesShown, TellsIn, section_of}

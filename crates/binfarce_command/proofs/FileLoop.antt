@@ -1,13 +1,12 @@
 -- What is shown of several files, file after file.
-use Rattle.std.proofs.Common.{◌≡◌, ◌≢◌, ◌∙◌, ◌⊎◌, inl, inr, ℕ, suc, ◌+◌, ◌<◌, ◌≤◌, Bool, true, false, ◌&&◌, List, [], ◌∷◌, ◌++◌, map, length, take, drop, get_or, Option, Some, None, Result, Ok, Err, refl, sym, ap, subst, add-one, append_assoc, append-nil, drop-cons, take-append-drop, Bor, IsErrAnd, arith}
-use Rattle.std.proofs.Math.ListN.{drop_of_length-le}
-use Rattle.std.proofs.lemmas.List.{map-append, take_more, take_all, get_or-map, length-map}
+use Rattle.std.proofs.Common.{◌≡◌, ◌∙◌, inl, inr, ℕ, suc, ◌+◌, ◌<◌, Bool, true, false, ◌&&◌, List, [], ◌∷◌, ◌++◌, map, length, take, drop, get_or, Option, Some, None, Result, Ok, Err, refl, sym, ap, subst, append_assoc, append-nil, drop-cons, take-append-drop, Bor, IsErrAnd, arith}
+use Rattle.std.proofs.lemmas.List.{map-append, take_more, get_or-map, length-map}
 use Rattle.std.proofs.lemmas.List.Elements.{All-nil, All-push}
 use Rattle.std.proofs.lemmas.List.Concat.{flat_map-append}
 use Rattle.std.proofs.lemmas.List.Folds.{list_all-append}
 use Rattle.std.specs.Io.KnownBytes.{Appends}
 use Rattle.std.specs.List.{flat_map, list_all}
-use Rattle.binfarce_command.specs.Files.{AreHeld, BreaksOff, Fate, MayComeTo, Refused, Reports, Shows, ShowsAll, ShowsOne, StopsBefore, is_shown, reported, written}
+use Rattle.binfarce_command.specs.Files.{AreHeld, Fate, MayComeTo, Refused, Reports, Shows, ShowsAll, ShowsOne, is_shown, reported, written}
 use Rattle.binfarce_command.specs.declared.fault.Fault.{Fault}
 use Rattle.binfarce_command.specs.declared.show.Asked.{Asked}
 

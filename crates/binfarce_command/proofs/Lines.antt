@@ -17,7 +17,7 @@ use Rattle.binfarce_tools.specs.Tables.{ReadsTables}
 use Rattle.binfarce_tools.specs.declared.SymbolTable.{SymbolTable}
 use Rattle.binfarce_tools.specs.declared.list.ListError.TheVariants as errors
 use Rattle.binfarce_command.specs.At.{AnswersLines, HasPlaces, IsUntouched, addresses_are_shared, lines_end}
-use Rattle.binfarce_command.specs.Faults.{lines_fault, list_fault, read_fault}
+use Rattle.binfarce_command.specs.Faults.{lines_fault, read_fault}
 use Rattle.binfarce_command.specs.declared.fault.Fault.{Fault}
 use Rattle.binfarce_command.specs.declared.fault.Fault.TheVariants.{OutOfMemory as Full}
 

@@ -11,7 +11,7 @@ use Rattle.binfarce_tools.specs.Answer.{answer_of, NeedsMemory}
 use Rattle.binfarce_tools.specs.Map.{IsMapOf}
 use Rattle.binfarce_tools.specs.Listing.{IsListingOf, ListingFits}
 use Rattle.binfarce_tools.specs.Report.{IsReportOf, IsSumsOf, ReportFits}
-use Rattle.binfarce_tools.specs.Writing.{Outcome, IsDue, ProgramEndsAs, Takes, EndsAs, no_memory, unreadable}
+use Rattle.binfarce_tools.specs.Writing.{Outcome, IsDue, Takes, EndsAs, no_memory, unreadable}
 use Rattle.binfarce_tools.specs.declared.SymbolTable.{SymbolTable}
 use Rattle.binfarce_command.specs.declared.show.Asked.{Asked}
 use Rattle.binfarce_command.specs.declared.show.Kind.{Kind}

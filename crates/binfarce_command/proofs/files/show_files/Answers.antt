@@ -1,6 +1,6 @@
-use Rattle.std.proofs.Common.{◌≡◌, ◌∙◌, ℕ, Bor, List, [], Err, Ok, length, ltb, get_or, refl, subst}
+use Rattle.std.proofs.Common.{◌∙◌, ℕ, Bor, List, [], Err, Ok, length, ltb, get_or, refl, subst}
 use Rattle.std.proofs.lemmas.List.{take_all}
-use Rattle.binfarce_command.specs.Files.{AreHeld, Shows, ShowsOne}
+use Rattle.binfarce_command.specs.Files.{Shows}
 use Rattle.binfarce_command.specs.Headed.{taken, writer_of}
 use Rattle.binfarce_command.proofs.FileLoop.{none_shown, goes_on, ends, held_there, one_at, passed_on, paths_of}
 use Rattle.binfarce_command.proofs.files.show_files.Goals as goal

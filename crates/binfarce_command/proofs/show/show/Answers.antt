@@ -1,6 +1,6 @@
-use Rattle.std.proofs.Common.{Option, List, ℕ, Bor, sym, subst}
+use Rattle.std.proofs.Common.{Option, List, ℕ}
 use Rattle.binfarce_command.specs.Faults.{outcome_of}
-use Rattle.binfarce_command.specs.Show.{TakesIn, TellsIn}
+use Rattle.binfarce_command.specs.Show.{TakesIn}
 use Rattle.binfarce_command.proofs.Sections.{by_section}
 use Rattle.binfarce_command.proofs.show.show.Goals as goal
 

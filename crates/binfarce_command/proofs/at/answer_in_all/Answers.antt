@@ -17,9 +17,9 @@ pub returns-in_err-missing : goal.returns-in_err-missing
 returns-in_err-missing g c = λ which file are.
     let has = subst (λ (entries : List Entry). HasPlaces (AllNeedsMemory file) (all_answer_of which file) (Ok entries)) (sym c.keep_names.ensures) (c.in_ok-places.ensures.has which file are) in
     answered_less ⊥ (addresses_are_shared (all_answer_of which file)) (AllNeedsMemory file) (one_answer (all_answer_of which file)) c.keep_names.new.self c.args.base _ _ _ _ c.in_err-missing.field-0.0 c.from_residual-in_err-missing.result
-    has.0 has.1 c.in_err-missing.ensures c.from_residual-in_err-missing.ensures.1
+    has.0 has.1 c.in_err-missing.ensures.answers c.from_residual-in_err-missing.ensures.1
 
 pub returns : goal.returns
 returns g c = λ which file are.
     let has = subst (λ (entries : List Entry). HasPlaces (AllNeedsMemory file) (all_answer_of which file) (Ok entries)) (sym c.keep_names.ensures) (c.in_ok-places.ensures.has which file are) in
-    answered_lines ⊥ (addresses_are_shared (all_answer_of which file)) (AllNeedsMemory file) (one_answer (all_answer_of which file)) c.keep_names.new.self c.args.base _ _ _ _ (Ok c.in_ok-missing.missing) has.0 has.1 c.in_ok-missing.ensures
+    answered_lines ⊥ (addresses_are_shared (all_answer_of which file)) (AllNeedsMemory file) (one_answer (all_answer_of which file)) c.keep_names.new.self c.args.base _ _ _ _ (Ok c.in_ok-missing.missing) has.0 has.1 c.in_ok-missing.ensures.answers

@@ -22,11 +22,13 @@ def impl_name(impl):
     """What the prover calls an impl or a trait, of its first line: `impl From<io::Error> for ReadError {` is ReadErrorFromIoError."""
     if not re.match(r"(unsafe )?impl\b", impl):
         return ITEM.match(impl)[2]
-    head = re.sub(r"^(unsafe )?impl(<[^>]*>)? ?", "", impl).rstrip(" {")
+    parameters, head = re.match(r"(?:unsafe )?impl(<[^>]*>)? ?(.*?)[ {]*$", impl).groups()
     head = re.sub(r"(^| for )(\w+::)+", r"\1", head)
     trait, _, name = head.rpartition(" for ")
     name = re.sub(r"<.*>", "", name.replace("&", " Ref ").replace("[", " Slice "))
-    return "".join(word[:1].upper() + word[1:] for word in re.findall(r"\w+", f"{name} {trait}"))
+    # Its own parameters have no part in the name.
+    own = re.findall(r"(\w+)(?=[:,>])", parameters or "")
+    return "".join(word[:1].upper() + word[1:] for word in re.findall(r"\w+", f"{name} {trait}") if word not in own)
 
 def module_of(file):
     module = file.removeprefix("src/").removesuffix(".rt").replace("/", "::")

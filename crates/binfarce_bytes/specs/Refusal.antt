@@ -47,9 +47,12 @@ abbrev pub Gives : {X Y E : Type 0} → (E → Refusal) → (X → Y) → Result
 Gives why view answer (Ok x) = answer ≡ Ok (view x)
 Gives why view answer (Err e) = answer ≡ Err (why e)
 
+-- the answer of a file that has this many bytes; a shorter one is truncated
+abbrev pub if_as_long_as : {A : Type 0} → ℕ → List ℕ → Result A Refusal → Result A Refusal
+if_as_long_as least file answer = if nat_lt (length file) least then Err unexpected_eof else answer
+
 -- the bytes of a section: their end has to be below 2^64, and to lie in the file
 unfoldable pub bytes_in_file : List ℕ → ℕ → ℕ → Result (List ℕ) Refusal
 bytes_in_file file offset size =
     if nat_le (2 ^ 64) (offset + size) then Err malformed_input
-    else if nat_lt (length file) (offset + size) then Err unexpected_eof
-    else Ok (bytes_at file offset size)
+    else if_as_long_as (offset + size) file (Ok (bytes_at file offset size))

@@ -1,5 +1,5 @@
 -- The results of the exports for one section of a file: by its name, and by its number.
-use Rattle.std.specs.Prelude.{◌≡◌, ◌⊎◌, ◌+◌, ◌≤◌, ◌^◌, ◌++◌, ℕ, List, [], ◌∷◌, Option, Some, None, Result, Ok, Err, length, map, nat_lt, if◌then◌else◌}
+use Rattle.std.specs.Prelude.{◌≡◌, ◌⊎◌, ◌+◌, ◌≤◌, ◌^◌, ◌++◌, ℕ, List, [], ◌∷◌, Option, Some, None, Result, Ok, Err, length, map}
 use Rattle.std.specs.List.{slice_get}
 use Rattle.std.specs.Str.{IsUtf8}
 use Rattle.binfarce.specs.declared.ByteOrder.{ByteOrder}
@@ -7,7 +7,7 @@ use Rattle.binfarce.specs.Elf as elf
 use Rattle.binfarce.specs.ElfSymbols as elf_symbols
 use Rattle.binfarce.specs.Macho as macho
 use Rattle.binfarce.specs.Pe as pe
-use Rattle.binfarce.specs.Refusal.{Refusal, unexpected_eof, malformed_input}
+use Rattle.binfarce.specs.Refusal.{Refusal, if_as_long_as, malformed_input}
 use Rattle.binfarce.specs.Walk.{Walk, first}
 use Rattle.binfarce_c.specs.declared.sections.Section.{Section}
 use Rattle.binfarce_c.specs.Buffer.{PointsTo}
@@ -109,31 +109,25 @@ elf_table class order file = elf.section_table class (record { order = order; by
 -- the first section of an ELF file with this name, where the file has a header
 abbrev pub elf_section : (class : elf.ElfClass) (order : ByteOrder) (file : List ℕ) (name : List ℕ) → Result (Option Details) Refusal
 elf_section class order file name =
-    if nat_lt (length file) class.header_length then Err unexpected_eof
-    else elf_table_section class (elf_table class order file) name
+    if_as_long_as class.header_length file (elf_table_section class (elf_table class order file) name)
 
 -- the section of an ELF file with this number
 abbrev pub elf_numbered : (class : elf.ElfClass) (order : ByteOrder) (file : List ℕ) (index : ℕ) → Result (Option Details) Refusal
 elf_numbered class order file index =
-    if nat_lt (length file) class.header_length then Err unexpected_eof
-    else elf_table_numbered class (elf_table class order file) index
+    if_as_long_as class.header_length file (elf_table_numbered class (elf_table class order file) index)
 
 abbrev pub macho_section : (file : List ℕ) (segment : List ℕ) (name : List ℕ) → Result (Option Details) Refusal
 macho_section file segment name =
-    if nat_lt (length file) macho.least_length then Err unexpected_eof
-    else details_found macho_details (first (λ s. macho.is_named segment name s) (macho.walk file))
+    if_as_long_as macho.least_length file (details_found macho_details (first (λ s. macho.is_named segment name s) (macho.walk file)))
 
 abbrev pub macho_numbered : (file : List ℕ) (index : ℕ) → Result (Option Details) Refusal
 macho_numbered file index =
-    if nat_lt (length file) macho.least_length then Err unexpected_eof
-    else details_found macho_details (numbered index (macho.walk file))
+    if_as_long_as macho.least_length file (details_found macho_details (numbered index (macho.walk file)))
 
 abbrev pub pe_section : (file : List ℕ) (name : List ℕ) → Result (Option Details) Refusal
 pe_section file name =
-    if nat_lt (length file) (pe.least_length file) then Err unexpected_eof
-    else details_found pe_details (first (λ s. pe.is_named name s) (pe.walk file))
+    if_as_long_as (pe.least_length file) file (details_found pe_details (first (λ s. pe.is_named name s) (pe.walk file)))
 
 abbrev pub pe_numbered : (file : List ℕ) (index : ℕ) → Result (Option Details) Refusal
 pe_numbered file index =
-    if nat_lt (length file) (pe.least_length file) then Err unexpected_eof
-    else details_found pe_details (numbered index (pe.walk file))
+    if_as_long_as (pe.least_length file) file (details_found pe_details (numbered index (pe.walk file)))

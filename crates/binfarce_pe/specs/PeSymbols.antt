@@ -4,7 +4,7 @@ use Rattle.std.specs.Option.{option_map}
 use Rattle.std.specs.List.{filter_map}
 use Rattle.binfarce_bytes.specs.Number.{bytes_at}
 use Rattle.binfarce_bytes.specs.Text.{text_at, padded_text}
-use Rattle.binfarce_bytes.specs.Refusal.{◌>>=◌, Refusal, required, symbols_section_is_missing, unexpected_eof}
+use Rattle.binfarce_bytes.specs.Refusal.{◌>>=◌, Refusal, required, symbols_section_is_missing, unexpected_eof, if_as_long_as}
 use Rattle.binfarce_bytes.specs.Walk.{first}
 use Rattle.binfarce_bytes.specs.Field.{Field, field, number_in}
 use Rattle.binfarce_pe.specs.Pe.{header_of, Section, walk, is_named}
@@ -128,8 +128,7 @@ table_size file = (header_of file).number_of_symbols * symbol_length
 unfoldable pub symbol_table : List ℕ → Result SymbolTable Refusal
 symbol_table file =
     if nat_le (length file) (table_offset file) then Err unexpected_eof
-    else if nat_lt (length file) (table_offset file + table_size file) then Err unexpected_eof
-    else Ok (record { rows = bytes_at file (table_offset file) (table_size file); strings = drop (table_offset file + table_size file) file })
+    else if_as_long_as (table_offset file + table_size file) file (Ok (record { rows = bytes_at file (table_offset file) (table_size file); strings = drop (table_offset file + table_size file) file }))
 
 -- the text, and the symbol table
 pub record Located : Type 0 where

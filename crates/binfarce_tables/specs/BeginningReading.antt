@@ -1,6 +1,6 @@
 -- The beginning of a file, from which its sections are read.
-use Rattle.std.specs.Prelude.{◌≡◌, ℕ, Bool, true, List, length, take, Result, Ok, Err, nat_lt, if◌then◌else◌}
-use Rattle.binfarce_bytes.specs.Refusal.{Refusal, refusal_of, unexpected_eof}
+use Rattle.std.specs.Prelude.{◌≡◌, ℕ, Bool, true, List, length, take, Result, Ok, Err}
+use Rattle.binfarce_bytes.specs.Refusal.{Refusal, refusal_of, if_as_long_as}
 use Rattle.binfarce_bytes.specs.Walk.{Walk}
 use Rattle.binfarce_macho.specs.Macho as macho
 use Rattle.binfarce_pe.specs.Pe as pe
@@ -8,12 +8,12 @@ use Rattle.binfarce_tables.specs.declared.beginning.Beginning.{Beginning}
 use Rattle.binfarce_tables.specs.declared.error.ReadError.{ReadError}
 use Rattle.binfarce_tables.specs.declared.error.ReadError.TheVariants.{Refused, Unreadable, OutOfMemory}
 
--- the sections of a file: one too short for its header is truncated
+-- the sections of a file that has a header
 abbrev pub macho_sections : List ℕ → Result (Walk macho.Section) Refusal
-macho_sections file = if nat_lt (length file) macho.least_length then Err unexpected_eof else Ok (macho.walk file)
+macho_sections file = if_as_long_as macho.least_length file (Ok (macho.walk file))
 
 abbrev pub pe_sections : List ℕ → Result (Walk pe.Section) Refusal
-pe_sections file = if nat_lt (length file) (pe.least_length file) then Err unexpected_eof else Ok (pe.walk file)
+pe_sections file = if_as_long_as (pe.least_length file) file (Ok (pe.walk file))
 
 -- the bytes of a file's beginning, and how many bytes the file has
 abbrev pub bytes_of : Beginning → List ℕ

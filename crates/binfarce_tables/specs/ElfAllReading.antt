@@ -1,8 +1,8 @@
 -- What a reading of an ELF file's parts gives that the function symbols of all sections are read from.
-use Rattle.std.specs.Prelude.{ℕ, List, length, Result, Ok, Err, nat_eq, nat_lt, if◌then◌else◌}
+use Rattle.std.specs.Prelude.{ℕ, List, Result, Ok, nat_eq}
 use Rattle.std.specs.Option.{option_map}
 use Rattle.binfarce_bytes.specs.declared.ByteOrder.{ByteOrder}
-use Rattle.binfarce_bytes.specs.Refusal.{◌>>=◌, Refusal, unexpected_eof}
+use Rattle.binfarce_bytes.specs.Refusal.{◌>>=◌, Refusal, if_as_long_as}
 use Rattle.binfarce_bytes.specs.SectionEntries.{AllSymbols}
 use Rattle.binfarce_elf.specs.Elf.{ElfClass, SectionTable, header_of, section_table, walk, names_bytes}
 use Rattle.binfarce_elf.specs.ElfAll.{all_answer, section_entries_from, name_of_index}
@@ -16,11 +16,10 @@ all_symbols which class table elf_type = do
   entries ← all_answer which class table
   Ok (record { entries = entries; section_name = λ number. name_of_index (names_bytes class table) (walk class table) number; shares_addresses = nat_eq elf_type 1 })
 
--- the answer of a file by this symbol table: one too short for its header ends before what it should hold
+-- the answer by this symbol table of a file that has a header
 abbrev pub all_file_answer : SymbolTable → ElfClass → ByteOrder → List ℕ → Result AllSymbols Refusal
 all_file_answer which class order file =
-    if nat_lt (length file) class.header_length then Err unexpected_eof
-    else all_symbols which class (section_table class (record { order = order; bytes = file })) (header_of class order file).elf_type
+    if_as_long_as class.header_length file (all_symbols which class (section_table class (record { order = order; bytes = file })) (header_of class order file).elf_type)
 
 -- the entries, the section names and the type that a file's parts hold
 abbrev pub all_view : {C : Type 0} → ElfClass → AllParts C → AllSymbols

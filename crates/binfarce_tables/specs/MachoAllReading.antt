@@ -1,8 +1,8 @@
 -- What a reading of a Mach-O file's parts gives that the function symbols of all sections are read from.
-use Rattle.std.specs.Prelude.{List, ℕ, Bool, length, map, nat_eq, nat_lt, Option, Result, Ok, Err, if◌then◌else◌}
+use Rattle.std.specs.Prelude.{List, ℕ, Bool, map, nat_eq, Option, Result, Ok}
 use Rattle.std.specs.Option.{option_map}
 use Rattle.std.specs.String.{string_bytes}
-use Rattle.binfarce_bytes.specs.Refusal.{◌>>=◌, Refusal, unexpected_eof}
+use Rattle.binfarce_bytes.specs.Refusal.{◌>>=◌, Refusal, if_as_long_as}
 use Rattle.binfarce_bytes.specs.SectionEntries.{SectionEntry, AllSymbols}
 use Rattle.binfarce_macho.specs.Macho.{header_of, least_length}
 use Rattle.binfarce_macho.specs.MachoAll.{Symbols, section_starts, end_at, name_at, name_of, symbols_of, all_of, extent_end}
@@ -23,9 +23,9 @@ all_located file = do
   symbols ← symbols_of file
   Ok (record { ends = map (end_at file) starts; names = map (name_at file) starts; symbols = symbols; shares_addresses = nat_eq (header_of file).filetype 1 })
 
--- a file too short for its header ends before what it should hold
+-- where the file has a header
 abbrev pub all_located_answer : List ℕ → Result AllLocated Refusal
-all_located_answer file = if nat_lt (length file) least_length then Err unexpected_eof else all_located file
+all_located_answer file = if_as_long_as least_length file (all_located file)
 
 -- the entries of all sections, made of that
 abbrev pub all_entries : AllLocated → Result (List SectionEntry) Refusal

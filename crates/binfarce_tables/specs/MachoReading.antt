@@ -1,15 +1,15 @@
 -- The parts of a Mach-O file that were read.
-use Rattle.std.specs.Prelude.{List, ℕ, length, Option, Result, Err, nat_lt, if◌then◌else◌}
+use Rattle.std.specs.Prelude.{List, ℕ, Option, Result}
 use Rattle.std.specs.Option.{option_map}
-use Rattle.binfarce_bytes.specs.Refusal.{Refusal, unexpected_eof}
+use Rattle.binfarce_bytes.specs.Refusal.{Refusal, if_as_long_as}
 use Rattle.binfarce_macho.specs.Macho.{least_length}
 use Rattle.binfarce_macho.specs.MachoSymbols.{Located, located}
 use Rattle.binfarce_tables.specs.declared.macho.Parts.{Parts}
 use Rattle.binfarce_tables.specs.declared.macho.Tables.{Tables}
 
--- where a file's symbols are, from which its answer is made: a file too short for its header is truncated
+-- where a file's symbols are, from which its answer is made, where it has a header
 abbrev pub located_answer : List ℕ → Result (Option Located) Refusal
-located_answer file = if nat_lt (length file) least_length then Err unexpected_eof else located file
+located_answer file = if_as_long_as least_length file (located file)
 
 -- the tables that were read
 abbrev pub tables_view : Tables → Located

@@ -1,7 +1,7 @@
 -- The parts of a file that were read.
-use Rattle.std.specs.Prelude.{◌≡◌, ℕ, Bool, true, List, length, Option, Some, Result, Ok, Err, nat_lt, if◌then◌else◌}
+use Rattle.std.specs.Prelude.{◌≡◌, ℕ, Bool, true, List, length, Option, Some, Result, Ok, Err}
 use Rattle.binfarce_bytes.specs.declared.ByteOrder.{ByteOrder}
-use Rattle.binfarce_bytes.specs.Refusal.{Refusal, refusal_of, unexpected_eof}
+use Rattle.binfarce_bytes.specs.Refusal.{Refusal, refusal_of, if_as_long_as}
 use Rattle.binfarce_bytes.specs.Entries.{Listed}
 use Rattle.binfarce_elf.specs.Elf.{ElfClass, section_table}
 use Rattle.binfarce_elf.specs.ElfSymbols.{elf_answer, answer_in, entries_from}
@@ -22,17 +22,15 @@ Reads may_fail view answer (Err OutOfMemory) = Unit {0}
 abbrev pub Known : Option (List ℕ) → ℕ → List ℕ → Type 0
 Known bytes len file = (bytes ≡ Some file) × (len ≡ length file)
 
--- the answer of a file: one too short for its header is truncated
+-- the answer of a file that has a header
 abbrev pub file_answer : ElfClass → ByteOrder → List ℕ → List ℕ → Result Listed Refusal
 file_answer class order file name =
-    if nat_lt (length file) class.header_length then Err unexpected_eof
-    else elf_answer class (section_table class (record { order = order; bytes = file })) name
+    if_as_long_as class.header_length file (elf_answer class (section_table class (record { order = order; bytes = file })) name)
 
 -- the same for this symbol table
 abbrev pub file_answer_in : SymbolTable → ElfClass → ByteOrder → List ℕ → List ℕ → Result Listed Refusal
 file_answer_in which class order file name =
-    if nat_lt (length file) class.header_length then Err unexpected_eof
-    else answer_in which class (section_table class (record { order = order; bytes = file })) name
+    if_as_long_as class.header_length file (answer_in which class (section_table class (record { order = order; bytes = file })) name)
 
 -- the content of a file's parts: its entries, and the size of the requested section
 abbrev pub parts_view : {C : Type 0} → ElfClass → (C → ℕ) → Parts C → Listed

@@ -1,8 +1,8 @@
 -- The section headers and section names of an ELF file that were read.
-use Rattle.std.specs.Prelude.{ℕ, List, length, Option, Result, Ok, Err, nat_lt, if◌then◌else◌}
+use Rattle.std.specs.Prelude.{ℕ, List, length, Option, Result, Ok}
 use Rattle.std.specs.Option.{option_map}
 use Rattle.binfarce_bytes.specs.declared.ByteOrder.{ByteOrder}
-use Rattle.binfarce_bytes.specs.Refusal.{Refusal, unexpected_eof}
+use Rattle.binfarce_bytes.specs.Refusal.{Refusal, if_as_long_as}
 use Rattle.binfarce_bytes.specs.Walk.{Walk}
 use Rattle.binfarce_elf.specs.Elf.{ElfClass, Section, section_table, walk, name_of, name_among}
 use Rattle.binfarce_elf.specs.ElfParts.{headers_alone}
@@ -14,12 +14,11 @@ pub record FileSections : Type 0 where
   pub name : Section → Option (List ℕ)
   pub file_length : ℕ
 
--- those of a file: one too short for its header is truncated
+-- those of a file that has a header
 abbrev pub file_sections : ElfClass → ByteOrder → List ℕ → Result FileSections Refusal
 file_sections class order file =
     let table = section_table class (record { order = order; bytes = file }) in
-    if nat_lt (length file) class.header_length then Err unexpected_eof
-    else Ok (record { sections = walk class table; name = name_of class table; file_length = length file })
+    if_as_long_as class.header_length file (Ok (record { sections = walk class table; name = name_of class table; file_length = length file }))
 
 -- those in a file's parts
 abbrev pub sections_view : {C : Type 0} → ElfClass → SectionParts C → FileSections

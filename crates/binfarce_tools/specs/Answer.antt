@@ -1,30 +1,30 @@
 -- The symbols of a file of any format.
-use Rattle.std.specs.Prelude.{ℕ, List, length, codes, nat_lt, Option, Some, None, Result, Err, if◌then◌else◌}
+use Rattle.std.specs.Prelude.{ℕ, List, codes, Option, Some, None, Result, Err}
 use Rattle.binfarce.specs.declared.ByteOrder.{ByteOrder}
 use Rattle.binfarce.specs.declared.Format.{Format}
 use Rattle.binfarce.specs.declared.Format.TheVariants.{Elf32, Elf64, Macho, PE, Unknown}
 use Rattle.binfarce.specs.Format.{format_of}
-use Rattle.binfarce.specs.Refusal.{Refusal, unexpected_eof, section_is_missing}
+use Rattle.binfarce.specs.Refusal.{Refusal, if_as_long_as, section_is_missing}
 use Rattle.binfarce.specs.Elf.{ElfClass, elf32, elf64, section_table}
 use Rattle.binfarce.specs.ElfSymbols.{elf_answer, dynamic_answer}
 use Rattle.binfarce.specs.declared.SymbolTable.{SymbolTable}
 use Rattle.binfarce.specs.declared.SymbolTable.TheVariants.{Symtab, Dynsym}
 use Rattle.binfarce.specs.MachoSymbols.{macho_answer, HasAddress}
+use Rattle.binfarce.specs.Macho as macho
 use Rattle.binfarce.specs.Pe.{least_length}
 use Rattle.binfarce.specs.PeSymbols.{pe_answer}
 use Rattle.binfarce.specs.Symbol.{Listed, ListsSome}
 
--- the answer of the reader of a class for a section: a file too short for its header is truncated
+-- the answer of the reader of a class for a section, where the file has a header
 abbrev pub elf_file_answer : ElfClass → ByteOrder → List ℕ → List ℕ → Result Listed Refusal
 elf_file_answer class order file section =
-    if nat_lt (length file) class.header_length then Err unexpected_eof
-    else elf_answer class (section_table class (record { order = order; bytes = file })) section
+    if_as_long_as class.header_length file (elf_answer class (section_table class (record { order = order; bytes = file })) section)
 
 abbrev pub pe_file_answer : List ℕ → Result Listed Refusal
-pe_file_answer file = if nat_lt (length file) (least_length file) then Err unexpected_eof else pe_answer file
+pe_file_answer file = if_as_long_as (least_length file) file (pe_answer file)
 
 abbrev pub macho_file_answer : List ℕ → Result Listed Refusal
-macho_file_answer file = if nat_lt (length file) 28 then Err unexpected_eof else macho_answer file
+macho_file_answer file = if_as_long_as macho.least_length file (macho_answer file)
 
 -- the answer of the format's reader: the section is that of an ELF file; none for an unknown format
 unfoldable pub symbols_answer : Format → List ℕ → List ℕ → Option (Result Listed Refusal)
@@ -37,8 +37,7 @@ symbols_answer Unknown file section = None
 -- its answer by the dynamic symbol table
 abbrev pub elf_dynamic_answer : ElfClass → ByteOrder → List ℕ → List ℕ → Result Listed Refusal
 elf_dynamic_answer class order file section =
-    if nat_lt (length file) class.header_length then Err unexpected_eof
-    else dynamic_answer class (section_table class (record { order = order; bytes = file })) section
+    if_as_long_as class.header_length file (dynamic_answer class (section_table class (record { order = order; bytes = file })) section)
 
 -- the answer of the format's reader by the dynamic symbol table: a Mach-O or PE file has none
 unfoldable pub dynamic_symbols_answer : Format → List ℕ → List ℕ → Option (Result Listed Refusal)

@@ -1,7 +1,7 @@
 -- What private clauses see of a reading of a PE file's parts.
-use Rattle.std.specs.Prelude.{ℕ, ◌+◌, ◌-◌, ◌*◌, List, length, drop, min, Result, Ok, Err, nat_lt, nat_le, if◌then◌else◌}
+use Rattle.std.specs.Prelude.{ℕ, ◌+◌, ◌-◌, ◌*◌, List, length, drop, min, Result, Ok, Err, nat_le, if◌then◌else◌}
 use Rattle.binfarce_bytes.specs.Number.{bytes_at}
-use Rattle.binfarce_bytes.specs.Refusal.{◌>>=◌, Refusal, unexpected_eof}
+use Rattle.binfarce_bytes.specs.Refusal.{◌>>=◌, Refusal, unexpected_eof, if_as_long_as}
 use Rattle.binfarce_bytes.specs.Entries.{Listed}
 use Rattle.binfarce_bytes.specs.SectionEntries.{unless}
 use Rattle.binfarce_pe.specs.Pe.{least_length, signature_offset, section_length}
@@ -11,11 +11,11 @@ use Rattle.binfarce_tables.specs.declared.pe_all.Records.{Records}
 
 -- the signature's offset, where the file has the stub that states it
 abbrev pub signature_step : List ℕ → Result ℕ Refusal
-signature_step file = if nat_lt (length file) 64 then Err unexpected_eof else Ok (signature_offset file)
+signature_step file = if_as_long_as 64 file (Ok (signature_offset file))
 
 -- the places of the file's tables, where it has a file header
 abbrev pub places_step : List ℕ → Result TablePlaces Refusal
-places_step file = if nat_lt (length file) (least_length file) then Err unexpected_eof else Ok (places_of file)
+places_step file = if_as_long_as (least_length file) file (Ok (places_of file))
 
 -- the section table at its place
 abbrev pub headers_at : List ℕ → TablePlaces → SectionTable
@@ -28,8 +28,7 @@ text_at file places = text_place (headers_at file places)
 abbrev pub table_at : List ℕ → TablePlaces → Result SymbolTable Refusal
 table_at file places =
     if nat_le (length file) places.symbols then Err unexpected_eof
-    else if nat_lt (length file) (places.symbols + places.symbols_size) then Err unexpected_eof
-    else Ok (record { rows = bytes_at file places.symbols places.symbols_size; strings = drop (places.symbols + places.symbols_size) file })
+    else if_as_long_as (places.symbols + places.symbols_size) file (Ok (record { rows = bytes_at file places.symbols places.symbols_size; strings = drop (places.symbols + places.symbols_size) file }))
 
 -- the answer, where the text is this
 abbrev pub answer_at : List ℕ → TablePlaces → TextPlace → Result Listed Refusal

@@ -1,8 +1,8 @@
 -- What private clauses see of a reading of a file's parts.
-use Rattle.std.specs.Prelude.{ℕ, ◌*◌, List, length, min, Result, Ok, Err, nat_lt, if◌then◌else◌}
+use Rattle.std.specs.Prelude.{ℕ, ◌*◌, List, min, Result, Ok}
 use Rattle.binfarce_bytes.specs.declared.ByteOrder.{ByteOrder}
 use Rattle.binfarce_bytes.specs.Number.{bytes_at}
-use Rattle.binfarce_bytes.specs.Refusal.{◌>>=◌, Refusal, unexpected_eof}
+use Rattle.binfarce_bytes.specs.Refusal.{◌>>=◌, Refusal, if_as_long_as}
 use Rattle.binfarce_bytes.specs.SectionEntries.{unless}
 use Rattle.binfarce_elf.specs.Elf.{ElfClass, SectionTable, section_table, walk, whole_headers}
 use Rattle.binfarce_elf.specs.ElfSymbols.{TableRows, rows_in}
@@ -16,7 +16,7 @@ table_at file place = record { order = place.byte_order; file = file; shoff = pl
 
 -- the file's table, where the file holds a header
 abbrev pub table_step : ElfClass → ByteOrder → List ℕ → Result SectionTable Refusal
-table_step class order file = if nat_lt (length file) class.header_length then Err unexpected_eof else Ok (section_table class (record { order = order; bytes = file }))
+table_step class order file = if_as_long_as class.header_length file (Ok (section_table class (record { order = order; bytes = file })))
 
 -- the section headers that are whole and below the count
 abbrev pub headers_of : ElfClass → SectionTable → List ℕ

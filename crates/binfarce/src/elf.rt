@@ -7,9 +7,10 @@ ghost use Rattle.binfarce_bytes.specs.Walk.{MayBeAsked, FirstAccepted, first};
 ghost use Rattle.binfarce_bytes.specs.Entries.{Answers, ListsSome};
 ghost use Rattle.binfarce.specs.Symbol.{HoldsSymbols};
 ghost use Rattle.binfarce_elf.specs.Elf.{header_of, section_table, walk, name_of};
-ghost use Rattle.binfarce_elf.specs.ElfSymbols.{is_named, section_data, elf_answer, dynamic_answer};
+ghost use Rattle.binfarce_elf.specs.ElfSymbols.{is_named, section_data, elf_answer};
 ghost use Rattle.binfarce_elf.specs.ElfAll.{all_answer, all_left};
 ghost use Rattle.binfarce_elf.specs.ElfViews.{header_view, section_view, functions_view};
+ghost use Rattle.binfarce_elf.specs.declared.symbol_table.SymbolTable.TheVariants.{Symtab, Dynsym};
 
 use crate::symbols::symbols_of;
 use binfarce_bytes::{ByteOrder, ParseError};
@@ -146,9 +147,9 @@ impl<'a, C: Class> Elf<'a, C> {
     /// `UnexpectedEof` past the file; the same for the symbol table's bytes; `UnexpectedEof` for a truncated last row.
     pub fn functions(&self, section_name: &str) -> Result<(Functions<'a, C>, u64), ParseError>
         ensures { Gives refusal_of (functions_view C.table)
-            (elf_answer C.table (section_table C.table self.now) section_name.now) result }
+            (elf_answer Symtab C.table (section_table C.table self.now) section_name.now) result }
     {
-        symbols::section_functions::<C>(self.section_table(), section_name)
+        symbols::section_functions::<C>(self.section_table(), SymbolTable::Symtab, section_name)
     }
 
     /// The same functions from the dynamic symbol table, which a stripped file still has.
@@ -162,9 +163,9 @@ impl<'a, C: Class> Elf<'a, C> {
         section_name: &str,
     ) -> Result<(Functions<'a, C>, u64), ParseError>
         ensures { Gives refusal_of (functions_view C.table)
-            (dynamic_answer C.table (section_table C.table self.now) section_name.now) result }
+            (elf_answer Dynsym C.table (section_table C.table self.now) section_name.now) result }
     {
-        symbols::dynamic_functions::<C>(self.section_table(), section_name)
+        symbols::section_functions::<C>(self.section_table(), SymbolTable::Dynsym, section_name)
     }
 
     /// The function symbols of all sections as the file stores them, each with the index of its section, in the order of
@@ -195,7 +196,7 @@ impl<'a, C: Class> Elf<'a, C> {
         section_name: &str,
     ) -> Result<(Vec<SymbolData>, u64), ParseError>
         ensures { Answers HoldsSymbols ListsSome
-            (elf_answer C.table (section_table C.table self.now) section_name.now) result }
+            (elf_answer Symtab C.table (section_table C.table self.now) section_name.now) result }
     {
         let (functions, size) = self.functions(section_name)?;
         Ok((symbols_of(alloc, functions)?, size))
@@ -212,7 +213,7 @@ impl<'a, C: Class> Elf<'a, C> {
         section_name: &str,
     ) -> Result<(Vec<SymbolData>, u64), ParseError>
         ensures { Answers HoldsSymbols ListsSome
-            (dynamic_answer C.table (section_table C.table self.now) section_name.now) result }
+            (elf_answer Dynsym C.table (section_table C.table self.now) section_name.now) result }
     {
         let (functions, size) = self.dynamic_functions(section_name)?;
         let symbols = symbols_of(alloc, functions)?;

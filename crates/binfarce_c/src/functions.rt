@@ -4,12 +4,14 @@ ghost use Rattle.std.specs.Prelude.{◌≡◌, List, map, IfOk};
 ghost use Rattle.std.specs.Iterator.{IsFinite, Drains};
 ghost use Rattle.binfarce.specs.Elf.{elf32, elf64};
 ghost use Rattle.binfarce.specs.ElfViews.{functions_view};
-ghost use Rattle.binfarce.specs.MachoSymbols.{HasAddress};
+ghost use Rattle.binfarce.specs.MachoSymbols.{macho_file_answer, HasAddress};
 ghost use Rattle.binfarce.specs.Refusal.{Gives, refusal_of};
 ghost use Rattle.binfarce.specs.Symbol.{Answers, ListsSome};
 ghost use Rattle.binfarce.specs.SymbolViews.{function_view, HoldsFunctions};
 ghost use Rattle.binfarce.specs.declared.FunctionSymbol.{FunctionSymbol};
-ghost use Rattle.binfarce_tools.specs.Answer.{elf_file_answer, macho_file_answer, pe_file_answer};
+ghost use Rattle.binfarce.specs.ElfSymbols.{elf_file_answer};
+ghost use Rattle.binfarce.specs.PeSymbols.{pe_file_answer};
+ghost use Rattle.binfarce.specs.declared.SymbolTable.TheVariants.{Symtab};
 ghost use Rattle.binfarce_c.specs.Buffer.{PointsTo};
 ghost use Rattle.binfarce_c.specs.Functions.{AreFunctionsOf, GivesAnswer, GivesFunctions, IsFunctionOf};
 ghost use Rattle.binfarce_c.specs.Headers.{order_of};
@@ -59,7 +61,7 @@ pub extern "C" fn binfarce_elf32_functions(
     section: &[u8],
     out: &mut [Function],
 ) -> Functions
-    ensures { GivesFunctions section.now (elf_file_answer elf32 (order_of big_endian) file.now section.now) out.old
+    ensures { GivesFunctions section.now (elf_file_answer Symtab elf32 (order_of big_endian) file.now section.now) out.old
         out.new result }
 {
     match str::from_utf8(section) {
@@ -77,7 +79,7 @@ pub extern "C" fn binfarce_elf64_functions(
     section: &[u8],
     out: &mut [Function],
 ) -> Functions
-    ensures { GivesFunctions section.now (elf_file_answer elf64 (order_of big_endian) file.now section.now) out.old
+    ensures { GivesFunctions section.now (elf_file_answer Symtab elf64 (order_of big_endian) file.now section.now) out.old
         out.new result }
 {
     match str::from_utf8(section) {
@@ -116,7 +118,7 @@ fn of_elf32(
     byte_order: ByteOrder,
     section: &str,
 ) -> Result<(Vec<Function>, u64), ParseError>
-    ensures { Answers HoldsFound Lists (elf_file_answer elf32 byte_order file.now section.now) result }
+    ensures { Answers HoldsFound Lists (elf_file_answer Symtab elf32 byte_order file.now section.now) result }
 {
     let (functions, size) = stored_in_elf32(file, byte_order, section)?;
     Ok((all_of(alloc, functions)?, size))
@@ -128,7 +130,7 @@ fn of_elf64(
     byte_order: ByteOrder,
     section: &str,
 ) -> Result<(Vec<Function>, u64), ParseError>
-    ensures { Answers HoldsFound Lists (elf_file_answer elf64 byte_order file.now section.now) result }
+    ensures { Answers HoldsFound Lists (elf_file_answer Symtab elf64 byte_order file.now section.now) result }
 {
     let (functions, size) = stored_in_elf64(file, byte_order, section)?;
     Ok((all_of(alloc, functions)?, size))
@@ -141,7 +143,7 @@ fn stored_in_elf32<'a>(
     section: &str,
 ) -> Result<(elf32::Functions<'a>, u64), ParseError>
     ensures { Gives refusal_of (functions_view elf32)
-        (elf_file_answer elf32 byte_order file.entry.now section.now) result }
+        (elf_file_answer Symtab elf32 byte_order file.entry.now section.now) result }
 {
     elf32::parse(file, byte_order)?.functions(section)
 }
@@ -153,7 +155,7 @@ fn stored_in_elf64<'a>(
     section: &str,
 ) -> Result<(elf64::Functions<'a>, u64), ParseError>
     ensures { Gives refusal_of (functions_view elf64)
-        (elf_file_answer elf64 byte_order file.entry.now section.now) result }
+        (elf_file_answer Symtab elf64 byte_order file.entry.now section.now) result }
 {
     elf64::parse(file, byte_order)?.functions(section)
 }

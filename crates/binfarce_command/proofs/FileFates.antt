@@ -10,12 +10,11 @@ use Rattle.binfarce_bytes.specs.Refusal.{Refusal}
 use Rattle.binfarce_bytes.specs.declared.format.Format.{Format}
 use Rattle.binfarce_bytes.specs.declared.format.Format.TheVariants as formats
 use Rattle.binfarce_tools.specs.declared.SymbolTable.{SymbolTable}
-use Rattle.binfarce_tools.specs.declared.SymbolTable.TheVariants.{Symtab, Dynsym}
 use Rattle.binfarce_tools.proofs.TablesRead.{format_of_first}
 use Rattle.binfarce_tools.specs.AllAnswer.{all_answer_of, all_symbols_answer, AllNeedsMemory, one_answer}
 use Rattle.binfarce_tools.specs.AllListing.{AllListingFits}
 use Rattle.binfarce_tools.specs.Report.{ReportFits}
-use Rattle.binfarce_tools.specs.Answer.{NeedsMemory, answer_of, dynamic_symbols_answer, symbols_answer}
+use Rattle.binfarce_tools.specs.Answer.{NeedsMemory, answer_of, symbols_answer}
 use Rattle.binfarce_tools.specs.Writing.{AppendsBeginning, IsDue, Leaves, Outcome, EndsAs, unknown_format, write_failed, written as has_written, wrong_usage}
 use Rattle.binfarce_command.specs.Faults.{outcome_of}
 use Rattle.binfarce_command.specs.Files.{IsUnreadable, Refused, Reports, ReportsWhy, ShowsHeld, ShowsOne, heading, refused, shown}
@@ -31,9 +30,8 @@ use Rattle.binfarce_command.specs.declared.show.Kind.TheVariants.{Listing, Sums,
 
 -- a file of an unknown format has no answer
 no_answer : (which : SymbolTable) (file section : List ℕ) → format_of file ≡ formats.Unknown → answer_of which file section ≡ None
-unfolding symbols_answer dynamic_symbols_answer
-no_answer Symtab file section is = ap (λ (f : Format). symbols_answer f file section) is
-no_answer Dynsym file section is = ap (λ (f : Format). dynamic_symbols_answer f file section) is
+unfolding symbols_answer
+no_answer which file section is = ap (λ (f : Format). symbols_answer which f file section) is
 
 unknown_too : (file bytes : List ℕ) → format_of file ≡ formats.Unknown → bytes ≡ take 8 file → format_of bytes ≡ formats.Unknown
 unknown_too file bytes unknown is = ap format_of is ∙ format_of_first file ∙ unknown

@@ -5,13 +5,12 @@ use Rattle.std.specs.List.{range_with_len, filter_map}
 use Rattle.std.specs.Str.{bytes_eq}
 use Rattle.binfarce_bytes.specs.declared.ByteOrder.{ByteOrder}
 use Rattle.binfarce_bytes.specs.Text.{text_at}
-use Rattle.binfarce_bytes.specs.Refusal.{◌>>=◌, Refusal, required, symbols_section_is_missing, section_is_missing, unexpected_section_type, unexpected_eof, bytes_in_file}
+use Rattle.binfarce_bytes.specs.Refusal.{◌>>=◌, Refusal, required, symbols_section_is_missing, section_is_missing, unexpected_section_type, unexpected_eof, if_as_long_as, bytes_in_file}
 use Rattle.binfarce_bytes.specs.Walk.{Walk, first}
 use Rattle.binfarce_bytes.specs.Field.{value_at}
-use Rattle.binfarce_elf.specs.Elf.{ElfClass, SectionTable, Section, SymbolRow, walk, name_of}
+use Rattle.binfarce_elf.specs.Elf.{ElfClass, SectionTable, Section, SymbolRow, section_table, walk, names_bytes, name_among}
 use Rattle.binfarce_elf.specs.SymbolTables.{section_type, table_name, strings_name}
 use Rattle.binfarce_elf.specs.declared.symbol_table.SymbolTable.{SymbolTable}
-use Rattle.binfarce_elf.specs.declared.symbol_table.SymbolTable.TheVariants.{Symtab, Dynsym}
 use Rattle.binfarce_bytes.specs.Entries.{Entry, Listed}
 
 -- the row that begins at start
@@ -63,51 +62,57 @@ string_table_kind section = if nat_eq section.kind 3 then Ok section else Err (u
 abbrev pub whole_rows : ElfClass → List ℕ → Result (List ℕ) Refusal
 whole_rows class rows = if nat_eq (length rows % class.symbol_length) 0 then Ok rows else Err unexpected_eof
 
+-- a symbol table, and the section of its strings
+pub record TableSections : Type 0 where
+  pub symbols : Section
+  pub strings : Section
+
+-- the refusals in order; else the sections of this symbol table
+unfoldable pub table_sections : SymbolTable → Walk Section → Result TableSections Refusal
+table_sections which sections = do
+  symbols ← sought (section_is_missing (table_name which)) (λ s. nat_eq s.kind (section_type which)) sections
+  linked ← sought (section_is_missing (strings_name which)) (λ s. nat_eq s.index symbols.link) sections
+  strings ← string_table_kind linked
+  Ok (record { symbols = symbols; strings = strings })
+
+-- the requested section, and those of the symbol table
+pub record NeededSections : Type 0 where
+  pub section : Section
+  pub table : TableSections
+
+-- the refusals in order: no section has this name among the section names, and those of the symbol table; else the sections
+unfoldable pub needed : SymbolTable → Walk Section → Option (List ℕ) → List ℕ → Result NeededSections Refusal
+needed which sections names name = do
+  section ← sought symbols_section_is_missing (λ s. is_named name (name_among names s.name_offset)) sections
+  table ← table_sections which sections
+  Ok (record { section = section; table = table })
+
 -- the bytes of a symbol table's strings, and of its rows
 pub record TableRows : Type 0 where
   pub strings : List ℕ
   pub rows : List ℕ
 
--- the refusals of a symbol table in order; else its strings and its rows
-unfoldable pub rows_in : SymbolTable → ElfClass → SectionTable → Result TableRows Refusal
-rows_in which class table = do
-  symbols ← sought (section_is_missing (table_name which)) (λ s. nat_eq s.kind (section_type which)) (walk class table)
-  linked ← sought (section_is_missing (strings_name which)) (λ s. nat_eq s.index symbols.link) (walk class table)
-  string_table ← string_table_kind linked
-  strings ← section_data table.file string_table
-  table_bytes ← section_data table.file symbols
-  rows ← whole_rows class table_bytes
+-- the refusals of these bytes in order; else the bytes
+unfoldable pub rows_at : ElfClass → List ℕ → TableSections → Result TableRows Refusal
+rows_at class file sections = do
+  strings ← section_data file sections.strings
+  bytes ← section_data file sections.symbols
+  rows ← whole_rows class bytes
   Ok (record { strings = strings; rows = rows })
 
--- the requested section, the string table's bytes, and the symbol table's
-pub record Located : Type 0 where
-  pub section : Section
-  pub strings : List ℕ
-  pub rows : List ℕ
-
--- the refusals in order: the section is missing, and those of the symbol table; else where the symbols are
-unfoldable pub located_in : SymbolTable → ElfClass → SectionTable → List ℕ → Result Located Refusal
-located_in which class table name = do
-  section ← sought symbols_section_is_missing (λ s. is_named name (name_of class table s)) (walk class table)
-  found ← rows_in which class table
-  Ok (record { section = section; strings = found.strings; rows = found.rows })
-
--- where the symbols are: those of SHT_SYMTAB
-unfoldable pub located : ElfClass → SectionTable → List ℕ → Result Located Refusal
-located class table name = located_in Symtab class table name
-
 -- the entries of all rows, and the size of the requested section
-unfoldable pub elf_answer : ElfClass → SectionTable → List ℕ → Result Listed Refusal
-elf_answer class table name = do
-  found ← located class table name
-  Ok (record { entries = entries_from class table.order found.strings found.section.index found.rows 0; section_size = found.section.size })
+abbrev pub listed_of : ElfClass → ByteOrder → Section → TableRows → Listed
+listed_of class order section found =
+    record { entries = entries_from class order found.strings section.index found.rows 0; section_size = section.size }
 
--- the same for this symbol table
-unfoldable pub answer_in : SymbolTable → ElfClass → SectionTable → List ℕ → Result Listed Refusal
-answer_in which class table name = do
-  found ← located_in which class table name
-  Ok (record { entries = entries_from class table.order found.strings found.section.index found.rows 0; section_size = found.section.size })
+-- the answer by this symbol table: the refusals in order, else the list
+unfoldable pub elf_answer : SymbolTable → ElfClass → SectionTable → List ℕ → Result Listed Refusal
+elf_answer which class table name = do
+  sections ← needed which (walk class table) (names_bytes class table) name
+  found ← rows_at class table.file sections.table
+  Ok (listed_of class table.order sections.section found)
 
--- the answer of the dynamic symbol table
-abbrev pub dynamic_answer : ElfClass → SectionTable → List ℕ → Result Listed Refusal
-dynamic_answer class table name = answer_in Dynsym class table name
+-- the answer of a file that has a header
+abbrev pub elf_file_answer : SymbolTable → ElfClass → ByteOrder → List ℕ → List ℕ → Result Listed Refusal
+elf_file_answer which class order file name =
+    if_as_long_as class.header_length file (elf_answer which class (section_table class (record { order = order; bytes = file })) name)

@@ -5,13 +5,14 @@ ghost use Rattle.std.specs.Option.{option_map};
 ghost use Rattle.binfarce_bytes.specs.Refusal.{Gives, refusal_of, unexpected_eof};
 ghost use Rattle.binfarce_bytes.specs.SymbolViews.{section_function_view};
 ghost use Rattle.binfarce_elf.specs.Elf.{walk};
-ghost use Rattle.binfarce_elf.specs.ElfAll.{is_of_section, section_entry_of, section_entries_from, all_answer, all_left};
+ghost use Rattle.binfarce_elf.specs.ElfAll.{is_of_section, section_entry_of, section_entries_from, needed_of_all, all_answer, all_left};
+ghost use Rattle.binfarce_elf.specs.ElfParts.{table_sections_view};
 ghost use Rattle.binfarce_elf.specs.machine.RawElf.{symbol_view, table_view};
 
 use crate::class::{Class, Half, SymbolRow};
 use crate::sections::Table;
 use crate::symbol_table::SymbolTable;
-use crate::symbols::{Rows, function_name, rows_of};
+use crate::symbols::{Rows, TableSections, function_name, rows_at, table_sections};
 use binfarce_bytes::functions::{FunctionSymbol, SectionFunction};
 use binfarce_bytes::parser::UnexpectedEof;
 use binfarce_bytes::{ByteOrder, ParseError};
@@ -25,20 +26,33 @@ pub fn all_functions<'a, C: Class>(
 ) -> Result<AllFunctions<'a, C>, ParseError>
     ensures { Gives refusal_of (all_left C.table) (all_answer which C.table (table_view table.entry)) result }
 {
-    let count = whole_sections::<C>(table)?;
-    let Rows { strings, rows } = rows_of::<C>(table, which)?;
-    Ok(AllFunctions::new(rows, strings, table.byte_order, count))
+    let sections = needed_of_all::<C>(table, which)?;
+    let Rows { strings, rows } = rows_at::<C>(table.data, sections)?;
+    Ok(AllFunctions::new(rows, strings, table.byte_order, table.shnum))
 }
 
-// How many sections there are; refused where a section header is truncated.
+// The sections of this symbol table, where no section header is truncated.
+#[tactic(auto, unfolding(crate::specs::ElfAll::needed_of_all))]
+pub(crate) fn needed_of_all<C: Class>(
+    table: Table<'_>,
+    which: SymbolTable,
+) -> Result<TableSections<C>, ParseError>
+    ensures { Gives refusal_of (table_sections_view C.number_of)
+        (needed_of_all which (walk C.table (table_view table.entry))) result }
+{
+    whole_sections::<C>(table)?;
+    table_sections::<C>(table, which)
+}
+
+// Refused where a section header is truncated.
 #[tactic(auto, unfolding(crate::specs::Elf::walk))]
-pub(crate) fn whole_sections<C: Class>(table: Table<'_>) -> Result<Half, UnexpectedEof>
+fn whole_sections<C: Class>(table: Table<'_>) -> Result<(), UnexpectedEof>
     ensures { let end = (walk C.table (table_view table.entry)).refusal in MatchResult result
-        (λ n. (end ≡ None) × (n ≡ table.entry.shnum)) (λ _. end ≡ Some unexpected_eof) }
+        (λ _. end ≡ None) (λ _. end ≡ Some unexpected_eof) }
 {
     let room = table.data.len().saturating_sub(table.shoff) / C::SECTION_LENGTH;
     if table.shoff < table.data.len() && usize::from(table.shnum) <= room {
-        Ok(table.shnum)
+        Ok(())
     } else {
         Err(UnexpectedEof {})
     }

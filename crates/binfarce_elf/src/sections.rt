@@ -260,6 +260,7 @@ pub fn first_section<C: Class, F: Fn(Section<C>) -> bool>(
 }
 
 /// The first section with this name. The section names are looked up once.
+#[tactic(auto, unfolding(crate::specs::Elf::name_of))]
 pub fn section_with_name<C: Class>(
     table: Table<'_>,
     name: &str,
@@ -268,13 +269,25 @@ pub fn section_with_name<C: Class>(
         (first (λ s. is_named name.now (name_of C.table (table_view table.entry) s))
         (walk C.table (table_view table.entry))) result }
 {
-    let names = names_bytes::<C>(table);
+    section_named::<C>(table, names_bytes::<C>(table), name)
+}
+
+// The first section with this name among the section names.
+pub(crate) fn section_named<C: Class>(
+    table: Table<'_>,
+    names: Option<&[u8]>,
+    name: &str,
+) -> Result<Option<Section<C>>, UnexpectedEof>
+    ensures { Gives (λ _. unexpected_eof) (option_map (section_view C.number_of))
+        (first (λ s. is_named name.now (name_among (option_map (λ b. b.now) names.entry) s.name_offset))
+        (walk C.table (table_view table.entry))) result }
+{
     first_section::<C, _>(table, |section| {
         is_named(name_at(names, section.name_offset), name)
     })
 }
 
-pub(crate) fn is_named(found: Option<&str>, name: &str) -> bool
+fn is_named(found: Option<&str>, name: &str) -> bool
     ensures { result ≡ is_named name.now (option_map (λ t. t.now) found.entry) }
 {
     match found {
@@ -300,7 +313,7 @@ pub(crate) fn name_at(names: Option<&[u8]>, offset: Word) -> Option<&str>
 
 // The bytes of the section of the section names.
 #[tactic(auto, using(crate::proofs::Names::contents_read))]
-fn names_bytes<'a, C: Class>(table: Table<'a>) -> Option<&'a [u8]>
+pub(crate) fn names_bytes<'a, C: Class>(table: Table<'a>) -> Option<&'a [u8]>
     ensures { option_map (λ b. b.now) result ≡ names_bytes C.table (table_view table.entry) }
 {
     section_data(table.data, names_section::<C>(table)?).ok()

@@ -6,14 +6,15 @@ ghost use Rattle.binfarce_bytes.specs.Refusal.{Gives, refusal_of, unexpected_eof
 ghost use Rattle.binfarce_bytes.specs.Walk.{first};
 ghost use Rattle.binfarce_bytes.specs.SymbolViews.{function_view};
 ghost use Rattle.binfarce_bytes.specs.Found.{entry_at};
-ghost use Rattle.binfarce_elf.specs.Elf.{walk, name_of};
-ghost use Rattle.binfarce_elf.specs.ElfSymbols.{is_named, sought, string_table_kind, whole_rows, rows_in, located_in, elf_answer, answer_in, dynamic_answer, entries_from, function_name};
+ghost use Rattle.binfarce_elf.specs.Elf.{walk, name_among};
+ghost use Rattle.binfarce_elf.specs.ElfParts.{needed_view, table_sections_view};
+ghost use Rattle.binfarce_elf.specs.ElfSymbols.{is_named, sought, string_table_kind, whole_rows, table_sections, needed, rows_at, listed_of, elf_answer, entries_from, function_name};
 ghost use Rattle.binfarce_elf.specs.SymbolTables.{section_type, table_name, strings_name};
 ghost use Rattle.binfarce_elf.specs.ElfViews.{section_view, functions_left, functions_view};
-ghost use Rattle.binfarce_elf.specs.machine.RawElf.{symbol_view, table_view, rows_view, located_view};
+ghost use Rattle.binfarce_elf.specs.machine.RawElf.{symbol_view, table_view, rows_view};
 
 use crate::class::{Class, Half, SymbolRow, Word};
-use crate::sections::{Section, Table, first_section, section_data, section_with_name};
+use crate::sections::{Section, Table, first_section, names_bytes, section_data, section_named};
 use crate::symbol_table::SymbolTable;
 use binfarce_bytes::functions::{FunctionSymbol, found_with};
 use binfarce_bytes::parser::{UnexpectedEof, parse_null_string};
@@ -23,6 +24,20 @@ use std::marker::PhantomData;
 /// `SHT_STRTAB`.
 const STRING_TABLE: Word = 3;
 
+/// A symbol table's section, and that of its strings.
+#[derive(Clone, Copy)]
+pub struct TableSections<C> {
+    pub symbols: Section<C>,
+    pub strings: Section<C>,
+}
+
+/// The sections that the symbols of a section need: that section, and those of the symbol table.
+#[derive(Clone, Copy)]
+pub struct Needed<C> {
+    pub section: Section<C>,
+    pub table: TableSections<C>,
+}
+
 // The strings and the rows of a symbol table.
 #[derive(Clone, Copy)]
 pub(crate) struct Rows<'a> {
@@ -30,105 +45,99 @@ pub(crate) struct Rows<'a> {
     pub(crate) rows: &'a [u8],
 }
 
-// Where the symbols of a section are in the file.
-#[derive(Clone, Copy)]
-struct Located<'a, C> {
-    section: Section<C>,
-    strings: &'a [u8],
-    rows: &'a [u8],
-}
-
-/// The function symbols of the section with this name, and the section's size.
-#[tactic(auto, unfolding(crate::specs::ElfSymbols::elf_answer, crate::specs::ElfSymbols::located, crate::specs::ElfSymbols::answer_in))]
+/// The function symbols of the section with this name, by this symbol table, and the section's size.
+#[tactic(auto, unfolding(crate::specs::ElfSymbols::elf_answer))]
 pub fn section_functions<'a, C: Class>(
     table: Table<'a>,
-    section_name: &str,
-) -> Result<(Functions<'a, C>, u64), ParseError>
-    ensures { Gives refusal_of (functions_view C.table)
-        (elf_answer C.table (table_view table.entry) section_name.now) result }
-{
-    functions_of(table, SymbolTable::Symtab, section_name)
-}
-
-/// The same for the dynamic symbol table.
-pub fn dynamic_functions<'a, C: Class>(
-    table: Table<'a>,
-    section_name: &str,
-) -> Result<(Functions<'a, C>, u64), ParseError>
-    ensures { Gives refusal_of (functions_view C.table)
-        (dynamic_answer C.table (table_view table.entry) section_name.now) result }
-{
-    functions_of(table, SymbolTable::Dynsym, section_name)
-}
-
-// The same for this symbol table.
-#[tactic(auto, unfolding(crate::specs::ElfSymbols::answer_in))]
-fn functions_of<'a, C: Class>(
-    table: Table<'a>,
     which: SymbolTable,
     section_name: &str,
 ) -> Result<(Functions<'a, C>, u64), ParseError>
     ensures { Gives refusal_of (functions_view C.table)
-        (answer_in which C.table (table_view table.entry) section_name.now) result }
+        (elf_answer which C.table (table_view table.entry) section_name.now) result }
 {
-    let Located {
-        section,
-        strings,
-        rows,
-    } = locate::<C>(table, which, section_name)?;
-    let functions = Functions::new(rows, strings, table.byte_order, section.index);
-    Ok((functions, section.size.widened()))
+    let names = names_bytes::<C>(table);
+    let needed = needed_of::<C>(table, names, which, section_name)?;
+    let Rows { strings, rows } = rows_at::<C>(table.data, needed.table)?;
+    Ok(functions_in(rows, strings, table.byte_order, needed.section))
 }
 
-// The section with this name, and the rows and the strings of this symbol table.
-#[tactic(auto, unfolding(crate::specs::ElfSymbols::located_in))]
-fn locate<'a, C: Class>(
-    table: Table<'a>,
+/// The function symbols of this section in whole rows, whose names are in these strings, and the section's size.
+pub fn functions_in<'a, C: Class>(
+    rows: &'a [u8],
+    strings: &'a [u8],
+    byte_order: ByteOrder,
+    section: Section<C>,
+) -> (Functions<'a, C>, u64)
+    ensures { functions_view C.table result ≡ listed_of C.table byte_order (section_view C.number_of section)
+        (record { strings = strings.entry.now; rows = rows.entry.now }) }
+{
+    let functions = Functions::new(rows, strings, byte_order, section.index);
+    (functions, section.size.widened())
+}
+
+// The sections that the symbols of the section with this name among the section names need.
+#[tactic(auto, unfolding(crate::specs::ElfSymbols::needed))]
+pub(crate) fn needed_of<C: Class>(
+    table: Table<'_>,
+    names: Option<&[u8]>,
     which: SymbolTable,
     section_name: &str,
-) -> Result<Located<'a, C>, ParseError>
-    ensures { Gives refusal_of (located_view C.number_of)
-        (located_in which C.table (table_view table.entry) section_name.now) result }
+) -> Result<Needed<C>, ParseError>
+    ensures { Gives refusal_of (needed_view C.number_of)
+        (needed which (walk C.table (table_view table.entry)) (option_map (λ b. b.now) names.entry) section_name.now)
+        result }
 {
-    let section = named_section::<C>(table, section_name)?;
-    let Rows { strings, rows } = rows_of::<C>(table, which)?;
-    Ok(Located {
+    let section = named_section::<C>(table, names, section_name)?;
+    let sections = table_sections::<C>(table, which)?;
+    Ok(Needed {
         section,
-        strings,
-        rows,
+        table: sections,
     })
 }
 
-// The rows and the strings of this symbol table.
-#[tactic(auto, unfolding(crate::specs::ElfSymbols::rows_in))]
-pub(crate) fn rows_of<'a, C: Class>(
-    table: Table<'a>,
+// The sections of this symbol table.
+#[tactic(auto, unfolding(crate::specs::ElfSymbols::table_sections))]
+pub(crate) fn table_sections<C: Class>(
+    table: Table<'_>,
     which: SymbolTable,
-) -> Result<Rows<'a>, ParseError>
-    ensures { Gives refusal_of rows_view (rows_in which C.table (table_view table.entry)) result }
+) -> Result<TableSections<C>, ParseError>
+    ensures { Gives refusal_of (table_sections_view C.number_of)
+        (table_sections which (walk C.table (table_view table.entry))) result }
 {
     let symbols = symbol_table::<C>(table, which)?;
     let linked = linked_section::<C>(table, which, symbols.link)?;
-    let string_table = string_table(linked)?;
-    let strings = section_data(table.data, string_table)?;
-    let rows = section_data(table.data, symbols)?;
+    let strings = string_table(linked)?;
+    Ok(TableSections { symbols, strings })
+}
+
+// The rows and the strings of these sections.
+#[tactic(auto, unfolding(crate::specs::ElfSymbols::rows_at))]
+pub(crate) fn rows_at<C: Class>(
+    data: &[u8],
+    sections: TableSections<C>,
+) -> Result<Rows<'_>, ParseError>
+    ensures { Gives refusal_of rows_view (rows_at C.table data.now (table_sections_view C.number_of sections)) result }
+{
+    let strings = section_data(data, sections.strings)?;
+    let rows = section_data(data, sections.symbols)?;
     let rows = whole_rows::<C>(rows)?;
     Ok(Rows { strings, rows })
 }
 
-fn named_section<C: Class>(table: Table<'_>, name: &str) -> Result<Section<C>, ParseError>
+fn named_section<C: Class>(
+    table: Table<'_>,
+    names: Option<&[u8]>,
+    name: &str,
+) -> Result<Section<C>, ParseError>
     ensures { Gives refusal_of (section_view C.number_of)
         (sought symbols_section_is_missing
-        (λ s. is_named name.now (name_of C.table (table_view table.entry) s))
+        (λ s. is_named name.now (name_among (option_map (λ b. b.now) names.entry) s.name_offset))
         (walk C.table (table_view table.entry))) result }
 {
-    section_with_name::<C>(table, name)?.ok_or(ParseError::SymbolsSectionIsMissing)
+    section_named::<C>(table, names, name)?.ok_or(ParseError::SymbolsSectionIsMissing)
 }
 
-pub(crate) fn symbol_table<C: Class>(
-    table: Table<'_>,
-    which: SymbolTable,
-) -> Result<Section<C>, ParseError>
+fn symbol_table<C: Class>(table: Table<'_>, which: SymbolTable) -> Result<Section<C>, ParseError>
     ensures { Gives refusal_of (section_view C.number_of)
         (sought (section_is_missing (table_name which))
         (λ s. nat_eq s.kind (section_type which)) (walk C.table (table_view table.entry))) result }
@@ -148,7 +157,7 @@ fn section_of_kind<C: Class>(
     first_section::<C, _>(table, |section| section.kind == kind)
 }
 
-pub(crate) fn linked_section<C: Class>(
+fn linked_section<C: Class>(
     table: Table<'_>,
     which: SymbolTable,
     link: Word,
@@ -171,7 +180,7 @@ pub fn section_of_index<C: Class>(
     first_section::<C, _>(table, |section| u32::from(section.index) == index)
 }
 
-pub(crate) fn string_table<C: Class>(section: Section<C>) -> Result<Section<C>, ParseError>
+fn string_table<C: Class>(section: Section<C>) -> Result<Section<C>, ParseError>
     ensures { Gives refusal_of (section_view C.number_of)
         (string_table_kind (section_view C.number_of section)) result }
 {

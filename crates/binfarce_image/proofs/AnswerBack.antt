@@ -6,7 +6,7 @@ use Rattle.std.proofs.lemmas.Bool.{eq-eqb}
 use Rattle.std.proofs.lemmas.Nat.{div-mul-add, mod-mul-add}
 use Rattle.binfarce.specs.Refusal.{Refusal, ◌>>=◌, unexpected_section_type, unexpected_eof}
 use Rattle.binfarce.specs.Elf.{ElfClass, Section, SectionTable}
-use Rattle.binfarce.specs.ElfSymbols.{Located, section_data, string_table_kind, whole_rows, symbol_at, entry_of, entries_from}
+use Rattle.binfarce.specs.ElfSymbols.{section_data, string_table_kind, whole_rows, symbol_at, entry_of, entries_from, listed_of}
 use Rattle.binfarce.specs.Symbol.{Entry, Listed}
 use Rattle.binfarce_image.specs.declared.image.ElfLayout.{ElfLayout}
 use Rattle.binfarce_image.specs.declared.image.Image.{Image}
@@ -22,21 +22,14 @@ use Rattle.binfarce_image.proofs.RowsBack.{rows_back}
 use Rattle.binfarce_image.proofs.WalkBack.{table_of}
 use Rattle.binfarce_image.proofs.PartsBack.{Holds, part_back}
 
--- the answer, where it is known what was located
-abbrev pub answer_of : ElfClass → SectionTable → Result Located Refusal → Result Listed Refusal
-answer_of class table r = r >>= λ (found : Located). Ok (record {
-  entries = entries_from class table.order found.strings found.section.index found.rows 0;
-  section_size = found.section.size;
-})
-
--- what is located with these sections
-abbrev pub located_with : ElfClass → SectionTable → Section → Section → Section → Result Located Refusal
-located_with class table text symbols linked = do
+-- the answer with these sections
+abbrev pub listed_with : ElfClass → SectionTable → Section → Section → Section → Result Listed Refusal
+listed_with class table text symbols linked = do
   string_table ← string_table_kind linked
   strings ← section_data table.file string_table
   part ← section_data table.file symbols
   rows ← whole_rows class part
-  Ok (record { section = text; strings = strings; rows = rows })
+  Ok (listed_of class table.order text (record { strings = strings; rows = rows }))
 
 -- what the image answers with these parts
 abbrev pub answer_with : ℕ × Part → Part → Part → Result Listed Refusal
@@ -78,20 +71,20 @@ size_back class (Table name link rows) other = absurd cc
 same_listed : (a b : List Entry) (m n : ℕ) → a ≡ b → m ≡ n → Path (Result Listed Refusal) (Ok (record { entries = a; section_size = m })) (Ok (record { entries = b; section_size = n }))
 same_listed a b m n p q = cc
 
-located_is : (class : ElfClass) (table : SectionTable) (text symbols linked : Section) (strings rows : List ℕ) → string_table_kind linked ≡ Ok linked → section_data table.file linked ≡ Ok strings
-    → section_data table.file symbols ≡ Ok rows → whole_rows class rows ≡ Ok rows → located_with class table text symbols linked ≡ Ok (record { section = text; strings = strings; rows = rows })
-located_is class table text symbols linked strings rows kind first second whole =
-    let end : List ℕ → List ℕ → Result Located Refusal = λ s r. Ok (record { section = text; strings = s; rows = r }) in
+listed_is : (class : ElfClass) (table : SectionTable) (text symbols linked : Section) (strings rows : List ℕ) → string_table_kind linked ≡ Ok linked → section_data table.file linked ≡ Ok strings
+    → section_data table.file symbols ≡ Ok rows → whole_rows class rows ≡ Ok rows → listed_with class table text symbols linked ≡ Ok (listed_of class table.order text (record { strings = strings; rows = rows }))
+listed_is class table text symbols linked strings rows kind first second whole =
+    let end : List ℕ → List ℕ → Result Listed Refusal = λ s r. Ok (listed_of class table.order text (record { strings = s; rows = r })) in
     ap (λ (r : Result Section Refusal). r >>= λ (t : Section). section_data table.file t >>= λ (s : List ℕ). section_data table.file symbols >>= λ (p : List ℕ). whole_rows class p >>= λ (q : List ℕ). end s q) kind
     ∙ ap (λ (r : Result (List ℕ) Refusal). r >>= λ (s : List ℕ). section_data table.file symbols >>= λ (p : List ℕ). whole_rows class p >>= λ (q : List ℕ). end s q) first
     ∙ ap (λ (r : Result (List ℕ) Refusal). r >>= λ (p : List ℕ). whole_rows class p >>= λ (q : List ℕ). end strings q) second
     ∙ ap (λ (r : Result (List ℕ) Refusal). r >>= λ (q : List ℕ). end strings q) whole
 
-kind_refused : (class : ElfClass) (table : SectionTable) (text symbols linked : Section) (kind : ℕ) → linked.kind ≡ kind → eqb kind 3 ≡ false → located_with class table text symbols linked ≡ Err (unexpected_section_type 3 kind)
+kind_refused : (class : ElfClass) (table : SectionTable) (text symbols linked : Section) (kind : ℕ) → linked.kind ≡ kind → eqb kind 3 ≡ false → listed_with class table text symbols linked ≡ Err (unexpected_section_type 3 kind)
 kind_refused class table text symbols linked kind is other =
     let refused : string_table_kind linked ≡ Err (unexpected_section_type 3 kind) =
     ap (λ (k : ℕ). cond (eqb k 3) (Ok linked) (Err (unexpected_section_type 3 k))) is ∙ ap (λ (b : Bool). cond b (Ok linked) (Err (unexpected_section_type 3 kind))) other in
-    ap (λ (r : Result Section Refusal). r >>= λ (t : Section). section_data table.file t >>= λ (s : List ℕ). section_data table.file symbols >>= λ (p : List ℕ). whole_rows class p >>= λ (q : List ℕ). Ok (record { section = text; strings = s; rows = q })) refused
+    ap (λ (r : Result Section Refusal). r >>= λ (t : Section). section_data table.file t >>= λ (s : List ℕ). section_data table.file symbols >>= λ (p : List ℕ). whole_rows class p >>= λ (q : List ℕ). Ok (listed_of class table.order text (record { strings = s; rows = q }))) refused
 
 kind_passes : (linked : Section) (kind : ℕ) → linked.kind ≡ kind → eqb kind 3 ≡ true → string_table_kind linked ≡ Ok linked
 kind_passes linked kind is same = ap (λ (b : Bool). cond b (Ok linked) (Err (unexpected_section_type 3 linked.kind))) (ap (λ (k : ℕ). eqb k 3) is ∙ same)
@@ -99,7 +92,7 @@ kind_passes linked kind is same = ap (λ (b : Bool). cond b (Ok linked) (Err (un
 module _ (image : Image) (layout : ElfLayout) (small : length (bytes image layout) < 2 ^ 32) (text symbols : Section) (found : ℕ × Part) (j name link : ℕ) (rows : Vec Row) where
   answer_by_kind : (linked : Section) (k n kind l : ℕ) (strings : Vec ℕ) (b : Bool) → eqb kind 3 ≡ b
       → Holds image layout text found → is_table found.1 ≡ false → Holds image layout symbols (j, Table name link rows) → Holds image layout linked (k, Bytes n kind l strings)
-      → answer_of (class_of layout) (table_of image layout) (located_with (class_of layout) (table_of image layout) text symbols linked) ≡ answer_with found (Table name link rows) (Bytes n kind l strings)
+      → listed_with (class_of layout) (table_of image layout) text symbols linked ≡ answer_with found (Table name link rows) (Bytes n kind l strings)
   answer_by_kind linked k n kind l strings true is t other s r =
       let class = class_of layout in
       let order = order_of layout in
@@ -109,26 +102,24 @@ module _ (image : Image) (layout : ElfLayout) (small : length (bytes image layou
       let second : section_data (bytes image layout) symbols ≡ Ok written = part_back class order (bytes image layout) symbols (j, Table name link rows) s small in
       let long : length written ≡ length rows.items * class.symbol_length = length_rows layout name link rows in
       let whole : whole_rows class written ≡ Ok written = whole_is class written (length rows.items) (is_class layout).symbol_some long in
-      let located = located_is class table text symbols linked strings.items written (kind_passes linked kind (ap (λ (x : Section). x.kind) r.is) is) first second whole in
+      let listed = listed_is class table text symbols linked strings.items written (kind_passes linked kind (ap (λ (x : Section). x.kind) r.is) is) first second whole in
       let index : text.index ≡ found.0 = ap (λ (x : Section). x.index) t.is in
       let size : text.size ≡ part_size found.1 = ap (λ (x : Section). x.size) t.is ∙ size_back class found.1 other in
       let all = entries_from class order strings.items text.index written 0 in
       let entries : all ≡ image_entries strings.items found.0 rows.items = entries_back layout strings.items text.index rows.items written refl long s.fits.2 ∙ ap (λ (i : ℕ). image_entries strings.items i rows.items) index in
-      ap (answer_of class table) located
+      listed
       ∙ same_listed all (image_entries strings.items found.0 rows.items) text.size (part_size found.1) entries size
       ∙ sym (ap (λ (q : Bool). cond q (Ok strings.items) (Err (unexpected_section_type 3 kind)) >>= λ (xs : List ℕ). Ok (record { entries = image_entries xs found.0 rows.items; section_size = part_size found.1 })) is)
   answer_by_kind linked k n kind l strings false is t other s r =
       let class = class_of layout in
       let table = table_of image layout in
-      ap (answer_of class table) (kind_refused class table text symbols linked kind (ap (λ (x : Section). x.kind) r.is) is)
+      kind_refused class table text symbols linked kind (ap (λ (x : Section). x.kind) r.is) is
       ∙ sym (ap (λ (q : Bool). cond q (Ok strings.items) (Err (unexpected_section_type 3 kind)) >>= λ (xs : List ℕ). Ok (record { entries = image_entries xs found.0 rows.items; section_size = part_size found.1 })) is)
 
   -- the answer, whichever part is linked
   pub answer_back : (linked : Section) (k : ℕ) (part : Part)
       → Holds image layout text found → is_table found.1 ≡ false → Holds image layout symbols (j, Table name link rows) → Holds image layout linked (k, part)
-      → answer_of (class_of layout) (table_of image layout) (located_with (class_of layout) (table_of image layout) text symbols linked) ≡ answer_with found (Table name link rows) part
+      → listed_with (class_of layout) (table_of image layout) text symbols linked ≡ answer_with found (Table name link rows) part
   answer_back linked k (Bytes n kind l strings) t other s r = answer_by_kind linked k n kind l strings (eqb kind 3) refl t other s r
   answer_back linked k (Table n l others) t other s r =
-      let class = class_of layout in
-      let table = table_of image layout in
-      ap (answer_of class table) (kind_refused class table text symbols linked 2 (ap (λ (x : Section). x.kind) r.is) refl)
+      kind_refused (class_of layout) (table_of image layout) text symbols linked 2 (ap (λ (x : Section). x.kind) r.is) refl

@@ -7,8 +7,8 @@ use Rattle.std.specs.Global.{Vec}
 use Rattle.binfarce.specs.Refusal.{Refusal, ◌>>=◌, required, symbols_section_is_missing, section_is_missing}
 use Rattle.binfarce.specs.Walk.{Walk, found_or_end}
 use Rattle.binfarce.specs.Elf.{ElfClass, Section, SectionTable, walk, name_of}
-use Rattle.binfarce.specs.ElfSymbols.{Located, sought, located, is_named, elf_answer}
-use Rattle.binfarce_elf.proofs.Steps.{located_steps}
+use Rattle.binfarce.specs.ElfSymbols.{sought, is_named, elf_answer}
+use Rattle.binfarce_elf.proofs.Steps.{answer_steps}
 use Rattle.binfarce_elf.specs.declared.symbol_table.SymbolTable.TheVariants.{Symtab}
 use Rattle.binfarce.specs.Symbol.{Listed}
 use Rattle.binfarce_image.specs.declared.image.ElfLayout.{ElfLayout}
@@ -22,7 +22,7 @@ use Rattle.binfarce_image.specs.ImageSymbols.{PartFits, IsNotTable, LayoutsAgree
 use Rattle.binfarce_image.proofs.HeadersBack.{sections_from}
 use Rattle.binfarce_image.proofs.WalkBack.{LaysOut, lays_out, table_of, table_back, parts_back, walk_back, walk_done}
 use Rattle.binfarce_image.proofs.PartsBack.{Holds, name_back, names_at}
-use Rattle.binfarce_image.proofs.AnswerBack.{answer_of, located_with, answer_with, answer_back}
+use Rattle.binfarce_image.proofs.AnswerBack.{listed_with, answer_with, answer_back}
 use Rattle.binfarce_image.proofs.Found.{BothOrNone, find_both, find_index, find_numbered, found_passes}
 
 -- a search in a walk that is done
@@ -72,11 +72,11 @@ module _ (image : Image) (layout : ElfLayout) (due : LaysOut image layout) (fits
   linked_part link = find_index 0 link link image.parts.items (omega arith)
 
   -- what the reader goes on with
-  abbrev located_from : Section → Section → Result Located Refusal
-  located_from text symbols = sought (section_is_missing (codes ".strtab")) (λ (s : Section). eqb s.index symbols.link) (walk class table) >>= λ (linked : Section). located_with class table text symbols linked
+  abbrev listed_from : Section → Section → Result Listed Refusal
+  listed_from text symbols = sought (section_is_missing (codes ".strtab")) (λ (s : Section). eqb s.index symbols.link) (walk class table) >>= λ (linked : Section). listed_with class table text symbols linked
 
-  abbrev located_for : Section → Result Located Refusal
-  located_for text = sought (section_is_missing (codes ".symtab")) (λ (s : Section). eqb s.kind 2) (walk class table) >>= λ (symbols : Section). located_from text symbols
+  abbrev listed_for : Section → Result Listed Refusal
+  listed_for text = sought (section_is_missing (codes ".symtab")) (λ (s : Section). eqb s.kind 2) (walk class table) >>= λ (symbols : Section). listed_from text symbols
 
   -- and the image
   abbrev answer_from : ℕ × Part → Part → Result Listed Refusal
@@ -88,15 +88,15 @@ module _ (image : Image) (layout : ElfLayout) (due : LaysOut image layout) (fits
   linked_by : (text symbols : Section) (found : ℕ × Part) (j name link : ℕ) (rows : Vec Row) (o : Option Section) (p : Option (ℕ × Part))
       → find (λ (s : Section). eqb s.index symbols.link) sections ≡ o → find (λ (q : ℕ × Part). eqb q.0 link) numbered ≡ p → BothOrNone (Holds image layout) o p
       → Holds image layout text found → is_table found.1 ≡ false → Holds image layout symbols (j, Table name link rows)
-      → answer_of class table (located_from text symbols) ≡ answer_from found (Table name link rows)
+      → listed_from text symbols ≡ answer_from found (Table name link rows)
   linked_by text symbols found j name link rows o p e f r t other s =
       let part : slice_get image.parts.items link ≡ option_map (λ (q : ℕ × Part). q.1) p = linked_part link ∙ ap (option_map (λ (q : ℕ × Part). q.1)) f in
-      ap (λ (x : Result Section Refusal). answer_of class table (x >>= λ (linked : Section). located_with class table text symbols linked)) (sought_in_file (section_is_missing (codes ".strtab")) (λ (s : Section). eqb s.index symbols.link) o e)
+      ap (λ (x : Result Section Refusal). x >>= λ (linked : Section). listed_with class table text symbols linked) (sought_in_file (section_is_missing (codes ".strtab")) (λ (s : Section). eqb s.index symbols.link) o e)
       ∙ ends o p r
       ∙ sym (ap (λ (x : Option Part). required (section_is_missing (codes ".strtab")) x >>= λ (linked : Part). answer_with found (Table name link rows) linked) part)
     where
       ends : (o : Option Section) (p : Option (ℕ × Part)) → BothOrNone (Holds image layout) o p
-          → answer_of class table (required (section_is_missing (codes ".strtab")) o >>= λ (linked : Section). located_with class table text symbols linked)
+          → (required (section_is_missing (codes ".strtab")) o >>= λ (linked : Section). listed_with class table text symbols linked)
           ≡ (required (section_is_missing (codes ".strtab")) (option_map (λ (q : ℕ × Part). q.1) p) >>= λ (linked : Part). answer_with found (Table name link rows) linked)
       ends None None r = refl
       ends None (Some q) r = absurd r
@@ -105,7 +105,7 @@ module _ (image : Image) (layout : ElfLayout) (due : LaysOut image layout) (fits
 
   -- behind the search for the symbol table
   from_symbols : (text symbols : Section) (found : ℕ × Part) (j : ℕ) (part : Part) → is_table part ≡ true → Holds image layout text found → is_table found.1 ≡ false → Holds image layout symbols (j, part)
-      → answer_of class table (located_from text symbols) ≡ answer_from found part
+      → listed_from text symbols ≡ answer_from found part
   from_symbols text symbols found j (Bytes name kind link body) is t other s = absurd cc
   from_symbols text symbols found j (Table name link rows) is t other s =
       let same_link : symbols.link ≡ link = ap (λ (x : Section). x.link) s.is in
@@ -115,7 +115,7 @@ module _ (image : Image) (layout : ElfLayout) (due : LaysOut image layout) (fits
       (both (λ (x : Section). eqb x.index symbols.link) (λ (q : ℕ × Part). eqb q.0 link) agree) t other s
 
   -- behind the search for the name
-  from_text : (text : Section) (found : ℕ × Part) → Holds image layout text found → is_table found.1 ≡ false → answer_of class table (located_for text) ≡ answer_for found
+  from_text : (text : Section) (found : ℕ × Part) → Holds image layout text found → is_table found.1 ≡ false → listed_for text ≡ answer_for found
   from_text text found t other =
       let f : Section → Bool = λ s. eqb s.kind 2 in
       let g : ℕ × Part → Bool = λ q. is_table q.1 in
@@ -123,7 +123,7 @@ module _ (image : Image) (layout : ElfLayout) (due : LaysOut image layout) (fits
       ends (find f sections) (find g numbered) refl refl (both f g agree)
     where
       with_symbols : (o : Option Section) (p : Option (ℕ × Part)) → find (λ (q : ℕ × Part). is_table q.1) numbered ≡ p → BothOrNone (Holds image layout) o p
-          → answer_of class table (required (section_is_missing (codes ".symtab")) o >>= λ (symbols : Section). located_from text symbols)
+          → (required (section_is_missing (codes ".symtab")) o >>= λ (symbols : Section). listed_from text symbols)
           ≡ (required (section_is_missing (codes ".symtab")) (option_map (λ (q : ℕ × Part). q.1) p) >>= λ (part : Part). answer_from found part)
       with_symbols None None f r = refl
       with_symbols None (Some q) f r = absurd r
@@ -131,28 +131,28 @@ module _ (image : Image) (layout : ElfLayout) (due : LaysOut image layout) (fits
       with_symbols (Some symbols) (Some q) f r = from_symbols text symbols found q.0 q.1 (found_passes (λ (x : ℕ × Part). is_table x.1) numbered q f) t other r
 
       ends : (o : Option Section) (p : Option (ℕ × Part)) → find (λ (s : Section). eqb s.kind 2) sections ≡ o → find (λ (q : ℕ × Part). is_table q.1) numbered ≡ p → BothOrNone (Holds image layout) o p
-          → answer_of class table (located_for text) ≡ answer_for found
+          → listed_for text ≡ answer_for found
       ends o p e f r =
-          ap (λ (x : Result Section Refusal). answer_of class table (x >>= λ (symbols : Section). located_from text symbols)) (sought_in_file (section_is_missing (codes ".symtab")) (λ (s : Section). eqb s.kind 2) o e)
+          ap (λ (x : Result Section Refusal). x >>= λ (symbols : Section). listed_from text symbols) (sought_in_file (section_is_missing (codes ".symtab")) (λ (s : Section). eqb s.kind 2) o e)
           ∙ with_symbols o p f r
           ∙ sym (ap (λ (x : Option Part). required (section_is_missing (codes ".symtab")) x >>= λ (part : Part). answer_from found part) (table_part ∙ ap (option_map (λ (q : ℕ × Part). q.1)) f))
 
   named_by : (name : List ℕ) (o : Option Section) (p : Option (ℕ × Part)) → BothOrNone (Holds image layout) o p → IsNotTable p
-      → answer_of class table (required symbols_section_is_missing o >>= λ (text : Section). located_for text) ≡ (required symbols_section_is_missing p >>= λ (found : ℕ × Part). answer_for found)
+      → (required symbols_section_is_missing o >>= λ (text : Section). listed_for text) ≡ (required symbols_section_is_missing p >>= λ (found : ℕ × Part). answer_for found)
   named_by name None None r other = refl
   named_by name None (Some found) r other = absurd r
   named_by name (Some text) None r other = absurd r
   named_by name (Some text) (Some found) r other = from_text text found r other
 
   -- the readers' answer
-  read_back : (name : List ℕ) → IsNotTable (part_named image name) → elf_answer class table name ≡ symbols_of image name
-  unfolding elf_answer located symbols_of
+  read_back : (name : List ℕ) → IsNotTable (part_named image name) → elf_answer Symtab class table name ≡ symbols_of image name
+  unfolding symbols_of
   read_back name other =
       let f : Section → Bool = λ s. is_named name (name_of class table s) in
       let g : ℕ × Part → Bool = λ q. is_named name (part_name_of image q.1) in
       let agree : (s : Section) (q : ℕ × Part) → Holds image layout s q → f s ≡ g q = λ s q h. ap (is_named name) (name_back image layout due fits s q h) in
-      ap (answer_of class table) (located_steps Symtab class table name)
-      ∙ ap (λ (x : Result Section Refusal). answer_of class table (x >>= λ (text : Section). located_for text)) (sought_in_file symbols_section_is_missing f (find f sections) refl)
+      answer_steps Symtab class table name
+      ∙ ap (λ (x : Result Section Refusal). x >>= λ (text : Section). listed_for text) (sought_in_file symbols_section_is_missing f (find f sections) refl)
       ∙ named_by name (find f sections) (find g numbered) (both f g agree) other
 
 -- in each layout, an image's file reads back to what the image holds
@@ -161,4 +161,4 @@ reads_back image layout fits due name other =
     let d = lays_out image layout due in
     let n = names_at image layout d in
     let named = n.2 in
-    ap (λ (t : SectionTable). elf_answer (class_of layout) t name) (table_back image layout d named.there) ∙ read_back image layout d fits name other
+    ap (λ (t : SectionTable). elf_answer Symtab (class_of layout) t name) (table_back image layout d named.there) ∙ read_back image layout d fits name other

@@ -7,6 +7,7 @@ use Rattle.binfarce.specs.Refusal.{◌>>=◌, Refusal, required, symbols_section
 use Rattle.binfarce.specs.Elf.{SymbolRow, section_table}
 use Rattle.binfarce.specs.ElfSymbols.{entry_of, is_named, elf_answer}
 use Rattle.binfarce.specs.Symbol.{Entry, Listed}
+use Rattle.binfarce.specs.declared.SymbolTable.TheVariants.{Symtab}
 use Rattle.binfarce_image.specs.declared.image.ElfLayout.{ElfLayout}
 use Rattle.binfarce_image.specs.declared.image.Image.{Image}
 use Rattle.binfarce_image.specs.declared.image.Part.{Part}
@@ -64,7 +65,7 @@ IsNotTable (Some found) = is_table found.1 ≡ false
 abbrev pub ReadsBack : ElfLayout → Image → List ℕ → Type 0
 ReadsBack layout image file =
     (name : List ℕ) → IsNotTable (part_named image name)
-    → elf_answer (class_of layout) (section_table (class_of layout) (record { order = order_of layout; bytes = file })) name ≡ symbols_of image name
+    → elf_answer Symtab (class_of layout) (section_table (class_of layout) (record { order = order_of layout; bytes = file })) name ≡ symbols_of image name
 
 -- the numbers of a row fit their types
 pub record RowFits (row : Row) : Type 0 where

@@ -3,14 +3,14 @@ use Rattle.std.specs.Prelude.{◌≡◌, ◌≢◌, ℕ, ◌+◌, ◌-◌, ◌*�
 use Rattle.std.specs.Option.{option_map}
 use Rattle.std.specs.List.{range_with_len, flat_map}
 use Rattle.binfarce_bytes.specs.Text.{text_at}
-use Rattle.binfarce_bytes.specs.Refusal.{◌>>=◌, Refusal, malformed_input}
+use Rattle.binfarce_bytes.specs.Refusal.{◌>>=◌, Refusal, malformed_input, if_as_long_as}
 use Rattle.binfarce_bytes.specs.Field.{number_in}
 use Rattle.binfarce_bytes.specs.Entries.{Entry, Listed}
-use Rattle.binfarce_bytes.specs.SectionEntries.{SectionEntry, of_section, unless}
+use Rattle.binfarce_bytes.specs.SectionEntries.{SectionEntry, AllSymbols, of_section, unless}
 use Rattle.binfarce_bytes.specs.Sizes.{RowAddress, arranged, addresses_of}
 use Rattle.binfarce_macho.specs.declared.all.Extent.{Extent}
 use Rattle.binfarce_macho.specs.declared.all.SymbolBytes as code
-use Rattle.binfarce_macho.specs.Macho.{Command, commands, body_of, is_segment, Section, section_at, section_count, section_offset, section_fields, walk}
+use Rattle.binfarce_macho.specs.Macho.{Command, header_of, least_length, commands, body_of, is_segment, Section, section_at, section_count, section_offset, section_fields, walk}
 use Rattle.binfarce_macho.specs.MachoParts.{named_table}
 use Rattle.binfarce_macho.specs.MachoSymbols.{SymbolTable, SymbolRow, symbol_of, symbol_length, symbol_command, slice_at, row_addresses, macho_size, sized_entry, kept, Located, located, macho_answer}
 
@@ -126,7 +126,38 @@ all_answer file = do
   symbols ← symbols_of file
   all_of ends symbols
 
--- a law of that answer: where the text is the first section, its entries are those of `macho_answer`
+-- the ends and the names of a file's sections, in the order of their numbers; its symbols, where it has a symbol table; and whether it is an object file
+pub record AllLocated : Type 0 where
+  pub ends : List ℕ
+  pub names : List (Option (List ℕ))
+  pub symbols : Option Symbols
+  pub shares_addresses : Bool
+
+-- those of a file; an object file is of the type MH_OBJECT (1)
+abbrev pub all_located : List ℕ → Result AllLocated Refusal
+all_located file = do
+  starts ← section_starts file
+  symbols ← symbols_of file
+  Ok (record { ends = map (end_at file) starts; names = map (name_at file) starts; symbols = symbols; shares_addresses = nat_eq (header_of file).filetype 1 })
+
+-- where the file has a header
+abbrev pub all_located_answer : List ℕ → Result AllLocated Refusal
+all_located_answer file = if_as_long_as least_length file (all_located file)
+
+-- the entries of all sections, made of that
+abbrev pub all_entries : AllLocated → Result (List SectionEntry) Refusal
+all_entries found = all_of found.ends found.symbols
+
+abbrev pub all_symbols : AllLocated → Result AllSymbols Refusal
+all_symbols found = do
+  entries ← all_entries found
+  Ok (record { entries = entries; section_name = name_of found.names; shares_addresses = found.shares_addresses })
+
+-- the answer of a file
+abbrev pub all_file_answer : List ℕ → Result AllSymbols Refusal
+all_file_answer file = all_located_answer file >>= all_symbols
+
+-- a law of `all_answer`: where the text is the first section, its entries are those of `macho_answer`
 abbrev pub AllHasText : List ℕ → Type 0
 AllHasText file = (ends : List ℕ) (found : Located) (entries : List SectionEntry) (listed : Listed) → section_ends file ≡ Ok ends → located file ≡ Ok (Some found) → end_of ends 1 ≡ Some found.text_end
     → all_answer file ≡ Ok entries → macho_answer file ≡ Ok listed → of_section 1 entries ≡ listed.entries

@@ -3,10 +3,10 @@ use Rattle.std.specs.Prelude.{◌≡◌, ◌≢◌, ℕ, ◌+◌, ◌-◌, ◌*�
 use Rattle.std.specs.List.{range_with_len, filter_map, cons_option}
 use Rattle.binfarce_bytes.specs.Number.{bytes_at}
 use Rattle.binfarce_bytes.specs.Text.{text_at}
-use Rattle.binfarce_bytes.specs.Refusal.{◌>>=◌, Refusal, required, symbols_section_is_missing, malformed_input, unexpected_eof}
+use Rattle.binfarce_bytes.specs.Refusal.{◌>>=◌, Refusal, required, symbols_section_is_missing, malformed_input, unexpected_eof, if_as_long_as}
 use Rattle.binfarce_bytes.specs.Walk.{first}
 use Rattle.binfarce_bytes.specs.Field.{Field, field, number_in}
-use Rattle.binfarce_macho.specs.Macho.{Command, body_of, commands, Section, walk, is_named}
+use Rattle.binfarce_macho.specs.Macho.{Command, least_length, body_of, commands, Section, walk, is_named}
 use Rattle.binfarce_bytes.specs.Sizes.{RowAddress, arranged, addresses_of, least_above, ListsArranged}
 use Rattle.binfarce_bytes.specs.Entries.{Entry, Listed}
 
@@ -175,6 +175,10 @@ answer_of (Some found) = listed_of found (arranged (row_addresses found.rows))
 
 unfoldable pub macho_answer : List ℕ → Result Listed Refusal
 macho_answer file = located file >>= answer_of
+
+-- that of a file that has a header
+abbrev pub macho_file_answer : List ℕ → Result Listed Refusal
+macho_file_answer file = if_as_long_as least_length file (macho_answer file)
 
 -- a law of that answer: its entries are what is kept of the table's rows with an address, arranged so that (address, row number) rises strictly
 abbrev pub ArrangesRows : List ℕ → Type 0

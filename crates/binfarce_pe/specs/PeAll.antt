@@ -1,12 +1,12 @@
 -- The function symbols of all sections of a PE file.
-use Rattle.std.specs.Prelude.{◌≡◌, ◌≢◌, ℕ, ◌+◌, ◌-◌, ◌*◌, List, Option, None, Result, Ok, nat_eq, nat_le, if◌then◌else◌}
+use Rattle.std.specs.Prelude.{◌≡◌, ◌≢◌, ℕ, true, ◌+◌, ◌-◌, ◌*◌, List, Option, None, Result, Ok, nat_eq, nat_le, if◌then◌else◌}
 use Rattle.std.specs.Option.{option_map}
 use Rattle.std.specs.List.{range_with_len, flat_map}
-use Rattle.binfarce_bytes.specs.Refusal.{◌>>=◌, Refusal}
+use Rattle.binfarce_bytes.specs.Refusal.{◌>>=◌, Refusal, if_as_long_as}
 use Rattle.binfarce_bytes.specs.Field.{number_in}
 use Rattle.binfarce_bytes.specs.Entries.{Listed}
-use Rattle.binfarce_bytes.specs.SectionEntries.{SectionEntry, in_section, of_section, unless}
-use Rattle.binfarce_pe.specs.Pe.{Section, header_of, section_fields, section_length}
+use Rattle.binfarce_bytes.specs.SectionEntries.{SectionEntry, AllSymbols, in_section, of_section, unless}
+use Rattle.binfarce_pe.specs.Pe.{Section, header_of, least_length, section_fields, section_length}
 use Rattle.binfarce_pe.specs.PeParts.{SectionTable, section_table, section_in, table_walk}
 use Rattle.binfarce_pe.specs.PeSymbols.{SymbolTable, symbol_table, text_section, pe_answer, entries_of}
 
@@ -40,11 +40,16 @@ all_answer file = do
   symbols ← symbol_table file
   Ok (all_entries sections symbols)
 
+-- the answer with the section names of a file that has a header; its sections share addresses, which are offsets in a section
+abbrev pub all_file_answer : List ℕ → Result AllSymbols Refusal
+all_file_answer file =
+    if_as_long_as (least_length file) file (all_answer file >>= λ entries. Ok (record { entries = entries; section_name = name_of (section_table file); shares_addresses = true }))
+
 -- the file has a section
 abbrev pub HasSection : List ℕ → Type 0
 HasSection file = (header_of file).number_of_sections ≢ 0
 
--- a law of that answer: the entries of the text are those of `pe_answer`
+-- a law of `all_answer`: the entries of the text are those of `pe_answer`
 abbrev pub AllHasText : List ℕ → Type 0
 AllHasText file = (entries : List SectionEntry) (text : Section) (listed : Listed) → all_answer file ≡ Ok entries → text_section file ≡ Ok text → pe_answer file ≡ Ok listed
     → of_section (text.index + 1) entries ≡ listed.entries

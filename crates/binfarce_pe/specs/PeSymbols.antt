@@ -7,7 +7,7 @@ use Rattle.binfarce_bytes.specs.Text.{text_at, padded_text}
 use Rattle.binfarce_bytes.specs.Refusal.{◌>>=◌, Refusal, required, symbols_section_is_missing, unexpected_eof, if_as_long_as}
 use Rattle.binfarce_bytes.specs.Walk.{first}
 use Rattle.binfarce_bytes.specs.Field.{Field, field, number_in}
-use Rattle.binfarce_pe.specs.Pe.{header_of, Section, walk, is_named}
+use Rattle.binfarce_pe.specs.Pe.{header_of, least_length, Section, walk, is_named}
 use Rattle.binfarce_bytes.specs.Sizes.{RowAddress, arranged, addresses_of, least_above, ListsArranged}
 use Rattle.binfarce_bytes.specs.Entries.{Entry, Listed}
 
@@ -148,7 +148,11 @@ pe_answer file = do
   found ← located file
   Ok (record { entries = entries_of found.table found.text.index found.text.size_of_raw_data; section_size = found.text.size_of_raw_data })
 
--- a law of that answer: its entries are those of the kept rows, arranged so that (address, row number) rises strictly
+-- that of a file that has a header
+abbrev pub pe_file_answer : List ℕ → Result Listed Refusal
+pe_file_answer file = if_as_long_as (least_length file) file (pe_answer file)
+
+-- a law of `pe_answer`: its entries are those of the kept rows, arranged so that (address, row number) rises strictly
 abbrev pub ArrangesRows : List ℕ → Type 0
 ArrangesRows file = (found : Located) (listed : Listed) → located file ≡ Ok found → pe_answer file ≡ Ok listed
     → ListsArranged (kept_rows found.table found.text.index)

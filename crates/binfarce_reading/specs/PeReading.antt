@@ -1,5 +1,4 @@
 -- The parts of a PE file that were read.
-pub use Rattle.binfarce_tables.specs.PeReading.{file_answer}
 use Rattle.binfarce_bytes.specs.Entries.{Listed}
 use Rattle.binfarce_tables.specs.PeReading as tables
 use Rattle.binfarce_reading.specs.declared.pe.Parts.{Parts}

@@ -1,5 +1,5 @@
 -- The parts of a file that were read.
-pub use Rattle.binfarce_tables.specs.Reading.{Reads, Known, file_answer, file_answer_in}
+pub use Rattle.binfarce_tables.specs.Reading.{Reads, Known}
 use Rattle.std.specs.Prelude.{ℕ}
 use Rattle.binfarce_bytes.specs.Entries.{Listed}
 use Rattle.binfarce_elf.specs.Elf.{ElfClass}

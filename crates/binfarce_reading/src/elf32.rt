@@ -2,8 +2,9 @@
 
 ghost use Rattle.std.specs.Prelude.{◌≡◌, List, ℕ, Some};
 ghost use Rattle.binfarce_elf.specs.Elf.{elf32};
-ghost use Rattle.binfarce_elf.specs.declared.symbol_table.SymbolTable.TheVariants.{Dynsym};
-ghost use Rattle.binfarce_reading.specs.Reading.{Reads, file_answer, file_answer_in, parts_view};
+ghost use Rattle.binfarce_elf.specs.ElfSymbols.{elf_file_answer};
+ghost use Rattle.binfarce_elf.specs.declared.symbol_table.SymbolTable.TheVariants.{Symtab, Dynsym};
+ghost use Rattle.binfarce_reading.specs.Reading.{Reads, parts_view};
 
 use crate::elf;
 use binfarce_bytes::ByteOrder;
@@ -34,7 +35,7 @@ pub fn read<S: Source>(
 ) -> Result<Parts, ReadError>
     ensures { (file : List ℕ) → S.bytes source.now ≡ Some file
         → Reads (S.may_fail source.now) (parts_view elf32 (λ n. n))
-        (file_answer elf32 byte_order file section_name.now) result }
+        (elf_file_answer Symtab elf32 byte_order file section_name.now) result }
 {
     let tables = elf32::read(alloc, source, byte_order, section_name)?;
     Ok(elf::of_tables(tables))
@@ -54,7 +55,7 @@ pub fn read_dynamic<S: Source>(
 ) -> Result<Parts, ReadError>
     ensures { (file : List ℕ) → S.bytes source.now ≡ Some file
         → Reads (S.may_fail source.now) (parts_view elf32 (λ n. n))
-        (file_answer_in Dynsym elf32 byte_order file section_name.now) result }
+        (elf_file_answer Dynsym elf32 byte_order file section_name.now) result }
 {
     let which = SymbolTable::Dynsym;
     let tables = elf32::read_by(alloc, source, byte_order, which, section_name)?;

@@ -4,7 +4,8 @@ ghost use Rattle.std.specs.Prelude.{◌≡◌, List, ℕ, Ok, Some};
 ghost use Rattle.binfarce_bytes.specs.Entries.{Answers, ListsSome};
 ghost use Rattle.binfarce_bytes.specs.SymbolViews.{HoldsFunctions};
 ghost use Rattle.binfarce.specs.Symbol.{HoldsSymbols};
-ghost use Rattle.binfarce_reading.specs.PeReading.{file_answer, parts_view};
+ghost use Rattle.binfarce_pe.specs.PeSymbols.{pe_file_answer};
+ghost use Rattle.binfarce_reading.specs.PeReading.{parts_view};
 ghost use Rattle.binfarce_reading.specs.Reading.{Reads};
 
 use binfarce::symbols::symbols_of;
@@ -63,7 +64,7 @@ impl Parts {
 /// `OutOfMemory` where an allocation fails.
 pub fn read<S: Source>(alloc: Global, source: &S) -> Result<Parts, ReadError>
     ensures { (file : List ℕ) → S.bytes source.now ≡ Some file
-        → Reads (S.may_fail source.now) parts_view (file_answer file) result }
+        → Reads (S.may_fail source.now) parts_view (pe_file_answer file) result }
 {
     let tables = pe::read(alloc, source)?;
     Ok(Parts { tables })

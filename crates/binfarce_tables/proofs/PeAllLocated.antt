@@ -11,10 +11,10 @@ use Rattle.binfarce_bytes.specs.Number.{bytes_at}
 use Rattle.binfarce_bytes.specs.Refusal.{◌>>=◌, Refusal, unexpected_eof}
 use Rattle.binfarce_bytes.specs.SectionEntries.{SectionEntry, AllSymbols, in_section, unless}
 use Rattle.binfarce_pe.specs.Pe.{Section, header_of, least_length, section_fields}
-use Rattle.binfarce_pe.specs.PeAll.{size_in, section_entries, all_entries, name_of, whole_sections, all_answer}
+use Rattle.binfarce_pe.specs.PeAll.{size_in, section_entries, all_entries, name_of, whole_sections, all_answer, all_file_answer}
 use Rattle.binfarce_pe.specs.PeParts.{TablePlaces, SectionTable, headers_alone, places_of, section_table, whole_in, table_walk}
 use Rattle.binfarce_pe.specs.PeSymbols.{SymbolTable, symbol_table, entries_of}
-use Rattle.binfarce_tables.specs.PeAllReading.{all_view, all_file_answer}
+use Rattle.binfarce_tables.specs.PeAllReading.{all_view}
 use Rattle.binfarce_tables.specs.machine.PePlaces.{places_step, headers_at, alone_at, whole_at, table_at}
 use Rattle.binfarce_tables.specs.declared.error.ReadError.{ReadError}
 use Rattle.binfarce_tables.specs.declared.error.ReadError.TheVariants.{Refused, Unreadable, OutOfMemory}

@@ -7,11 +7,10 @@ use Rattle.binfarce_bytes.specs.Refusal.{◌>>=◌, Refusal, unexpected_eof}
 use Rattle.binfarce_bytes.specs.Entries.{Listed}
 use Rattle.binfarce_pe.specs.Pe.{Section, least_length, signature_offset, header_after, header_of}
 use Rattle.binfarce_pe.specs.PeParts.{TablePlaces, TextPlace, places_after, places_of, section_table, text_among}
-use Rattle.binfarce_pe.specs.PeSymbols.{SymbolTable, Located, text_section, symbol_table, located, entries_of, pe_answer}
+use Rattle.binfarce_pe.specs.PeSymbols.{SymbolTable, Located, text_section, symbol_table, located, entries_of, pe_answer, pe_file_answer}
 use Rattle.binfarce_pe.proofs.Walks.{text_of}
 use Rattle.binfarce_tables.specs.declared.error.ReadError.{ReadError}
 use Rattle.binfarce_tables.specs.Reading.{Reads}
-use Rattle.binfarce_tables.specs.PeReading.{file_answer}
 use Rattle.binfarce_tables.specs.machine.PePlaces.{signature_step, places_step, text_at, table_at, answer_at}
 use Rattle.binfarce_tables.proofs.PeAlone.{header_alone}
 use Rattle.binfarce_tables.proofs.Readings.{instead}
@@ -48,7 +47,7 @@ after_test : (b : Bool) (file : List ℕ) → cond b (Err unexpected_eof) (after
 after_test true file = refl
 after_test false file = refl
 
-steps_are : (file : List ℕ) → file_answer file ≡ (places_step file >>= after_places file)
+steps_are : (file : List ℕ) → pe_file_answer file ≡ (places_step file >>= after_places file)
 steps_are file =
     ap (λ (a : Result Listed Refusal). cond (ltb (length file) (least_length file)) (Err unexpected_eof) a)
     (answer_is file ∙ same_listed (text_section file) (symbol_table file) ∙ ap₂ by_places (sym (text_of file (section_table file) refl)) (table_is file) ∙ after_is file)
@@ -56,13 +55,13 @@ steps_are file =
 
 -- a reading from here on
 module _ {X : Type 0} (fails : Bool) (view : X → Listed) (file : List ℕ) where
-  pub from_file : (r : Result X ReadError) → Reads fails view (places_step file >>= after_places file) r → Reads fails view (file_answer file) r
-  from_file r reads = instead fails view (file_answer file) (places_step file >>= after_places file) r (steps_are file) reads
+  pub from_file : (r : Result X ReadError) → Reads fails view (places_step file >>= after_places file) r → Reads fails view (pe_file_answer file) r
+  from_file r reads = instead fails view (pe_file_answer file) (places_step file >>= after_places file) r (steps_are file) reads
 
-  pub from_places : (places : TablePlaces) (r : Result X ReadError) → places_step file ≡ Ok places → Reads fails view (after_places file places) r → Reads fails view (file_answer file) r
+  pub from_places : (places : TablePlaces) (r : Result X ReadError) → places_step file ≡ Ok places → Reads fails view (after_places file places) r → Reads fails view (pe_file_answer file) r
   from_places places r step reads = from_file r (instead fails view (places_step file >>= after_places file) (after_places file places) r (ap (λ (s : Result TablePlaces Refusal). s >>= after_places file) step) reads)
 
-  pub from_text : (places : TablePlaces) (text : TextPlace) (r : Result X ReadError) → places_step file ≡ Ok places → text_at file places ≡ Ok text → Reads fails view (answer_at file places text) r → Reads fails view (file_answer file) r
+  pub from_text : (places : TablePlaces) (text : TextPlace) (r : Result X ReadError) → places_step file ≡ Ok places → text_at file places ≡ Ok text → Reads fails view (answer_at file places text) r → Reads fails view (pe_file_answer file) r
   from_text places text r step found reads = from_places places r step (instead fails view (after_places file places) (answer_at file places text) r (ap (λ (t : Result TextPlace Refusal). t >>= answer_at file places) found) reads)
 
 -- the symbol table, where it lies in the file

@@ -5,23 +5,23 @@ ghost use Rattle.std.specs.Result.{IsErr};
 ghost use Rattle.std.specs.Option.{option_map};
 ghost use Rattle.binfarce_bytes.specs.Number.{bytes_at};
 ghost use Rattle.binfarce_bytes.specs.Refusal.{Gives, refusal_of, unexpected_eof};
-ghost use Rattle.binfarce_elf.specs.Elf.{contents, header_of, names_bytes};
-ghost use Rattle.binfarce_elf.specs.ElfParts.{headers_alone, needed, needed_view};
-ghost use Rattle.binfarce_elf.specs.ElfSymbols.{section_data};
+ghost use Rattle.binfarce_elf.specs.Elf.{contents, header_of, names_bytes, walk};
+ghost use Rattle.binfarce_elf.specs.ElfParts.{headers_alone, needed_view, table_sections_view};
+ghost use Rattle.binfarce_elf.specs.ElfSymbols.{elf_file_answer, needed, rows_at, section_data};
 ghost use Rattle.binfarce_elf.specs.ElfViews.{header_view, section_view, functions_view};
-ghost use Rattle.binfarce_tables.specs.Reading.{Reads, Known, file_answer_in, parts_view};
+ghost use Rattle.binfarce_tables.specs.Reading.{Reads, Known, parts_view};
 ghost use Rattle.binfarce_tables.specs.declared.error.ReadError.TheVariants.{Unreadable, OutOfMemory};
-ghost use Rattle.binfarce_tables.specs.machine.Places.{table_at, table_step, headers_of};
+ghost use Rattle.binfarce_tables.specs.machine.Places.{table_at, table_step, headers_of, rows_view};
 
 use crate::error::ReadError;
 use binfarce_bytes::source::{Source, read_part};
 use binfarce_bytes::{ByteOrder, ParseError};
 use binfarce_elf::class::{Class, Half};
 use binfarce_elf::header::{Header, parse_header};
-use binfarce_elf::parts::{Needed, functions_in, needed_sections};
+use binfarce_elf::parts::needed_sections;
 use binfarce_elf::sections::{Section, section_at};
 use binfarce_elf::symbol_table::SymbolTable;
-use binfarce_elf::symbols::{Functions, whole_rows};
+use binfarce_elf::symbols::{Functions, Needed, TableSections, functions_in, whole_rows};
 use std::alloc::Global;
 
 /// The parts of a file that have the function symbols of a section, in memory.
@@ -64,17 +64,15 @@ pub(crate) fn read_parts<C: Class, S: Source>(
 ) -> Result<Parts<C>, ReadError>
     ensures { (file : List ℕ) → S.bytes source.now ≡ Some file
         → Reads (S.may_fail source.now) (parts_view C.table C.number_of)
-        (file_answer_in which C.table byte_order file section_name.now) result }
+        (elf_file_answer which C.table byte_order file section_name.now) result }
 {
     let len = source.length()? as usize;
     let place = read_place::<C, S>(alloc, source, len, byte_order)?;
     let needed = read_needed::<C, S>(alloc, source, len, place, which, section_name)?;
-    let strings = read_section::<C, S>(alloc, source, len, needed.strings)?;
-    let rows = read_section::<C, S>(alloc, source, len, needed.symbols)?;
-    let _ = whole_rows::<C>(&rows)?;
+    let table = read_rows::<C, S>(alloc, source, len, needed.table)?;
     Ok(Parts {
-        rows,
-        strings,
+        rows: table.rows,
+        strings: table.strings,
         byte_order: place.byte_order,
         section: needed.section,
     })
@@ -126,7 +124,7 @@ fn read_needed<C: Class, S: Source>(
 ) -> Result<Needed<C>, ReadError>
     ensures { (file : List ℕ) → Known (S.bytes source.now) len file → let table = table_at file place in
         Reads (S.may_fail source.now) (needed_view C.number_of)
-        (needed which C.table table (names_bytes C.table table) section_name.now) result }
+        (needed which (walk C.table table) (names_bytes C.table table) section_name.now) result }
 {
     if place.shoff >= len {
         return Err(ReadError::Refused(ParseError::UnexpectedEof));
@@ -148,7 +146,7 @@ fn needed_in<C: Class>(
     section_name: &str,
 ) -> Result<Needed<C>, ParseError>
     ensures { Gives refusal_of (needed_view C.number_of)
-        (needed which C.table (headers_alone place.byte_order headers.now place.shnum)
+        (needed which (walk C.table (headers_alone place.byte_order headers.now place.shnum))
         (option_map (λ v. v.items) names.now) section_name.now) result }
 {
     let names = slice_of(names);
@@ -207,6 +205,30 @@ pub(crate) fn read_names<C: Class, S: Source>(
         Ok(section) => read_contents::<C, S>(alloc, source, len, section),
         Err(_) => Ok(None),
     }
+}
+
+// The strings and the rows of a symbol table.
+#[derive(Drop)]
+pub(crate) struct TableParts {
+    pub(crate) strings: Vec<u8>,
+    pub(crate) rows: Vec<u8>,
+}
+
+// The bytes of a symbol table's sections; refused as those of a file in memory.
+pub(crate) fn read_rows<C: Class, S: Source>(
+    alloc: Global,
+    source: &S,
+    len: usize,
+    sections: TableSections<C>,
+) -> Result<TableParts, ReadError>
+    ensures { (file : List ℕ) → Known (S.bytes source.now) len file
+        → Reads (S.may_fail source.now) rows_view
+        (rows_at C.table file (table_sections_view C.number_of sections)) result }
+{
+    let strings = read_section::<C, S>(alloc, source, len, sections.strings)?;
+    let rows = read_section::<C, S>(alloc, source, len, sections.symbols)?;
+    let _ = whole_rows::<C>(&rows)?;
+    Ok(TableParts { strings, rows })
 }
 
 // The section's bytes, where they lie in the file.

@@ -2,8 +2,11 @@
 
 ghost use Rattle.std.specs.Prelude.{◌≡◌, List, ℕ, Some};
 ghost use Rattle.binfarce_elf.specs.Elf.{elf32};
-ghost use Rattle.binfarce_tables.specs.ElfAllReading.{all_file_answer, all_view};
-ghost use Rattle.binfarce_tables.specs.Reading.{Reads, file_answer, file_answer_in, parts_view};
+ghost use Rattle.binfarce_elf.specs.ElfAll.{all_file_answer};
+ghost use Rattle.binfarce_elf.specs.ElfSymbols.{elf_file_answer};
+ghost use Rattle.binfarce_elf.specs.declared.symbol_table.SymbolTable.TheVariants.{Symtab};
+ghost use Rattle.binfarce_tables.specs.ElfAllReading.{all_view};
+ghost use Rattle.binfarce_tables.specs.Reading.{Reads, parts_view};
 ghost use Rattle.binfarce_tables.specs.SectionReading.{file_sections, sections_view};
 
 use crate::error::ReadError;
@@ -32,7 +35,6 @@ pub type SectionParts = sections::SectionParts<u32>;
 /// `Refused` with the error of `parse` or `functions` of a reader of the whole file; `Unreadable` where the source
 /// can't be read at offsets, or a read of it fails, and never for a source that can't fail, such as bytes in memory;
 /// `OutOfMemory` where an allocation fails.
-#[tactic(auto, unfolding(binfarce_elf::specs::ElfSymbols::elf_answer, binfarce_elf::specs::ElfSymbols::located, binfarce_elf::specs::ElfSymbols::answer_in))]
 pub fn read<S: Source>(
     alloc: Global,
     source: &S,
@@ -41,7 +43,7 @@ pub fn read<S: Source>(
 ) -> Result<Parts, ReadError>
     ensures { (file : List ℕ) → S.bytes source.now ≡ Some file
         → Reads (S.may_fail source.now) (parts_view elf32 (λ n. n))
-        (file_answer elf32 byte_order file section_name.now) result }
+        (elf_file_answer Symtab elf32 byte_order file section_name.now) result }
 {
     read_by(alloc, source, byte_order, SymbolTable::Symtab, section_name)
 }
@@ -60,7 +62,7 @@ pub fn read_by<S: Source>(
 ) -> Result<Parts, ReadError>
     ensures { (file : List ℕ) → S.bytes source.now ≡ Some file
         → Reads (S.may_fail source.now) (parts_view elf32 (λ n. n))
-        (file_answer_in which elf32 byte_order file section_name.now) result }
+        (elf_file_answer which elf32 byte_order file section_name.now) result }
 {
     elf::read_parts::<u32, S>(alloc, source, byte_order, which, section_name)
 }

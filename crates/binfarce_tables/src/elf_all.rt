@@ -2,14 +2,11 @@
 
 ghost use Rattle.std.specs.Prelude.{◌≡◌, List, ℕ, Some};
 ghost use Rattle.std.specs.Option.{option_map};
-ghost use Rattle.binfarce_elf.specs.Elf.{walk};
-ghost use Rattle.binfarce_elf.specs.ElfAll.{all_left};
-ghost use Rattle.binfarce_elf.specs.ElfParts.{headers_alone};
-ghost use Rattle.binfarce_tables.specs.Reading.{Reads, Known};
-ghost use Rattle.binfarce_tables.specs.ElfAllReading.{all_file_answer, all_view};
-ghost use Rattle.binfarce_tables.specs.machine.Places.{table_at, rows_of_all, rows_view};
+ghost use Rattle.binfarce_elf.specs.ElfAll.{all_file_answer, all_left};
+ghost use Rattle.binfarce_tables.specs.Reading.{Reads};
+ghost use Rattle.binfarce_tables.specs.ElfAllReading.{all_view};
 
-use crate::elf::{Place, read_names, read_place, read_section, slice_of};
+use crate::elf::{read_names, read_place, read_rows, slice_of};
 use crate::error::ReadError;
 use crate::sections::read_table;
 use binfarce_bytes::ByteOrder;
@@ -18,7 +15,6 @@ use binfarce_elf::all::AllFunctions;
 use binfarce_elf::class::{Class, Half};
 use binfarce_elf::parts::{all_functions_in, name_of_index, needed_table};
 use binfarce_elf::symbol_table::SymbolTable;
-use binfarce_elf::symbols::whole_rows;
 use std::alloc::Global;
 use std::marker::PhantomData;
 
@@ -83,7 +79,8 @@ pub(crate) fn read_all<C: Class, S: Source>(
     let place = read_place::<C, S>(alloc, source, len, byte_order)?;
     let names = read_names::<C, S>(alloc, source, len, place)?;
     let headers = read_table::<C, S>(alloc, source, len, place)?;
-    let table = read_rows::<C, S>(alloc, source, len, place, &headers, which)?;
+    let sections = needed_table::<C>(&headers, place.byte_order, place.shnum, which)?;
+    let table = read_rows::<C, S>(alloc, source, len, sections)?;
     Ok(AllParts {
         headers,
         names,
@@ -94,31 +91,4 @@ pub(crate) fn read_all<C: Class, S: Source>(
         elf_type: place.elf_type,
         class: PhantomData,
     })
-}
-
-// The strings and the rows of a symbol table.
-#[derive(Drop)]
-struct TableParts {
-    strings: Vec<u8>,
-    rows: Vec<u8>,
-}
-
-// The strings and the rows of this symbol table, by section headers whose sections are the file's.
-fn read_rows<C: Class, S: Source>(
-    alloc: Global,
-    source: &S,
-    len: usize,
-    place: Place,
-    headers: &[u8],
-    which: SymbolTable,
-) -> Result<TableParts, ReadError>
-    ensures { (file : List ℕ) → Known (S.bytes source.now) len file
-        → walk C.table (headers_alone place.byte_order headers.now place.shnum) ≡ walk C.table (table_at file place)
-        → Reads (S.may_fail source.now) rows_view (rows_of_all which C.table (table_at file place)) result }
-{
-    let needed = needed_table::<C>(headers, place.byte_order, place.shnum, which)?;
-    let strings = read_section::<C, S>(alloc, source, len, needed.strings)?;
-    let rows = read_section::<C, S>(alloc, source, len, needed.symbols)?;
-    let _ = whole_rows::<C>(&rows)?;
-    Ok(TableParts { strings, rows })
 }

@@ -4,8 +4,9 @@ ghost use Rattle.std.specs.Prelude.{◌≡◌, List, ℕ, Ok, Some};
 ghost use Rattle.binfarce_bytes.specs.Entries.{Answers, ListsSome};
 ghost use Rattle.binfarce_bytes.specs.SymbolViews.{HoldsFunctions};
 ghost use Rattle.binfarce_pe.specs.PeParts.{places_view, text_view};
+ghost use Rattle.binfarce_pe.specs.PeSymbols.{pe_file_answer};
 ghost use Rattle.binfarce_tables.specs.BeginningReading.{ReadsBeginning, pe_sections};
-ghost use Rattle.binfarce_tables.specs.PeReading.{file_answer, parts_view};
+ghost use Rattle.binfarce_tables.specs.PeReading.{parts_view};
 ghost use Rattle.binfarce_tables.specs.Reading.{Reads, Known};
 ghost use Rattle.binfarce_tables.specs.machine.PePlaces.{signature_step, places_step, text_at, answer_at};
 
@@ -61,7 +62,7 @@ impl Parts {
 /// `OutOfMemory` where an allocation fails.
 pub fn read<S: Source>(alloc: Global, source: &S) -> Result<Parts, ReadError>
     ensures { (file : List ℕ) → S.bytes source.now ≡ Some file
-        → Reads (S.may_fail source.now) parts_view (file_answer file) result }
+        → Reads (S.may_fail source.now) parts_view (pe_file_answer file) result }
 {
     let len = source.length()? as usize;
     let places = read_places(alloc, source, len)?;

@@ -5,8 +5,9 @@ ghost use Rattle.std.specs.Option.{option_map};
 ghost use Rattle.binfarce_bytes.specs.SectionEntries.{AnswersAll};
 ghost use Rattle.binfarce_bytes.specs.SymbolViews.{HoldsSectionFunctions};
 ghost use Rattle.binfarce_pe.specs.Pe.{header_of};
+ghost use Rattle.binfarce_pe.specs.PeAll.{all_file_answer};
 ghost use Rattle.binfarce_pe.specs.PeParts.{headers_alone, places_view, whole_in};
-ghost use Rattle.binfarce_tables.specs.PeAllReading.{all_file_answer, all_view};
+ghost use Rattle.binfarce_tables.specs.PeAllReading.{all_view};
 ghost use Rattle.binfarce_tables.specs.Reading.{Reads, Known};
 ghost use Rattle.binfarce_tables.specs.machine.PePlaces.{whole_at, table_at, records_view};
 

@@ -18,7 +18,8 @@ use Rattle.binfarce.specs.Macho.{least_length}
 use Rattle.binfarce.specs.MachoAll as macho_all
 use Rattle.binfarce_macho.proofs.AllRows.{has_start}
 use Rattle.binfarce.specs.Pe as pe_file
-use Rattle.binfarce_tables.specs.ElfAllReading.{all_file_answer}
+use Rattle.binfarce.specs.ElfAll.{all_file_answer}
+use Rattle.binfarce.specs.PeAll as pe_all
 use Rattle.binfarce_tables.specs.MachoAllReading as macho
 use Rattle.binfarce_tables.specs.PeAllReading as pe
 use Rattle.binfarce_tools.specs.declared.all.AllTables.{AllTables}
@@ -26,7 +27,8 @@ use Rattle.binfarce_tools.specs.declared.all.AllTables.TheVariants as tables
 use Rattle.binfarce_tools.specs.declared.all.AllFunctions.{AllFunctions}
 use Rattle.binfarce_tools.specs.declared.list.ListError.{ListError}
 use Rattle.binfarce_tools.specs.declared.list.ListError.TheVariants as errors
-use Rattle.binfarce_tools.specs.AllAnswer.{all_symbols_answer, all_answer_of, by_symbol_table, HasSections, AllNeedsMemory}
+use Rattle.binfarce_tools.specs.AllAnswer.{all_symbols_answer, all_answer_of, HasSections, AllNeedsMemory}
+use Rattle.binfarce_tools.specs.Answer.{by_symbol_table}
 use Rattle.binfarce_tools.specs.AllListing.{IsLineIn, IsAllListingOf}
 use Rattle.binfarce_tools.specs.AllTables.{AreAllTablesOf, section_names, shares_addresses_of}
 use Rattle.binfarce_tools.specs.Entries.{GetsAs, HoldsAll, all_left}
@@ -44,11 +46,11 @@ pub answer_64 : (which : SymbolTable) (order : _) (file : List ℕ) (given : Res
 unfolding all_symbols_answer
 answer_64 which order file given format is = ap (λ (f : Format). all_symbols_answer which f file) format ∙ ap Some is
 
-pub answer_macho : (which : SymbolTable) (file : List ℕ) → format_of file ≡ formats.Macho → all_answer_of which file ≡ Some (by_symbol_table which (macho.all_file_answer file))
+pub answer_macho : (which : SymbolTable) (file : List ℕ) → format_of file ≡ formats.Macho → all_answer_of which file ≡ Some (by_symbol_table which (macho_all.all_file_answer file))
 unfolding all_symbols_answer
 answer_macho which file format = ap (λ (f : Format). all_symbols_answer which f file) format
 
-pub answer_pe : (which : SymbolTable) (file : List ℕ) → format_of file ≡ formats.PE → all_answer_of which file ≡ Some (by_symbol_table which (pe.all_file_answer file))
+pub answer_pe : (which : SymbolTable) (file : List ℕ) → format_of file ≡ formats.PE → all_answer_of which file ≡ Some (by_symbol_table which (pe_all.all_file_answer file))
 unfolding all_symbols_answer
 answer_pe which file format = ap (λ (f : Format). all_symbols_answer which f file) format
 
@@ -89,31 +91,31 @@ got which file format answer result is answered gets =
     subst (λ (a : Option (Result AllSymbols Refusal)). GetsAs HoldsAll (AllNeedsMemory file) a result) (sym answered)
     (subst (λ (f : Format). GetsAs HoldsAll (λ _. HasSections f file) (Some answer) result) (sym is) gets)
 
-module _ (which : SymbolTable) (file : List ℕ) (found : macho.AllLocated)
-    (is : (format_of file ≡ formats.Macho) × (all_answer_of which file ≡ Some (macho.all_file_answer file)) × (macho.all_located_answer file ≡ Ok found)) where
-  same : macho.all_file_answer file ≡ macho.all_symbols found
-  same = ap (λ (l : Result macho.AllLocated Refusal). l >>= macho.all_symbols) is.2
+module _ (which : SymbolTable) (file : List ℕ) (found : macho_all.AllLocated)
+    (is : (format_of file ≡ formats.Macho) × (all_answer_of which file ≡ Some (macho_all.all_file_answer file)) × (macho_all.all_located_answer file ≡ Ok found)) where
+  same : macho_all.all_file_answer file ≡ macho_all.all_symbols found
+  same = ap (λ (l : Result macho_all.AllLocated Refusal). l >>= macho_all.all_symbols) is.2
 
   abbrev SomeEnd : Type 0
   SomeEnd = found.ends ≢ []
 
-  pub given_macho : (functions : Vec SectionFunction Global) (value : AllFunctions) → AnswersAll HoldsSectionFunctions SomeEnd (macho.all_entries found) (Ok functions) → all_left value ≡ map section_function_view functions.items
+  pub given_macho : (functions : Vec SectionFunction Global) (value : AllFunctions) → AnswersAll HoldsSectionFunctions SomeEnd (macho_all.all_entries found) (Ok functions) → all_left value ≡ map section_function_view functions.items
       → GetsAs HoldsAll (AllNeedsMemory file) (all_answer_of which file) (Ok value)
   given_macho functions value answers left =
-      got which file formats.Macho (macho.all_symbols found) (Ok value) is.0 (is.1 ∙ ap Some same)
-      (listed SomeEnd (HasSections formats.Macho file) (macho_all.name_of found.names) found.shares_addresses (macho.all_entries found) functions value answers left)
+      got which file formats.Macho (macho_all.all_symbols found) (Ok value) is.0 (is.1 ∙ ap Some same)
+      (listed SomeEnd (HasSections formats.Macho file) (macho_all.name_of found.names) found.shares_addresses (macho_all.all_entries found) functions value answers left)
 
-  pub not_given_macho : (e : ParseError) (result : Result AllFunctions ListError) → (SomeEnd → HasSections formats.Macho file) → AnswersAll HoldsSectionFunctions SomeEnd (macho.all_entries found) (Err e) → IsErrAnd result (λ f. f ≡ list_error_of e)
+  pub not_given_macho : (e : ParseError) (result : Result AllFunctions ListError) → (SomeEnd → HasSections formats.Macho file) → AnswersAll HoldsSectionFunctions SomeEnd (macho_all.all_entries found) (Err e) → IsErrAnd result (λ f. f ≡ list_error_of e)
       → GetsAs HoldsAll (AllNeedsMemory file) (all_answer_of which file) result
   not_given_macho e result needs answers err =
-      got which file formats.Macho (macho.all_symbols found) result is.0 (is.1 ∙ ap Some same)
-      (not_listed SomeEnd (HasSections formats.Macho file) (macho_all.name_of found.names) found.shares_addresses (macho.all_entries found) e result (reported_all_of found.ends found.symbols) needs answers err)
+      got which file formats.Macho (macho_all.all_symbols found) result is.0 (is.1 ∙ ap Some same)
+      (not_listed SomeEnd (HasSections formats.Macho file) (macho_all.name_of found.names) found.shares_addresses (macho_all.all_entries found) e result (reported_all_of found.ends found.symbols) needs answers err)
 
-located_same : {a b : macho.AllLocated} → Path (Result macho.AllLocated Refusal) (Ok a) (Ok b) → b ≡ a
+located_same : {a b : macho_all.AllLocated} → Path (Result macho_all.AllLocated Refusal) (Ok a) (Ok b) → b ≡ a
 located_same e = cc
 
 -- a Mach-O file with an end of a section has a section
-pub macho_needs : (file : List ℕ) (found : macho.AllLocated) → macho.all_located_answer file ≡ Ok found → found.ends ≢ [] → HasSections formats.Macho file
+pub macho_needs : (file : List ℕ) (found : macho_all.AllLocated) → macho_all.all_located_answer file ≡ Ok found → found.ends ≢ [] → HasSections formats.Macho file
 unfolding HasSections
 macho_needs file found is some = by_length (ltb (length file) least_length) is
   where
@@ -127,9 +129,9 @@ macho_needs file found is some = by_length (ltb (length file) least_length) is
             → (symbols >>= λ symbols. Ok (record { ends = map (macho_all.end_at file) starts; names = map (macho_all.name_at file) starts; symbols = symbols; shares_addresses = nat_eq (macho_file.header_of file).filetype 1 })) ≡ Ok found
             → found.ends ≡ map (macho_all.end_at file) starts
         by_symbols (Err refusal) e = absurd cc
-        by_symbols (Ok symbols) e = ap (λ (l : macho.AllLocated). l.ends) (located_same e)
+        by_symbols (Ok symbols) e = ap (λ (l : macho_all.AllLocated). l.ends) (located_same e)
 
-    by_length : (short : Bool) → cond short (Err unexpected_eof) (macho.all_located file) ≡ Ok found → macho_all.HasSection file
+    by_length : (short : Bool) → cond short (Err unexpected_eof) (macho_all.all_located file) ≡ Ok found → macho_all.HasSection file
     by_length true e = absurd cc
     by_length false e = by_starts (macho_all.section_starts file) refl e
 
@@ -173,8 +175,8 @@ all_is which file (tables.Elf32 parts) all are is = (ap (λ (a : AllSymbols). a.
 all_is which file (tables.Elf64 parts) all are is = (ap (λ (a : AllSymbols). a.section_name) (some_ok (sym are ∙ is)), ap (λ (a : AllSymbols). a.shares_addresses) (some_ok (sym are ∙ is)))
 all_is which file (tables.Macho parts) all are is =
     let found = macho.all_view parts in
-    macho_all_is (macho.all_entries found) (macho_all.name_of found.names) found.shares_addresses all
-    (sym (ap (λ (l : Result macho.AllLocated Refusal). l >>= macho.all_symbols) are.2) ∙ some_same (sym are.1 ∙ is))
+    macho_all_is (macho_all.all_entries found) (macho_all.name_of found.names) found.shares_addresses all
+    (sym (ap (λ (l : Result macho_all.AllLocated Refusal). l >>= macho_all.all_symbols) are.2) ∙ some_same (sym are.1 ∙ is))
 all_is which file (tables.Pe parts) all are is = (ap (λ (a : AllSymbols). a.section_name) (some_ok (sym are.1 ∙ is)), ap (λ (a : AllSymbols). a.shares_addresses) (some_ok (sym are.1 ∙ is)))
 all_is which file tables.Unknown all are is =
     let e : Path (Option (Result AllSymbols Refusal)) None (Some (Ok all)) = sym (ap (λ (f : Format). all_symbols_answer which f file) are) ∙ is in absurd cc

@@ -10,6 +10,7 @@ use Rattle.binfarce.specs.Format.{format_of}
 use Rattle.binfarce.specs.Elf.{elf32, elf64}
 use Rattle.binfarce.specs.Refusal.{Refusal}
 use Rattle.binfarce.specs.Symbol.{Listed}
+use Rattle.binfarce.specs.declared.SymbolTable.TheVariants.{Symtab}
 use Rattle.binfarce_tools.specs.Answer.{symbols_answer, NeedsMemory}
 use Rattle.binfarce_tools.specs.Part.{SameIn, SameParts}
 use Rattle.binfarce_tools.specs.Parts.{magic, answer_parts, PartsDecide}
@@ -48,7 +49,7 @@ format_same file other long same = elim (cases_lt (length file) 8) [
       ∙ ap format_of (take-append-drop 8 file)
 ]
 
-answers_same : (format : Format) (file other : List ℕ) → SameParts (answer_parts format file) file other → (section : List ℕ) → symbols_answer format other section ≡ symbols_answer format file section
+answers_same : (format : Format) (file other : List ℕ) → SameParts (answer_parts format file) file other → (section : List ℕ) → symbols_answer Symtab format other section ≡ symbols_answer Symtab format file section
 unfolding symbols_answer
 answers_same (Elf32 order) file other same section = ap Some (elf.file_answer_same elf32 order file other section within_32 same)
 answers_same (Elf64 order) file other same section = ap Some (elf.file_answer_same elf64 order file other section within_64 same)
@@ -74,6 +75,6 @@ parts_decide file other same =
     let formats = format_same file other same.lengths (All-head P magic parts same.each) in
     let those : SameParts parts file other = record { lengths = same.lengths; each = All-tail P magic parts same.each } in (
       formats,
-      λ section. ap (λ f. symbols_answer f other section) formats ∙ answers_same format file other those section,
+      λ section. ap (λ f. symbols_answer Symtab f other section) formats ∙ answers_same format file other those section,
       λ answer. subst (λ f. NeedsMemory f other answer ↔ NeedsMemory format file answer) (sym formats) (memory_same format file other those answer),
     )

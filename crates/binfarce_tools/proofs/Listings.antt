@@ -13,6 +13,7 @@ use Rattle.binfarce_tools.specs.declared.list.ListError.{ListError}
 use Rattle.binfarce_tools.specs.declared.list.ListError.TheVariants.{Parse, OutOfMemory}
 use Rattle.binfarce_tools.specs.Writing.{AppendsBeginning}
 use Rattle.binfarce.specs.declared.Format.{Format}
+use Rattle.binfarce.specs.declared.SymbolTable.TheVariants.{Symtab}
 use Rattle.binfarce_tools.specs.Answer.{symbols_answer, NeedsMemory}
 use Rattle.binfarce_tools.specs.ListWords.{list_error_of}
 use Rattle.binfarce_tools.specs.Entries.{HoldsLeft, Gets}
@@ -50,10 +51,10 @@ reported_refusal memory answer e (Err f) reported_is answers is =
 
 -- what the reader of a format refuses is what is got of a file of that format
 pub refused : (format found : Format) (file section : List ℕ) (answer : Result Listed Refusal) (e : ParseError) (result : Result (Functions × ℕ) ListError)
-    → format ≡ found → Some answer ≡ symbols_answer format file section → Reported answer → Answers HoldsLeft (NeedsMemory format file) answer (Err e)
-    → IsErrAnd result (λ f. f ≡ list_error_of e) → Gets (NeedsMemory found file) (symbols_answer found file section) result
+    → format ≡ found → Some answer ≡ symbols_answer Symtab format file section → Reported answer → Answers HoldsLeft (NeedsMemory format file) answer (Err e)
+    → IsErrAnd result (λ f. f ≡ list_error_of e) → Gets (NeedsMemory found file) (symbols_answer Symtab found file section) result
 refused format found file section answer e result same is reported_is answers err =
-    subst (λ (f : Format). Gets (NeedsMemory f file) (symbols_answer f file section) result) same
+    subst (λ (f : Format). Gets (NeedsMemory f file) (symbols_answer Symtab f file section) result) same
     (subst (λ (o : Option (Result Listed Refusal)). Gets (NeedsMemory format file) o result) is (reported_refusal (NeedsMemory format file) answer e result reported_is answers err))
 
 -- bytes that stay as they were have grown by nothing more

@@ -7,8 +7,7 @@ use Rattle.std.proofs.lemmas.List.Elements.{All-head, All-tail}
 use Rattle.binfarce.specs.Refusal.{◌>>=◌, Refusal, required, symbols_section_is_missing, unexpected_eof}
 use Rattle.binfarce.specs.Walk.{Walk, first, found_or_end}
 use Rattle.binfarce.specs.Macho.{Command, header_fields, body_of, commands, Section, walk, is_named}
-use Rattle.binfarce.specs.MachoSymbols.{SymbolTable, symbol_table_fields, symbol_table_at, symbol_table_length, symbol_length, slice_at, some_size, text_end_of, Located, located_by, located, answer_of, macho_answer, HasAddress}
-use Rattle.binfarce_tools.specs.Answer.{macho_file_answer}
+use Rattle.binfarce.specs.MachoSymbols.{SymbolTable, symbol_table_fields, symbol_table_at, symbol_table_length, symbol_length, slice_at, some_size, text_end_of, Located, located_by, located, answer_of, macho_answer, macho_file_answer, HasAddress}
 use Rattle.binfarce_tools.specs.Part.{Part, part, field_part, parts_if, whole_part, SameIn, SameParts}
 use Rattle.binfarce_tools.specs.MachoParts.{command_parts, segment_parts, table_command, contents_parts, table_parts, macho_parts}
 use Rattle.binfarce_tools.proofs.Slices.{SameAt}

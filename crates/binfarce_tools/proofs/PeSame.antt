@@ -11,8 +11,7 @@ use Rattle.binfarce.specs.Number.{number, bytes_at}
 use Rattle.binfarce.specs.Refusal.{◌>>=◌, Refusal, required, symbols_section_is_missing, unexpected_eof}
 use Rattle.binfarce.specs.Walk.{Walk, first}
 use Rattle.binfarce.specs.Pe.{header_fields, header_after, header_of, headers_length, signature_offset, sections_offset, least_length, Section, section_fields, section_at, section_of, section_length, section_unread, whole_headers, walk, is_named}
-use Rattle.binfarce.specs.PeSymbols.{SymbolTable, table_offset, table_size, symbol_table, symbol_length, Located, located, entries_of, pe_answer}
-use Rattle.binfarce_tools.specs.Answer.{pe_file_answer}
+use Rattle.binfarce.specs.PeSymbols.{SymbolTable, table_offset, table_size, symbol_table, symbol_length, Located, located, entries_of, pe_answer, pe_file_answer}
 use Rattle.binfarce_tools.specs.Part.{Part, part, SameIn, SameParts}
 use Rattle.binfarce_tools.specs.PeParts.{header_read, section_read, section_parts, table_parts, pe_parts}
 use Rattle.binfarce_tools.proofs.Slices.{SameAt, same_in}

@@ -4,24 +4,22 @@ use Rattle.std.specs.Prelude.{if◌then◌else◌, find, nat_eq, codes, ◌+◌,
 use Rattle.binfarce.specs.declared.ByteOrder.{ByteOrder}
 use Rattle.binfarce.specs.Refusal.{Refusal, ◌>>=◌, required, symbols_section_is_missing, section_is_missing, unexpected_section_type, malformed_input, unexpected_eof, out_of_memory, bytes_in_file}
 use Rattle.binfarce.specs.Walk.{Walk, found_or_end, first, ended, ahead_of, and_then}
-use Rattle.binfarce.specs.Elf.{ElfClass, SectionTable, Section, walk, name_of, section_table, whole_headers}
-use Rattle.binfarce.specs.ElfSymbols.{sought, is_named, section_data, located, located_in, rows_in, elf_answer}
+use Rattle.binfarce.specs.Elf.{ElfClass, SectionTable, Section, walk, names_bytes, name_among, section_table, whole_headers}
+use Rattle.binfarce.specs.ElfSymbols.{TableSections, sought, is_named, section_data, table_sections, needed, rows_at, elf_answer, elf_file_answer}
 use Rattle.binfarce.specs.SymbolTables.{section_type, table_name, strings_name}
 use Rattle.binfarce.specs.declared.SymbolTable.{SymbolTable}
-use Rattle.binfarce.specs.declared.SymbolTable.TheVariants.{Symtab}
 use Rattle.std.specs.Str.{bytes_eq}
 use Rattle.binfarce.specs.Number.{bytes_at}
 use Rattle.binfarce.specs.Sizes.{RowAddress, arranged, least_above}
 use Rattle.binfarce.specs.Pe as pe_file
 use Rattle.binfarce.specs.Pe.{least_length, walk as pe_walk}
 use Rattle.binfarce.specs.PeSymbols as pe
-use Rattle.binfarce.specs.PeSymbols.{pe_answer}
+use Rattle.binfarce.specs.PeSymbols.{pe_answer, pe_file_answer}
 use Rattle.binfarce.specs.Macho as macho_file
 use Rattle.binfarce.specs.Macho.{Command, command_at, commands_from, commands, body_of, header_of, segment, is_segment, sections_of, walk as macho_walk}
 use Rattle.binfarce.specs.MachoAll as all
 use Rattle.binfarce.specs.MachoSymbols as macho
-use Rattle.binfarce.specs.MachoSymbols.{size_up_to, macho_size, whole_table, slice_at, text_end_of, symbol_table_at, some_size, symbol_command, located_by, row_addresses, kept, answer_of, macho_answer}
-use Rattle.binfarce_tools.specs.Answer.{elf_file_answer, macho_file_answer, pe_file_answer}
+use Rattle.binfarce.specs.MachoSymbols.{size_up_to, macho_size, whole_table, slice_at, text_end_of, symbol_table_at, some_size, symbol_command, located_by, row_addresses, kept, answer_of, macho_answer, macho_file_answer}
 
 -- a refusal that isn't that an allocation failed
 abbrev pub is_reported : Refusal → Bool
@@ -64,27 +62,33 @@ reported_section_data : (file : List ℕ) (section : Section) → Reported (sect
 unfolding section_data bytes_in_file
 reported_section_data file section = reported_if (leb (2 ^ 64) (section.offset + section.size)) _ _ refl (reported_if (ltb (length file) (section.offset + section.size)) _ _ refl tt)
 
-reported_rows : (which : SymbolTable) (class : ElfClass) (table : SectionTable) → Reported (rows_in which class table)
-unfolding rows_in
-reported_rows which class table =
+reported_table_sections : (which : SymbolTable) (class : ElfClass) (table : SectionTable) → Reported (table_sections which (walk class table))
+unfolding table_sections
+reported_table_sections which class table =
     reported_step _ _ (reported_sought class table (section_is_missing (table_name which)) (λ section. nat_eq section.kind (section_type which)) refl) (λ symbols.
     reported_step _ _ (reported_sought class table (section_is_missing (strings_name which)) (λ section. nat_eq section.index symbols.link) refl) (λ linked.
-    reported_step _ _ (reported_if (nat_eq linked.kind 3) (Ok linked) (Err (unexpected_section_type 3 linked.kind)) tt refl) (λ string_table.
-    reported_step _ _ (reported_section_data table.file string_table) (λ strings.
-    reported_step _ _ (reported_section_data table.file symbols) (λ part.
-    reported_step _ _ (reported_if (nat_eq (length part % class.symbol_length) 0) (Ok part) (Err unexpected_eof) tt refl) (λ rows. tt))))))
+    reported_step _ _ (reported_if (nat_eq linked.kind 3) (Ok linked) (Err (unexpected_section_type 3 linked.kind)) tt refl) (λ strings. tt)))
 
-reported_located : (which : SymbolTable) (class : ElfClass) (table : SectionTable) (name : List ℕ) → Reported (located_in which class table name)
-unfolding located_in
-reported_located which class table name =
-    reported_step _ _ (reported_sought class table symbols_section_is_missing (λ section. is_named name (name_of class table section)) refl) (λ text.
-    reported_step (rows_in which class table) _ (reported_rows which class table) (λ found. tt))
+reported_needed : (which : SymbolTable) (class : ElfClass) (table : SectionTable) (names : Option (List ℕ)) (name : List ℕ) → Reported (needed which (walk class table) names name)
+unfolding needed
+reported_needed which class table names name =
+    reported_step _ _ (reported_sought class table symbols_section_is_missing (λ section. is_named name (name_among names section.name_offset)) refl) (λ text.
+    reported_step (table_sections which (walk class table)) _ (reported_table_sections which class table) (λ sections. tt))
 
-pub reported_elf : (class : ElfClass) (order : ByteOrder) (file section : List ℕ) → Reported (elf_file_answer class order file section)
-unfolding elf_answer located
-reported_elf class order file section =
+reported_rows : (class : ElfClass) (file : List ℕ) (sections : TableSections) → Reported (rows_at class file sections)
+unfolding rows_at
+reported_rows class file sections =
+    reported_step _ _ (reported_section_data file sections.strings) (λ strings.
+    reported_step _ _ (reported_section_data file sections.symbols) (λ part.
+    reported_step _ _ (reported_if (nat_eq (length part % class.symbol_length) 0) (Ok part) (Err unexpected_eof) tt refl) (λ rows. tt)))
+
+pub reported_elf : (which : SymbolTable) (class : ElfClass) (order : ByteOrder) (file section : List ℕ) → Reported (elf_file_answer which class order file section)
+unfolding elf_answer
+reported_elf which class order file section =
     let table = section_table class (record { order = order; bytes = file }) in
-    reported_if (ltb (length file) class.header_length) (Err unexpected_eof) _ refl (reported_step (located_in Symtab class table section) _ (reported_located Symtab class table section) (λ found. tt))
+    reported_if (ltb (length file) class.header_length) (Err unexpected_eof) _ refl
+    (reported_step (needed which (walk class table) (names_bytes class table) section) _ (reported_needed which class table (names_bytes class table) section) (λ sections.
+    reported_step (rows_at class table.file sections.table) _ (reported_rows class table.file sections.table) (λ found. tt)))
 
 -- a walk doesn't end with a failed allocation
 abbrev ReportedEnd : Option Refusal → Type 0

@@ -8,10 +8,9 @@ use Rattle.binfarce.specs.Refusal.{◌>>=◌, Refusal, bytes_in_file, required, 
 use Rattle.binfarce.specs.Symbol.{Listed}
 use Rattle.binfarce.specs.Walk.{Walk, found_or_end}
 use Rattle.binfarce.specs.Elf.{ElfClass, SectionTable, Section, walk, name_of, section_table}
-use Rattle.binfarce.specs.ElfSymbols.{Located, sought, is_named, section_data, string_table_kind, whole_rows, located, elf_answer, entries_from}
-use Rattle.binfarce_elf.proofs.Steps.{located_steps}
+use Rattle.binfarce.specs.ElfSymbols.{sought, is_named, section_data, string_table_kind, whole_rows, listed_of, elf_answer, elf_file_answer}
+use Rattle.binfarce_elf.proofs.Steps.{answer_steps}
 use Rattle.binfarce_elf.specs.declared.symbol_table.SymbolTable.TheVariants.{Symtab}
-use Rattle.binfarce_tools.specs.Answer.{elf_file_answer}
 use Rattle.binfarce_tools.specs.Part.{SameParts}
 use Rattle.binfarce_tools.specs.ElfParts.{table_of, symbol_table, string_table, elf_parts}
 use Rattle.binfarce_tools.proofs.PartTables.{SameContents, HasWithin, of_file, table_same, walk_same, names_section_same, name_same}
@@ -40,32 +39,32 @@ weaker P Q None implies is = tt
 weaker P Q (Some x) implies is = implies x is
 
 -- what follows a search, where it agrees on what is found
-after_search : (missing : Refusal) (o : Option Section) (end : Option Refusal) (f g : Section → Result Located Refusal) → IfSome o (λ s. f s ≡ g s)
+after_search : (missing : Refusal) (o : Option Section) (end : Option Refusal) (f g : Section → Result Listed Refusal) → IfSome o (λ s. f s ≡ g s)
     → ((found_or_end o end >>= required missing) >>= f) ≡ ((found_or_end o end >>= required missing) >>= g)
 after_search missing (Some s) end f g agree = agree
 after_search missing None None f g agree = refl
 after_search missing None (Some refusal) f g agree = refl
 
-module _ (class : ElfClass) (sections : Walk Section) (name : Section → Option (List ℕ)) (wanted : List ℕ) where
-  -- where the symbols are, by what gives a section's bytes
-  abbrev from_bytes : Section → Result (List ℕ) Refusal → Result (List ℕ) Refusal → Result Located Refusal
+module _ (class : ElfClass) (order : ByteOrder) (sections : Walk Section) (name : Section → Option (List ℕ)) (wanted : List ℕ) where
+  -- the answer, by what gives a section's bytes
+  abbrev from_bytes : Section → Result (List ℕ) Refusal → Result (List ℕ) Refusal → Result Listed Refusal
   from_bytes section string_bytes table_bytes = do
     strings ← string_bytes
     bytes ← table_bytes
     rows ← whole_rows class bytes
-    Ok (record { section = section; strings = strings; rows = rows })
+    Ok (listed_of class order section (record { strings = strings; rows = rows }))
 
-  abbrev from_linked : (Section → Result (List ℕ) Refusal) → Section → Section → Section → Result Located Refusal
+  abbrev from_linked : (Section → Result (List ℕ) Refusal) → Section → Section → Section → Result Listed Refusal
   from_linked read section symbols linked = string_table_kind linked >>= λ table. from_bytes section (read table) (read symbols)
 
-  abbrev from_symbols : (Section → Result (List ℕ) Refusal) → Section → Section → Result Located Refusal
+  abbrev from_symbols : (Section → Result (List ℕ) Refusal) → Section → Section → Result Listed Refusal
   from_symbols read section symbols = sought (section_is_missing (codes ".strtab")) (λ s. eqb s.index symbols.link) sections >>= λ linked. from_linked read section symbols linked
 
-  abbrev from_section : (Section → Result (List ℕ) Refusal) → Section → Result Located Refusal
+  abbrev from_section : (Section → Result (List ℕ) Refusal) → Section → Result Listed Refusal
   from_section read section = sought (section_is_missing (codes ".symtab")) (λ s. eqb s.kind 2) sections >>= λ symbols. from_symbols read section symbols
 
-  abbrev pub located_by : (Section → Result (List ℕ) Refusal) → Result Located Refusal
-  located_by read = sought symbols_section_is_missing (λ s. is_named wanted (name s)) sections >>= λ section. from_section read section
+  abbrev pub listed_by : (Section → Result (List ℕ) Refusal) → Result Listed Refusal
+  listed_by read = sought symbols_section_is_missing (λ s. is_named wanted (name s)) sections >>= λ section. from_section read section
 
   module _ (f g : Section → Result (List ℕ) Refusal) where
     abbrev Agrees : Section → Type 0
@@ -93,30 +92,29 @@ module _ (class : ElfClass) (sections : Walk Section) (name : Section → Option
         (weaker (λ symbols. Agrees symbols × IfSome (find (λ s. eqb s.index symbols.link) sections.items) Agrees) (λ symbols. from_symbols f section symbols ≡ from_symbols g section symbols) found
         (λ symbols same. symbols_same section symbols same.0 same.1) agree)
 
-    -- where two agree on the symbol table and on its strings, the symbols are at one place
-    pub located_by_same : IfSome (find (λ s. eqb s.kind 2) sections.items) (λ symbols. Agrees symbols × IfSome (find (λ s. eqb s.index symbols.link) sections.items) Agrees)
-        → located_by f ≡ located_by g
-    located_by_same agree =
+    -- where two agree on the symbol table and on its strings, there is one answer
+    pub listed_same : IfSome (find (λ s. eqb s.kind 2) sections.items) (λ symbols. Agrees symbols × IfSome (find (λ s. eqb s.index symbols.link) sections.items) Agrees)
+        → listed_by f ≡ listed_by g
+    listed_same agree =
         let found = find (λ s. is_named wanted (name s)) sections.items in
         after_search symbols_section_is_missing found sections.refusal (from_section f) (from_section g)
         (every (λ section. from_section f section ≡ from_section g section) found (λ section. section_same section agree))
 
--- what is located is by the walk, the names and the sections' bytes
-located_is : (class : ElfClass) (table : SectionTable) (wanted : List ℕ) → located class table wanted ≡ located_by class (walk class table) (name_of class table) wanted (section_data table.file)
-unfolding located
-located_is class table wanted = located_steps Symtab class table wanted
+-- the answer is by the walk, the names and the sections' bytes
+answer_is : (class : ElfClass) (table : SectionTable) (wanted : List ℕ) → elf_answer Symtab class table wanted ≡ listed_by class table.order (walk class table) (name_of class table) wanted (section_data table.file)
+answer_is class table wanted = answer_steps Symtab class table wanted
 
-pub located_same : (class : ElfClass) (table : SectionTable) (other wanted : List ℕ) → length table.file ≡ length other
+table_answer_same : (class : ElfClass) (table : SectionTable) (other wanted : List ℕ) → length table.file ≡ length other
     → walk class (of_file table other) ≡ walk class table → name_of class (of_file table other) ≡ name_of class table
     → IfSome (symbol_table class table) (SameContents table.file other)
     → IfSome (symbol_table class table) (λ symbols. IfSome (string_table class table symbols) (SameContents table.file other))
-    → located class (of_file table other) wanted ≡ located class table wanted
-located_same class table other wanted long walks names symbols strings =
-    located_is class (of_file table other) wanted
-    ∙ ap (λ w. located_by class w (name_of class (of_file table other)) wanted (section_data other)) walks
-    ∙ ap (λ n. located_by class (walk class table) n wanted (section_data other)) names
-    ∙ located_by_same class (walk class table) (name_of class table) wanted (section_data other) (section_data table.file) (both (symbol_table class table) symbols strings)
-    ∙ sym (located_is class table wanted)
+    → elf_answer Symtab class (of_file table other) wanted ≡ elf_answer Symtab class table wanted
+table_answer_same class table other wanted long walks names symbols strings =
+    answer_is class (of_file table other) wanted
+    ∙ ap (λ w. listed_by class table.order w (name_of class (of_file table other)) wanted (section_data other)) walks
+    ∙ ap (λ n. listed_by class table.order (walk class table) n wanted (section_data other)) names
+    ∙ listed_same class table.order (walk class table) (name_of class table) wanted (section_data other) (section_data table.file) (both (symbol_table class table) symbols strings)
+    ∙ sym (answer_is class table wanted)
   where
     same : (s : Section) → SameContents table.file other s → section_data other s ≡ section_data table.file s
     same s is = data_same table.file other s long is
@@ -126,27 +124,18 @@ located_same class table other wanted long walks names symbols strings =
     both None a b = tt
     both (Some s) a b = (same s a, weaker (SameContents table.file other) (λ s. section_data other s ≡ section_data table.file s) (string_table class table s) same b)
 
-answer_by : (class : ElfClass) (order : ByteOrder) → Result Located Refusal → Result Listed Refusal
-answer_by class order found = found >>= λ found. Ok (record { entries = entries_from class order found.strings found.section.index found.rows 0; section_size = found.section.size })
-
-answer_is : (class : ElfClass) (table : SectionTable) (wanted : List ℕ) → elf_answer class table wanted ≡ answer_by class table.order (located class table wanted)
-unfolding elf_answer answer_by
-answer_is class table wanted = refl
-
 -- files that hold the same in the parts have one answer
 answer_same : (class : ElfClass) (order : ByteOrder) (file other wanted : List ℕ) → HasWithin class → Held class order file other
-    → elf_answer class (table_of class order other) wanted ≡ elf_answer class (table_of class order file) wanted
+    → elf_answer Symtab class (table_of class order other) wanted ≡ elf_answer Symtab class (table_of class order file) wanted
 unfolding section_table
 answer_same class order file other wanted within same =
     let table = table_of class order file in
     let names_at = names_section_same class table other within same.lengths same.names_header in
-    ap (λ t. elf_answer class t wanted) (table_same class order file other within same.header)
-    ∙ answer_is class (of_file table other) wanted
-    ∙ ap (answer_by class order) (located_same class table other wanted same.lengths (walk_same class table other within same.lengths same.section_headers) (name_same class table other names_at same.names) same.symbols same.strings)
-    ∙ sym (answer_is class table wanted)
+    ap (λ t. elf_answer Symtab class t wanted) (table_same class order file other within same.header)
+    ∙ table_answer_same class table other wanted same.lengths (walk_same class table other within same.lengths same.section_headers) (name_same class table other names_at same.names) same.symbols same.strings
 
 pub file_answer_same : (class : ElfClass) (order : ByteOrder) (file other wanted : List ℕ) → HasWithin class → SameParts (elf_parts class order file) file other
-    → elf_file_answer class order other wanted ≡ elf_file_answer class order file wanted
+    → elf_file_answer Symtab class order other wanted ≡ elf_file_answer Symtab class order file wanted
 file_answer_same class order file other wanted within same =
-    ap (λ n. cond (ltb n class.header_length) (Err unexpected_eof) (elf_answer class (table_of class order other) wanted)) (sym same.lengths)
+    ap (λ n. cond (ltb n class.header_length) (Err unexpected_eof) (elf_answer Symtab class (table_of class order other) wanted)) (sym same.lengths)
     ∙ ap (λ a. cond (ltb (length file) class.header_length) (Err unexpected_eof) a) (answer_same class order file other wanted within (held class order file other same))

@@ -10,7 +10,7 @@ use Rattle.binfarce.specs.Format.{format_of}
 use Rattle.binfarce.specs.declared.SymbolTable.{SymbolTable}
 use Rattle.binfarce.specs.declared.SymbolTable.TheVariants.{Symtab, Dynsym}
 use Rattle.binfarce.specs.MachoParts.{SomeAddress}
-use Rattle.binfarce.specs.MachoSymbols.{Located, HasAddress, located, kept, listed_of, answer_of}
+use Rattle.binfarce.specs.MachoSymbols.{Located, HasAddress, located, kept, listed_of, answer_of, macho_file_answer}
 use Rattle.binfarce.specs.Refusal.{◌>>=◌, Refusal, unexpected_eof}
 use Rattle.binfarce.specs.Sizes.{RowAddress, arranged}
 use Rattle.binfarce.specs.Symbol.{Entry, Listed, ListsSome, Answers}
@@ -18,7 +18,7 @@ use Rattle.binfarce.specs.SymbolViews.{HoldsFunctions}
 use Rattle.binfarce_tables.specs.MachoReading.{located_answer}
 use Rattle.binfarce_tools.specs.declared.functions.Functions.{Functions}
 use Rattle.binfarce_tools.specs.declared.list.ListError.{ListError}
-use Rattle.binfarce_tools.specs.Answer.{macho_file_answer, symbols_answer, dynamic_symbols_answer, answer_of as answer_by, NeedsMemory}
+use Rattle.binfarce_tools.specs.Answer.{symbols_answer, answer_of as answer_by, NeedsMemory}
 use Rattle.binfarce_tools.specs.Entries.{HoldsLeft, IsArranged, Gets}
 use Rattle.binfarce_tools.specs.ListWords.{list_error_of}
 use Rattle.binfarce_tools.proofs.Listings.{as_memory, reported_refusal}
@@ -70,26 +70,18 @@ some_is : (a b : Result Listed Refusal) → Some a ≡ Some b → a ≡ b
 some_is a b is = cc
 
 -- a list that isn't empty needs memory, whatever the file's format
-by_symtab : (format : Format) (file section : List ℕ) (listed : Listed) → symbols_answer format file section ≡ Some (Ok listed) → ListsSome (Ok listed) → NeedsMemory format file (Ok listed)
+by_format : (which : SymbolTable) (format : Format) (file section : List ℕ) (listed : Listed) → symbols_answer which format file section ≡ Some (Ok listed) → ListsSome (Ok listed) → NeedsMemory format file (Ok listed)
 unfolding symbols_answer NeedsMemory
-by_symtab (formats.Elf32 order) file section listed is some = some
-by_symtab (formats.Elf64 order) file section listed is some = some
-by_symtab formats.Macho file section listed is some =
+by_format which (formats.Elf32 order) file section listed is some = some
+by_format which (formats.Elf64 order) file section listed is some = some
+by_format Symtab formats.Macho file section listed is some =
     listed_address file (located_answer file) listed refl (sym (macho_is file) ∙ some_is (macho_file_answer file) (Ok listed) is) some
-by_symtab formats.PE file section listed is some = some
-by_symtab formats.Unknown file section listed is some = absurd cc
-
-by_dynsym : (format : Format) (file section : List ℕ) (listed : Listed) → dynamic_symbols_answer format file section ≡ Some (Ok listed) → ListsSome (Ok listed) → NeedsMemory format file (Ok listed)
-unfolding dynamic_symbols_answer NeedsMemory
-by_dynsym (formats.Elf32 order) file section listed is some = some
-by_dynsym (formats.Elf64 order) file section listed is some = some
-by_dynsym formats.Macho file section listed is some = absurd cc
-by_dynsym formats.PE file section listed is some = absurd cc
-by_dynsym formats.Unknown file section listed is some = absurd cc
+by_format Dynsym formats.Macho file section listed is some = absurd cc
+by_format which formats.PE file section listed is some = some
+by_format which formats.Unknown file section listed is some = absurd cc
 
 pub needs_memory : (which : SymbolTable) (file section : List ℕ) (listed : Listed) → answer_by which file section ≡ Some (Ok listed) → ListsSome (Ok listed) → NeedsMemory (format_of file) file (Ok listed)
-needs_memory Symtab file section listed is some = by_symtab (format_of file) file section listed is some
-needs_memory Dynsym file section listed is some = by_dynsym (format_of file) file section listed is some
+needs_memory which file section listed is some = by_format which (format_of file) file section listed is some
 
 of_ok : (A B : Type 0) (answer : Result Listed Refusal) (functions : Vec FunctionSymbol Global × ℕ) (value : Functions × ℕ)
     → Answers HoldsFunctions (λ _. A) answer (Ok functions) → IsArranged functions value → Gets (λ _. B) (Some answer) (Ok value)
@@ -106,22 +98,22 @@ module _ (which : SymbolTable) (file section : List ℕ) (found : Option Located
   same : answer_of found ≡ macho_file_answer file
   same = sym (macho_is file ∙ ap (λ (l : Result (Option Located) Refusal). l >>= answer_of) is.2)
 
-  by_format : (result : Result (Functions × ℕ) ListError) → Gets (λ _. HasAddress file) (Some (macho_file_answer file)) result → Gets (NeedsMemory (format_of file) file) (answer_by which file section) result
+  of_file : (result : Result (Functions × ℕ) ListError) → Gets (λ _. HasAddress file) (Some (macho_file_answer file)) result → Gets (NeedsMemory (format_of file) file) (answer_by which file section) result
   unfolding NeedsMemory
-  by_format result gets =
+  of_file result gets =
       subst (λ (a : Option (Result Listed Refusal)). Gets (NeedsMemory (format_of file) file) a result) (sym is.1)
       (subst (λ (f : Format). Gets (NeedsMemory f file) (Some (macho_file_answer file)) result) (sym is.0) gets)
 
   pub given_macho : (functions : Vec FunctionSymbol Global × ℕ) (value : Functions × ℕ) → Answers HoldsFunctions (λ _. SomeAddress found) (answer_of found) (Ok functions) → IsArranged functions value
       → Gets (NeedsMemory (format_of file) file) (answer_by which file section) (Ok value)
   given_macho functions value answers arranged =
-      by_format (Ok value)
+      of_file (Ok value)
       (subst (λ (a : Result Listed Refusal). Gets (λ _. HasAddress file) (Some a) (Ok value)) same (of_ok (SomeAddress found) (HasAddress file) (answer_of found) functions value answers arranged))
 
   pub not_given_macho : (e : ParseError) (result : Result (Functions × ℕ) ListError) → Answers HoldsFunctions (λ _. SomeAddress found) (answer_of found) (Err e) → IsErrAnd result (λ f. f ≡ list_error_of e)
       → Gets (NeedsMemory (format_of file) file) (answer_by which file section) result
   not_given_macho e result answers err =
       let some = addressed file found (whole_located (ltb (length file) 28) (located file) found is.2) in
-      by_format result
+      of_file result
       (reported_refusal (λ _. HasAddress file) (macho_file_answer file) e result (reported_macho file)
       (subst (λ (a : Result Listed Refusal). Answers HoldsLeft (λ _. HasAddress file) a (Err e)) same (of_err (SomeAddress found) (HasAddress file) (answer_of found) e some answers)) err)

@@ -6,23 +6,24 @@ use Rattle.std.proofs.lemmas.Bool.{le-ltb}
 use Rattle.binfarce.specs.declared.ByteOrder.{ByteOrder}
 use Rattle.binfarce.specs.declared.Format.{Format}
 use Rattle.binfarce.specs.declared.Format.TheVariants as formats
-use Rattle.binfarce.specs.Elf.{ElfClass, elf32, elf64}
-use Rattle.binfarce.specs.ElfSymbols as elf
+use Rattle.binfarce.specs.Elf.{elf32, elf64}
+use Rattle.binfarce.specs.ElfSymbols.{elf_file_answer}
 use Rattle.binfarce.specs.declared.SymbolTable.{SymbolTable}
 use Rattle.binfarce.specs.declared.SymbolTable.TheVariants.{Symtab, Dynsym}
 use Rattle.binfarce.specs.Format.{format_of}
-use Rattle.binfarce.specs.MachoSymbols.{Located, located, answer_of, macho_answer}
+use Rattle.binfarce.specs.MachoSymbols.{Located, located, answer_of, macho_answer, macho_file_answer}
+use Rattle.binfarce.specs.PeSymbols.{pe_file_answer}
 use Rattle.binfarce.specs.declared.ParseError.{ParseError}
 use Rattle.binfarce.specs.Refusal.{◌>>=◌, Refusal, refusal_of, unexpected_eof, section_is_missing}
 use Rattle.binfarce.specs.Symbol.{Listed}
 use Rattle.binfarce_tables.specs.MachoReading as macho
 use Rattle.binfarce_tables.specs.MachoReading.{located_answer}
-use Rattle.binfarce_tables.specs.Reading.{Reads, file_answer_in}
+use Rattle.binfarce_tables.specs.Reading.{Reads}
 use Rattle.binfarce_tables.specs.declared.error.ReadError.{ReadError}
 use Rattle.binfarce_tables.specs.declared.error.ReadError.TheVariants.{Refused, Unreadable, OutOfMemory}
 use Rattle.binfarce_tools.specs.declared.list.ListError.TheVariants as errors
 use Rattle.binfarce_tools.specs.declared.tables.Tables.{Tables}
-use Rattle.binfarce_tools.specs.Answer.{elf_file_answer, macho_file_answer, pe_file_answer, symbols_answer, dynamic_symbols_answer, answer_of as answer, NeedsMemory}
+use Rattle.binfarce_tools.specs.Answer.{symbols_answer, answer_of as answer, NeedsMemory}
 use Rattle.binfarce_tools.specs.Entries.{Gets}
 use Rattle.binfarce_tools.specs.Tables.{AreTablesOf, ReadsAs, ReadsTables}
 
@@ -50,30 +51,23 @@ length_known (Some bytes) file len is reported_is =
     let same : bytes ≡ file = cc in
     reported_is ∙ ap length same
 
--- the answer of an ELF file by its symbol table
-by_symtab : (class : ElfClass) (order : ByteOrder) (file section : List ℕ) → elf_file_answer class order file section ≡ file_answer_in Symtab class order file section
-unfolding elf.elf_answer elf.located elf.answer_in
-by_symtab class order file section = refl
-
 -- the answer of an ELF file is that of its class
-pub answer_32 : (which : SymbolTable) (order : ByteOrder) (file section : List ℕ) (given : Result Listed Refusal) → format_of file ≡ formats.Elf32 order → file_answer_in which elf32 order file section ≡ given → answer which file section ≡ Some given
-unfolding symbols_answer dynamic_symbols_answer
-answer_32 Symtab order file section given format is = ap (λ (f : Format). symbols_answer f file section) format ∙ ap Some (by_symtab elf32 order file section ∙ is)
-answer_32 Dynsym order file section given format is = ap (λ (f : Format). dynamic_symbols_answer f file section) format ∙ ap Some is
+pub answer_32 : (which : SymbolTable) (order : ByteOrder) (file section : List ℕ) (given : Result Listed Refusal) → format_of file ≡ formats.Elf32 order → elf_file_answer which elf32 order file section ≡ given → answer which file section ≡ Some given
+unfolding symbols_answer
+answer_32 which order file section given format is = ap (λ (f : Format). symbols_answer which f file section) format ∙ ap Some is
 
-pub answer_64 : (which : SymbolTable) (order : ByteOrder) (file section : List ℕ) (given : Result Listed Refusal) → format_of file ≡ formats.Elf64 order → file_answer_in which elf64 order file section ≡ given → answer which file section ≡ Some given
-unfolding symbols_answer dynamic_symbols_answer
-answer_64 Symtab order file section given format is = ap (λ (f : Format). symbols_answer f file section) format ∙ ap Some (by_symtab elf64 order file section ∙ is)
-answer_64 Dynsym order file section given format is = ap (λ (f : Format). dynamic_symbols_answer f file section) format ∙ ap Some is
+pub answer_64 : (which : SymbolTable) (order : ByteOrder) (file section : List ℕ) (given : Result Listed Refusal) → format_of file ≡ formats.Elf64 order → elf_file_answer which elf64 order file section ≡ given → answer which file section ≡ Some given
+unfolding symbols_answer
+answer_64 which order file section given format is = ap (λ (f : Format). symbols_answer which f file section) format ∙ ap Some is
 
 -- that of a Mach-O or PE file, which has a symbol table alone
 pub answer_pe : (which : SymbolTable) (file section : List ℕ) (given : Result Listed Refusal) → which ≡ Symtab → format_of file ≡ formats.PE → pe_file_answer file ≡ given → answer which file section ≡ Some given
 unfolding symbols_answer
-answer_pe which file section given table format is = ap (λ (w : SymbolTable). answer w file section) table ∙ ap (λ (f : Format). symbols_answer f file section) format ∙ ap Some is
+answer_pe which file section given table format is = ap (λ (w : SymbolTable). answer w file section) table ∙ ap (λ (f : Format). symbols_answer Symtab f file section) format ∙ ap Some is
 
 pub answer_macho : (which : SymbolTable) (file section : List ℕ) (given : Result Listed Refusal) → which ≡ Symtab → format_of file ≡ formats.Macho → macho_file_answer file ≡ given → answer which file section ≡ Some given
 unfolding symbols_answer
-answer_macho which file section given table format is = ap (λ (w : SymbolTable). answer w file section) table ∙ ap (λ (f : Format). symbols_answer f file section) format ∙ ap Some is
+answer_macho which file section given table format is = ap (λ (w : SymbolTable). answer w file section) table ∙ ap (λ (f : Format). symbols_answer Symtab f file section) format ∙ ap Some is
 
 -- the answer of a Mach-O file is that of where its symbols are
 by_length : (short : Bool) (found : Result (Option Located) Refusal) → (if short then Err unexpected_eof else (found >>= answer_of)) ≡ ((if short then Err unexpected_eof else found) >>= answer_of)
@@ -116,15 +110,15 @@ unread_macho may_fail which file section e r table format reads err =
 
 -- a Mach-O or PE file has no dynamic symbol table
 abbrev pub IsWithout : List ℕ → List ℕ → Type 0
-IsWithout file section = dynamic_symbols_answer (format_of file) file section ≡ Some (Err (section_is_missing (codes ".dynsym")))
+IsWithout file section = answer Dynsym file section ≡ Some (Err (section_is_missing (codes ".dynsym")))
 
 pub macho_without : (file section : List ℕ) → format_of file ≡ formats.Macho → IsWithout file section
-unfolding dynamic_symbols_answer
-macho_without file section format = ap (λ (f : Format). dynamic_symbols_answer f file section) format
+unfolding symbols_answer
+macho_without file section format = ap (λ (f : Format). symbols_answer Dynsym f file section) format
 
 pub pe_without : (file section : List ℕ) → format_of file ≡ formats.PE → IsWithout file section
-unfolding dynamic_symbols_answer
-pe_without file section format = ap (λ (f : Format). dynamic_symbols_answer f file section) format
+unfolding symbols_answer
+pe_without file section format = ap (λ (f : Format). symbols_answer Dynsym f file section) format
 
 -- so it is refused
 pub refused_as : {L T : Type 0} (AreTables : T → Type 0) (may : Type 0) (answered : Option (Result L Refusal)) (p : ParseError) (r : Result T ReadError)
@@ -140,6 +134,5 @@ no_table may which file section p r without reported_is err =
 
 -- a file of an unknown format
 pub of_unknown : (which : SymbolTable) (file section : List ℕ) → format_of file ≡ formats.Unknown → Gets (NeedsMemory (format_of file) file) (answer which file section) (Err errors.Unknown)
-unfolding symbols_answer dynamic_symbols_answer
-of_unknown Symtab file section is = subst (λ (f : Format). Gets (NeedsMemory f file) (symbols_answer f file section) (Err errors.Unknown)) (sym is) refl
-of_unknown Dynsym file section is = subst (λ (f : Format). Gets (NeedsMemory f file) (dynamic_symbols_answer f file section) (Err errors.Unknown)) (sym is) refl
+unfolding symbols_answer
+of_unknown which file section is = subst (λ (f : Format). Gets (NeedsMemory f file) (symbols_answer which f file section) (Err errors.Unknown)) (sym is) refl

@@ -1,32 +1,25 @@
 -- The function symbols of all sections of a file of any format, and the sections' names.
-use Rattle.std.specs.Prelude.{ℕ, List, codes, map, Option, Some, None, Result, Ok, Err}
+use Rattle.std.specs.Prelude.{ℕ, List, map, Option, Some, None, Result, Ok, Err}
 use Rattle.std.specs.List.{sum_by}
 use Rattle.binfarce.specs.declared.Format.{Format}
 use Rattle.binfarce.specs.declared.Format.TheVariants.{Elf32, Elf64, Macho, PE, Unknown}
 use Rattle.binfarce.specs.Symbol.{Listed}
 use Rattle.binfarce.specs.Format.{format_of}
-use Rattle.binfarce.specs.Refusal.{Refusal, section_is_missing}
+use Rattle.binfarce.specs.Refusal.{Refusal}
 use Rattle.binfarce.specs.SectionEntries.{AllSymbols}
 use Rattle.binfarce.specs.Elf.{elf32, elf64}
 use Rattle.binfarce.specs.declared.SymbolTable.{SymbolTable}
-use Rattle.binfarce.specs.declared.SymbolTable.TheVariants.{Symtab, Dynsym}
+use Rattle.binfarce.specs.ElfAll.{all_file_answer}
 use Rattle.binfarce.specs.MachoAll as macho
 use Rattle.binfarce.specs.PeAll as pe
-use Rattle.binfarce_tables.specs.ElfAllReading.{all_file_answer}
-use Rattle.binfarce_tables.specs.MachoAllReading as macho_reading
-use Rattle.binfarce_tables.specs.PeAllReading as pe_reading
-
--- an answer by the symbol table: a Mach-O or PE file has no dynamic one
-abbrev pub by_symbol_table : SymbolTable → Result AllSymbols Refusal → Result AllSymbols Refusal
-by_symbol_table Symtab answer = answer
-by_symbol_table Dynsym answer = Err (section_is_missing (codes ".dynsym"))
+use Rattle.binfarce_tools.specs.Answer.{by_symbol_table}
 
 -- what the reader of the format answers by this symbol table; no reader reads an unknown format
 unfoldable pub all_symbols_answer : SymbolTable → Format → List ℕ → Option (Result AllSymbols Refusal)
 all_symbols_answer which (Elf32 order) file = Some (all_file_answer which elf32 order file)
 all_symbols_answer which (Elf64 order) file = Some (all_file_answer which elf64 order file)
-all_symbols_answer which Macho file = Some (by_symbol_table which (macho_reading.all_file_answer file))
-all_symbols_answer which PE file = Some (by_symbol_table which (pe_reading.all_file_answer file))
+all_symbols_answer which Macho file = Some (by_symbol_table which (macho.all_file_answer file))
+all_symbols_answer which PE file = Some (by_symbol_table which (pe.all_file_answer file))
 all_symbols_answer which Unknown file = None
 
 -- what a file answers for all sections by this symbol table

@@ -19,7 +19,7 @@ use Rattle.binfarce_tools.specs.declared.all.AllTables.TheVariants.{Elf32, Elf64
 unfoldable pub AreAllTablesOf : SymbolTable → List ℕ → AllTables → Type 0
 AreAllTablesOf which file (Elf32 parts) = all_answer_of which file ≡ Some (Ok (all_view elf32 parts))
 AreAllTablesOf which file (Elf64 parts) = all_answer_of which file ≡ Some (Ok (all_view elf64 parts))
-AreAllTablesOf which file (Macho parts) = (format_of file ≡ formats.Macho) × (all_answer_of which file ≡ Some (macho.all_file_answer file)) × (macho.all_located_answer file ≡ Ok (macho.all_view parts))
+AreAllTablesOf which file (Macho parts) = (format_of file ≡ formats.Macho) × (all_answer_of which file ≡ Some (macho_all.all_file_answer file)) × (macho_all.all_located_answer file ≡ Ok (macho.all_view parts))
 AreAllTablesOf which file (Pe parts) = (format_of file ≡ formats.PE) × (all_answer_of which file ≡ Some (Ok (pe.all_view parts))) × (parts.sections.count ≡ (header_of file).number_of_sections)
 AreAllTablesOf which file Unknown = format_of file ≡ formats.Unknown
 

@@ -6,7 +6,7 @@ use Rattle.binfarce.specs.Format.{format_of}
 use Rattle.binfarce.specs.Elf.{elf32, elf64}
 use Rattle.binfarce.specs.Refusal.{Refusal}
 use Rattle.binfarce.specs.Symbol.{Listed}
-use Rattle.binfarce_tools.specs.Answer.{symbols_answer, NeedsMemory}
+use Rattle.binfarce_tools.specs.Answer.{file_answer, NeedsMemory}
 use Rattle.binfarce_tools.specs.Part.{Part, part, SameParts}
 use Rattle.binfarce_tools.specs.ElfParts.{elf_parts}
 use Rattle.binfarce_tools.specs.MachoParts.{macho_parts}
@@ -33,5 +33,5 @@ abbrev pub PartsDecide : List ℕ → List ℕ → Type 0
 PartsDecide file other =
     SameParts (parts_of file) file other
     → (format_of other ≡ format_of file)
-    × ((section : List ℕ) → symbols_answer (format_of other) other section ≡ symbols_answer (format_of file) file section)
+    × ((section : List ℕ) → file_answer other section ≡ file_answer file section)
     × ((answer : Result Listed Refusal) → NeedsMemory (format_of other) other answer ↔ NeedsMemory (format_of file) file answer)

@@ -3,6 +3,7 @@ use Rattle.std.specs.Prelude.{◌≡◌, ℕ, List, Option, Some, Result, Ok, Er
 use Rattle.binfarce.specs.declared.Format.TheVariants as formats
 use Rattle.binfarce.specs.Elf.{elf32, elf64}
 use Rattle.binfarce.specs.Format.{format_of}
+use Rattle.binfarce.specs.MachoSymbols.{macho_file_answer}
 use Rattle.binfarce.specs.Refusal.{Refusal, refusal_of}
 use Rattle.binfarce_tables.specs.MachoReading as macho
 use Rattle.binfarce_tables.specs.PeReading as pe
@@ -10,7 +11,7 @@ use Rattle.binfarce_tables.specs.Reading.{parts_view}
 use Rattle.binfarce_tables.specs.declared.error.ReadError.{ReadError}
 use Rattle.binfarce_tables.specs.declared.error.ReadError.TheVariants.{Refused, Unreadable, OutOfMemory}
 use Rattle.binfarce.specs.declared.SymbolTable.{SymbolTable}
-use Rattle.binfarce_tools.specs.Answer.{answer_of, macho_file_answer}
+use Rattle.binfarce_tools.specs.Answer.{answer_of}
 use Rattle.binfarce_tools.specs.declared.tables.Tables.{Tables}
 use Rattle.binfarce_tools.specs.declared.tables.Tables.TheVariants.{Elf32, Elf64, Macho, Pe, Unknown}
 

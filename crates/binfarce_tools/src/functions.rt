@@ -2,10 +2,13 @@
 
 ghost use Rattle.std.specs.Iterator.{YieldsFirstBy};
 ghost use Rattle.binfarce.specs.Elf.{elf32, elf64};
-ghost use Rattle.binfarce.specs.MachoSymbols.{HasAddress};
+ghost use Rattle.binfarce.specs.ElfSymbols.{elf_file_answer};
+ghost use Rattle.binfarce.specs.MachoSymbols.{macho_file_answer, HasAddress};
+ghost use Rattle.binfarce.specs.PeSymbols.{pe_file_answer};
 ghost use Rattle.binfarce.specs.Symbol.{ListsSome, Answers};
 ghost use Rattle.binfarce.specs.SymbolViews.{function_view};
-ghost use Rattle.binfarce_tools.specs.Answer.{elf_file_answer, macho_file_answer, pe_file_answer, symbols_answer, NeedsMemory, file_answer, FileNeedsMemory};
+ghost use Rattle.binfarce.specs.declared.SymbolTable.TheVariants.{Symtab};
+ghost use Rattle.binfarce_tools.specs.Answer.{file_answer, FileNeedsMemory};
 ghost use Rattle.binfarce_tools.specs.Entries.{arranged_left, HoldsLeft, IsArranged, Gets};
 
 use crate::all::AllFunctions;
@@ -92,7 +95,7 @@ fn read_elf32<'a>(
     byte_order: ByteOrder,
     section: &str,
 ) -> Result<(Functions<'a>, u64), ParseError>
-    ensures { Answers HoldsLeft ListsSome (elf_file_answer elf32 byte_order data.entry.now section.now) result }
+    ensures { Answers HoldsLeft ListsSome (elf_file_answer Symtab elf32 byte_order data.entry.now section.now) result }
 {
     let (functions, size) = elf32::parse(data, byte_order)?.functions(section)?;
     Ok((Functions::Elf32(functions), size))
@@ -104,7 +107,7 @@ fn read_elf64<'a>(
     byte_order: ByteOrder,
     section: &str,
 ) -> Result<(Functions<'a>, u64), ParseError>
-    ensures { Answers HoldsLeft ListsSome (elf_file_answer elf64 byte_order data.entry.now section.now) result }
+    ensures { Answers HoldsLeft ListsSome (elf_file_answer Symtab elf64 byte_order data.entry.now section.now) result }
 {
     let (functions, size) = elf64::parse(data, byte_order)?.functions(section)?;
     Ok((Functions::Elf64(functions), size))

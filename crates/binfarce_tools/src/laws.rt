@@ -4,7 +4,10 @@ ghost use Rattle.std.specs.Prelude.{◌≡◌, ◌++◌, [], ◌∷◌, replicat
 ghost use Rattle.binfarce.specs.declared.ByteOrder.TheVariants.{LittleEndian};
 ghost use Rattle.binfarce.specs.Refusal.{symbols_section_is_missing, malformed_input, unexpected_eof};
 ghost use Rattle.binfarce.specs.Elf.{elf32, elf64};
-ghost use Rattle.binfarce_tools.specs.Answer.{elf_file_answer, macho_file_answer, pe_file_answer};
+ghost use Rattle.binfarce.specs.ElfSymbols.{elf_file_answer};
+ghost use Rattle.binfarce.specs.MachoSymbols.{macho_file_answer};
+ghost use Rattle.binfarce.specs.PeSymbols.{pe_file_answer};
+ghost use Rattle.binfarce.specs.declared.SymbolTable.TheVariants.{Symtab};
 ghost use Rattle.binfarce_tools.specs.Part.{SameParts, part};
 ghost use Rattle.binfarce_tools.specs.ElfParts.{elf_parts, headers_size};
 ghost use Rattle.binfarce_tools.specs.MachoParts.{macho_parts};
@@ -34,11 +37,11 @@ pub fn parts_decide(file: &[u8], other: &[u8])
 /// The same for the answers of the readers of both classes, in either order.
 pub fn elf_parts_decide(file: &[u8], other: &[u8], byte_order: ByteOrder, section: &str)
     ensures of_32_bits { SameParts (elf_parts elf32 byte_order file.now) file.now other.now
-        → elf_file_answer elf32 byte_order other.now section.now
-        ≡ elf_file_answer elf32 byte_order file.now section.now }
+        → elf_file_answer Symtab elf32 byte_order other.now section.now
+        ≡ elf_file_answer Symtab elf32 byte_order file.now section.now }
     ensures of_64_bits { SameParts (elf_parts elf64 byte_order file.now) file.now other.now
-        → elf_file_answer elf64 byte_order other.now section.now
-        ≡ elf_file_answer elf64 byte_order file.now section.now }
+        → elf_file_answer Symtab elf64 byte_order other.now section.now
+        ≡ elf_file_answer Symtab elf64 byte_order file.now section.now }
 {
     let _ = file;
     let _ = other;
@@ -73,11 +76,11 @@ fn worked_sizes()
 {}
 
 /// Every byte of a part counts: two headers that differ in the last byte of `shoff` alone.
-#[tactic(auto, unfolding(binfarce_elf::specs::Elf::elf32, binfarce_elf::specs::Elf::section_table, binfarce_elf::specs::Elf::header_of, binfarce_elf::specs::Elf::walk, binfarce_elf::specs::ElfSymbols::elf_answer, binfarce_elf::specs::ElfSymbols::located, binfarce_elf::specs::ElfSymbols::located_in, binfarce_elf::specs::ElfSymbols::rows_in, binfarce_bytes::proofs::Computing::computing))]
+#[tactic(auto, unfolding(binfarce_elf::specs::Elf::elf32, binfarce_elf::specs::Elf::section_table, binfarce_elf::specs::Elf::header_of, binfarce_elf::specs::Elf::walk, binfarce_elf::specs::ElfSymbols::elf_answer, binfarce_elf::specs::ElfSymbols::needed, binfarce_bytes::proofs::Computing::computing))]
 fn worked_answers()
-    ensures no_sections { elf_file_answer elf32 LittleEndian (replicate 52 0) (0x66 ∷ [])
+    ensures no_sections { elf_file_answer Symtab elf32 LittleEndian (replicate 52 0) (0x66 ∷ [])
         ≡ Err symbols_section_is_missing }
-    ensures past_the_end { elf_file_answer elf32 LittleEndian (replicate 35 0 ++ 1 ∷ replicate 16 0) (0x66 ∷ [])
+    ensures past_the_end { elf_file_answer Symtab elf32 LittleEndian (replicate 35 0 ++ 1 ∷ replicate 16 0) (0x66 ∷ [])
         ≡ Err unexpected_eof }
 {}
 

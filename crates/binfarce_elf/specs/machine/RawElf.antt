@@ -5,12 +5,10 @@ use Rattle.binfarce_bytes.specs.Walk.{Walk, ended}
 use Rattle.binfarce_bytes.specs.Field.{Field, field}
 use Rattle.binfarce_elf.specs.declared.class.SymbolRow.{SymbolRow}
 use Rattle.binfarce_elf.specs.declared.sections.Table.{Table}
-use Rattle.binfarce_elf.specs.declared.symbols.Located.{Located}
 use Rattle.binfarce_elf.specs.declared.symbols.Rows.{Rows}
 use Rattle.binfarce_elf.specs.Elf as elf
 use Rattle.binfarce_elf.specs.Elf.{ElfClass, Header, SectionHeader, SectionTable, section_of, whole_headers, walk}
 use Rattle.binfarce_elf.specs.ElfSymbols as symbols
-use Rattle.binfarce_elf.specs.ElfViews.{section_view}
 
 -- the file header's fields, where a word has w bytes
 abbrev pub fields_of_header : ℕ → Header Field
@@ -66,7 +64,3 @@ walk_from class table (Some k) = record {
 -- the strings and the rows of a symbol table
 abbrev pub rows_view : Rows → symbols.TableRows
 rows_view r = record { strings = r.strings.now; rows = r.rows.now }
-
--- where the symbols are
-abbrev pub located_view : {C : Type 0} → (C → ℕ) → Located C → symbols.Located
-located_view number l = record { section = section_view number l.section; strings = l.strings.now; rows = l.rows.now }

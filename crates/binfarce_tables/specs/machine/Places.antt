@@ -2,12 +2,10 @@
 use Rattle.std.specs.Prelude.{ℕ, ◌*◌, List, min, Result, Ok}
 use Rattle.binfarce_bytes.specs.declared.ByteOrder.{ByteOrder}
 use Rattle.binfarce_bytes.specs.Number.{bytes_at}
-use Rattle.binfarce_bytes.specs.Refusal.{◌>>=◌, Refusal, if_as_long_as}
-use Rattle.binfarce_bytes.specs.SectionEntries.{unless}
-use Rattle.binfarce_elf.specs.Elf.{ElfClass, SectionTable, section_table, walk, whole_headers}
-use Rattle.binfarce_elf.specs.ElfSymbols.{TableRows, rows_in}
-use Rattle.binfarce_elf.specs.declared.symbol_table.SymbolTable.{SymbolTable}
-use Rattle.binfarce_tables.specs.declared.elf_all.TableParts.{TableParts}
+use Rattle.binfarce_bytes.specs.Refusal.{Refusal, if_as_long_as}
+use Rattle.binfarce_elf.specs.Elf.{ElfClass, SectionTable, section_table, whole_headers}
+use Rattle.binfarce_elf.specs.ElfSymbols.{TableRows}
+use Rattle.binfarce_tables.specs.declared.elf.TableParts.{TableParts}
 use Rattle.binfarce_tables.specs.declared.elf.Place.{Place}
 
 -- the table at this place of a file
@@ -21,10 +19,6 @@ table_step class order file = if_as_long_as class.header_length file (Ok (sectio
 -- the section headers that are whole and below the count
 abbrev pub headers_of : ElfClass → SectionTable → List ℕ
 headers_of class table = bytes_at table.file table.shoff (min table.shnum (whole_headers class table) * class.section_length)
-
--- the rows and the strings of a symbol table, where all section headers are whole
-abbrev pub rows_of_all : SymbolTable → ElfClass → SectionTable → Result TableRows Refusal
-rows_of_all which class table = unless (walk class table).refusal table.shnum >>= λ count. rows_in which class table
 
 -- a `TableParts`
 abbrev pub rows_view : TableParts → TableRows

@@ -101,7 +101,7 @@ impl<'a, C: Class> Elf<'a, C> {
     /// that isn't of type 3 (`SHT_STRTAB`); `MalformedInput` where the string table's bytes end past `usize`, and
     /// `UnexpectedEof` past the file; the same for the symbol table's bytes; `UnexpectedEof` for a truncated last row.
     pub fn functions(&self, section_name: &str) -> Result<(Functions<'a, C>, u64), ParseError> {
-        symbols::section_functions::<C>(self.section_table(), section_name)
+        symbols::section_functions::<C>(self.section_table(), SymbolTable::Symtab, section_name)
     }
 
     /// The same functions from the dynamic symbol table, which a stripped file still has.
@@ -114,7 +114,7 @@ impl<'a, C: Class> Elf<'a, C> {
         &self,
         section_name: &str,
     ) -> Result<(Functions<'a, C>, u64), ParseError> {
-        symbols::dynamic_functions::<C>(self.section_table(), section_name)
+        symbols::section_functions::<C>(self.section_table(), SymbolTable::Dynsym, section_name)
     }
 
     /// The function symbols of all sections as the file stores them, each with the index of its section, in the order of

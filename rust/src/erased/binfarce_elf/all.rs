@@ -5,7 +5,9 @@
 use crate::erased::binfarce_elf::class::{Class, Half, SymbolRow};
 use crate::erased::binfarce_elf::sections::Table;
 use crate::erased::binfarce_elf::symbol_table::SymbolTable;
-use crate::erased::binfarce_elf::symbols::{Rows, function_name, rows_of};
+use crate::erased::binfarce_elf::symbols::{
+    Rows, TableSections, function_name, rows_at, table_sections,
+};
 use crate::erased::binfarce_bytes::functions::{FunctionSymbol, SectionFunction};
 use crate::erased::binfarce_bytes::parser::UnexpectedEof;
 use crate::erased::binfarce_bytes::{ByteOrder, ParseError};
@@ -16,16 +18,25 @@ pub fn all_functions<'a, C: Class>(
     table: Table<'a>,
     which: SymbolTable,
 ) -> Result<AllFunctions<'a, C>, ParseError> {
-    let count = whole_sections::<C>(table)?;
-    let Rows { strings, rows } = rows_of::<C>(table, which)?;
-    Ok(AllFunctions::new(rows, strings, table.byte_order, count))
+    let sections = needed_of_all::<C>(table, which)?;
+    let Rows { strings, rows } = rows_at::<C>(table.data, sections)?;
+    Ok(AllFunctions::new(rows, strings, table.byte_order, table.shnum))
 }
 
-// How many sections there are; refused where a section header is truncated.
-pub(crate) fn whole_sections<C: Class>(table: Table<'_>) -> Result<Half, UnexpectedEof> {
+// The sections of this symbol table, where no section header is truncated.
+pub(crate) fn needed_of_all<C: Class>(
+    table: Table<'_>,
+    which: SymbolTable,
+) -> Result<TableSections<C>, ParseError> {
+    whole_sections::<C>(table)?;
+    table_sections::<C>(table, which)
+}
+
+// Refused where a section header is truncated.
+fn whole_sections<C: Class>(table: Table<'_>) -> Result<(), UnexpectedEof> {
     let room = table.data.len().saturating_sub(table.shoff) / C::SECTION_LENGTH;
     if table.shoff < table.data.len() && usize::from(table.shnum) <= room {
-        Ok(table.shnum)
+        Ok(())
     } else {
         Err(UnexpectedEof {})
     }

@@ -192,13 +192,21 @@ pub fn section_with_name<C: Class>(
     table: Table<'_>,
     name: &str,
 ) -> Result<Option<Section<C>>, UnexpectedEof> {
-    let names = names_bytes::<C>(table);
+    section_named::<C>(table, names_bytes::<C>(table), name)
+}
+
+// The first section with this name among the section names.
+pub(crate) fn section_named<C: Class>(
+    table: Table<'_>,
+    names: Option<&[u8]>,
+    name: &str,
+) -> Result<Option<Section<C>>, UnexpectedEof> {
     first_section::<C, _>(table, |section| {
         is_named(name_at(names, section.name_offset), name)
     })
 }
 
-pub(crate) fn is_named(found: Option<&str>, name: &str) -> bool {
+fn is_named(found: Option<&str>, name: &str) -> bool {
     match found {
         None => false,
         Some(found) => found == name,
@@ -215,7 +223,7 @@ pub(crate) fn name_at(names: Option<&[u8]>, offset: Word) -> Option<&str> {
 }
 
 // The bytes of the section of the section names.
-fn names_bytes<'a, C: Class>(table: Table<'a>) -> Option<&'a [u8]> {
+pub(crate) fn names_bytes<'a, C: Class>(table: Table<'a>) -> Option<&'a [u8]> {
     section_data(table.data, names_section::<C>(table)?).ok()
 }
 

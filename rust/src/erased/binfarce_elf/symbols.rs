@@ -4,7 +4,7 @@
 
 use crate::erased::binfarce_elf::class::{Class, Half, SymbolRow, Word};
 use crate::erased::binfarce_elf::sections::{
-    Section, Table, first_section, section_data, section_with_name,
+    Section, Table, first_section, names_bytes, section_data, section_named,
 };
 use crate::erased::binfarce_elf::symbol_table::SymbolTable;
 use crate::erased::binfarce_bytes::functions::{FunctionSymbol, found_with};
@@ -15,6 +15,20 @@ use std::marker::PhantomData;
 /// `SHT_STRTAB`.
 const STRING_TABLE: Word = 3;
 
+/// A symbol table's section, and that of its strings.
+#[derive(Clone, Copy)]
+pub struct TableSections<C> {
+    pub symbols: Section<C>,
+    pub strings: Section<C>,
+}
+
+/// The sections that the symbols of a section need: that section, and those of the symbol table.
+#[derive(Clone, Copy)]
+pub struct Needed<C> {
+    pub section: Section<C>,
+    pub table: TableSections<C>,
+}
+
 // The strings and the rows of a symbol table.
 #[derive(Clone, Copy)]
 pub(crate) struct Rows<'a> {
@@ -22,82 +36,75 @@ pub(crate) struct Rows<'a> {
     pub(crate) rows: &'a [u8],
 }
 
-// Where the symbols of a section are in the file.
-#[derive(Clone, Copy)]
-struct Located<'a, C> {
-    section: Section<C>,
-    strings: &'a [u8],
-    rows: &'a [u8],
-}
-
-/// The function symbols of the section with this name, and the section's size.
+/// The function symbols of the section with this name, by this symbol table, and the section's size.
 pub fn section_functions<'a, C: Class>(
     table: Table<'a>,
-    section_name: &str,
-) -> Result<(Functions<'a, C>, u64), ParseError> {
-    functions_of(table, SymbolTable::Symtab, section_name)
-}
-
-/// The same for the dynamic symbol table.
-pub fn dynamic_functions<'a, C: Class>(
-    table: Table<'a>,
-    section_name: &str,
-) -> Result<(Functions<'a, C>, u64), ParseError> {
-    functions_of(table, SymbolTable::Dynsym, section_name)
-}
-
-// The same for this symbol table.
-fn functions_of<'a, C: Class>(
-    table: Table<'a>,
     which: SymbolTable,
     section_name: &str,
 ) -> Result<(Functions<'a, C>, u64), ParseError> {
-    let Located {
-        section,
-        strings,
-        rows,
-    } = locate::<C>(table, which, section_name)?;
-    let functions = Functions::new(rows, strings, table.byte_order, section.index);
-    Ok((functions, section.size.widened()))
+    let names = names_bytes::<C>(table);
+    let needed = needed_of::<C>(table, names, which, section_name)?;
+    let Rows { strings, rows } = rows_at::<C>(table.data, needed.table)?;
+    Ok(functions_in(rows, strings, table.byte_order, needed.section))
 }
 
-// The section with this name, and the rows and the strings of this symbol table.
-fn locate<'a, C: Class>(
-    table: Table<'a>,
+/// The function symbols of this section in whole rows, whose names are in these strings, and the section's size.
+pub fn functions_in<'a, C: Class>(
+    rows: &'a [u8],
+    strings: &'a [u8],
+    byte_order: ByteOrder,
+    section: Section<C>,
+) -> (Functions<'a, C>, u64) {
+    let functions = Functions::new(rows, strings, byte_order, section.index);
+    (functions, section.size.widened())
+}
+
+// The sections that the symbols of the section with this name among the section names need.
+pub(crate) fn needed_of<C: Class>(
+    table: Table<'_>,
+    names: Option<&[u8]>,
     which: SymbolTable,
     section_name: &str,
-) -> Result<Located<'a, C>, ParseError> {
-    let section = named_section::<C>(table, section_name)?;
-    let Rows { strings, rows } = rows_of::<C>(table, which)?;
-    Ok(Located {
+) -> Result<Needed<C>, ParseError> {
+    let section = named_section::<C>(table, names, section_name)?;
+    let sections = table_sections::<C>(table, which)?;
+    Ok(Needed {
         section,
-        strings,
-        rows,
+        table: sections,
     })
 }
 
-// The rows and the strings of this symbol table.
-pub(crate) fn rows_of<'a, C: Class>(
-    table: Table<'a>,
+// The sections of this symbol table.
+pub(crate) fn table_sections<C: Class>(
+    table: Table<'_>,
     which: SymbolTable,
-) -> Result<Rows<'a>, ParseError> {
+) -> Result<TableSections<C>, ParseError> {
     let symbols = symbol_table::<C>(table, which)?;
     let linked = linked_section::<C>(table, which, symbols.link)?;
-    let string_table = string_table(linked)?;
-    let strings = section_data(table.data, string_table)?;
-    let rows = section_data(table.data, symbols)?;
+    let strings = string_table(linked)?;
+    Ok(TableSections { symbols, strings })
+}
+
+// The rows and the strings of these sections.
+pub(crate) fn rows_at<C: Class>(
+    data: &[u8],
+    sections: TableSections<C>,
+) -> Result<Rows<'_>, ParseError> {
+    let strings = section_data(data, sections.strings)?;
+    let rows = section_data(data, sections.symbols)?;
     let rows = whole_rows::<C>(rows)?;
     Ok(Rows { strings, rows })
 }
 
-fn named_section<C: Class>(table: Table<'_>, name: &str) -> Result<Section<C>, ParseError> {
-    section_with_name::<C>(table, name)?.ok_or(ParseError::SymbolsSectionIsMissing)
+fn named_section<C: Class>(
+    table: Table<'_>,
+    names: Option<&[u8]>,
+    name: &str,
+) -> Result<Section<C>, ParseError> {
+    section_named::<C>(table, names, name)?.ok_or(ParseError::SymbolsSectionIsMissing)
 }
 
-pub(crate) fn symbol_table<C: Class>(
-    table: Table<'_>,
-    which: SymbolTable,
-) -> Result<Section<C>, ParseError> {
+fn symbol_table<C: Class>(table: Table<'_>, which: SymbolTable) -> Result<Section<C>, ParseError> {
     section_of_kind::<C>(table, which.section_type())?.ok_or(ParseError::SectionIsMissing(
         which.name(),
     ))
@@ -110,7 +117,7 @@ fn section_of_kind<C: Class>(
     first_section::<C, _>(table, |section| section.kind == kind)
 }
 
-pub(crate) fn linked_section<C: Class>(
+fn linked_section<C: Class>(
     table: Table<'_>,
     which: SymbolTable,
     link: Word,
@@ -126,7 +133,7 @@ pub fn section_of_index<C: Class>(
     first_section::<C, _>(table, |section| u32::from(section.index) == index)
 }
 
-pub(crate) fn string_table<C: Class>(section: Section<C>) -> Result<Section<C>, ParseError> {
+fn string_table<C: Class>(section: Section<C>) -> Result<Section<C>, ParseError> {
     if section.kind == STRING_TABLE {
         Ok(section)
     } else {

@@ -8,10 +8,12 @@ use crate::erased::binfarce_bytes::source::{Source, read_part};
 use crate::erased::binfarce_bytes::{ByteOrder, ParseError};
 use crate::erased::binfarce_elf::class::{Class, Half};
 use crate::erased::binfarce_elf::header::{Header, parse_header};
-use crate::erased::binfarce_elf::parts::{Needed, functions_in, needed_sections};
+use crate::erased::binfarce_elf::parts::needed_sections;
 use crate::erased::binfarce_elf::sections::{Section, section_at};
 use crate::erased::binfarce_elf::symbol_table::SymbolTable;
-use crate::erased::binfarce_elf::symbols::{Functions, whole_rows};
+use crate::erased::binfarce_elf::symbols::{
+    Functions, Needed, TableSections, functions_in, whole_rows,
+};
 use crate::shim::alloc::Global;
 
 /// The parts of a file that have the function symbols of a section, in memory.
@@ -52,12 +54,10 @@ pub(crate) fn read_parts<C: Class, S: Source>(
     let len = source.length()? as usize;
     let place = read_place::<C, S>(alloc, source, len, byte_order)?;
     let needed = read_needed::<C, S>(alloc, source, len, place, which, section_name)?;
-    let strings = read_section::<C, S>(alloc, source, len, needed.strings)?;
-    let rows = read_section::<C, S>(alloc, source, len, needed.symbols)?;
-    let _ = whole_rows::<C>(&rows)?;
+    let table = read_rows::<C, S>(alloc, source, len, needed.table)?;
     Ok(Parts {
-        rows,
-        strings,
+        rows: table.rows,
+        strings: table.strings,
         byte_order: place.byte_order,
         section: needed.section,
     })
@@ -163,6 +163,25 @@ pub(crate) fn read_names<C: Class, S: Source>(
         Ok(section) => read_contents::<C, S>(alloc, source, len, section),
         Err(_) => Ok(None),
     }
+}
+
+// The strings and the rows of a symbol table.
+pub(crate) struct TableParts {
+    pub(crate) strings: Vec<u8>,
+    pub(crate) rows: Vec<u8>,
+}
+
+// The bytes of a symbol table's sections; refused as those of a file in memory.
+pub(crate) fn read_rows<C: Class, S: Source>(
+    alloc: Global,
+    source: &S,
+    len: usize,
+    sections: TableSections<C>,
+) -> Result<TableParts, ReadError> {
+    let strings = read_section::<C, S>(alloc, source, len, sections.strings)?;
+    let rows = read_section::<C, S>(alloc, source, len, sections.symbols)?;
+    let _ = whole_rows::<C>(&rows)?;
+    Ok(TableParts { strings, rows })
 }
 
 // The section's bytes, where they lie in the file.

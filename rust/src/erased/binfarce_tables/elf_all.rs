@@ -3,7 +3,7 @@
 //! The parts of an ELF file of either class that have the function symbols of all sections.
 
 use crate::shim::Vec;
-use crate::erased::binfarce_tables::elf::{Place, read_names, read_place, read_section, slice_of};
+use crate::erased::binfarce_tables::elf::{read_names, read_place, read_rows, slice_of};
 use crate::erased::binfarce_tables::error::ReadError;
 use crate::erased::binfarce_tables::sections::read_table;
 use crate::erased::binfarce_bytes::ByteOrder;
@@ -12,7 +12,6 @@ use crate::erased::binfarce_elf::all::AllFunctions;
 use crate::erased::binfarce_elf::class::{Class, Half};
 use crate::erased::binfarce_elf::parts::{all_functions_in, name_of_index, needed_table};
 use crate::erased::binfarce_elf::symbol_table::SymbolTable;
-use crate::erased::binfarce_elf::symbols::whole_rows;
 use crate::shim::alloc::Global;
 use std::marker::PhantomData;
 
@@ -67,7 +66,8 @@ pub(crate) fn read_all<C: Class, S: Source>(
     let place = read_place::<C, S>(alloc, source, len, byte_order)?;
     let names = read_names::<C, S>(alloc, source, len, place)?;
     let headers = read_table::<C, S>(alloc, source, len, place)?;
-    let table = read_rows::<C, S>(alloc, source, len, place, &headers, which)?;
+    let sections = needed_table::<C>(&headers, place.byte_order, place.shnum, which)?;
+    let table = read_rows::<C, S>(alloc, source, len, sections)?;
     Ok(AllParts {
         headers,
         names,
@@ -78,26 +78,4 @@ pub(crate) fn read_all<C: Class, S: Source>(
         elf_type: place.elf_type,
         class: PhantomData,
     })
-}
-
-// The strings and the rows of a symbol table.
-struct TableParts {
-    strings: Vec<u8>,
-    rows: Vec<u8>,
-}
-
-// The strings and the rows of this symbol table, by section headers whose sections are the file's.
-fn read_rows<C: Class, S: Source>(
-    alloc: Global,
-    source: &S,
-    len: usize,
-    place: Place,
-    headers: &[u8],
-    which: SymbolTable,
-) -> Result<TableParts, ReadError> {
-    let needed = needed_table::<C>(headers, place.byte_order, place.shnum, which)?;
-    let strings = read_section::<C, S>(alloc, source, len, needed.strings)?;
-    let rows = read_section::<C, S>(alloc, source, len, needed.symbols)?;
-    let _ = whole_rows::<C>(&rows)?;
-    Ok(TableParts { strings, rows })
 }

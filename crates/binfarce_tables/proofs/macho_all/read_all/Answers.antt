@@ -1,7 +1,7 @@
 use Rattle.std.proofs.Common.{◌≡◌, ◌≤◌, ◌∙◌, arith, length, refl, Err}
 use Rattle.std.specs.Option.{option_map}
-use Rattle.binfarce_macho.specs.MachoAll.{symbols_by}
-use Rattle.binfarce_tables.specs.MachoAllReading.{all_view, all_located_answer, symbols_view}
+use Rattle.binfarce_macho.specs.MachoAll.{all_located_answer, symbols_by}
+use Rattle.binfarce_tables.specs.MachoAllReading.{all_view, symbols_view}
 use Rattle.binfarce_tables.specs.Reading.{Known}
 use Rattle.binfarce_tables.specs.machine.MachoPlaces.{command_bytes, all_commands, found_view}
 use Rattle.binfarce_tables.proofs.MachoAllLocated.{after_commands, steps_are, from_found, in_memory}

@@ -1,6 +1,7 @@
 use Rattle.std.proofs.Common.{ℕ, Vec, Global, Err}
+use Rattle.binfarce_pe.specs.PeAll.{all_file_answer}
 use Rattle.binfarce_pe.specs.PeParts.{places_view, headers_alone}
-use Rattle.binfarce_tables.specs.PeAllReading.{all_view, all_file_answer}
+use Rattle.binfarce_tables.specs.PeAllReading.{all_view}
 use Rattle.binfarce_tables.specs.Reading.{Known}
 use Rattle.binfarce_tables.specs.machine.PePlaces.{whole_at, table_at, records_view}
 use Rattle.binfarce_tables.proofs.PeAllLocated.{after_places, after_sections, from_places, from_sections, all_read, count_is}

@@ -2,7 +2,11 @@ use Rattle.std.proofs.Common.{refl}
 use Rattle.binfarce.specs.declared.Format.TheVariants.{Elf32, Elf64, Macho, PE}
 use Rattle.binfarce.specs.Format.{format_of}
 use Rattle.binfarce.specs.Elf.{elf32, elf64}
-use Rattle.binfarce_tools.specs.Answer.{elf_file_answer, macho_file_answer, pe_file_answer, symbols_answer, NeedsMemory}
+use Rattle.binfarce.specs.ElfSymbols.{elf_file_answer}
+use Rattle.binfarce.specs.MachoSymbols.{macho_file_answer}
+use Rattle.binfarce.specs.PeSymbols.{pe_file_answer}
+use Rattle.binfarce.specs.declared.SymbolTable.TheVariants.{Symtab}
+use Rattle.binfarce_tools.specs.Answer.{symbols_answer, NeedsMemory}
 use Rattle.binfarce_tools.proofs.Reported.{reported_elf, reported_macho, reported_pe}
 use Rattle.binfarce_tools.proofs.Listings.{refused}
 use Rattle.binfarce_tools.proofs.functions.functions_of_file.Goals as goal
@@ -13,7 +17,7 @@ returns-in_err-read_elf32-in-Elf32 c =
     let file = c.args.data.now in
     let section = c.args.section.now in
     let order = c.in-Elf32.byte_order in
-    refused (Elf32 order) (format_of file) file section (elf_file_answer elf32 order file section) c.in_err-read_elf32-in-Elf32.field-0.0 c.from_residual.result c.in-Elf32.ensures refl (reported_elf elf32 order file section) c.in_err-read_elf32-in-Elf32.ensures c.from_residual.ensures.1
+    refused (Elf32 order) (format_of file) file section (elf_file_answer Symtab elf32 order file section) c.in_err-read_elf32-in-Elf32.field-0.0 c.from_residual.result c.in-Elf32.ensures refl (reported_elf Symtab elf32 order file section) c.in_err-read_elf32-in-Elf32.ensures c.from_residual.ensures.1
 
 pub returns-in_err-read_elf64-in-Elf64 : goal.returns-in_err-read_elf64-in-Elf64
 unfolding symbols_answer NeedsMemory
@@ -21,7 +25,7 @@ returns-in_err-read_elf64-in-Elf64 c =
     let file = c.args.data.now in
     let section = c.args.section.now in
     let order = c.in-Elf64.byte_order in
-    refused (Elf64 order) (format_of file) file section (elf_file_answer elf64 order file section) c.in_err-read_elf64-in-Elf64.field-0.0 c.from_residual-in_err-read_elf64-in-Elf64.result c.in-Elf64.ensures refl (reported_elf elf64 order file section) c.in_err-read_elf64-in-Elf64.ensures c.from_residual-in_err-read_elf64-in-Elf64.ensures.1
+    refused (Elf64 order) (format_of file) file section (elf_file_answer Symtab elf64 order file section) c.in_err-read_elf64-in-Elf64.field-0.0 c.from_residual-in_err-read_elf64-in-Elf64.result c.in-Elf64.ensures refl (reported_elf Symtab elf64 order file section) c.in_err-read_elf64-in-Elf64.ensures c.from_residual-in_err-read_elf64-in-Elf64.ensures.1
 
 pub returns-in_err-read_macho-in-Macho : goal.returns-in_err-read_macho-in-Macho
 unfolding symbols_answer NeedsMemory

@@ -11,11 +11,17 @@ use Rattle.binfarce_pe.specs.PeSymbols.{SymbolTable, Located, text_section, symb
 use Rattle.binfarce_pe.proofs.Walks.{text_of}
 use Rattle.binfarce_tables.specs.declared.error.ReadError.{ReadError}
 use Rattle.binfarce_tables.specs.Reading.{Reads}
-use Rattle.binfarce_tables.specs.machine.PePlaces.{signature_step, places_step, text_at, table_at, answer_at}
+use Rattle.binfarce_tables.specs.machine.PePlaces.{signature_step, places_step, text_at, table_at}
 use Rattle.binfarce_tables.proofs.PeAlone.{header_alone}
 use Rattle.binfarce_tables.proofs.Readings.{instead}
 
--- what follows the places
+-- what follows the symbol table, the text, and the places
+abbrev pub listed : TextPlace → SymbolTable → Result Listed Refusal
+listed text table = Ok (record { entries = entries_of table text.index text.size; section_size = text.size })
+
+abbrev pub answer_at : List ℕ → TablePlaces → TextPlace → Result Listed Refusal
+answer_at file places text = table_at file places >>= listed text
+
 abbrev pub after_places : List ℕ → TablePlaces → Result Listed Refusal
 after_places file places = text_at file places >>= answer_at file places
 

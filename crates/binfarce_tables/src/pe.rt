@@ -8,7 +8,7 @@ ghost use Rattle.binfarce_pe.specs.PeSymbols.{pe_file_answer};
 ghost use Rattle.binfarce_tables.specs.BeginningReading.{ReadsBeginning, pe_sections};
 ghost use Rattle.binfarce_tables.specs.PeReading.{parts_view};
 ghost use Rattle.binfarce_tables.specs.Reading.{Reads, Known};
-ghost use Rattle.binfarce_tables.specs.machine.PePlaces.{signature_step, places_step, text_at, answer_at};
+ghost use Rattle.binfarce_tables.specs.machine.PePlaces.{signature_step, places_step, text_at, table_at, records_view};
 
 use crate::beginning::Beginning;
 use crate::elf::part;
@@ -67,7 +67,12 @@ pub fn read<S: Source>(alloc: Global, source: &S) -> Result<Parts, ReadError>
     let len = source.length()? as usize;
     let places = read_places(alloc, source, len)?;
     let text = read_text(alloc, source, len, places)?;
-    read_symbols(alloc, source, len, places, text)
+    let records = read_records(alloc, source, len, places)?;
+    Ok(Parts {
+        rows: records.rows,
+        strings: records.strings,
+        text,
+    })
 }
 
 /// Reads the prefix of a file that has its sections: up to the end of the section headers, or where there are none up
@@ -145,16 +150,22 @@ fn read_text<S: Source>(
     Ok(text_in(&headers, places.section_count)?)
 }
 
-// The symbol table and its strings, beside the text.
-fn read_symbols<S: Source>(
+// The records of the symbol table, and the strings, which follow them.
+#[derive(Drop)]
+pub(crate) struct Records {
+    pub(crate) rows: Vec<u8>,
+    pub(crate) strings: Vec<u8>,
+}
+
+// The symbol table and its strings.
+pub(crate) fn read_records<S: Source>(
     alloc: Global,
     source: &S,
     len: usize,
     places: Places,
-    text: Text,
-) -> Result<Parts, ReadError>
+) -> Result<Records, ReadError>
     ensures { (file : List ℕ) → Known (S.bytes source.now) len file
-        → Reads (S.may_fail source.now) parts_view (answer_at file (places_view places) (text_view text)) result }
+        → Reads (S.may_fail source.now) records_view (table_at file (places_view places)) result }
 {
     let offset = places.symbols;
     if offset >= len || places.symbols_size > len - offset {
@@ -163,9 +174,5 @@ fn read_symbols<S: Source>(
     let end = offset + places.symbols_size;
     let rows = part(alloc, source, offset, places.symbols_size)?;
     let strings = part(alloc, source, end, len - end)?;
-    Ok(Parts {
-        rows,
-        strings,
-        text,
-    })
+    Ok(Records { rows, strings })
 }

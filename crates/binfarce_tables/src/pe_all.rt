@@ -9,11 +9,11 @@ ghost use Rattle.binfarce_pe.specs.PeAll.{all_file_answer};
 ghost use Rattle.binfarce_pe.specs.PeParts.{headers_alone, places_view, whole_in};
 ghost use Rattle.binfarce_tables.specs.PeAllReading.{all_view};
 ghost use Rattle.binfarce_tables.specs.Reading.{Reads, Known};
-ghost use Rattle.binfarce_tables.specs.machine.PePlaces.{whole_at, table_at, records_view};
+ghost use Rattle.binfarce_tables.specs.machine.PePlaces.{whole_at};
 
 use crate::elf::part;
 use crate::error::ReadError;
-use crate::pe::read_places;
+use crate::pe::{Records, read_places, read_records};
 use binfarce_bytes::ParseError;
 use binfarce_bytes::functions::SectionFunction;
 use binfarce_bytes::source::Source;
@@ -31,13 +31,6 @@ pub struct AllParts {
     headers: Vec<u8>,
     section_count: u16,
     records: Records,
-}
-
-// The records of the symbol table, and the strings, which follow them.
-#[derive(Drop)]
-struct Records {
-    rows: Vec<u8>,
-    strings: Vec<u8>,
 }
 
 impl Model for AllParts {
@@ -134,24 +127,4 @@ fn read_headers<S: Source>(
         return Err(ReadError::Refused(ParseError::UnexpectedEof));
     }
     part(alloc, source, offset, size.min(rest))
-}
-
-// The symbol table and its strings.
-fn read_records<S: Source>(
-    alloc: Global,
-    source: &S,
-    len: usize,
-    places: Places,
-) -> Result<Records, ReadError>
-    ensures { (file : List ℕ) → Known (S.bytes source.now) len file
-        → Reads (S.may_fail source.now) records_view (table_at file (places_view places)) result }
-{
-    let offset = places.symbols;
-    if offset >= len || places.symbols_size > len - offset {
-        return Err(ReadError::Refused(ParseError::UnexpectedEof));
-    }
-    let end = offset + places.symbols_size;
-    let rows = part(alloc, source, offset, places.symbols_size)?;
-    let strings = part(alloc, source, end, len - end)?;
-    Ok(Records { rows, strings })
 }

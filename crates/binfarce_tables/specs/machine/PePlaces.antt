@@ -2,12 +2,11 @@
 use Rattle.std.specs.Prelude.{ℕ, ◌+◌, ◌-◌, ◌*◌, List, length, drop, min, Result, Ok, Err, nat_le, if◌then◌else◌}
 use Rattle.binfarce_bytes.specs.Number.{bytes_at}
 use Rattle.binfarce_bytes.specs.Refusal.{◌>>=◌, Refusal, unexpected_eof, if_as_long_as}
-use Rattle.binfarce_bytes.specs.Entries.{Listed}
 use Rattle.binfarce_bytes.specs.SectionEntries.{unless}
 use Rattle.binfarce_pe.specs.Pe.{least_length, signature_offset, section_length}
 use Rattle.binfarce_pe.specs.PeParts.{TablePlaces, places_of, SectionTable, headers_alone, table_walk, TextPlace, text_place}
-use Rattle.binfarce_pe.specs.PeSymbols.{SymbolTable, entries_of}
-use Rattle.binfarce_tables.specs.declared.pe_all.Records.{Records}
+use Rattle.binfarce_pe.specs.PeSymbols.{SymbolTable}
+use Rattle.binfarce_tables.specs.declared.pe.Records.{Records}
 
 -- the signature's offset, where the file has the stub that states it
 abbrev pub signature_step : List ℕ → Result ℕ Refusal
@@ -29,10 +28,6 @@ abbrev pub table_at : List ℕ → TablePlaces → Result SymbolTable Refusal
 table_at file places =
     if nat_le (length file) places.symbols then Err unexpected_eof
     else if_as_long_as (places.symbols + places.symbols_size) file (Ok (record { rows = bytes_at file places.symbols places.symbols_size; strings = drop (places.symbols + places.symbols_size) file }))
-
--- the answer, where the text is this
-abbrev pub answer_at : List ℕ → TablePlaces → TextPlace → Result Listed Refusal
-answer_at file places text = table_at file places >>= λ table. Ok (record { entries = entries_of table text.index text.size; section_size = text.size })
 
 -- the section headers alone, as many bytes of them as the file has
 abbrev pub alone_at : List ℕ → TablePlaces → SectionTable

@@ -54,7 +54,12 @@ pub fn read<S: Source>(alloc: Global, source: &S) -> Result<Parts, ReadError> {
     let len = source.length()? as usize;
     let places = read_places(alloc, source, len)?;
     let text = read_text(alloc, source, len, places)?;
-    read_symbols(alloc, source, len, places, text)
+    let records = read_records(alloc, source, len, places)?;
+    Ok(Parts {
+        rows: records.rows,
+        strings: records.strings,
+        text,
+    })
 }
 
 /// Reads the prefix of a file that has its sections: up to the end of the section headers, or where there are none up
@@ -120,14 +125,19 @@ fn read_text<S: Source>(
     Ok(text_in(&headers, places.section_count)?)
 }
 
-// The symbol table and its strings, beside the text.
-fn read_symbols<S: Source>(
+// The records of the symbol table, and the strings, which follow them.
+pub(crate) struct Records {
+    pub(crate) rows: Vec<u8>,
+    pub(crate) strings: Vec<u8>,
+}
+
+// The symbol table and its strings.
+pub(crate) fn read_records<S: Source>(
     alloc: Global,
     source: &S,
     len: usize,
     places: Places,
-    text: Text,
-) -> Result<Parts, ReadError> {
+) -> Result<Records, ReadError> {
     let offset = places.symbols;
     if offset >= len || places.symbols_size > len - offset {
         return Err(ReadError::Refused(ParseError::UnexpectedEof));
@@ -135,9 +145,5 @@ fn read_symbols<S: Source>(
     let end = offset + places.symbols_size;
     let rows = part(alloc, source, offset, places.symbols_size)?;
     let strings = part(alloc, source, end, len - end)?;
-    Ok(Parts {
-        rows,
-        strings,
-        text,
-    })
+    Ok(Records { rows, strings })
 }

@@ -5,7 +5,7 @@
 use crate::shim::Vec;
 use crate::erased::binfarce_tables::elf::part;
 use crate::erased::binfarce_tables::error::ReadError;
-use crate::erased::binfarce_tables::pe::read_places;
+use crate::erased::binfarce_tables::pe::{Records, read_places, read_records};
 use crate::erased::binfarce_bytes::ParseError;
 use crate::erased::binfarce_bytes::functions::SectionFunction;
 use crate::erased::binfarce_bytes::source::Source;
@@ -21,12 +21,6 @@ pub struct AllParts {
     headers: Vec<u8>,
     section_count: u16,
     records: Records,
-}
-
-// The records of the symbol table, and the strings, which follow them.
-struct Records {
-    rows: Vec<u8>,
-    strings: Vec<u8>,
 }
 
 impl AllParts {
@@ -94,21 +88,4 @@ fn read_headers<S: Source>(
         return Err(ReadError::Refused(ParseError::UnexpectedEof));
     }
     part(alloc, source, offset, size.min(rest))
-}
-
-// The symbol table and its strings.
-fn read_records<S: Source>(
-    alloc: Global,
-    source: &S,
-    len: usize,
-    places: Places,
-) -> Result<Records, ReadError> {
-    let offset = places.symbols;
-    if offset >= len || places.symbols_size > len - offset {
-        return Err(ReadError::Refused(ParseError::UnexpectedEof));
-    }
-    let end = offset + places.symbols_size;
-    let rows = part(alloc, source, offset, places.symbols_size)?;
-    let strings = part(alloc, source, end, len - end)?;
-    Ok(Records { rows, strings })
 }

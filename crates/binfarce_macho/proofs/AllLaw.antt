@@ -10,8 +10,7 @@ use Rattle.binfarce_bytes.specs.Sizes.{RowAddress, arranged, addresses_of}
 use Rattle.binfarce_bytes.proofs.OfSection.{of_pieces}
 use Rattle.binfarce_macho.specs.Macho.{Command, Section}
 use Rattle.binfarce_macho.specs.MachoAll.{Symbols, symbols_by, symbols_of, section_ends, end_of, is_defined, checked_end, numbered, entry_in, section_entry, by_section, all_of, all_answer, AllHasText}
-use Rattle.binfarce_macho.specs.MachoParts.{named_table}
-use Rattle.binfarce_macho.specs.MachoSymbols.{SymbolTable, SymbolRow, symbol_of, symbol_length, symbol_command, text_section, some_size, whole_table, slice_at, text_end_of, Located, located_by, located, row_addresses, is_candidate, macho_size, sized_entry, entry_of, kept}
+use Rattle.binfarce_macho.specs.MachoSymbols.{SymbolTable, SymbolRow, symbol_of, symbol_length, symbol_command, text_section, some_size, slice_at, text_end_of, Located, needed, located_in, of_table, tables_in, located, row_addresses, is_candidate, macho_size, sized_entry, entry_of, kept, named_table}
 use Rattle.binfarce_macho.proofs.AllRows.{has_end}
 use Rattle.binfarce_macho.proofs.MachoLaws.{kept_of}
 
@@ -19,9 +18,17 @@ use Rattle.binfarce_macho.proofs.MachoLaws.{kept_of}
 abbrev symbols_in : Located → Symbols
 symbols_in found = record { strings = found.strings; rows = found.rows }
 
+-- what is located by the text, the string table and the symbol table
+abbrev whole : Section → Result (List ℕ) Refusal → Result (List ℕ) Refusal → Result ℕ Refusal → Result Located Refusal
+whole text string_bytes row_bytes end = do
+  strings ← string_bytes
+  rows ← row_bytes
+  text_end ← end
+  Ok (record { text_end = text_end; text_size = text.size; strings = strings; rows = rows })
+
 module _ (file : List ℕ) (found : Located) where
   by_slices : (text : Section) (s r : Result (List ℕ) Refusal) (e : Result ℕ Refusal)
-      → (s >>= λ strings. r >>= λ rows. e >>= λ text_end. Ok (Some (record { text_end = text_end; text_size = text.size; strings = strings; rows = rows }))) ≡ Ok (Some found)
+      → (whole text s r e >>= λ (l : Located). Ok (Some l)) ≡ Ok (Some found)
       → (s >>= λ strings. r >>= λ rows. Ok (Some (record { strings = strings; rows = rows }))) ≡ Ok (Some (symbols_in found))
   by_slices text (Err why) r e is = absurd cc
   by_slices text (Ok strings) (Err why) e is = absurd cc
@@ -30,28 +37,32 @@ module _ (file : List ℕ) (found : Located) where
       let same : record { text_end = text_end; text_size = text.size; strings = strings; rows = rows } ≡ found = cc in
       ap (λ (l : Located). Ok (Some (symbols_in l))) same
 
-  by_table : (text : Section) (t : Result (SymbolTable ℕ) Refusal)
-      → (t >>= λ table. slice_at file table.strings_offset table.strings_size >>= λ strings. slice_at file table.symbol_offset (symbol_length * table.row_count) >>= λ rows. text_end_of text >>= λ text_end. Ok (Some (record { text_end = text_end; text_size = text.size; strings = strings; rows = rows }))) ≡ Ok (Some found)
-      → ((t >>= λ table. Ok (Some table)) >>= symbols_by file) ≡ Ok (Some (symbols_in found))
-  by_table text (Err why) is = absurd cc
-  by_table text (Ok table) is = by_slices text (slice_at file table.strings_offset table.strings_size) (slice_at file table.symbol_offset (symbol_length * table.row_count)) (text_end_of text) is
+  by_table : (text : Section) (t : Option (SymbolTable ℕ)) → of_table file text t ≡ Ok (Some found) → symbols_by file t ≡ Ok (Some (symbols_in found))
+  unfolding located_in
+  by_table text None is = absurd cc
+  by_table text (Some table) is = by_slices text (slice_at file table.strings_offset table.strings_size) (slice_at file table.symbol_offset (symbol_length * table.row_count)) (text_end_of text) is
 
-  by_command : (text : Section) (c : Result (Option Command) Refusal) → (c >>= located_by file text) ≡ Ok (Some found) → (c >>= λ command. named_table file command >>= symbols_by file) ≡ Ok (Some (symbols_in found))
-  unfolding located_by
+  by_named : (text : Section) (r : Result (Option (SymbolTable ℕ)) Refusal) → ((r >>= λ t. Ok (record { text = text; table = t })) >>= tables_in file) ≡ Ok (Some found) → (r >>= symbols_by file) ≡ Ok (Some (symbols_in found))
+  by_named text (Err why) is = absurd cc
+  by_named text (Ok t) is = by_table text t is
+
+  by_command : (text : Section) (c : Result (Option Command) Refusal) → ((c >>= λ command. named_table file command >>= λ t. Ok (record { text = text; table = t })) >>= tables_in file) ≡ Ok (Some found)
+      → (c >>= λ command. named_table file command >>= symbols_by file) ≡ Ok (Some (symbols_in found))
   by_command text (Err why) is = absurd cc
-  by_command text (Ok None) is = absurd cc
-  by_command text (Ok (Some command)) is = by_table text (whole_table file command) is
+  by_command text (Ok command) is = by_named text (named_table file command) is
 
-  by_size : (r : Result Section Refusal) → (r >>= λ text. symbol_command file >>= located_by file text) ≡ Ok (Some found) → (symbol_command file >>= λ command. named_table file command >>= symbols_by file) ≡ Ok (Some (symbols_in found))
+  by_size : (r : Result Section Refusal) → ((r >>= λ text. symbol_command file >>= λ command. named_table file command >>= λ t. Ok (record { text = text; table = t })) >>= tables_in file) ≡ Ok (Some found)
+      → (symbol_command file >>= λ command. named_table file command >>= symbols_by file) ≡ Ok (Some (symbols_in found))
   by_size (Err why) is = absurd cc
   by_size (Ok text) is = by_command text (symbol_command file) is
 
-  by_text : (r : Result Section Refusal) → (r >>= λ text. some_size text >>= λ text. symbol_command file >>= located_by file text) ≡ Ok (Some found) → (symbol_command file >>= λ command. named_table file command >>= symbols_by file) ≡ Ok (Some (symbols_in found))
+  by_text : (r : Result Section Refusal) → ((r >>= λ found. some_size found >>= λ text. symbol_command file >>= λ command. named_table file command >>= λ t. Ok (record { text = text; table = t })) >>= tables_in file) ≡ Ok (Some found)
+      → (symbol_command file >>= λ command. named_table file command >>= symbols_by file) ≡ Ok (Some (symbols_in found))
   by_text (Err why) is = absurd cc
   by_text (Ok text) is = by_size (some_size text) is
 
   symbols_made : located file ≡ Ok (Some found) → symbols_of file ≡ Ok (Some (symbols_in found))
-  unfolding located symbols_of
+  unfolding located needed symbols_of
   symbols_made is = by_text (text_section file) is
 
 -- entries of one section, of which the same is asked again or another

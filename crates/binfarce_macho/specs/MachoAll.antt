@@ -11,8 +11,7 @@ use Rattle.binfarce_bytes.specs.Sizes.{RowAddress, arranged, addresses_of}
 use Rattle.binfarce_macho.specs.declared.all.Extent.{Extent}
 use Rattle.binfarce_macho.specs.declared.all.SymbolBytes as code
 use Rattle.binfarce_macho.specs.Macho.{Command, header_of, least_length, commands, body_of, is_segment, Section, section_at, section_count, section_offset, section_fields, walk}
-use Rattle.binfarce_macho.specs.MachoParts.{named_table}
-use Rattle.binfarce_macho.specs.MachoSymbols.{SymbolTable, SymbolRow, symbol_of, symbol_length, symbol_command, slice_at, row_addresses, macho_size, sized_entry, kept, Located, located, macho_answer}
+use Rattle.binfarce_macho.specs.MachoSymbols.{SymbolTable, SymbolRow, symbol_of, symbol_length, symbol_command, slice_at, row_addresses, macho_size, sized_entry, kept, Located, located, macho_answer, named_table}
 
 -- MAX_SECT: a row has the number of its section in one byte
 abbrev pub greatest_section : ℕ

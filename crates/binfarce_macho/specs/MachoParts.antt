@@ -1,52 +1,12 @@
--- The tables that the function symbols of a Mach-O file need, found in its header and its load commands.
-use Rattle.std.specs.Prelude.{◌≢◌, ℕ, zero, suc, ◌+◌, ◌*◌, Bool, true, false, ◌&&◌, List, [], length, Option, Some, None, Result, Ok, nat_eq, nat_lt, nat_le, if◌then◌else◌}
+-- The first bytes of a Mach-O file that hold its load commands, and what clauses see of the tables that its function symbols need.
+use Rattle.std.specs.Prelude.{◌≢◌, ℕ, zero, suc, ◌+◌, Bool, true, false, ◌&&◌, List, [], length, Option, Some, None, nat_eq, nat_lt, nat_le, if◌then◌else◌}
 use Rattle.std.specs.Option.{option_map}
-use Rattle.binfarce_bytes.specs.Refusal.{◌>>=◌, Refusal}
 use Rattle.binfarce_macho.specs.declared.parts.Needed.{Needed}
 use Rattle.binfarce_macho.specs.declared.symbols.Located as code
 use Rattle.binfarce_macho.specs.declared.symbols.SymbolTable as raw
-use Rattle.binfarce_macho.specs.Macho.{Command, Section, header_of, header_length, command_length, command_at, body_of, is_segment, segment_read, section_count, whole_headers}
-use Rattle.binfarce_macho.specs.MachoSymbols.{SymbolTable, symbol_table_length, symbol_length, text_section, some_size, symbol_command, whole_table, slice_at, text_end_of, Located, row_addresses}
+use Rattle.binfarce_macho.specs.Macho.{Command, header_of, header_length, command_length, command_at, body_of, is_segment, segment_read, section_count, whole_headers}
+use Rattle.binfarce_macho.specs.MachoSymbols.{SymbolTable, symbol_table_length, NeededTables, Located, row_addresses}
 use Rattle.binfarce_macho.specs.MachoViews.{section_view}
-
--- the text section, and the symbol table's command, if any
-pub record NeededTables : Type 0 where
-  pub text : Section
-  pub table : Option (SymbolTable ℕ)
-
-abbrev pub named_table : List ℕ → Option Command → Result (Option (SymbolTable ℕ)) Refusal
-named_table file None = Ok None
-named_table file (Some command) = whole_table file command >>= λ table. Ok (Some table)
-
--- what the command of the symbol table names, where there is one
-abbrev pub table_of : List ℕ → Result (Option (SymbolTable ℕ)) Refusal
-table_of file = symbol_command file >>= named_table file
-
--- the refusals in order; else these tables
-unfoldable pub needed : List ℕ → Result NeededTables Refusal
-needed file = do
-  found ← text_section file
-  text ← some_size found
-  command ← symbol_command file
-  table ← named_table file command
-  Ok (record { text = text; table = table })
-
--- the bytes of the string table and of the symbol table, which lie in the file
-unfoldable pub located_in : List ℕ → Section → SymbolTable ℕ → Result Located Refusal
-located_in file text table = do
-  strings ← slice_at file table.strings_offset table.strings_size
-  rows ← slice_at file table.symbol_offset (symbol_length * table.row_count)
-  text_end ← text_end_of text
-  Ok (record { text_end = text_end; text_size = text.size; strings = strings; rows = rows })
-
--- where the symbols of that table are; None where there is no table
-abbrev pub of_table : List ℕ → Section → Option (SymbolTable ℕ) → Result (Option Located) Refusal
-of_table file text None = Ok None
-of_table file text (Some table) = located_in file text table >>= λ found. Ok (Some found)
-
--- the same for the needed tables
-abbrev pub tables_in : List ℕ → NeededTables → Result (Option Located) Refusal
-tables_in file n = of_table file n.text n.table
 
 -- the fields that are read of a command's body lie in these bytes: all sections of a segment command, the four numbers of a symbol table's
 abbrev pub holds_body : List ℕ → Command → Bool

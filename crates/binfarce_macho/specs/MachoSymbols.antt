@@ -87,6 +87,28 @@ abbrev pub whole_table : List ℕ → Command → Result (SymbolTable ℕ) Refus
 whole_table file command =
     if nat_le (body_of command + symbol_table_length) (length file) then Ok (symbol_table_at file (body_of command)) else Err unexpected_eof
 
+-- the text section, and the symbol table's command, if any
+pub record NeededTables : Type 0 where
+  pub text : Section
+  pub table : Option (SymbolTable ℕ)
+
+abbrev pub named_table : List ℕ → Option Command → Result (Option (SymbolTable ℕ)) Refusal
+named_table file None = Ok None
+named_table file (Some command) = whole_table file command >>= λ table. Ok (Some table)
+
+-- what the command of the symbol table names, where there is one
+abbrev pub table_of : List ℕ → Result (Option (SymbolTable ℕ)) Refusal
+table_of file = symbol_command file >>= named_table file
+
+-- the refusals in order; else these tables
+unfoldable pub needed : List ℕ → Result NeededTables Refusal
+needed file = do
+  found ← text_section file
+  text ← some_size found
+  command ← symbol_command file
+  table ← named_table file command
+  Ok (record { text = text; table = table })
+
 -- where the text ends: below 2^64
 abbrev pub text_end_of : Section → Result ℕ Refusal
 text_end_of text = if nat_lt (text.address + text.size) (2 ^ 64) then Ok (text.address + text.size) else Err malformed_input
@@ -98,23 +120,26 @@ pub record Located : Type 0 where
   pub strings : List ℕ
   pub rows : List ℕ
 
--- the tables that the symbol table's command names; an offset past the file is refused even where nothing is read there
-unfoldable pub located_by : List ℕ → Section → Option Command → Result (Option Located) Refusal
-located_by file text None = Ok None
-located_by file text (Some command) = do
-  table ← whole_table file command
+-- the bytes of the string table and of the symbol table, which lie in the file
+unfoldable pub located_in : List ℕ → Section → SymbolTable ℕ → Result Located Refusal
+located_in file text table = do
   strings ← slice_at file table.strings_offset table.strings_size
   rows ← slice_at file table.symbol_offset (symbol_length * table.row_count)
   text_end ← text_end_of text
-  Ok (Some (record { text_end = text_end; text_size = text.size; strings = strings; rows = rows }))
+  Ok (record { text_end = text_end; text_size = text.size; strings = strings; rows = rows })
+
+-- where the symbols of that table are; None where there is no table
+abbrev pub of_table : List ℕ → Section → Option (SymbolTable ℕ) → Result (Option Located) Refusal
+of_table file text None = Ok None
+of_table file text (Some table) = located_in file text table >>= λ found. Ok (Some found)
+
+-- the same for the needed tables
+abbrev pub tables_in : List ℕ → NeededTables → Result (Option Located) Refusal
+tables_in file n = of_table file n.text n.table
 
 -- the refusals in order; else where the symbols are, or None where the file has no symbol table
 unfoldable pub located : List ℕ → Result (Option Located) Refusal
-located file = do
-  found ← text_section file
-  text ← some_size found
-  command ← symbol_command file
-  located_by file text command
+located file = needed file >>= tables_in file
 
 -- the row's value, where it isn't 0, and the row's number
 abbrev pub address_of : List ℕ → ℕ → Option RowAddress

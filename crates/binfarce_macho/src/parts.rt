@@ -4,7 +4,8 @@ ghost use Rattle.std.specs.Prelude.{◌≡◌, ◌+◌, ◌≤◌, ◌&&◌, len
 ghost use Rattle.std.specs.Option.{option_map};
 ghost use Rattle.binfarce_bytes.specs.Refusal.{Gives, refusal_of};
 ghost use Rattle.binfarce_macho.specs.Macho.{header_of, header_length, segment_read, section_count, whole_headers};
-ghost use Rattle.binfarce_macho.specs.MachoParts.{needed, named_table, table_of, needed_view, table_view, holds_body, holds_commands};
+ghost use Rattle.binfarce_macho.specs.MachoParts.{needed_view, table_view, holds_body, holds_commands};
+ghost use Rattle.binfarce_macho.specs.MachoSymbols.{needed, named_table, table_of};
 ghost use Rattle.binfarce_macho.specs.MachoViews.{header_view};
 ghost use Rattle.binfarce_macho.specs.machine.RawMacho.{command_view};
 
@@ -25,7 +26,7 @@ pub struct Needed<'a> {
 
 /// The tables that the function symbols of a file with this header need. Refused as `functions` of a reader is, up to
 /// the symbol table's command.
-#[tactic(auto, unfolding(crate::specs::MachoParts::needed))]
+#[tactic(auto, unfolding(crate::specs::MachoSymbols::needed))]
 pub fn needed_tables(file: &[u8], header: MachoHeader) -> Result<Needed<'_>, ParseError>
     requires { header_view header ≡ header_of file.now }
     ensures { Gives refusal_of needed_view (needed file.now) result }

@@ -5,8 +5,8 @@ ghost use Rattle.std.specs.Option.{option_map};
 ghost use Rattle.binfarce_bytes.specs.Refusal.{Gives, refusal_of};
 ghost use Rattle.binfarce_macho.specs.Macho.{header_of, body_of};
 ghost use Rattle.binfarce_macho.specs.MachoAll.{is_defined};
-ghost use Rattle.binfarce_macho.specs.MachoParts.{located_in, located_view, table_view};
-ghost use Rattle.binfarce_macho.specs.MachoSymbols.{HasAddress, macho_answer, answer_of, listed_of, located, text_section, some_size, symbol_command, symbol_table_at, text_end_of, row_addresses, symbol_at, is_candidate, size_up_to, sized_entry, entry_of};
+ghost use Rattle.binfarce_macho.specs.MachoParts.{located_view, table_view};
+ghost use Rattle.binfarce_macho.specs.MachoSymbols.{HasAddress, macho_answer, answer_of, listed_of, located, text_section, some_size, symbol_command, symbol_table_at, text_end_of, row_addresses, symbol_at, is_candidate, size_up_to, sized_entry, entry_of, located_in};
 ghost use Rattle.binfarce_bytes.specs.Sizes.{addresses_of, least_above};
 ghost use Rattle.binfarce_bytes.specs.RowViews.{row_view, rows_view};
 ghost use Rattle.binfarce_bytes.specs.Entries.{Answers};
@@ -98,7 +98,7 @@ pub(crate) fn some_size(section: Section<'_>) -> Result<Section<'_>, ParseError>
     }
 }
 
-#[tactic(auto, unfolding(crate::specs::MachoParts::located_in))]
+#[tactic(auto, unfolding(crate::specs::MachoSymbols::located_in))]
 fn located_in<'a>(
     bytes: &'a [u8],
     text: Section<'_>,

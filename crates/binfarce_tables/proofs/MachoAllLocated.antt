@@ -10,8 +10,7 @@ use Rattle.binfarce_bytes.specs.SectionEntries.{AnswersAll}
 use Rattle.binfarce_bytes.specs.SymbolViews.{HoldsSectionFunctions}
 use Rattle.binfarce_macho.specs.Macho.{header_of}
 use Rattle.binfarce_macho.specs.MachoAll.{AllLocated, Symbols, all_located, all_located_answer, all_entries, section_starts, end_at, name_at, symbols_by, symbols_of, all_of}
-use Rattle.binfarce_macho.specs.MachoParts.{named_table, table_of}
-use Rattle.binfarce_macho.specs.MachoSymbols.{SymbolTable, slice_at, symbol_command, symbol_length}
+use Rattle.binfarce_macho.specs.MachoSymbols.{SymbolTable, slice_at, symbol_command, symbol_length, named_table, table_of}
 use Rattle.binfarce_tables.specs.declared.error.ReadError.{ReadError}
 use Rattle.binfarce_tables.specs.declared.error.ReadError.TheVariants.{Refused, Unreadable, OutOfMemory}
 use Rattle.binfarce_tables.specs.Reading.{Reads}

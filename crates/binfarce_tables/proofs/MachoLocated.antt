@@ -3,8 +3,7 @@ use Rattle.std.proofs.Common.{◌≡◌, ℕ, ◌*◌, ◌≤◌, List, [], leng
 use Rattle.std.proofs.lemmas.Bool.{le-ltb}
 use Rattle.binfarce_bytes.specs.Refusal.{◌>>=◌, Refusal}
 use Rattle.binfarce_macho.specs.Macho.{Section}
-use Rattle.binfarce_macho.specs.MachoParts.{NeededTables, needed, located_in, tables_in}
-use Rattle.binfarce_macho.specs.MachoSymbols.{SymbolTable, slice_at, symbol_length, text_end_of, Located, located, answer_of}
+use Rattle.binfarce_macho.specs.MachoSymbols.{SymbolTable, slice_at, symbol_length, text_end_of, Located, located, answer_of, NeededTables, needed, located_in, tables_in}
 use Rattle.binfarce_macho.proofs.Needs.{located_refused, located_at}
 use Rattle.binfarce_bytes.specs.declared.functions.FunctionSymbol.{FunctionSymbol}
 use Rattle.binfarce_bytes.specs.Entries.{Listed, Answers}

@@ -13,9 +13,9 @@ use Rattle.binfarce_bytes.specs.Refusal.{◌>>=◌, Refusal, required, symbols_s
 use Rattle.binfarce_bytes.specs.SectionEntries.{unless}
 use Rattle.binfarce_bytes.specs.Walk.{Walk, first, found_or_end, ahead_of, and_then}
 use Rattle.binfarce_macho.specs.Macho.{Command, Section, header_of, header_fields, header_length, command_at, body_of, commands_from, commands, section_at, section_fields, section_offset, section_count, whole_headers, sections_below, segment, is_segment, sections_of, walk, is_named}
-use Rattle.binfarce_macho.specs.MachoSymbols.{SymbolTable, symbol_table_at, symbol_table_fields, text_section, some_size, symbol_command, whole_table}
+use Rattle.binfarce_macho.specs.MachoSymbols.{SymbolTable, symbol_table_at, symbol_table_fields, text_section, some_size, symbol_command, whole_table, NeededTables, needed, named_table, table_of}
 use Rattle.binfarce_macho.specs.MachoAll.{first_starts, starts_in, starts_among, section_starts, end_at, full_name, name_at}
-use Rattle.binfarce_macho.specs.MachoParts.{NeededTables, needed, named_table, table_of, holds_body, holds_from, holds_commands}
+use Rattle.binfarce_macho.specs.MachoParts.{holds_body, holds_from, holds_commands}
 use Rattle.binfarce_macho.proofs.CommandWalks.{bad, given}
 use Rattle.binfarce_tables.specs.BeginningReading.{Begins, macho_sections}
 use Rattle.binfarce_tables.specs.machine.MachoPlaces.{said_end, command_bytes}

@@ -3,8 +3,8 @@
 ghost use Rattle.std.specs.Prelude.{◌≡◌, ◌<◌, ◌≤◌, List, ℕ, Ok, Some, length, MatchResult};
 ghost use Rattle.binfarce_bytes.specs.Refusal.{Gives, refusal_of};
 ghost use Rattle.binfarce_macho.specs.Macho.{least_length, header_of};
-ghost use Rattle.binfarce_macho.specs.MachoParts.{SomeAddress, needed, needed_view, table_view, located_in, tables_in, holds_commands};
-ghost use Rattle.binfarce_macho.specs.MachoSymbols.{answer_of, slice_at};
+ghost use Rattle.binfarce_macho.specs.MachoParts.{SomeAddress, needed_view, table_view, holds_commands};
+ghost use Rattle.binfarce_macho.specs.MachoSymbols.{answer_of, slice_at, needed, located_in, tables_in};
 ghost use Rattle.binfarce_macho.specs.MachoViews.{header_view, section_view};
 ghost use Rattle.binfarce_bytes.specs.Entries.{Answers};
 ghost use Rattle.binfarce_bytes.specs.SymbolViews.{HoldsFunctions};

@@ -7,7 +7,8 @@ use Rattle.std.proofs.lemmas.List.Elements.{All-head, All-tail}
 use Rattle.binfarce.specs.Refusal.{◌>>=◌, Refusal, required, symbols_section_is_missing, unexpected_eof}
 use Rattle.binfarce.specs.Walk.{Walk, first, found_or_end}
 use Rattle.binfarce.specs.Macho.{Command, header_fields, body_of, commands, Section, walk, is_named}
-use Rattle.binfarce.specs.MachoSymbols.{SymbolTable, symbol_table_fields, symbol_table_at, symbol_table_length, symbol_length, slice_at, some_size, text_end_of, Located, located_by, located, answer_of, macho_answer, macho_file_answer, HasAddress}
+use Rattle.binfarce.specs.MachoSymbols.{SymbolTable, symbol_table_fields, symbol_table_at, symbol_table_length, symbol_length, slice_at, some_size, text_section, symbol_command, text_end_of, NeededTables, named_table, needed, located_in, tables_in, Located, located, answer_of, macho_answer, macho_file_answer, HasAddress}
+use Rattle.binfarce_elf.proofs.Steps.{assoc}
 use Rattle.binfarce_tools.specs.Part.{Part, part, field_part, parts_if, whole_part, SameIn, SameParts}
 use Rattle.binfarce_tools.specs.MachoParts.{command_parts, segment_parts, table_command, contents_parts, table_parts, macho_parts}
 use Rattle.binfarce_tools.proofs.Slices.{SameAt}
@@ -15,20 +16,35 @@ use Rattle.binfarce_tools.proofs.Split.{front, back, whole_same}
 use Rattle.binfarce_tools.proofs.MachoWalk.{number_same, commands_same, walk_same}
 
 -- what is located by the text, the string table and the symbol table
-from_slices : Section → Result (List ℕ) Refusal → Result (List ℕ) Refusal → Result (Option Located) Refusal
-from_slices text string_bytes row_bytes = do
+whole : Section → Result (List ℕ) Refusal → Result (List ℕ) Refusal → Result Located Refusal
+whole text string_bytes row_bytes = do
   strings ← string_bytes
   rows ← row_bytes
   text_end ← text_end_of text
-  Ok (Some (record { text_end = text_end; text_size = text.size; strings = strings; rows = rows }))
+  Ok (record { text_end = text_end; text_size = text.size; strings = strings; rows = rows })
+
+abbrev from_slices : Section → Result (List ℕ) Refusal → Result (List ℕ) Refusal → Result (Option Located) Refusal
+from_slices text string_bytes row_bytes = whole text string_bytes row_bytes >>= λ found. Ok (Some found)
 
 abbrev from_table : List ℕ → Section → SymbolTable ℕ → Result (Option Located) Refusal
 from_table file text table = from_slices text (slice_at file table.strings_offset table.strings_size) (slice_at file table.symbol_offset (symbol_length * table.row_count))
 
+-- what is needed by the text and the command of the symbol table, and what these tables hold
+abbrev needs : List ℕ → Section → Option Command → Result NeededTables Refusal
+needs file text command = named_table file command >>= λ table. Ok (record { text = text; table = table })
+
+located_by : List ℕ → Section → Option Command → Result (Option Located) Refusal
+located_by file text command = needs file text command >>= tables_in file
+
 located_by_is : (file : List ℕ) (text : Section) (command : Command) → located_by file text (Some command)
     ≡ (cond (leb (body_of command + symbol_table_length) (length file)) (Ok (symbol_table_at file (body_of command))) (Err unexpected_eof) >>= from_table file text)
-unfolding located_by from_slices
-located_by_is file text command = refl
+unfolding located_by located_in whole
+located_by_is file text command = by_fit (leb (body_of command + symbol_table_length) (length file))
+  where
+    by_fit : (b : Bool) → (((cond b (Ok (symbol_table_at file (body_of command))) (Err unexpected_eof) >>= λ table. Ok (Some table)) >>= λ table. Ok (record { text = text; table = table })) >>= tables_in file)
+        ≡ (cond b (Ok (symbol_table_at file (body_of command))) (Err unexpected_eof) >>= from_table file text)
+    by_fit true = refl
+    by_fit false = refl
 
 table_same : (file other : List ℕ) (body : ℕ) → SameAt file other body symbol_table_length → symbol_table_at other body ≡ symbol_table_at file body
 unfolding symbol_table_at symbol_table_fields
@@ -89,8 +105,13 @@ after_text sections named = do
   named text
 
 located_is : (file : List ℕ) → located file ≡ located_from (walk file) (commands file) (located_by file)
-unfolding located located_from
-located_is file = refl
+unfolding located needed located_from located_by
+located_is file =
+    let from_text : Section → Result NeededTables Refusal = λ text. symbol_command file >>= needs file text in
+    assoc (text_section file) (λ found. some_size found >>= from_text) (tables_in file)
+    ∙ ap (λ (k : Section → Result (Option Located) Refusal). text_section file >>= k) (fun_ext (λ found.
+    assoc (some_size found) from_text (tables_in file)
+    ∙ ap (λ (k : Section → Result (Option Located) Refusal). some_size found >>= k) (fun_ext (λ text. assoc (symbol_command file) (needs file text) (tables_in file)))))
 
 from_is : (sections : Walk Section) (commands : Walk Command) (named : Section → Option Command → Result (Option Located) Refusal)
     → located_from sections commands named ≡ after_text sections (λ text. first (λ command. eqb command.kind 2) commands >>= named text)

@@ -19,7 +19,7 @@ use Rattle.binfarce.specs.Macho as macho_file
 use Rattle.binfarce.specs.Macho.{Command, command_at, commands_from, commands, body_of, header_of, segment, is_segment, sections_of, walk as macho_walk}
 use Rattle.binfarce.specs.MachoAll as all
 use Rattle.binfarce.specs.MachoSymbols as macho
-use Rattle.binfarce.specs.MachoSymbols.{size_up_to, macho_size, whole_table, slice_at, text_end_of, symbol_table_at, some_size, symbol_command, located_by, row_addresses, kept, answer_of, macho_answer, macho_file_answer}
+use Rattle.binfarce.specs.MachoSymbols.{size_up_to, macho_size, whole_table, slice_at, text_end_of, symbol_table_at, some_size, symbol_command, named_table, needed as needed_tables, located_in, of_table, row_addresses, kept, answer_of, macho_answer, macho_file_answer}
 
 -- a refusal that isn't that an allocation failed
 abbrev pub is_reported : Refusal → Bool
@@ -167,27 +167,34 @@ reported_slice_at file offset size = reported_if _ (Ok (bytes_at file offset siz
 reported_text_end : (text : macho_file.Section) → Reported (text_end_of text)
 reported_text_end text = reported_if _ (Ok (text.address + text.size)) (Err malformed_input) tt refl
 
-reported_located_by : (file : List ℕ) (text : macho_file.Section) (command : Option Command) → Reported (located_by file text command)
-unfolding located_by
-reported_located_by file text None = tt
-reported_located_by file text (Some command) =
-    reported_step (whole_table file command) _ (reported_whole_table file command) (λ table.
-    reported_step (slice_at file table.strings_offset table.strings_size) _ (reported_slice_at file table.strings_offset table.strings_size) (λ strings.
+reported_named_table : (file : List ℕ) (command : Option Command) → Reported (named_table file command)
+reported_named_table file None = tt
+reported_named_table file (Some command) = reported_step (whole_table file command) _ (reported_whole_table file command) (λ table. tt)
+
+reported_of_table : (file : List ℕ) (text : macho_file.Section) (table : Option (macho.SymbolTable ℕ)) → Reported (of_table file text table)
+unfolding located_in
+reported_of_table file text None = tt
+reported_of_table file text (Some table) =
+    reported_step (located_in file text table) _
+    (reported_step (slice_at file table.strings_offset table.strings_size) _ (reported_slice_at file table.strings_offset table.strings_size) (λ strings.
     reported_step (slice_at file table.symbol_offset (16 * table.row_count)) _ (reported_slice_at file table.symbol_offset (16 * table.row_count)) (λ rows.
     reported_step (text_end_of text) _ (reported_text_end text) (λ text_end. tt))))
+    (λ found. tt)
 
 reported_macho_located : (file : List ℕ) → Reported (macho.located file)
-unfolding macho.located
+unfolding macho.located needed_tables
 reported_macho_located file =
     let accepts : macho_file.Section → Bool = λ section. macho_file.is_named (codes "__TEXT") (codes "__text") section in
-    reported_step (macho.text_section file) _
+    reported_step (needed_tables file) _
+    (reported_step (macho.text_section file) _
     (reported_step (first accepts (macho_walk file)) (required symbols_section_is_missing)
     (reported_found (find accepts (macho_walk file).items) (macho_walk file).refusal (reported_macho_walk file))
     (λ o. reported_required symbols_section_is_missing o refl))
     (λ found. reported_step (some_size found) _ (reported_if (nat_eq found.size 0) (Err malformed_input) (Ok found) refl tt)
     (λ text. reported_step (symbol_command file) _
     (reported_found (find (λ command. nat_eq command.kind 2) (commands file).items) (commands file).refusal (reported_commands file (header_of file).ncmds 32))
-    (λ command. reported_located_by file text command)))
+    (λ command. reported_step (named_table file command) _ (reported_named_table file command) (λ table. tt)))))
+    (λ n. reported_of_table file n.text n.table)
 
 reported_size : (members : List ℕ) (text_end address : ℕ) → Reported (macho_size members text_end address)
 unfolding macho_size

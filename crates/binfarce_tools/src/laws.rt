@@ -86,7 +86,7 @@ fn worked_answers()
 
 /// The same of Mach-O and PE: two counts of load commands, and two headers that differ in the last byte of the size of the
 /// optional header.
-#[tactic(auto, unfolding(binfarce_macho::specs::Macho::header_fields, binfarce_macho::specs::Macho::header_of, binfarce_macho::specs::Macho::commands_from, binfarce_macho::specs::Macho::sections_of, binfarce_macho::specs::Macho::walk, binfarce_macho::specs::MachoSymbols::macho_answer, binfarce_macho::specs::MachoSymbols::located, binfarce_pe::specs::Pe::header_fields, binfarce_pe::specs::Pe::header_after, binfarce_pe::specs::Pe::walk, binfarce_pe::specs::PeSymbols::pe_answer, binfarce_pe::specs::PeSymbols::located, binfarce_bytes::proofs::Computing::computing))]
+#[tactic(auto, unfolding(binfarce_macho::specs::Macho::header_fields, binfarce_macho::specs::Macho::header_of, binfarce_macho::specs::Macho::commands_from, binfarce_macho::specs::Macho::sections_of, binfarce_macho::specs::Macho::walk, binfarce_macho::specs::MachoSymbols::macho_answer, binfarce_macho::specs::MachoSymbols::located, binfarce_macho::specs::MachoSymbols::needed, binfarce_pe::specs::Pe::header_fields, binfarce_pe::specs::Pe::header_after, binfarce_pe::specs::Pe::walk, binfarce_pe::specs::PeSymbols::pe_answer, binfarce_pe::specs::PeSymbols::located, binfarce_bytes::proofs::Computing::computing))]
 fn worked_other_answers()
     ensures no_command { macho_file_answer (replicate 40 0) ≡ Err symbols_section_is_missing }
     ensures refused_command { macho_file_answer (replicate 16 0 ++ 1 ∷ replicate 23 0) ≡ Err malformed_input }

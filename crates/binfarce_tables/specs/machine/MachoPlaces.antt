@@ -6,8 +6,8 @@ use Rattle.binfarce_bytes.specs.Number.{bytes_at}
 use Rattle.binfarce_bytes.specs.Refusal.{◌>>=◌, Refusal}
 use Rattle.binfarce_macho.specs.Macho.{header_of, header_length}
 use Rattle.binfarce_macho.specs.MachoAll.{section_starts, end_at, name_at, extent_end}
-use Rattle.binfarce_macho.specs.MachoParts.{holds_commands, table_of, table_view}
-use Rattle.binfarce_macho.specs.MachoSymbols.{SymbolTable}
+use Rattle.binfarce_macho.specs.MachoParts.{holds_commands, table_view}
+use Rattle.binfarce_macho.specs.MachoSymbols.{SymbolTable, table_of}
 use Rattle.binfarce_tables.specs.declared.macho_all.Found.{Found}
 
 -- where the commands end, as the header states, but within the file

@@ -1,6 +1,7 @@
 use Rattle.std.proofs.Common.{◌≡◌, ◌≤◌, ◌∙◌, arith, length}
 use Rattle.binfarce_bytes.specs.Refusal.{refusal_of}
-use Rattle.binfarce_macho.specs.MachoParts.{needed_view, tables_in}
+use Rattle.binfarce_macho.specs.MachoParts.{needed_view}
+use Rattle.binfarce_macho.specs.MachoSymbols.{tables_in}
 use Rattle.binfarce_tables.specs.MachoReading.{located_answer, parts_view}
 use Rattle.binfarce_tables.specs.Reading.{Known}
 use Rattle.binfarce_tables.specs.machine.MachoPlaces.{command_bytes}

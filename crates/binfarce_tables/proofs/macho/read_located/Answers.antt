@@ -1,7 +1,7 @@
 use Rattle.std.proofs.Common.{◌*◌, ℕ, Vec, Global, Err}
 use Rattle.binfarce_bytes.specs.Refusal.{◌>>=◌, refusal_of}
-use Rattle.binfarce_macho.specs.MachoParts.{table_view, located_in}
-use Rattle.binfarce_macho.specs.MachoSymbols.{slice_at}
+use Rattle.binfarce_macho.specs.MachoParts.{table_view}
+use Rattle.binfarce_macho.specs.MachoSymbols.{slice_at, located_in}
 use Rattle.binfarce_macho.specs.MachoViews.{section_view}
 use Rattle.binfarce_tables.specs.MachoReading.{tables_view}
 use Rattle.binfarce_tables.proofs.MachoLocated.{after_rows, after_strings, from_start, from_strings, end_refused, all_read}

@@ -81,8 +81,9 @@ impl AllTables {
     /// it has no valid name.
     pub fn section_name(&self, number: u32) -> Option<&str>
         ensures read { option_map (λ t. t.now) result ≡ section_names self.entry.now number }
-        ensures file { (which : SymbolTable) (file : List ℕ) (all : AllSymbols) → AreAllTablesOf which file self.entry.now
-            → all_answer_of which file ≡ Some (Ok all) → option_map (λ t. t.now) result ≡ all.section_name number }
+        ensures file { (which : SymbolTable) (file : List ℕ) (all : AllSymbols)
+            → AreAllTablesOf which file self.entry.now → all_answer_of which file ≡ Some (Ok all)
+            → option_map (λ t. t.now) result ≡ all.section_name number }
     {
         self.name_read(number)
     }
@@ -244,7 +245,8 @@ pub fn report_all<S: Sink>(
     out: &mut S,
 ) -> Result<(), ReportError>
     ensures outcome { (which : SymbolTable) (file : List ℕ) → AreAllTablesOf which file tables.now
-        → EndsAs ReportFits (AllNeedsMemory file) (one_answer (all_answer_of which file)) (reporting.outcome_of result) }
+        → EndsAs ReportFits (AllNeedsMemory file) (one_answer (all_answer_of which file))
+        (reporting.outcome_of result) }
     ensures takes { (which : SymbolTable) (file : List ℕ) → AreAllTablesOf which file tables.now
         → Takes IsSumsOf (one_answer (all_answer_of which file)) (S.taken out.old) (S.taken out.new)
         (reporting.outcome_of result) }
@@ -265,7 +267,8 @@ pub fn report_all<S: Sink>(
 /// Those of `report_all`. Only after `Write` a beginning of the picture may be written.
 pub fn map_all<S: Sink>(alloc: Global, tables: &AllTables, out: &mut S) -> Result<(), ReportError>
     ensures outcome { (which : SymbolTable) (file : List ℕ) → AreAllTablesOf which file tables.now
-        → EndsAs ReportFits (AllNeedsMemory file) (one_answer (all_answer_of which file)) (reporting.outcome_of result) }
+        → EndsAs ReportFits (AllNeedsMemory file) (one_answer (all_answer_of which file))
+        (reporting.outcome_of result) }
     ensures takes { (which : SymbolTable) (file : List ℕ) → AreAllTablesOf which file tables.now
         → Takes IsMapOf (one_answer (all_answer_of which file)) (S.taken out.old) (S.taken out.new)
         (reporting.outcome_of result) }

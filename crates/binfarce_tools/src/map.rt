@@ -35,7 +35,8 @@ pub fn map<S: Sink>(
     section: &str,
     out: &mut S,
 ) -> Result<(), ReportError>
-    ensures outcome { EndsAs ReportFits (FileNeedsMemory data.now) (file_answer data.now section.now) (outcome_of result) }
+    ensures outcome { EndsAs ReportFits (FileNeedsMemory data.now)
+        (file_answer data.now section.now) (outcome_of result) }
     ensures takes { Takes IsMapOf (file_answer data.now section.now) (S.taken out.old)
         (S.taken out.new) (outcome_of result) }
     ensures fails { Fails (S.has_failed out.old) (S.has_failed out.new) (outcome_of result) }

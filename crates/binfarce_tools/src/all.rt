@@ -24,7 +24,7 @@ use crate::functions::Functions;
 use crate::head::push_head;
 use crate::list::{ListError, Sink};
 use crate::map::picture;
-use crate::report::{CrateSums, ReportError, crate_sums, sums_text};
+use crate::report::{CrateSums, ReportError, crate_sums, sums_text, write_made};
 use crate::tables::{has_table, read_format};
 use crate::writing::write_whole;
 use binfarce::{Format, SectionFunction, SymbolTable};
@@ -254,9 +254,7 @@ pub fn report_all<S: Sink>(
     ensures leaves { Leaves out.old out.new (reporting.outcome_of result) }
 {
     let sums = sums_of_all(alloc, tables)?;
-    let text = sums_text(alloc, &sums)?;
-    write_whole(out, text.as_bytes())?;
-    Ok(())
+    write_made(out, sums_text(alloc, &sums))
 }
 
 /// Draws how many bytes the function symbols of all sections of a file take: the picture of `map`, with the sum of all sizes
@@ -276,9 +274,7 @@ pub fn map_all<S: Sink>(alloc: Global, tables: &AllTables, out: &mut S) -> Resul
     ensures leaves { Leaves out.old out.new (reporting.outcome_of result) }
 {
     let sums = sums_of_all(alloc, tables)?;
-    let text = picture(alloc, &sums)?;
-    write_whole(out, text.as_bytes())?;
-    Ok(())
+    write_made(out, picture(alloc, &sums))
 }
 
 /// The sums that `report_all` shows; `section_size` is that of all sizes.

@@ -2,7 +2,6 @@
 use Rattle.std.proofs.Common.{◌≡◌, inl, inr, ℕ, ◌+◌, ◌-◌, false, ◌<◌, ◌≤◌, List, [], ◌∷◌, ◌++◌, length, get_or, take, Option, Some, None, Result, Ok, Err, refl, sym, ap, subst, ◌∙◌, append-nil, append_assoc}
 use Rattle.std.specs.List.{AllZip, concat}
 use Rattle.std.proofs.lemmas.List.{take_more, take_all}
-use Rattle.std.specs.Io.KnownBytes.{Appends}
 use Rattle.std.specs.Result.{IsErrAnd}
 use Rattle.std.specs.Fmt.{digits}
 use Rattle.std.specs.Prelude.{codes}
@@ -14,7 +13,7 @@ use Rattle.binfarce.specs.Symbol.{Entry, Listed}
 use Rattle.binfarce_tools.specs.declared.list.ListError.{ListError}
 use Rattle.binfarce_tools.specs.declared.list.ListError.TheVariants.{Unknown, Parse, OutOfMemory, Write}
 use Rattle.binfarce_tools.specs.ListWords.{Writes, outcome_of}
-use Rattle.binfarce_tools.specs.Writing as writing
+use Rattle.binfarce_tools.specs.Writing.{Outcome, EndsAs, Takes}
 use Rattle.binfarce_addresses.specs.Lines.{in_file, found_at, IsTextOf, address_line, IsLineAt, AreLinesOf, AreLinesAt}
 use Rattle.binfarce_addresses.specs.PlacesViews.{IsMadeOf}
 use Rattle.binfarce_addresses.specs.Stream.{AreAnswersOf, IsAnswerOf}
@@ -65,46 +64,32 @@ one_behind entries base addresses i address answer old mid new lt are here is gr
 pub whole_behind : (entries : List Entry) (base : ℕ) (addresses : List (Option ℕ)) (i : ℕ) (old new : List ℕ) → length addresses ≤ i → AreBehind entries base (take i addresses) old new → AreBehind entries base addresses old new
 whole_behind entries base addresses i old new le are = subst (λ (xs : List (Option ℕ)). AreBehind entries base xs old new) (take_all i addresses le) are
 
--- the lines of what a file lists were written, or a beginning of them
-pub takes : (memory : Result Listed Refusal → Type 0) (answer : Option (Result Listed Refusal)) (entries : List Entry) (base : ℕ) (addresses text : List ℕ) (old new : Option (List ℕ)) (result : Result (Unit {0}) ListError)
-    → IsMadeOf memory answer (Ok entries) → AreLinesOf entries base addresses text → Writes old new text result → writing.Takes (AreLinesAt base addresses) answer old new (outcome_of result)
-takes memory None entries base addresses text old new result made are wrote = absurd made
-takes memory (Some (Err refusal)) entries base addresses text old new result made are wrote = absurd made
-takes memory (Some (Ok listed)) entries base addresses text old new (Ok x) made are wrote = let P : List Entry → Type 0 = λ es. AreLinesOf es base addresses text in (text, subst P made are, wrote)
-takes memory (Some (Ok listed)) entries base addresses text old new (Err Write) made are wrote = let P : List Entry → Type 0 = λ es. AreLinesOf es base addresses text in (text, subst P made are, wrote.1)
-takes memory (Some (Ok listed)) entries base addresses text old new (Err Unknown) made are wrote = let e = wrote.0 in absurd cc
-takes memory (Some (Ok listed)) entries base addresses text old new (Err (Parse p)) made are wrote = let e = wrote.0 in absurd cc
-takes memory (Some (Ok listed)) entries base addresses text old new (Err OutOfMemory) made are wrote = let e = wrote.0 in absurd cc
-
 -- how the writing of the lines of what a file lists ended
-pub outcome : (memory : Result Listed Refusal → Type 0) (answer : Option (Result Listed Refusal)) (entries : List Entry) (text : List ℕ) (old new : Option (List ℕ)) (result : Result (Unit {0}) ListError)
-    → IsMadeOf memory answer (Ok entries) → Writes old new text result → writing.EndsAs ListingFits memory answer (outcome_of result)
-outcome memory None entries text old new result made wrote = absurd made
-outcome memory (Some (Err refusal)) entries text old new result made wrote = absurd made
-outcome memory (Some (Ok listed)) entries text old new (Ok x) made wrote = inr (inl (tt, inl refl))
-outcome memory (Some (Ok listed)) entries text old new (Err Write) made wrote = inr (inl (tt, inr refl))
-outcome memory (Some (Ok listed)) entries text old new (Err Unknown) made wrote = let e = wrote.0 in absurd cc
-outcome memory (Some (Ok listed)) entries text old new (Err (Parse p)) made wrote = let e = wrote.0 in absurd cc
-outcome memory (Some (Ok listed)) entries text old new (Err OutOfMemory) made wrote = let e = wrote.0 in absurd cc
+pub outcome : (memory : Result Listed Refusal → Type 0) (listed : Listed) (text : List ℕ) (old new : Option (List ℕ)) (result : Result (Unit {0}) ListError) → Writes old new text result → EndsAs ListingFits memory (Some (Ok listed)) (outcome_of result)
+outcome memory listed text old new (Ok x) wrote = inr (inl (tt, inl refl))
+outcome memory listed text old new (Err Write) wrote = inr (inl (tt, inr refl))
+outcome memory listed text old new (Err Unknown) wrote = let e = wrote.0 in absurd cc
+outcome memory listed text old new (Err (Parse p)) wrote = let e = wrote.0 in absurd cc
+outcome memory listed text old new (Err OutOfMemory) wrote = let e = wrote.0 in absurd cc
 
 -- so where an allocation failed
-pub tells_no_memory : (memory : Result Listed Refusal → Type 0) (answer : Option (Result Listed Refusal)) (entries : List Entry) (result : Result (Unit {0}) ListError)
-    → IsMadeOf memory answer (Ok entries) → IsErrAnd result (λ e. e ≡ OutOfMemory) → writing.EndsAs ListingFits memory answer (outcome_of result)
-tells_no_memory memory None entries result made is = absurd made
-tells_no_memory memory (Some (Err refusal)) entries result made is = absurd made
-tells_no_memory memory (Some (Ok listed)) entries (Ok x) made is = absurd is
-tells_no_memory memory (Some (Ok listed)) entries (Err e) made is =
-    let P : ListError → Type 0 = λ e. writing.EndsAs ListingFits memory (Some (Ok listed)) (outcome_of (Err e)) in subst P (sym is) (inl refl)
+pub no_memory : (memory : Result Listed Refusal → Type 0) (listed : Listed) (result : Result (Unit {0}) ListError) → IsErrAnd result (λ e. e ≡ OutOfMemory) → EndsAs ListingFits memory (Some (Ok listed)) (outcome_of result)
+no_memory memory listed (Ok x) is = absurd is
+no_memory memory listed (Err e) is =
+    let P : ListError → Type 0 = λ e. EndsAs ListingFits memory (Some (Ok listed)) (outcome_of (Err e)) in subst P (sym is) (inl refl)
 
-pub nothing : (old : Option (List ℕ)) → Appends old old []
-nothing None = tt
-nothing (Some taken) = sym (append-nil taken)
+-- the end, and what is taken of the lines, are those of the answer that the places are made of
+pub ends_of : (memory : Result Listed Refusal → Type 0) (answer : Option (Result Listed Refusal)) (entries : List Entry) (o : Outcome) → IsMadeOf memory answer (Ok entries)
+    → ((listed : Listed) → entries ≡ listed.entries → EndsAs ListingFits (λ _. ⊥) (Some (Ok listed)) o) → EndsAs ListingFits memory answer o
+ends_of memory None entries o made ends = absurd made
+ends_of memory (Some (Err refusal)) entries o made ends = absurd made
+ends_of memory (Some (Ok listed)) entries o made ends = ends listed made
 
--- nothing was written where an allocation failed
-pub takes_nothing : (base : ℕ) (addresses : List ℕ) (answer : Option (Result Listed Refusal)) (old : Option (List ℕ)) (result : Result (Unit {0}) ListError) → IsErrAnd result (λ e. e ≡ OutOfMemory) → writing.Takes (AreLinesAt base addresses) answer old old (outcome_of result)
-takes_nothing base addresses answer old (Ok x) is = absurd is
-takes_nothing base addresses answer old (Err e) is =
-    let P : ListError → Type 0 = λ e. writing.Takes (AreLinesAt base addresses) answer old old (outcome_of (Err e)) in subst P (sym is) (nothing old)
+pub takes_of : (memory : Result Listed Refusal → Type 0) (answer : Option (Result Listed Refusal)) (entries : List Entry) (base : ℕ) (addresses : List ℕ) (old new : Option (List ℕ)) (o : Outcome) → IsMadeOf memory answer (Ok entries)
+    → ((listed : Listed) → entries ≡ listed.entries → Takes (AreLinesAt base addresses) (Some (Ok listed)) old new o) → Takes (AreLinesAt base addresses) answer old new o
+takes_of memory None entries base addresses old new o made takes = absurd made
+takes_of memory (Some (Err refusal)) entries base addresses old new o made takes = absurd made
+takes_of memory (Some (Ok listed)) entries base addresses old new o made takes = takes listed made
 
 regroup : (t a b n p d e : List ℕ) → ((t ++ (a ++ b)) ++ n) ++ (p ++ (d ++ e)) ≡ t ++ (a ++ (b ++ ((n ++ (p ++ d)) ++ e)))
 regroup t a b n p d e = simp append_assoc

@@ -379,8 +379,7 @@ pub fn at<S: Sink>(
     ensures leaves { Leaves out.old out.new (outcome_of result) }
 {
     let places = Places::of_file(alloc, data, section)?;
-    let text = lines(alloc, &places, base, addresses)?;
-    write_whole(out, text.as_slice())
+    write_lines(alloc, &places, base, addresses, out)
 }
 
 /// As `at`, from the tables of a file: for the section that they were read for.
@@ -404,8 +403,7 @@ pub fn at_tables<S: Sink>(
     ensures leaves { Leaves out.old out.new (outcome_of result) }
 {
     let places = Places::of_tables(alloc, tables)?;
-    let text = lines(alloc, &places, base, addresses)?;
-    write_whole(out, text.as_slice())
+    write_lines(alloc, &places, base, addresses, out)
 }
 
 /// Writes what stands at each of the addresses by these places, which are those of a file: a line each, as `at` has them.

@@ -68,7 +68,8 @@ pub extern "C" fn binfarce_elf64_sections(
 /// All sections of a Mach-O file.
 #[unsafe(no_mangle)]
 pub extern "C" fn binfarce_macho_sections(file: &[u8], out: &mut [Section]) -> Sections
-    ensures { GivesWalk macho_details (walk_of macho.least_length file.now (macho.walk file.now)) out.old out.new result }
+    ensures { GivesWalk macho_details (walk_of macho.least_length file.now (macho.walk file.now))
+        out.old out.new result }
 {
     match macho::parse(file) {
         Ok(file) => fill_macho(&file, out),

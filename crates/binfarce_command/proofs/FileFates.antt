@@ -3,24 +3,20 @@ use Rattle.std.proofs.Common.{◌≡◌, ◌≢◌, ◌∙◌, ◌⊎◌, inl, i
 use Rattle.std.specs.Option.{option_map}
 use Rattle.std.specs.Prelude.{IfErr, OnOk}
 use Rattle.std.specs.Io.KnownBytes.{Appends, Keeps}
-use Rattle.binfarce_bytes.specs.Entries.{Listed}
-use Rattle.binfarce_bytes.specs.SectionEntries.{AllSymbols}
 use Rattle.binfarce_bytes.specs.Format.{format_of}
 use Rattle.binfarce_bytes.specs.Refusal.{Refusal}
 use Rattle.binfarce_bytes.specs.declared.format.Format.{Format}
 use Rattle.binfarce_bytes.specs.declared.format.Format.TheVariants as formats
 use Rattle.binfarce_tools.specs.declared.SymbolTable.{SymbolTable}
 use Rattle.binfarce_tools.proofs.TablesRead.{format_of_first}
-use Rattle.binfarce_tools.specs.AllAnswer.{all_answer_of, all_symbols_answer, AllNeedsMemory, one_answer}
-use Rattle.binfarce_tools.specs.AllListing.{AllListingFits}
-use Rattle.binfarce_tools.specs.Report.{ReportFits}
+use Rattle.binfarce_tools.specs.AllAnswer.{all_answer_of, all_symbols_answer, one_answer}
 use Rattle.binfarce_tools.specs.Answer.{NeedsMemory, answer_of, symbols_answer}
-use Rattle.binfarce_tools.specs.Writing.{AppendsBeginning, IsDue, Leaves, Outcome, EndsAs, unknown_format, write_failed, written as has_written, wrong_usage}
+use Rattle.binfarce_tools.specs.Writing.{AppendsBeginning, IsDue, Leaves, Outcome, EndsAs, unknown_format, wrong_usage}
 use Rattle.binfarce_command.specs.Faults.{outcome_of}
 use Rattle.binfarce_command.specs.Files.{IsUnreadable, Refused, Reports, ReportsWhy, ShowsHeld, ShowsOne, heading, refused, shown}
 use Rattle.binfarce_command.specs.Headed.{pending, taken, writer_of}
 use Rattle.binfarce_command.specs.Input.{IsReadOf}
-use Rattle.binfarce_command.specs.Show.{Fits, IsDueIn, IsDueOfAll, IsShownText, IsTextOf, MayEnd, TakesIn, TakesShown, TellsIn, section_of}
+use Rattle.binfarce_command.specs.Show.{Ends, IsShownText, MayEnd, Showing, TakesText, section_of, showing, showing_in}
 use Rattle.binfarce_command.specs.declared.fault.Fault.{Fault}
 use Rattle.binfarce_command.specs.declared.fault.Fault.TheVariants.{Unreadable, Input, OutOfMemory, Write, Unknown, Parse, TooLarge, NoSection, NoBytes, PastEnd, SharedAddresses, Missing}
 use Rattle.binfarce_command.specs.declared.headed.Headed.{Headed}
@@ -40,74 +36,53 @@ no_all_answer : (which : SymbolTable) (file : List ℕ) → format_of file ≡ f
 unfolding all_symbols_answer
 no_all_answer which file is = ap (λ (f : Format). all_symbols_answer which f file) is
 
-due_in : (section : Option (List ℕ)) (kind : Kind) (which : SymbolTable) (bytes text : List ℕ) → format_of bytes ≡ formats.Unknown → IsDueIn section kind which bytes text → ⊥
-due_in (Some section) kind which bytes text unknown is = subst (λ (answer : Option (Result Listed Refusal)). IsDue (IsTextOf kind) answer text) (no_answer which bytes section unknown) is
-due_in None Listing which bytes text unknown is = subst (λ (answer : Option (Result AllSymbols Refusal)). IsDueOfAll Listing answer text) (no_all_answer which bytes unknown) is
-due_in None Sums which bytes text unknown is = subst (λ (answer : Option (Result AllSymbols Refusal)). IsDueOfAll Sums answer text) (no_all_answer which bytes unknown) is
-due_in None Picture which bytes text unknown is = subst (λ (answer : Option (Result AllSymbols Refusal)). IsDueOfAll Picture answer text) (no_all_answer which bytes unknown) is
+no_showing : (section : Option (List ℕ)) (kind : Kind) (which : SymbolTable) (file : List ℕ) → format_of file ≡ formats.Unknown → (showing_in section kind which file).answer ≡ None
+no_showing (Some section) kind which file is = no_answer which file section is
+no_showing None Listing which file is = no_all_answer which file is
+no_showing None Sums which file is = ap one_answer (no_all_answer which file is)
+no_showing None Picture which file is = ap one_answer (no_all_answer which file is)
+
+no_shown : (asked : Asked) (file : List ℕ) → format_of file ≡ formats.Unknown → (showing asked file).answer ≡ None
+no_shown asked file is = no_showing (section_of asked.symbols) asked.kind asked.symbols.which file is
 
 -- a text of what was read of a file is one of the file
 pub text_of_file : (asked : Asked) (file bytes text : List ℕ) → IsReadOf file bytes → IsShownText asked bytes text → IsShownText asked file text
 text_of_file asked file bytes text (inl same) is = subst (λ (f : List ℕ). IsShownText asked f text) same is
-text_of_file asked file bytes text (inr (unknown, first)) is = absurd (due_in (section_of asked.symbols) asked.kind asked.symbols.which bytes text (unknown_too file bytes unknown first) is)
+text_of_file asked file bytes text (inr (unknown, first)) is = let s = showing asked bytes in
+    absurd (subst (λ (answer : Option (Result s.Held Refusal)). IsDue s.IsText answer text) (no_shown asked bytes (unknown_too file bytes unknown first)) is)
 
--- of a file of an unknown format that is told, and nothing else
-tells_unknown : (section : Option (List ℕ)) (kind : Kind) (which : SymbolTable) (bytes : List ℕ) (o : Outcome) → format_of bytes ≡ formats.Unknown → TellsIn section kind which bytes o → o ≡ unknown_format
-tells_unknown (Some section) kind which bytes o unknown outcome = subst (λ (answer : Option (Result Listed Refusal)). EndsAs (Fits kind) (NeedsMemory (format_of bytes) bytes) answer o) (no_answer which bytes section unknown) outcome
-tells_unknown None Listing which bytes o unknown outcome = subst (λ (answer : Option (Result AllSymbols Refusal)). EndsAs AllListingFits (AllNeedsMemory bytes) answer o) (no_all_answer which bytes unknown) outcome
-tells_unknown None Sums which bytes o unknown outcome = subst (λ (answer : Option (Result AllSymbols Refusal)). EndsAs ReportFits (AllNeedsMemory bytes) (one_answer answer) o) (no_all_answer which bytes unknown) outcome
-tells_unknown None Picture which bytes o unknown outcome = subst (λ (answer : Option (Result AllSymbols Refusal)). EndsAs ReportFits (AllNeedsMemory bytes) (one_answer answer) o) (no_all_answer which bytes unknown) outcome
+-- of a file of an unknown format that is reported, and nothing else
+ends_unknown : (s : Showing) (o : Outcome) → s.answer ≡ None → Ends s o → o ≡ unknown_format
+ends_unknown s o none ends = subst (λ (answer : Option (Result s.Held Refusal)). EndsAs s.IsMade s.NeedsMemory answer o) none ends
 
-unknown_tells : (section : Option (List ℕ)) (kind : Kind) (which : SymbolTable) (file : List ℕ) (o : Outcome) → format_of file ≡ formats.Unknown → o ≡ unknown_format → TellsIn section kind which file o
-unknown_tells (Some section) kind which file o unknown is = subst (λ (answer : Option (Result Listed Refusal)). EndsAs (Fits kind) (NeedsMemory (format_of file) file) answer o) (sym (no_answer which file section unknown)) is
-unknown_tells None Listing which file o unknown is = subst (λ (answer : Option (Result AllSymbols Refusal)). EndsAs AllListingFits (AllNeedsMemory file) answer o) (sym (no_all_answer which file unknown)) is
-unknown_tells None Sums which file o unknown is = subst (λ (answer : Option (Result AllSymbols Refusal)). EndsAs ReportFits (AllNeedsMemory file) (one_answer answer) o) (sym (no_all_answer which file unknown)) is
-unknown_tells None Picture which file o unknown is = subst (λ (answer : Option (Result AllSymbols Refusal)). EndsAs ReportFits (AllNeedsMemory file) (one_answer answer) o) (sym (no_all_answer which file unknown)) is
+unknown_ends : (s : Showing) (o : Outcome) → s.answer ≡ None → o ≡ unknown_format → Ends s o
+unknown_ends s o none is = subst (λ (answer : Option (Result s.Held Refusal)). EndsAs s.IsMade s.NeedsMemory answer o) (sym none) is
 
-tells_of_file : (asked : Asked) (file bytes : List ℕ) (o : Outcome) → IsReadOf file bytes → TellsIn (section_of asked.symbols) asked.kind asked.symbols.which bytes o → TellsIn (section_of asked.symbols) asked.kind asked.symbols.which file o
-tells_of_file asked file bytes o (inl same) outcome = subst (λ (f : List ℕ). TellsIn (section_of asked.symbols) asked.kind asked.symbols.which f o) same outcome
-tells_of_file asked file bytes o (inr (unknown, first)) outcome =
-    unknown_tells (section_of asked.symbols) asked.kind asked.symbols.which file o unknown (tells_unknown (section_of asked.symbols) asked.kind asked.symbols.which bytes o (unknown_too file bytes unknown first) outcome)
+ends_of_file : (asked : Asked) (file bytes : List ℕ) (o : Outcome) → IsReadOf file bytes → Ends (showing asked bytes) o → Ends (showing asked file) o
+ends_of_file asked file bytes o (inl same) ends = subst (λ (f : List ℕ). Ends (showing asked f) o) same ends
+ends_of_file asked file bytes o (inr (unknown, first)) ends =
+    unknown_ends (showing asked file) o (no_shown asked file unknown) (ends_unknown (showing asked bytes) o (no_shown asked bytes (unknown_too file bytes unknown first)) ends)
 
 -- the showing of what was read of a file ends as that of the file may
 pub end_of_file : (P Q : Type 0) → (P → Q) → (asked : Asked) (file bytes : List ℕ) (o : Outcome) → IsReadOf file bytes → MayEnd P asked bytes o → MayEnd Q asked file o
 end_of_file P Q more asked file bytes o read (inl (may, is)) = inl (more may, is)
 end_of_file P Q more asked file bytes o read (inr (inl is)) = inr (inl is)
-end_of_file P Q more asked file bytes o read (inr (inr outcome)) = inr (inr (tells_of_file asked file bytes o read outcome))
+end_of_file P Q more asked file bytes o read (inr (inr ends)) = inr (inr (ends_of_file asked file bytes o read ends))
 
 -- a call about a file is never wrong in itself
-tells_no_usage : {L : Type 0} (fits : L → Type 0) (memory : Result L Refusal → Type 0) (answer : Option (Result L Refusal)) → EndsAs fits memory answer wrong_usage → ⊥
-tells_no_usage fits memory None is = cc
-tells_no_usage fits memory (Some (Err refusal)) (inl is) = cc
-tells_no_usage fits memory (Some (Err refusal)) (inr (needs, is)) = cc
-tells_no_usage fits memory (Some (Ok listed)) (inl is) = cc
-tells_no_usage fits memory (Some (Ok listed)) (inr (inl (may, inl is))) = cc
-tells_no_usage fits memory (Some (Ok listed)) (inr (inl (may, inr is))) = cc
-tells_no_usage fits memory (Some (Ok listed)) (inr (inr (never, is))) = cc
-
-no_usage_in : (section : Option (List ℕ)) (kind : Kind) (which : SymbolTable) (file : List ℕ) → TellsIn section kind which file wrong_usage → ⊥
-no_usage_in (Some section) kind which file outcome = tells_no_usage (Fits kind) (NeedsMemory (format_of file) file) (answer_of which file section) outcome
-no_usage_in None Listing which file outcome = tells_no_usage AllListingFits (AllNeedsMemory file) (all_answer_of which file) outcome
-no_usage_in None Sums which file outcome = tells_no_usage ReportFits (AllNeedsMemory file) (one_answer (all_answer_of which file)) outcome
-no_usage_in None Picture which file outcome = tells_no_usage ReportFits (AllNeedsMemory file) (one_answer (all_answer_of which file)) outcome
+no_usage : {L : Type 0} (fits : L → Type 0) (memory : Result L Refusal → Type 0) (answer : Option (Result L Refusal)) → EndsAs fits memory answer wrong_usage → ⊥
+no_usage fits memory None is = cc
+no_usage fits memory (Some (Err refusal)) (inl is) = cc
+no_usage fits memory (Some (Err refusal)) (inr (needs, is)) = cc
+no_usage fits memory (Some (Ok listed)) (inl is) = cc
+no_usage fits memory (Some (Ok listed)) (inr (inl (may, inl is))) = cc
+no_usage fits memory (Some (Ok listed)) (inr (inl (may, inr is))) = cc
+no_usage fits memory (Some (Ok listed)) (inr (inr (never, is))) = cc
 
 never_wrong : (MayFail : Type 0) (asked : Asked) (file : List ℕ) → MayEnd MayFail asked file wrong_usage → ⊥
 never_wrong MayFail asked file (inl (may, is)) = cc
 never_wrong MayFail asked file (inr (inl is)) = cc
-never_wrong MayFail asked file (inr (inr outcome)) = no_usage_in (section_of asked.symbols) asked.kind asked.symbols.which file outcome
-
--- the text of which a beginning was taken, or all
-took_part : (section : Option (List ℕ)) (kind : Kind) (which : SymbolTable) (file : List ℕ) (old new : Option (List ℕ)) → TakesIn section kind which file old new write_failed → (text : List ℕ) × IsDueIn section kind which file text × AppendsBeginning old new text
-took_part (Some section) kind which file old new takes = takes
-took_part None Listing which file old new takes = takes
-took_part None Sums which file old new takes = takes
-took_part None Picture which file old new takes = takes
-
-pub took_all : (section : Option (List ℕ)) (kind : Kind) (which : SymbolTable) (file : List ℕ) (old new : Option (List ℕ)) → TakesIn section kind which file old new has_written → (text : List ℕ) × IsDueIn section kind which file text × Appends old new text
-took_all (Some section) kind which file old new takes = takes
-took_all None Listing which file old new takes = takes
-took_all None Sums which file old new takes = takes
-took_all None Picture which file old new takes = takes
+never_wrong MayFail asked file (inr (inr ends)) = let s = showing asked file in no_usage s.IsMade s.NeedsMemory s.answer ends
 
 -- what is left of a heading precedes the text
 pub after_heading : (old mid : Option (List ℕ)) (left text : List ℕ) → Appends (option_map (λ b. b ++ left) old) mid text → Appends old mid (left ++ text)
@@ -142,11 +117,9 @@ failed fault = Err fault
 
 module _ {W : Type 0} (contents : W → Option (List ℕ)) (asked : Asked) (MayFail : Type 0) (file : List ℕ) (old mid : Headed W) where
   -- a file whose showing failed
-  pub unshown : (e : Fault) → e ≢ Input → MayEnd MayFail asked file (outcome_of (Err e)) → TakesShown asked file (taken contents old) (taken contents mid) (outcome_of (Err e)) → Leaves old mid (outcome_of (Err e))
+  pub unshown : (e : Fault) → e ≢ Input → MayEnd MayFail asked file (outcome_of (Err e)) → TakesText (showing asked file) (taken contents old) (taken contents mid) (outcome_of (Err e)) → Leaves old mid (outcome_of (Err e))
       → ShowsHeld asked MayFail file (pending old) (contents (writer_of old)) (contents (writer_of mid)) (taken contents mid) (Err e)
-  unshown Write other ends takes leaves =
-      let part = took_part (section_of asked.symbols) asked.kind asked.symbols.which file (taken contents old) (taken contents mid) takes in
-      (part.0, part.1, beginning_after (contents (writer_of old)) (taken contents mid) (pending old) part.0 part.2)
+  unshown Write other ends (text, due, begins) leaves = (text, due, beginning_after (contents (writer_of old)) (taken contents mid) (pending old) text begins)
   unshown Unreadable other ends takes leaves = (other, ends, ap (λ (s : Headed W). contents (writer_of s)) leaves)
   unshown Input other ends takes leaves = (other, ends, ap (λ (s : Headed W). contents (writer_of s)) leaves)
   unshown OutOfMemory other ends takes leaves = (other, ends, ap (λ (s : Headed W). contents (writer_of s)) leaves)
@@ -175,7 +148,7 @@ module _ {W : Type 0} (contents : W → Option (List ℕ)) (asked : Asked) (MayF
   Held new result = ShowsHeld asked MayFail file (pending old) (contents (writer_of old)) (contents (writer_of new)) (taken contents new) result
 
   -- the same, as `?` passes the fault on
-  pub show_failed : (e : Fault) (result : Result (Unit {0}) Fault) → IsErrAnd result (λ f. f ≡ e) → failed e ≢ failed Input → MayEnd MayFail asked file (outcome_of (Err e)) → TakesShown asked file (taken contents old) (taken contents mid) (outcome_of (Err e)) → Leaves old mid (outcome_of (Err e))
+  pub show_failed : (e : Fault) (result : Result (Unit {0}) Fault) → IsErrAnd result (λ f. f ≡ e) → failed e ≢ failed Input → MayEnd MayFail asked file (outcome_of (Err e)) → TakesText (showing asked file) (taken contents old) (taken contents mid) (outcome_of (Err e)) → Leaves old mid (outcome_of (Err e))
       → Held mid result
   show_failed e (Ok x) is other ends takes leaves = absurd is
   show_failed e (Err f) is other ends takes leaves = subst (λ (f : Fault). Held mid (Err f)) (sym is) (unshown e (λ same. other (ap failed same)) ends takes leaves)

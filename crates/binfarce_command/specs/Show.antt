@@ -1,13 +1,12 @@
 -- How function symbols are shown.
 use Rattle.std.specs.Prelude.{◌≡◌, ◌⊎◌, ℕ, List, Option, Some, None, Result}
 use Rattle.std.specs.Option.{option_map}
-use Rattle.binfarce.specs.Format.{format_of}
 use Rattle.binfarce.specs.Refusal.{Refusal}
 use Rattle.binfarce.specs.SectionEntries.{AllSymbols}
 use Rattle.binfarce.specs.Symbol.{Listed}
 use Rattle.binfarce_tools.specs.AllAnswer.{all_answer_of, AllNeedsMemory, one_answer}
 use Rattle.binfarce_tools.specs.AllListing.{IsAllListingOf, AllListingFits}
-use Rattle.binfarce_tools.specs.Answer.{answer_of, NeedsMemory}
+use Rattle.binfarce_tools.specs.Answer.{answer_of, FileNeedsMemory}
 use Rattle.binfarce_tools.specs.Map.{IsMapOf}
 use Rattle.binfarce_tools.specs.Listing.{IsListingOf, ListingFits}
 use Rattle.binfarce_tools.specs.Report.{IsReportOf, IsSumsOf, ReportFits}
@@ -30,51 +29,48 @@ Fits Listing = ListingFits
 Fits Sums = ReportFits
 Fits Picture = ReportFits
 
--- text shows what a file with this answer holds in all sections: a listing names the section of each function symbol, and sums are those of one list
-abbrev pub IsDueOfAll : Kind → Option (Result AllSymbols Refusal) → List ℕ → Type 0
-IsDueOfAll Listing answer text = IsDue IsAllListingOf answer text
-IsDueOfAll Sums answer text = IsDue IsSumsOf (one_answer answer) text
-IsDueOfAll Picture answer text = IsDue IsMapOf (one_answer answer) text
+-- how a file's answer is shown: which text shows it, whether that can be made, and which answers need memory
+pub record Showing : Type 1 where
+  pub Held : Type 0
+  pub answer : Option (Result Held Refusal)
+  pub IsText : Held → List ℕ → Type 0
+  pub IsMade : Held → Type 0
+  pub NeedsMemory : Result Held Refusal → Type 0
 
--- what is told of a file, and what is taken of its text
-abbrev pub AllEndsAs : Kind → SymbolTable → (file : List ℕ) → Outcome → Type 0
-AllEndsAs Listing which file outcome = EndsAs AllListingFits (AllNeedsMemory file) (all_answer_of which file) outcome
-AllEndsAs Sums which file outcome = EndsAs ReportFits (AllNeedsMemory file) (one_answer (all_answer_of which file)) outcome
-AllEndsAs Picture which file outcome = EndsAs ReportFits (AllNeedsMemory file) (one_answer (all_answer_of which file)) outcome
+-- the function symbols of all sections: a listing names the section of each, and sums are those of one list
+abbrev pub of_all : Kind → SymbolTable → (file : List ℕ) → Showing
+of_all Listing which file = record { Held = AllSymbols; answer = all_answer_of which file; IsText = IsAllListingOf; IsMade = AllListingFits; NeedsMemory = AllNeedsMemory file }
+of_all Sums which file = record { Held = Listed; answer = one_answer (all_answer_of which file); IsText = IsSumsOf; IsMade = ReportFits; NeedsMemory = AllNeedsMemory file }
+of_all Picture which file = record { Held = Listed; answer = one_answer (all_answer_of which file); IsText = IsMapOf; IsMade = ReportFits; NeedsMemory = AllNeedsMemory file }
 
-abbrev pub TakesAll : Kind → Option (Result AllSymbols Refusal) → (old new : Option (List ℕ)) → Outcome → Type 0
-TakesAll Listing answer old new outcome = Takes IsAllListingOf answer old new outcome
-TakesAll Sums answer old new outcome = Takes IsSumsOf (one_answer answer) old new outcome
-TakesAll Picture answer old new outcome = Takes IsMapOf (one_answer answer) old new outcome
+-- those of a section, or of all
+abbrev pub showing_in : (section : Option (List ℕ)) → Kind → SymbolTable → (file : List ℕ) → Showing
+showing_in (Some section) kind which file = record { Held = Listed; answer = answer_of which file section; IsText = IsTextOf kind; IsMade = Fits kind; NeedsMemory = FileNeedsMemory file }
+showing_in None kind which file = of_all kind which file
 
 -- the section that is asked for, if it isn't all of them
 abbrev pub section_of : Symbols → Option (List ℕ)
 section_of symbols = option_map (λ t. t.now) symbols.section
 
--- the same of a section, if one is asked for
-abbrev pub IsDueIn : (section : Option (List ℕ)) → Kind → SymbolTable → (file text : List ℕ) → Type 0
-IsDueIn (Some section) kind which file text = IsDue (IsTextOf kind) (answer_of which file section) text
-IsDueIn None kind which file text = IsDueOfAll kind (all_answer_of which file) text
+-- what is asked for of a file
+abbrev pub showing : Asked → (file : List ℕ) → Showing
+showing asked file = showing_in (section_of asked.symbols) asked.kind asked.symbols.which file
 
-abbrev pub TellsIn : (section : Option (List ℕ)) → Kind → SymbolTable → (file : List ℕ) → Outcome → Type 0
-TellsIn (Some section) kind which file outcome = EndsAs (Fits kind) (NeedsMemory (format_of file) file) (answer_of which file section) outcome
-TellsIn None kind which file outcome = AllEndsAs kind which file outcome
+-- the showing of an answer ends so
+abbrev pub Ends : Showing → Outcome → Type 0
+Ends s outcome = EndsAs s.IsMade s.NeedsMemory s.answer outcome
 
-abbrev pub TakesIn : (section : Option (List ℕ)) → Kind → SymbolTable → (file : List ℕ) → (old new : Option (List ℕ)) → Outcome → Type 0
-TakesIn (Some section) kind which file old new outcome = Takes (IsTextOf kind) (answer_of which file section) old new outcome
-TakesIn None kind which file old new outcome = TakesAll kind (all_answer_of which file) old new outcome
+-- what was taken of its text
+abbrev pub TakesText : Showing → (old new : Option (List ℕ)) → Outcome → Type 0
+TakesText s old new outcome = Takes s.IsText s.answer old new outcome
 
 -- text is what is asked for of a file
 abbrev pub IsShownText : Asked → (file text : List ℕ) → Type 0
-IsShownText asked file text = IsDueIn (section_of asked.symbols) asked.kind asked.symbols.which file text
+IsShownText asked file text = let s = showing asked file in IsDue s.IsText s.answer text
 
 -- the showing of a file may end so; that the file can't be read is reported only where MayFail says so, and that an allocation failed of any file
 abbrev pub MayEnd : (MayFail : Type 0) → Asked → (file : List ℕ) → Outcome → Type 0
-MayEnd MayFail asked file outcome = (MayFail × (outcome ≡ unreadable)) ⊎ (outcome ≡ no_memory) ⊎ TellsIn (section_of asked.symbols) asked.kind asked.symbols.which file outcome
-
--- what was taken of the text that is asked for
-abbrev pub TakesShown : Asked → (file : List ℕ) → (old new : Option (List ℕ)) → Outcome → Type 0
-TakesShown asked file old new outcome = TakesIn (section_of asked.symbols) asked.kind asked.symbols.which file old new outcome
+MayEnd MayFail asked file outcome = (MayFail × (outcome ≡ unreadable)) ⊎ (outcome ≡ no_memory) ⊎ Ends (showing asked file) outcome
 
 -- what a file answers for the function symbols that are taken, as one list
 abbrev pub answer_in : (section : Option (List ℕ)) → SymbolTable → (file : List ℕ) → Option (Result Listed Refusal)
@@ -86,7 +82,7 @@ answer_for symbols file = answer_in (section_of symbols) symbols.which file
 
 -- the answers that need memory
 abbrev pub MemoryIn : (section : Option (List ℕ)) → (file : List ℕ) → Result Listed Refusal → Type 0
-MemoryIn (Some section) file answer = NeedsMemory (format_of file) file answer
+MemoryIn (Some section) file answer = FileNeedsMemory file answer
 MemoryIn None file answer = AllNeedsMemory file answer
 
 abbrev pub MemoryFor : Symbols → (file : List ℕ) → Result Listed Refusal → Type 0

@@ -181,8 +181,8 @@ fn answer_in_tables<I: Read, K: Sink>(
     input: &mut I,
     out: &mut K,
 ) -> Result<u64, Fault>
-    ensures { (which : SymbolTable) (file section : List ℕ) → AreTablesOf which file section tables.now → AnswersLines ⊥ false
-        (FileNeedsMemory file) (answer_of which file section) base
+    ensures { (which : SymbolTable) (file section : List ℕ) → AreTablesOf which file section tables.now
+        → AnswersLines ⊥ false (FileNeedsMemory file) (answer_of which file section) base
         (I.remaining input.old) (I.remaining input.new) (K.taken out.old) (K.taken out.new) result }
 {
     let places = named_places(alloc, tables)?;
@@ -198,8 +198,9 @@ fn answer_in_all<I: Read, K: Sink>(
     input: &mut I,
     out: &mut K,
 ) -> Result<u64, Fault>
-    ensures { (which : SymbolTable) (file : List ℕ) → AreAllTablesOf which file tables.now → AnswersLines ⊥
-        (addresses_are_shared (all_answer_of which file)) (AllNeedsMemory file) (one_answer (all_answer_of which file)) base
+    ensures { (which : SymbolTable) (file : List ℕ) → AreAllTablesOf which file tables.now
+        → AnswersLines ⊥ (addresses_are_shared (all_answer_of which file)) (AllNeedsMemory file)
+        (one_answer (all_answer_of which file)) base
         (I.remaining input.old) (I.remaining input.new) (K.taken out.old) (K.taken out.new) result }
 {
     let mut places = places_of_all(alloc, tables)?;

@@ -1,14 +1,13 @@
 //! Shows the function symbols of a file: as a listing, as sums by crate, or as a picture.
 
 ghost use Rattle.std.specs.Prelude.{◌≡◌, ◌≢◌, ℕ, List, true, Some, Err};
-ghost use Rattle.binfarce_tools.specs.AllAnswer.{all_answer_of};
 ghost use Rattle.binfarce_tools.specs.AllTables.{AreAllTablesOf};
 ghost use Rattle.binfarce_tools.specs.Answer.{answer_of, FileNeedsMemory};
 ghost use Rattle.binfarce_tools.specs.Tables.{AreTablesOf};
 ghost use Rattle.binfarce_tools.specs.declared.SymbolTable.{SymbolTable};
 ghost use Rattle.binfarce_tools.specs.Writing.{EndsAs, Takes, Fails, Leaves};
 ghost use Rattle.binfarce_command.specs.Faults.{outcome_of};
-ghost use Rattle.binfarce_command.specs.Show.{AllEndsAs, Fits, IsTextOf, MayEnd, TakesAll, TakesShown};
+ghost use Rattle.binfarce_command.specs.Show.{Ends, Fits, IsTextOf, MayEnd, TakesText, of_all, showing};
 ghost use Rattle.binfarce_command.specs.declared.fault.Fault.TheVariants.{Input};
 
 use crate::fault::Fault;
@@ -66,7 +65,7 @@ pub fn show<S: Source, K: Sink>(
     ensures outcome { (file : List ℕ) → S.bytes source.now ≡ Some file
         → MayEnd (S.may_fail source.now ≡ true) asked.now file (outcome_of result) }
     ensures takes { (file : List ℕ) → S.bytes source.now ≡ Some file
-        → TakesShown asked.now file (K.taken out.old) (K.taken out.new) (outcome_of result) }
+        → TakesText (showing asked.now file) (K.taken out.old) (K.taken out.new) (outcome_of result) }
     ensures of_file { result ≢ Err Input }
     ensures fails { Fails (K.has_failed out.old) (K.has_failed out.new) (outcome_of result) }
     ensures leaves { Leaves out.old out.new (outcome_of result) }
@@ -91,11 +90,9 @@ fn show_tables<K: Sink>(
     out: &mut K,
 ) -> Result<(), Fault>
     ensures outcome { (which : SymbolTable) (file section : List ℕ) → AreTablesOf which file section tables.now
-        → EndsAs (Fits kind)
-        (FileNeedsMemory file) (answer_of which file section) (outcome_of result) }
+        → EndsAs (Fits kind) (FileNeedsMemory file) (answer_of which file section) (outcome_of result) }
     ensures takes { (which : SymbolTable) (file section : List ℕ) → AreTablesOf which file section tables.now
-        → Takes (IsTextOf kind)
-        (answer_of which file section) (K.taken out.old) (K.taken out.new) (outcome_of result) }
+        → Takes (IsTextOf kind) (answer_of which file section) (K.taken out.old) (K.taken out.new) (outcome_of result) }
     ensures of_file { result ≢ Err Input }
     ensures fails { Fails (K.has_failed out.old) (K.has_failed out.new) (outcome_of result) }
     ensures leaves { Leaves out.old out.new (outcome_of result) }
@@ -115,9 +112,9 @@ fn show_all<K: Sink>(
     out: &mut K,
 ) -> Result<(), Fault>
     ensures outcome { (which : SymbolTable) (file : List ℕ) → AreAllTablesOf which file tables.now
-        → AllEndsAs kind which file (outcome_of result) }
+        → Ends (of_all kind which file) (outcome_of result) }
     ensures takes { (which : SymbolTable) (file : List ℕ) → AreAllTablesOf which file tables.now
-        → TakesAll kind (all_answer_of which file) (K.taken out.old) (K.taken out.new) (outcome_of result) }
+        → TakesText (of_all kind which file) (K.taken out.old) (K.taken out.new) (outcome_of result) }
     ensures of_file { result ≢ Err Input }
     ensures fails { Fails (K.has_failed out.old) (K.has_failed out.new) (outcome_of result) }
     ensures leaves { Leaves out.old out.new (outcome_of result) }

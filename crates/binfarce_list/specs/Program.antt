@@ -4,8 +4,6 @@ use Rattle.binfarce_tools.specs.ListWords as call
 use Rattle.binfarce_tools.specs.Writing as writing
 use Rattle.binfarce_tools.specs.declared.program.Failure.{Failure}
 use Rattle.binfarce_tools.specs.declared.program.Failure.TheVariants as failures
-use Rattle.binfarce_tables.specs.declared.error.ReadError.{ReadError}
-use Rattle.binfarce_tables.specs.declared.error.ReadError.TheVariants as reading
 use Rattle.binfarce_tools.specs.declared.list.ListError.TheVariants as errors
 use Rattle.binfarce_list.specs.declared.program.Fault.{Fault}
 use Rattle.binfarce_list.specs.declared.program.Fault.TheVariants.{Usage, File, List as Listing}
@@ -14,14 +12,9 @@ use Rattle.binfarce_list.specs.declared.program.Fault.TheVariants.{Usage, File, 
 abbrev pub fault_of : Failure → Fault
 fault_of failures.Usage = Usage
 fault_of failures.File = File
+fault_of (failures.Refused e) = Listing (errors.Parse e)
 fault_of failures.OutOfMemory = Listing errors.OutOfMemory
 fault_of failures.Write = Listing errors.Write
-
--- the fault of an error of the reading
-abbrev pub read_fault : ReadError → Fault
-read_fault (reading.Refused e) = Listing (errors.Parse e)
-read_fault reading.Unreadable = File
-read_fault reading.OutOfMemory = Listing errors.OutOfMemory
 
 -- whether the arguments are wrong
 abbrev pub is_usage : Fault → Bool

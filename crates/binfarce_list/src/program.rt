@@ -12,9 +12,10 @@ ghost use Rattle.binfarce_list.specs.Program.{outcome_of, is_usage};
 ghost use Rattle.binfarce_list.specs.declared.program.Fault.TheVariants.{Usage};
 
 use binfarce_bytes::source::Source;
-use binfarce_tables::ReadError;
 use binfarce_tools::list::{ListError, Out, list, list_tables};
-use binfarce_tools::program::{Failure, file_and_section, is_read_at_offsets, read_whole};
+use binfarce_tools::program::{
+    Failure, file_and_section, is_read_at_offsets, read_whole, tables_failure,
+};
 use binfarce_tools::tables::read;
 use std::alloc::Global;
 use std::io::{Read, Write};
@@ -43,23 +44,9 @@ impl From<Failure> for Fault {
         match e {
             Failure::Usage => Fault::Usage,
             Failure::File => Fault::File,
+            Failure::Refused(e) => Fault::List(ListError::Parse(e)),
             Failure::OutOfMemory => Fault::List(ListError::OutOfMemory),
             Failure::Write => Fault::List(ListError::Write),
-        }
-    }
-}
-
-impl From<ReadError> for Fault {
-    ghost use Rattle.binfarce_list.specs.Program.{read_fault};
-
-    ghost from_gives = { λ e f. f ≡ read_fault e };
-
-    /// `Unreadable` becomes `File`, and any other error becomes `List`.
-    fn from(e: ReadError) -> Self {
-        match e {
-            ReadError::Refused(e) => Fault::List(ListError::Parse(e)),
-            ReadError::Unreadable => Fault::from(Failure::File),
-            ReadError::OutOfMemory => Fault::from(Failure::OutOfMemory),
         }
     }
 }
@@ -125,7 +112,10 @@ pub fn run_at<S: Source, W: Write>(
     ensures fails { Fails (has_failed out.old) (has_failed out.new) (outcome_of result) }
     ensures leaves { Leaves out.old out.new (outcome_of result) }
 {
-    let tables = read(alloc, source, section)?;
+    let tables = match read(alloc, source, section) {
+        Ok(tables) => tables,
+        Err(e) => return Err(Fault::from(tables_failure(e))),
+    };
     match list_tables(alloc, &tables, out) {
         Ok(()) => Ok(()),
         Err(e) => Err(Fault::List(e)),

@@ -4,8 +4,6 @@ use Rattle.binfarce_tools.specs.ReportWords as call
 use Rattle.binfarce_tools.specs.Writing as writing
 use Rattle.binfarce_tools.specs.declared.program.Failure.{Failure}
 use Rattle.binfarce_tools.specs.declared.program.Failure.TheVariants as failures
-use Rattle.binfarce_tables.specs.declared.error.ReadError.{ReadError}
-use Rattle.binfarce_tables.specs.declared.error.ReadError.TheVariants as reading
 use Rattle.binfarce_tools.specs.declared.report.ReportError.TheVariants as errors
 use Rattle.binfarce_size.specs.declared.program.Fault.{Fault}
 use Rattle.binfarce_size.specs.declared.program.Fault.TheVariants.{Usage, File, Report}
@@ -14,14 +12,9 @@ use Rattle.binfarce_size.specs.declared.program.Fault.TheVariants.{Usage, File, 
 abbrev pub fault_of : Failure → Fault
 fault_of failures.Usage = Usage
 fault_of failures.File = File
+fault_of (failures.Refused e) = Report (errors.Parse e)
 fault_of failures.OutOfMemory = Report errors.OutOfMemory
 fault_of failures.Write = Report errors.Write
-
--- the fault of an error of the reading
-abbrev pub read_fault : ReadError → Fault
-read_fault (reading.Refused e) = Report (errors.Parse e)
-read_fault reading.Unreadable = File
-read_fault reading.OutOfMemory = Report errors.OutOfMemory
 
 -- whether the arguments are wrong
 abbrev pub is_usage : Fault → Bool

@@ -12,9 +12,10 @@ ghost use Rattle.binfarce_size.specs.Program.{outcome_of, is_usage};
 ghost use Rattle.binfarce_size.specs.declared.program.Fault.TheVariants.{Usage};
 
 use binfarce_bytes::source::Source;
-use binfarce_tables::ReadError;
 use binfarce_tools::list::Out;
-use binfarce_tools::program::{Failure, file_and_section, is_read_at_offsets, read_whole};
+use binfarce_tools::program::{
+    Failure, file_and_section, is_read_at_offsets, read_whole, tables_failure,
+};
 use binfarce_tools::report::{ReportError, report, report_tables};
 use binfarce_tools::tables::read;
 use std::alloc::Global;
@@ -44,23 +45,9 @@ impl From<Failure> for Fault {
         match e {
             Failure::Usage => Fault::Usage,
             Failure::File => Fault::File,
+            Failure::Refused(e) => Fault::Report(ReportError::Parse(e)),
             Failure::OutOfMemory => Fault::Report(ReportError::OutOfMemory),
             Failure::Write => Fault::Report(ReportError::Write),
-        }
-    }
-}
-
-impl From<ReadError> for Fault {
-    ghost use Rattle.binfarce_size.specs.Program.{read_fault};
-
-    ghost from_gives = { λ e f. f ≡ read_fault e };
-
-    /// `Unreadable` becomes `File`, and any other error becomes `Report`.
-    fn from(e: ReadError) -> Self {
-        match e {
-            ReadError::Refused(e) => Fault::Report(ReportError::Parse(e)),
-            ReadError::Unreadable => Fault::from(Failure::File),
-            ReadError::OutOfMemory => Fault::from(Failure::OutOfMemory),
         }
     }
 }
@@ -126,7 +113,10 @@ pub fn run_at<S: Source, W: Write>(
     ensures fails { Fails (has_failed out.old) (has_failed out.new) (outcome_of result) }
     ensures leaves { Leaves out.old out.new (outcome_of result) }
 {
-    let tables = read(alloc, source, section)?;
+    let tables = match read(alloc, source, section) {
+        Ok(tables) => tables,
+        Err(e) => return Err(Fault::from(tables_failure(e))),
+    };
     match report_tables(alloc, &tables, out) {
         Ok(()) => Ok(()),
         Err(e) => Err(Fault::Report(e)),

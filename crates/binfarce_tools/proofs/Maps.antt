@@ -3,16 +3,15 @@ use Rattle.std.proofs.Common.{◌≡◌, ℕ, ◌<◌, ◌^◌, List, [], ◌∷
 use Rattle.std.specs.Global.{Global}
 use Rattle.std.specs.BTreeMap.{IsOrdered}
 use Rattle.std.specs.String.{string_cmp}
-use Rattle.binfarce.specs.Symbol.{Listed}
 use Rattle.binfarce_chart.specs.Chart as chart
 use Rattle.binfarce_chart.specs.Chart.{Row}
 use Rattle.binfarce_chart.specs.Svg.{IsChartOf}
 use Rattle.binfarce_tools.proofs.CrateLines.{HaveSums, are_crates, have_sums, texts_of}
 use Rattle.binfarce_tools.specs.declared.report.CrateSums.{CrateSums}
 use Rattle.binfarce_tools.specs.Report.{Share, AreCratesOf}
-use Rattle.binfarce_tools.specs.Sums.{AreSumsOf, AreSumsOfFile}
+use Rattle.binfarce_tools.specs.Sums.{AreSumsOf}
 use Rattle.binfarce_tools.proofs.Totals.{totals_add_up}
-use Rattle.binfarce_tools.specs.Map.{IsMapOf, IsMapOfShares, crate_rows}
+use Rattle.binfarce_tools.specs.Map.{IsMapOfShares, crate_rows}
 
 -- a row for each entry of a map
 abbrev pub entry_rows : List (String Global × ℕ) → List Row
@@ -34,13 +33,6 @@ pub rows_fit : (shares : List Share) (sums : CrateSums) (rows : List Row) → Ar
 rows_fit shares sums rows are seen =
     let P : ℕ → Type 0 = λ n. n < 2 ^ 64 in
     subst P (sym (ap (λ (rs : List Row). chart.total rs) seen.2 ∙ totals_add_up shares seen.0 seen.1 ∙ are.total_is)) are.fits
-
--- the picture of sums of what was listed
-pub of_listed : (listed : Listed) (sums : CrateSums) (text : List ℕ) → AreSumsOfFile listed sums → ((shares : List Share) → AreSumsOf shares sums → IsMapOfShares shares sums.section_size text) → IsMapOf listed text
-of_listed listed sums text are is =
-    let shares = are.1 in
-    let P : ℕ → Type 0 = λ n. IsMapOfShares shares.0 n text in
-    (shares.0, shares.1, subst P are.0 (is shares.0 shares.2))
 
 -- the picture of the rows of all crates
 pub of_chart : (shares : List Share) (sums : CrateSums) (rows : List Row) (text : List ℕ) → (names : List (List ℕ)) × AreCratesOf shares names × (rows ≡ crate_rows shares names) → IsChartOf rows sums.section_size text → IsMapOfShares shares sums.section_size text

@@ -1,34 +1,22 @@
--- What a call answers that makes a text of the sums of a file and writes it, and what was taken: whatever the text is.
-use Rattle.std.proofs.Common.{◌≡◌, ℕ, ◌<◌, ◌≤◌, ◌^◌, List, Option, Some, None, Result, Ok, Err, refl, sym, ap, subst, ◌∙◌, inl, inr, ◌⊎◌, arith}
-use Rattle.std.specs.Prelude.{MatchResult}
-use Rattle.std.specs.Result.{IsErrAnd}
+-- How a call ended that makes a text of the sums of a file and writes it, and what was taken: whatever the text is.
+use Rattle.std.proofs.Common.{◌≡◌, ℕ, ◌<◌, ◌≤◌, ◌^◌, List, Option, Some, None, Result, Ok, Err, String, string_bytes, refl, sym, subst, ◌∙◌, inl, inr, ◌⊎◌, arith}
+use Rattle.std.specs.Prelude.{IfOk, MatchResult}
 use Rattle.std.specs.List.{AllZip, sum_by}
 use Rattle.binfarce.specs.Refusal.{Refusal}
 use Rattle.binfarce.specs.Symbol.{Entry, Listed}
 use Rattle.binfarce_tools.specs.declared.functions.Functions.{Functions}
-use Rattle.binfarce_tools.specs.declared.list.ListError.{ListError}
-use Rattle.binfarce_tools.specs.declared.list.ListError.TheVariants as errors
 use Rattle.binfarce_tools.specs.declared.report.CrateSums.{CrateSums}
 use Rattle.binfarce_tools.specs.declared.report.ReportError.{ReportError}
 use Rattle.binfarce_tools.specs.declared.report.ReportError.TheVariants.{OutOfMemory, TooLarge}
-use Rattle.binfarce_tools.specs.Report.{Share, IsShareOf, IsReportOf, IsReportOfShares, IsSumsOf, IsSumsOfShares, ReportFits}
-use Rattle.binfarce_tools.specs.ReportWords.{report_error_of, outcome_of}
+use Rattle.binfarce_tools.specs.Report.{Share, IsShareOf, ReportFits}
 use Rattle.binfarce_tools.specs.Sums.{AreSumsOf, AreSumsOfFile, GetsSums}
-use Rattle.binfarce_tools.specs.Writing as writing
+use Rattle.binfarce_tools.specs.Writing.{Outcome, EndsAs, Takes, written, write_failed, no_memory}
 use Rattle.binfarce_tools.specs.Entries.{functions_left, Gets}
-use Rattle.binfarce_tools.specs.ListWords.{Writes}
+use Rattle.binfarce_tools.specs.machine.Shares.{WritesMade}
 use Rattle.binfarce_tools.proofs.CrateSums.{total_is}
 
 abbrev pub size_of_all : List Entry → ℕ
 size_of_all entries = sum_by (λ (e : Entry). e.size) entries
-
--- the outcome, by the answer
-abbrev pub EndsAs : (Result Listed Refusal → Type 0) → Option (Result Listed Refusal) → Result (Unit {0}) ReportError → Type 0
-EndsAs memory answer result = writing.EndsAs ReportFits memory answer (outcome_of result)
-
-is_err : (result : Result (Unit {0}) ReportError) (e : ReportError) → IsErrAnd result (λ f. f ≡ e) → result ≡ Err e
-is_err (Ok x) e is = absurd is
-is_err (Err f) e is = ap Err is
 
 too_large : (n : ℕ) → 2 ^ 64 ≤ n → ¬ (n < 2 ^ 64)
 too_large n le lt = omega arith
@@ -68,60 +56,38 @@ fits listed sums are =
     let shares = are.1 in
     let P : ℕ → Type 0 = λ n. n < 2 ^ 64 in subst P (sym shares.2.total_is ∙ total_is listed.entries shares.0 shares.1) shares.2.fits
 
-module _ (memory : Result Listed Refusal → Type 0) (answer : Option (Result Listed Refusal)) where
-  reported_is : (sums : CrateSums) (result : Result (Unit {0}) ReportError) → GetsSums memory answer (Ok sums)
-      → (outcome_of result ≡ writing.written) ⊎ (outcome_of result ≡ writing.write_failed) → EndsAs memory answer result
-  reported_is sums result gets is = let P : Option (Result Listed Refusal) → Type 0 = λ a. EndsAs memory a result in subst P (sym gets.1) (inr (inl (fits gets.0 sums gets.2, is)))
+-- how a call ended that wrote a text, if it was made of the sums
+pub ends : {Y E : Type 0} (memory : Result Listed Refusal → Type 0) (answer : Option (Result Listed Refusal)) (sums : CrateSums) (made : Result (String Y) E) (old new : Option (List ℕ)) (o : Outcome)
+    → GetsSums memory answer (Ok sums) → WritesMade made old new o → EndsAs ReportFits memory answer o
+ends memory answer sums made old new o gets wrote =
+    let P : Option (Result Listed Refusal) → Type 0 = λ a. EndsAs ReportFits memory a o in subst P (sym gets.1) (by_made made wrote)
+  where
+    by_made : {Y E : Type 0} (made : Result (String Y) E) → WritesMade made old new o → EndsAs ReportFits memory (Some (Ok gets.0)) o
+    by_made (Err e) wrote = inl wrote.0
+    by_made (Ok text) (inl wrote) = inr (inl (fits gets.0 sums gets.2, inl wrote.0))
+    by_made (Ok text) (inr wrote) = inr (inl (fits gets.0 sums gets.2, inr wrote.0))
 
-  -- the text was written
-  pub was_written : (sums : CrateSums) → GetsSums memory answer (Ok sums) → EndsAs memory answer (Ok tt)
-  was_written sums gets = reported_is sums (Ok tt) gets (inl refl)
+-- what was taken of a text of sums
+module _ (IsText : List Share → ℕ → List ℕ → Type 0) where
+  -- text is that of what a file holds: each entry adds its share
+  abbrev pub IsTextOf : Listed → List ℕ → Type 0
+  IsTextOf listed text = (shares : List Share) × AllZip IsShareOf listed.entries shares × IsText shares listed.section_size text
 
-  -- a write failed
-  pub not_written : (sums : CrateSums) (e : ListError) (result : Result (Unit {0}) ReportError) → GetsSums memory answer (Ok sums) → e ≡ errors.Write → IsErrAnd result (λ f. f ≡ report_error_of e) → EndsAs memory answer result
-  not_written sums e result gets write err =
-      reported_is sums result gets (inr (ap outcome_of (is_err result (report_error_of e) err) ∙ ap (λ (e : ListError). outcome_of (Err (report_error_of e))) write))
+  of_listed : (listed : Listed) (sums : CrateSums) (text : List ℕ) → AreSumsOfFile listed sums → ((shares : List Share) → AreSumsOf shares sums → IsText shares sums.section_size text) → IsTextOf listed text
+  of_listed listed sums text are is =
+      let shares = are.1 in
+      let P : ℕ → Type 0 = λ n. IsText shares.0 n text in
+      (shares.0, shares.1, subst P are.0 (is shares.0 shares.2))
 
-  -- an allocation failed after the sums were made
-  pub no_memory : (sums : CrateSums) (result : Result (Unit {0}) ReportError) → GetsSums memory answer (Ok sums) → IsErrAnd result (λ f. f ≡ OutOfMemory) → EndsAs memory answer result
-  no_memory sums result gets err = let P : Option (Result Listed Refusal) → Type 0 = λ a. EndsAs memory a result in subst P (sym gets.1) (inl (ap outcome_of (is_err result OutOfMemory err)))
-
--- the result of a call after this write of its text
-abbrev pub written : Result (Unit {0}) ListError → Result (Unit {0}) ReportError
-written (Ok x) = Ok x
-written (Err e) = Err (report_error_of e)
-
-module _ (IsText : Listed → List ℕ → Type 0) where
-  abbrev pub Takes : Option (Result Listed Refusal) → Option (List ℕ) → Option (List ℕ) → Result (Unit {0}) ReportError → Type 0
-  Takes answer old new result = writing.Takes IsText answer old new (outcome_of result)
-
-  -- what was taken is the text of what was listed, or a beginning of it
-  pub takes : (answer : Option (Result Listed Refusal)) (listed : Listed) (text : List ℕ) (old new : Option (List ℕ)) (result : Result (Unit {0}) ListError)
-      → answer ≡ Some (Ok listed) → IsText listed text → Writes old new text result → Takes answer old new (written result)
-  takes answer listed text old new result is due wrote =
-      let P : Option (Result Listed Refusal) → Type 0 = λ a. Takes a old new (written result) in subst P (sym is) (by_result result wrote)
+  pub takes : {Y E : Type 0} (memory : Result Listed Refusal → Type 0) (answer : Option (Result Listed Refusal)) (sums : CrateSums) (made : Result (String Y) E) (old new : Option (List ℕ)) (o : Outcome)
+      → GetsSums memory answer (Ok sums) → IfOk made (λ t. (shares : List Share) → AreSumsOf shares sums → IsText shares sums.section_size (string_bytes t)) → WritesMade made old new o → Takes IsTextOf answer old new o
+  takes memory answer sums made old new o gets is wrote =
+      let Q : Option (Result Listed Refusal) → Type 0 = λ a. Takes IsTextOf a old new o in subst Q (sym gets.1) (by_made made is wrote)
     where
-      by_result : (result : Result (Unit {0}) ListError) → Writes old new text result → Takes (Some (Ok listed)) old new (written result)
-      by_result (Ok x) wrote = (text, due, wrote)
-      by_result (Err errors.Write) wrote = (text, due, wrote.1)
-      by_result (Err errors.Unknown) wrote = let e = wrote.0 in absurd cc
-      by_result (Err (errors.Parse p)) wrote = let e = wrote.0 in absurd cc
-      by_result (Err errors.OutOfMemory) wrote = let e = wrote.0 in absurd cc
+      ended : (end : Outcome) → o ≡ end → Takes IsTextOf (Some (Ok gets.0)) old new end → Takes IsTextOf (Some (Ok gets.0)) old new o
+      ended end is = subst (λ (o : Outcome). Takes IsTextOf (Some (Ok gets.0)) old new o) (sym is)
 
-  -- and that of a failed write
-  pub takes_beginning : (answer : Option (Result Listed Refusal)) (listed : Listed) (text : List ℕ) (old new : Option (List ℕ)) (e : ListError) (result : Result (Unit {0}) ReportError)
-      → answer ≡ Some (Ok listed) → IsText listed text → Writes old new text (Err e) → IsErrAnd result (λ f. f ≡ report_error_of e) → Takes answer old new result
-  takes_beginning answer listed text old new e result is due wrote err =
-      let P : Result (Unit {0}) ReportError → Type 0 = λ r. Takes answer old new r in
-      subst P (sym (is_err result (report_error_of e) err)) (takes answer listed text old new (Err e) is due wrote)
-
--- the report of sums of what was listed
-pub of_listed : (listed : Listed) (sums : CrateSums) (text : List ℕ) → AreSumsOfFile listed sums → ((shares : List Share) → AreSumsOf shares sums → IsReportOfShares shares sums.section_size text) → IsReportOf listed text
-of_listed listed sums text are is =
-    let shares = are.1 in
-    let P : ℕ → Type 0 = λ n. IsReportOfShares shares.0 n text in
-    (shares.0, shares.1, subst P are.0 (is shares.0 shares.2))
-
--- and their lines alone
-pub sums_of_listed : (listed : Listed) (sums : CrateSums) (text : List ℕ) → AreSumsOfFile listed sums → ((shares : List Share) → AreSumsOf shares sums → IsSumsOfShares shares text) → IsSumsOf listed text
-sums_of_listed listed sums text are is = let shares = are.1 in (shares.0, shares.1, is shares.0 shares.2)
+      by_made : {Y E : Type 0} (made : Result (String Y) E) → IfOk made (λ t. (shares : List Share) → AreSumsOf shares sums → IsText shares sums.section_size (string_bytes t)) → WritesMade made old new o → Takes IsTextOf (Some (Ok gets.0)) old new o
+      by_made (Err e) is wrote = ended no_memory wrote.0 wrote.1
+      by_made (Ok text) is (inl wrote) = ended written wrote.0 (string_bytes text, of_listed gets.0 sums (string_bytes text) gets.2 is, wrote.1)
+      by_made (Ok text) is (inr wrote) = ended write_failed wrote.0 (string_bytes text, of_listed gets.0 sums (string_bytes text) gets.2 is, wrote.1)

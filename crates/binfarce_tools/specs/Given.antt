@@ -2,8 +2,10 @@
 use Rattle.std.specs.Prelude.{ℕ, List, [], ◌∷◌, codes, Option, Some, None}
 use Rattle.std.specs.declared.io.ErrorKind.{ErrorKind}
 use Rattle.std.specs.declared.io.ErrorKind.TheVariants as kinds
+use Rattle.binfarce_tables.specs.declared.error.ReadError.{ReadError}
+use Rattle.binfarce_tables.specs.declared.error.ReadError.TheVariants as reading
 use Rattle.binfarce_tools.specs.declared.program.Failure.{Failure}
-use Rattle.binfarce_tools.specs.declared.program.Failure.TheVariants.{Usage, File, OutOfMemory}
+use Rattle.binfarce_tools.specs.declared.program.Failure.TheVariants.{Usage, File, Refused, OutOfMemory}
 
 -- the file and the section of one or two arguments; an argument that isn't UTF-8 is refused before, as a wrong call
 abbrev pub words_of : List (List ℕ) → Option (List ℕ × List ℕ)
@@ -21,3 +23,9 @@ failure_of kind = File
 abbrev pub arguments_failure_of : ErrorKind → Failure
 arguments_failure_of kinds.OutOfMemory = OutOfMemory
 arguments_failure_of kind = Usage
+
+-- the failure of an error of reading a file's tables
+abbrev pub tables_failure_of : ReadError → Failure
+tables_failure_of (reading.Refused e) = Refused e
+tables_failure_of reading.Unreadable = File
+tables_failure_of reading.OutOfMemory = OutOfMemory

@@ -24,7 +24,7 @@ use crate::functions::Functions;
 use crate::head::push_head;
 use crate::list::{ListError, Sink};
 use crate::map::picture;
-use crate::report::{CrateSums, ReportError, crate_sums, sums_text};
+use crate::report::{CrateSums, ReportError, crate_sums, sums_text, write_made};
 use crate::tables::{has_table, read_format};
 use crate::writing::write_whole;
 use binfarce::{Format, SectionFunction, SymbolTable};
@@ -81,8 +81,9 @@ impl AllTables {
     /// it has no valid name.
     pub fn section_name(&self, number: u32) -> Option<&str>
         ensures read { option_map (λ t. t.now) result ≡ section_names self.entry.now number }
-        ensures file { (which : SymbolTable) (file : List ℕ) (all : AllSymbols) → AreAllTablesOf which file self.entry.now
-            → all_answer_of which file ≡ Some (Ok all) → option_map (λ t. t.now) result ≡ all.section_name number }
+        ensures file { (which : SymbolTable) (file : List ℕ) (all : AllSymbols)
+            → AreAllTablesOf which file self.entry.now → all_answer_of which file ≡ Some (Ok all)
+            → option_map (λ t. t.now) result ≡ all.section_name number }
     {
         self.name_read(number)
     }
@@ -244,7 +245,8 @@ pub fn report_all<S: Sink>(
     out: &mut S,
 ) -> Result<(), ReportError>
     ensures outcome { (which : SymbolTable) (file : List ℕ) → AreAllTablesOf which file tables.now
-        → EndsAs ReportFits (AllNeedsMemory file) (one_answer (all_answer_of which file)) (reporting.outcome_of result) }
+        → EndsAs ReportFits (AllNeedsMemory file) (one_answer (all_answer_of which file))
+        (reporting.outcome_of result) }
     ensures takes { (which : SymbolTable) (file : List ℕ) → AreAllTablesOf which file tables.now
         → Takes IsSumsOf (one_answer (all_answer_of which file)) (S.taken out.old) (S.taken out.new)
         (reporting.outcome_of result) }
@@ -252,9 +254,7 @@ pub fn report_all<S: Sink>(
     ensures leaves { Leaves out.old out.new (reporting.outcome_of result) }
 {
     let sums = sums_of_all(alloc, tables)?;
-    let text = sums_text(alloc, &sums)?;
-    write_whole(out, text.as_bytes())?;
-    Ok(())
+    write_made(out, sums_text(alloc, &sums))
 }
 
 /// Draws how many bytes the function symbols of all sections of a file take: the picture of `map`, with the sum of all sizes
@@ -265,7 +265,8 @@ pub fn report_all<S: Sink>(
 /// Those of `report_all`. Only after `Write` a beginning of the picture may be written.
 pub fn map_all<S: Sink>(alloc: Global, tables: &AllTables, out: &mut S) -> Result<(), ReportError>
     ensures outcome { (which : SymbolTable) (file : List ℕ) → AreAllTablesOf which file tables.now
-        → EndsAs ReportFits (AllNeedsMemory file) (one_answer (all_answer_of which file)) (reporting.outcome_of result) }
+        → EndsAs ReportFits (AllNeedsMemory file) (one_answer (all_answer_of which file))
+        (reporting.outcome_of result) }
     ensures takes { (which : SymbolTable) (file : List ℕ) → AreAllTablesOf which file tables.now
         → Takes IsMapOf (one_answer (all_answer_of which file)) (S.taken out.old) (S.taken out.new)
         (reporting.outcome_of result) }
@@ -273,9 +274,7 @@ pub fn map_all<S: Sink>(alloc: Global, tables: &AllTables, out: &mut S) -> Resul
     ensures leaves { Leaves out.old out.new (reporting.outcome_of result) }
 {
     let sums = sums_of_all(alloc, tables)?;
-    let text = picture(alloc, &sums)?;
-    write_whole(out, text.as_bytes())?;
-    Ok(())
+    write_made(out, picture(alloc, &sums))
 }
 
 /// The sums that `report_all` shows; `section_size` is that of all sizes.

@@ -13,9 +13,8 @@ ghost use Rattle.binfarce_tools.specs.Writing.{EndsAs, Takes, Fails, Leaves};
 ghost use Rattle.binfarce_tools.specs.Map.{IsMapOf, IsMapOfShares, crate_rows};
 
 use crate::list::Sink;
-use crate::report::{CrateSums, ReportError, sums_of_file, sums_of_tables};
+use crate::report::{CrateSums, ReportError, sums_of_file, sums_of_tables, write_made};
 use crate::tables::Tables;
-use crate::writing::write_whole;
 use binfarce_chart::bars::Bar;
 use binfarce_chart::svg::chart;
 use std::alloc::{AllocError, Global};
@@ -35,16 +34,15 @@ pub fn map<S: Sink>(
     section: &str,
     out: &mut S,
 ) -> Result<(), ReportError>
-    ensures outcome { EndsAs ReportFits (FileNeedsMemory data.now) (file_answer data.now section.now) (outcome_of result) }
+    ensures outcome { EndsAs ReportFits (FileNeedsMemory data.now)
+        (file_answer data.now section.now) (outcome_of result) }
     ensures takes { Takes IsMapOf (file_answer data.now section.now) (S.taken out.old)
         (S.taken out.new) (outcome_of result) }
     ensures fails { Fails (S.has_failed out.old) (S.has_failed out.new) (outcome_of result) }
     ensures leaves { Leaves out.old out.new (outcome_of result) }
 {
     let sums = sums_of_file(alloc, data, section)?;
-    let text = picture(alloc, &sums)?;
-    write_whole(out, text.as_bytes())?;
-    Ok(())
+    write_made(out, picture(alloc, &sums))
 }
 
 /// As `map`, from the tables of a file: for the section that they were read for.
@@ -61,9 +59,7 @@ pub fn map_tables<S: Sink>(alloc: Global, tables: &Tables, out: &mut S) -> Resul
     ensures leaves { Leaves out.old out.new (outcome_of result) }
 {
     let sums = sums_of_tables(alloc, tables)?;
-    let text = picture(alloc, &sums)?;
-    write_whole(out, text.as_bytes())?;
-    Ok(())
+    write_made(out, picture(alloc, &sums))
 }
 
 // The whole picture.

@@ -4,11 +4,13 @@ ghost use Rattle.std.specs.Prelude.{◌≡◌, ◌≢◌, ◌⊎◌, [], Bool, t
 ghost use Rattle.std.specs.IoError.{error_kind};
 ghost use Rattle.std.specs.Process.{exit_status};
 ghost use Rattle.std.specs.String.{string_bytes};
-ghost use Rattle.binfarce_tools.specs.Given.{words_of, failure_of, arguments_failure_of};
+ghost use Rattle.binfarce_tools.specs.Given.{words_of, failure_of, arguments_failure_of, tables_failure_of};
 ghost use Rattle.binfarce_tools.specs.Status.{status_of};
 ghost use Rattle.binfarce_tools.specs.declared.program.Failure.TheVariants.{Usage, File as Unreadable, OutOfMemory, Write as Unwritten};
 
+use binfarce::ParseError;
 use binfarce_bytes::source::Source;
+use binfarce_tables::ReadError;
 use std::alloc::Global;
 use std::fs::File;
 use std::io::{self, ErrorKind, Read, Write};
@@ -22,6 +24,8 @@ pub enum Failure {
     Usage,
     /// The file can't be opened or read.
     File,
+    /// The reader of the file's format refused it.
+    Refused(ParseError),
     /// An allocation failed.
     OutOfMemory,
     /// A write failed.
@@ -98,6 +102,17 @@ pub fn read_failure(e: io::Error) -> Failure
     match e.kind() {
         ErrorKind::OutOfMemory => Failure::OutOfMemory,
         _ => Failure::File,
+    }
+}
+
+/// The failure for an error of reading a file's tables.
+pub fn tables_failure(e: ReadError) -> Failure
+    ensures { result ≡ tables_failure_of e }
+{
+    match e {
+        ReadError::Refused(e) => Failure::Refused(e),
+        ReadError::Unreadable => Failure::File,
+        ReadError::OutOfMemory => Failure::OutOfMemory,
     }
 }
 

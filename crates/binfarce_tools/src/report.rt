@@ -15,7 +15,7 @@ ghost use Rattle.binfarce_tools.specs.declared.report.ReportError.TheVariants.{O
 ghost use Rattle.binfarce_tools.specs.Entries.{functions_left};
 ghost use Rattle.binfarce_tools.specs.Tables.{AreTablesOf};
 ghost use Rattle.binfarce_tools.specs.Sums.{AreSumsOf, GetsSums, sum_at};
-ghost use Rattle.binfarce_tools.specs.machine.Shares.{Adds};
+ghost use Rattle.binfarce_tools.specs.machine.Shares.{Adds, WritesMade};
 
 use crate::functions::{Functions, functions_of_file};
 use crate::list::{ListError, Sink};
@@ -117,9 +117,7 @@ pub fn report<S: Sink>(
     ensures leaves { Leaves out.old out.new (outcome_of result) }
 {
     let sums = sums_of_file(alloc, data, section)?;
-    let text = report_text(alloc, &sums)?;
-    write_whole(out, text.as_bytes())?;
-    Ok(())
+    write_made(out, report_text(alloc, &sums))
 }
 
 /// As `report`, from the tables of a file: for the section that they were read for.
@@ -140,9 +138,7 @@ pub fn report_tables<S: Sink>(
     ensures leaves { Leaves out.old out.new (outcome_of result) }
 {
     let sums = sums_of_tables(alloc, tables)?;
-    let text = report_text(alloc, &sums)?;
-    write_whole(out, text.as_bytes())?;
-    Ok(())
+    write_made(out, report_text(alloc, &sums))
 }
 
 /// How many bytes the function symbols of a file's section take, by crate.
@@ -256,6 +252,20 @@ fn put_crate(alloc: Global, text: &mut String, name: &str) -> Result<(), AllocEr
     } else {
         text.push_str(UNKNOWN_CRATE)
     }
+}
+
+// Writes a text whole, if it was made.
+pub(crate) fn write_made<S: Sink>(
+    out: &mut S,
+    made: Result<String, AllocError>,
+) -> Result<(), ReportError>
+    ensures takes { WritesMade made (S.taken out.old) (S.taken out.new) (outcome_of result) }
+    ensures fails { Fails (S.has_failed out.old) (S.has_failed out.new) (outcome_of result) }
+    ensures leaves { Leaves out.old out.new (outcome_of result) }
+{
+    let text = made?;
+    write_whole(out, text.as_bytes())?;
+    Ok(())
 }
 
 // The whole report.

@@ -1,8 +1,9 @@
 //! What each program is tested with that writes a text of a file's function symbols.
 
-use crate::streams::{HELD, Held, Interrupted, READERS, Source, files_of, samples};
+use crate::streams::{HELD, Held, Interrupted, READERS, Source, files_of, large_file, samples};
 use binfarce_bytes::source::Source as AtOffsets;
 use std::alloc::{AllocError, Global};
+use std::fmt::Display;
 use std::io::Read;
 
 /// A program. Each call gives what is written of `.text`, and behind it the text of the fault that it ends with.
@@ -22,6 +23,23 @@ pub trait Program {
         alloc: Global,
         file: &mut F,
     ) -> Result<String, AllocError>;
+}
+
+/// What is written, and behind it the text of the fault.
+pub fn text_of<E: Display + Drop>(
+    alloc: Global,
+    ended: Result<(), E>,
+    written: Vec<u8>,
+) -> Result<String, AllocError> {
+    let mut text = match String::from_utf8(written) {
+        Ok(text) => text,
+        Err(_) => String::from_str(alloc, "no text")?,
+    };
+    if let Err(fault) = ended {
+        let words = format!(in alloc; "{fault}")?;
+        text.push_str(words.as_str())?;
+    }
+    Ok(text)
 }
 
 /// How the first sample is read of which the program writes another text.
@@ -55,7 +73,7 @@ pub fn wrong_text<P: Program>(
     Ok(None)
 }
 
-/// The first reader or source of no symbols of which the program writes anything, or that it reports otherwise than by its
+/// The first reader or source of no symbols, or the large file, of which the program writes anything, or that it reports otherwise than by its
 /// name, a colon, a blank and the words for it.
 pub fn wrong_fault<P: Program>(
     alloc: Global,
@@ -82,6 +100,11 @@ pub fn wrong_fault<P: Program>(
         if program.read_at(alloc, &held)?.as_str() != line.as_str() {
             return Ok(Some(*label));
         }
+    }
+    let bytes = large_file(alloc)?;
+    let line = format!(in alloc; "{name}: symbols section is missing")?;
+    if program.read(alloc, &mut Source::of(&bytes))?.as_str() != line.as_str() {
+        return Ok(Some("a large file"));
     }
     Ok(None)
 }

@@ -4,10 +4,9 @@
 
 use crate::shim::String;
 use crate::erased::binfarce_bytes::source::Source;
-use crate::erased::binfarce_tables::ReadError;
 use crate::erased::binfarce_tools::list::{ListError, Out, list, list_tables};
 use crate::erased::binfarce_tools::program::{
-    Failure, file_and_section, is_read_at_offsets, read_whole,
+    Failure, file_and_section, is_read_at_offsets, read_whole, tables_failure,
 };
 use crate::erased::binfarce_tools::tables::read;
 use crate::shim::alloc::Global;
@@ -41,19 +40,9 @@ impl From<Failure> for Fault {
         match e {
             Failure::Usage => Fault::Usage,
             Failure::File => Fault::File,
+            Failure::Refused(e) => Fault::List(ListError::Parse(e)),
             Failure::OutOfMemory => Fault::List(ListError::OutOfMemory),
             Failure::Write => Fault::List(ListError::Write),
-        }
-    }
-}
-
-impl From<ReadError> for Fault {
-    /// `Unreadable` becomes `File`, and any other error becomes `List`.
-    fn from(e: ReadError) -> Self {
-        match e {
-            ReadError::Refused(e) => Fault::List(ListError::Parse(e)),
-            ReadError::Unreadable => Fault::from(Failure::File),
-            ReadError::OutOfMemory => Fault::from(Failure::OutOfMemory),
         }
     }
 }
@@ -93,7 +82,10 @@ pub fn run_at<S: Source, W: Write>(
     section: &str,
     out: &mut Out<W>,
 ) -> Result<(), Fault> {
-    let tables = read(alloc, source, section)?;
+    let tables = match read(alloc, source, section) {
+        Ok(tables) => tables,
+        Err(e) => return Err(Fault::from(tables_failure(e))),
+    };
     match list_tables(alloc, &tables, out) {
         Ok(()) => Ok(()),
         Err(e) => Err(Fault::List(e)),

@@ -4,10 +4,9 @@
 
 use crate::shim::String;
 use crate::erased::binfarce_bytes::source::Source;
-use crate::erased::binfarce_tables::ReadError;
 use crate::erased::binfarce_tools::list::Out;
 use crate::erased::binfarce_tools::program::{
-    Failure, file_and_section, is_read_at_offsets, read_whole,
+    Failure, file_and_section, is_read_at_offsets, read_whole, tables_failure,
 };
 use crate::erased::binfarce_tools::report::{ReportError, report, report_tables};
 use crate::erased::binfarce_tools::tables::read;
@@ -42,19 +41,9 @@ impl From<Failure> for Fault {
         match e {
             Failure::Usage => Fault::Usage,
             Failure::File => Fault::File,
+            Failure::Refused(e) => Fault::Report(ReportError::Parse(e)),
             Failure::OutOfMemory => Fault::Report(ReportError::OutOfMemory),
             Failure::Write => Fault::Report(ReportError::Write),
-        }
-    }
-}
-
-impl From<ReadError> for Fault {
-    /// `Unreadable` becomes `File`, and any other error becomes `Report`.
-    fn from(e: ReadError) -> Self {
-        match e {
-            ReadError::Refused(e) => Fault::Report(ReportError::Parse(e)),
-            ReadError::Unreadable => Fault::from(Failure::File),
-            ReadError::OutOfMemory => Fault::from(Failure::OutOfMemory),
         }
     }
 }
@@ -94,7 +83,10 @@ pub fn run_at<S: Source, W: Write>(
     section: &str,
     out: &mut Out<W>,
 ) -> Result<(), Fault> {
-    let tables = read(alloc, source, section)?;
+    let tables = match read(alloc, source, section) {
+        Ok(tables) => tables,
+        Err(e) => return Err(Fault::from(tables_failure(e))),
+    };
     match report_tables(alloc, &tables, out) {
         Ok(()) => Ok(()),
         Err(e) => Err(Fault::Report(e)),

@@ -8,28 +8,10 @@ use crate::erased::binfarce_bytes::source::Source as AtOffsets;
 use crate::erased::binfarce_tools::list::Out;
 use crate::shim::alloc::{AllocError, Global};
 use crate::shim::io::Read;
-use crate::erased::test_samples::programs::{Program, wrong_fault, wrong_text};
-use crate::erased::test_samples::streams::{Source, large_file};
+use crate::erased::test_samples::programs::{Program, text_of, wrong_fault, wrong_text};
 
 #[derive(Clone, Copy)]
 struct Size;
-
-// What is written, and behind it the fault's text.
-fn text_of(
-    alloc: Global,
-    ended: Result<(), Fault>,
-    out: Out<Vec<u8>>,
-) -> Result<String, AllocError> {
-    let mut text = match String::from_utf8(out.into_inner()) {
-        Ok(text) => text,
-        Err(_) => String::from_str(alloc, "no text")?,
-    };
-    if let Err(fault) = ended {
-        let words = String::formatted(alloc, format_args!("{fault}"))?;
-        text.push_str(words.as_str())?;
-    }
-    Ok(text)
-}
 
 impl Program for Size {
     fn texts(&self) -> [&'static str; 3] {
@@ -43,13 +25,13 @@ impl Program for Size {
     fn read<R: Read>(&self, alloc: Global, file: &mut R) -> Result<String, AllocError> {
         let mut out = Out::new(Vec::new(alloc));
         let ended = run(alloc, file, ".text", &mut out);
-        text_of(alloc, ended, out)
+        text_of(alloc, ended, out.into_inner())
     }
 
     fn read_at<S: AtOffsets>(&self, alloc: Global, file: &S) -> Result<String, AllocError> {
         let mut out = Out::new(Vec::new(alloc));
         let ended = run_at(alloc, file, ".text", &mut out);
-        text_of(alloc, ended, out)
+        text_of(alloc, ended, out.into_inner())
     }
 
     fn read_any<F: Read + AtOffsets>(
@@ -59,7 +41,7 @@ impl Program for Size {
     ) -> Result<String, AllocError> {
         let mut out = Out::new(Vec::new(alloc));
         let ended = run_file(alloc, file, ".text", &mut out);
-        text_of(alloc, ended, out)
+        text_of(alloc, ended, out.into_inner())
     }
 }
 
@@ -67,7 +49,7 @@ impl Program for Size {
 fn needs_a_file() -> Result<(), AllocError> {
     let rt = HostRuntime::new();
     let given = words(&[]).map(|_| ());
-    let text = text_of(rt.alloc(), given, Out::new(Vec::new(rt.alloc())))?;
+    let text = text_of(rt.alloc(), given, Vec::new(rt.alloc()))?;
     assert!(text.as_str() == "usage: binfarce-size FILE [SECTION]");
     assert!(status(&Fault::Usage) == 2);
     assert!(status(&Fault::File) == 1);
@@ -87,14 +69,5 @@ fn reports_why_nothing_is_written() -> Result<(), AllocError> {
     let rt = HostRuntime::new();
     let wrong = wrong_fault(rt.alloc(), &Size, "binfarce-size")?;
     assert!(wrong.is_none(), "{wrong:?}");
-    Ok(())
-}
-
-#[test]
-fn reads_a_large_file() -> Result<(), AllocError> {
-    let rt = HostRuntime::new();
-    let bytes = large_file(rt.alloc())?;
-    let text = Size.read(rt.alloc(), &mut Source::of(&bytes))?;
-    assert!(text.as_str() == "binfarce-size: symbols section is missing");
     Ok(())
 }

@@ -7,7 +7,9 @@ use crate::erased::binfarce_tools::functions::Functions;
 use crate::erased::binfarce_tools::head::push_head;
 use crate::erased::binfarce_tools::list::{ListError, Sink};
 use crate::erased::binfarce_tools::map::picture;
-use crate::erased::binfarce_tools::report::{CrateSums, ReportError, crate_sums, sums_text};
+use crate::erased::binfarce_tools::report::{
+    CrateSums, ReportError, crate_sums, sums_text, write_made,
+};
 use crate::erased::binfarce_tools::tables::{has_table, read_format};
 use crate::erased::binfarce_tools::writing::write_whole;
 use crate::erased::binfarce::{Format, SectionFunction, SymbolTable};
@@ -186,9 +188,7 @@ pub fn report_all<S: Sink>(
     out: &mut S,
 ) -> Result<(), ReportError> {
     let sums = sums_of_all(alloc, tables)?;
-    let text = sums_text(alloc, &sums)?;
-    write_whole(out, text.as_bytes())?;
-    Ok(())
+    write_made(out, sums_text(alloc, &sums))
 }
 
 /// Draws how many bytes the function symbols of all sections of a file take: the picture of `map`, with the sum of all sizes
@@ -199,9 +199,7 @@ pub fn report_all<S: Sink>(
 /// Those of `report_all`. Only after `Write` a beginning of the picture may be written.
 pub fn map_all<S: Sink>(alloc: Global, tables: &AllTables, out: &mut S) -> Result<(), ReportError> {
     let sums = sums_of_all(alloc, tables)?;
-    let text = picture(alloc, &sums)?;
-    write_whole(out, text.as_bytes())?;
-    Ok(())
+    write_made(out, picture(alloc, &sums))
 }
 
 /// The sums that `report_all` shows; `section_size` is that of all sizes.

@@ -4,9 +4,10 @@
 
 use crate::shim::{String, Vec};
 use crate::erased::binfarce_tools::list::Sink;
-use crate::erased::binfarce_tools::report::{CrateSums, ReportError, sums_of_file, sums_of_tables};
+use crate::erased::binfarce_tools::report::{
+    CrateSums, ReportError, sums_of_file, sums_of_tables, write_made,
+};
 use crate::erased::binfarce_tools::tables::Tables;
-use crate::erased::binfarce_tools::writing::write_whole;
 use crate::erased::binfarce_chart::bars::Bar;
 use crate::erased::binfarce_chart::svg::chart;
 use crate::shim::alloc::{AllocError, Global};
@@ -27,9 +28,7 @@ pub fn map<S: Sink>(
     out: &mut S,
 ) -> Result<(), ReportError> {
     let sums = sums_of_file(alloc, data, section)?;
-    let text = picture(alloc, &sums)?;
-    write_whole(out, text.as_bytes())?;
-    Ok(())
+    write_made(out, picture(alloc, &sums))
 }
 
 /// As `map`, from the tables of a file: for the section that they were read for.
@@ -39,9 +38,7 @@ pub fn map<S: Sink>(
 /// As `map`.
 pub fn map_tables<S: Sink>(alloc: Global, tables: &Tables, out: &mut S) -> Result<(), ReportError> {
     let sums = sums_of_tables(alloc, tables)?;
-    let text = picture(alloc, &sums)?;
-    write_whole(out, text.as_bytes())?;
-    Ok(())
+    write_made(out, picture(alloc, &sums))
 }
 
 // The whole picture.

@@ -3,7 +3,9 @@
 //! Code that the programs share: for arguments, for the file that they read, and for their exit.
 
 use crate::shim::{CollectIn, HostRuntime, String, Vec};
+use crate::erased::binfarce::ParseError;
 use crate::erased::binfarce_bytes::source::Source;
+use crate::erased::binfarce_tables::ReadError;
 use crate::shim::alloc::Global;
 use crate::shim::fs::File;
 use crate::shim::io::{self, ErrorKind, Read, Write};
@@ -18,6 +20,8 @@ pub enum Failure {
     Usage,
     /// The file can't be opened or read.
     File,
+    /// The reader of the file's format refused it.
+    Refused(ParseError),
     /// An allocation failed.
     OutOfMemory,
     /// A write failed.
@@ -76,6 +80,15 @@ pub fn read_failure(e: io::Error) -> Failure {
     match e.kind() {
         ErrorKind::OutOfMemory => Failure::OutOfMemory,
         _ => Failure::File,
+    }
+}
+
+/// The failure for an error of reading a file's tables.
+pub fn tables_failure(e: ReadError) -> Failure {
+    match e {
+        ReadError::Refused(e) => Failure::Refused(e),
+        ReadError::Unreadable => Failure::File,
+        ReadError::OutOfMemory => Failure::OutOfMemory,
     }
 }
 

@@ -84,9 +84,7 @@ pub fn report<S: Sink>(
     out: &mut S,
 ) -> Result<(), ReportError> {
     let sums = sums_of_file(alloc, data, section)?;
-    let text = report_text(alloc, &sums)?;
-    write_whole(out, text.as_bytes())?;
-    Ok(())
+    write_made(out, report_text(alloc, &sums))
 }
 
 /// As `report`, from the tables of a file: for the section that they were read for.
@@ -100,9 +98,7 @@ pub fn report_tables<S: Sink>(
     out: &mut S,
 ) -> Result<(), ReportError> {
     let sums = sums_of_tables(alloc, tables)?;
-    let text = report_text(alloc, &sums)?;
-    write_whole(out, text.as_bytes())?;
-    Ok(())
+    write_made(out, report_text(alloc, &sums))
 }
 
 /// How many bytes the function symbols of a file's section take, by crate.
@@ -193,6 +189,16 @@ fn put_crate(alloc: Global, text: &mut String, name: &str) -> Result<(), AllocEr
     } else {
         text.push_str(UNKNOWN_CRATE)
     }
+}
+
+// Writes a text whole, if it was made.
+pub(crate) fn write_made<S: Sink>(
+    out: &mut S,
+    made: Result<String, AllocError>,
+) -> Result<(), ReportError> {
+    let text = made?;
+    write_whole(out, text.as_bytes())?;
+    Ok(())
 }
 
 // The whole report.

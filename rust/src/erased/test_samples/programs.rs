@@ -2,12 +2,13 @@
 
 //! What each program is tested with that writes a text of a file's function symbols.
 
-use crate::shim::String;
+use crate::shim::{String, Vec};
 use crate::erased::test_samples::streams::{
-    HELD, Held, Interrupted, READERS, Source, files_of, samples,
+    HELD, Held, Interrupted, READERS, Source, files_of, large_file, samples,
 };
 use crate::erased::binfarce_bytes::source::Source as AtOffsets;
 use crate::shim::alloc::{AllocError, Global};
+use std::fmt::Display;
 use crate::shim::io::Read;
 
 /// A program. Each call gives what is written of `.text`, and behind it the text of the fault that it ends with.
@@ -27,6 +28,23 @@ pub trait Program {
         alloc: Global,
         file: &mut F,
     ) -> Result<String, AllocError>;
+}
+
+/// What is written, and behind it the text of the fault.
+pub fn text_of<E: Display>(
+    alloc: Global,
+    ended: Result<(), E>,
+    written: Vec<u8>,
+) -> Result<String, AllocError> {
+    let mut text = match String::from_utf8(written) {
+        Ok(text) => text,
+        Err(_) => String::from_str(alloc, "no text")?,
+    };
+    if let Err(fault) = ended {
+        let words = String::formatted(alloc, format_args!("{fault}"))?;
+        text.push_str(words.as_str())?;
+    }
+    Ok(text)
 }
 
 /// How the first sample is read of which the program writes another text.
@@ -60,7 +78,7 @@ pub fn wrong_text<P: Program>(
     Ok(None)
 }
 
-/// The first reader or source of no symbols of which the program writes anything, or that it reports otherwise than by its
+/// The first reader or source of no symbols, or the large file, of which the program writes anything, or that it reports otherwise than by its
 /// name, a colon, a blank and the words for it.
 pub fn wrong_fault<P: Program>(
     alloc: Global,
@@ -87,6 +105,11 @@ pub fn wrong_fault<P: Program>(
         if program.read_at(alloc, &held)?.as_str() != line.as_str() {
             return Ok(Some(*label));
         }
+    }
+    let bytes = large_file(alloc)?;
+    let line = String::formatted(alloc, format_args!("{name}: symbols section is missing"))?;
+    if program.read(alloc, &mut Source::of(&bytes))?.as_str() != line.as_str() {
+        return Ok(Some("a large file"));
     }
     Ok(None)
 }

@@ -4,7 +4,8 @@ use Rattle.binfarce_tools.specs.AllAnswer.{all_answer_of, AllNeedsMemory, one_an
 use Rattle.binfarce_tools.specs.Listing.{ListingFits}
 use Rattle.binfarce_tools.specs.ListWords as list
 use Rattle.binfarce_tools.specs.Writing.{Outcome, Takes, EndsAs, written}
-use Rattle.binfarce_command.proofs.AllPlaces.{still_so, takes_of, tells_of}
+use Rattle.binfarce_addresses.proofs.AddressLines.{ends_of, takes_of}
+use Rattle.binfarce_command.proofs.AllPlaces.{still_so}
 use Rattle.binfarce_command.proofs.Shown.{of_list}
 use Rattle.binfarce_command.proofs.at.answer_all_tables.Goals as goal
 
@@ -15,7 +16,7 @@ pub returns-in_err-write_lines-clause-outcome : goal.returns-in_err-write_lines-
 returns-in_err-write_lines-clause-outcome g c = λ which file are alone.
     let e = c.in_err-write_lines.field-0.0 in
     of_list e c.from_residual-in_err-write_lines.result (λ (o : Outcome). EndsAs ListingFits (AllNeedsMemory file) (one_answer (all_answer_of which file)) o) c.from_residual-in_err-write_lines.ensures.1
-    (tells_of (AllNeedsMemory file) (all_answer_of which file) c.in_ok-places.places (list.outcome_of (Err e)) (c.in_ok-places.ensures.has which file are) c.in_err-write_lines.ensures.outcome)
+    (ends_of (AllNeedsMemory file) (one_answer (all_answer_of which file)) c.in_ok-places.places (list.outcome_of (Err e)) (c.in_ok-places.ensures.has which file are).1 c.in_err-write_lines.ensures.outcome)
 
 pub returns-in_err-write_lines-clause-takes : goal.returns-in_err-write_lines-clause-takes
 returns-in_err-write_lines-clause-takes g c = λ which file are.
@@ -23,8 +24,8 @@ returns-in_err-write_lines-clause-takes g c = λ which file are.
     let old = g.K.Sink.taken c.args.out.now in
     let new = g.K.Sink.taken c.write_lines.new.out in
     of_list e c.from_residual-in_err-write_lines.result (λ (o : Outcome). Takes (AreLinesAt c.args.base c.args.addresses.now) (one_answer (all_answer_of which file)) old new o) c.from_residual-in_err-write_lines.ensures.1
-    (takes_of (AllNeedsMemory file) (all_answer_of which file) c.in_ok-places.places c.args.base c.args.addresses.now old new (list.outcome_of (Err e)) (c.in_ok-places.ensures.has which file are) c.in_err-write_lines.ensures.takes)
+    (takes_of (AllNeedsMemory file) (one_answer (all_answer_of which file)) c.in_ok-places.places c.args.base c.args.addresses.now old new (list.outcome_of (Err e)) (c.in_ok-places.ensures.has which file are).1 c.in_err-write_lines.ensures.takes)
 
 pub returns-clause-takes : goal.returns-clause-takes
 returns-clause-takes g c = λ which file are.
-    takes_of (AllNeedsMemory file) (all_answer_of which file) c.in_ok-places.places c.args.base c.args.addresses.now (g.K.Sink.taken c.args.out.now) (g.K.Sink.taken c.write_lines.new.out) written (c.in_ok-places.ensures.has which file are) c.in_ok-write_lines.ensures.takes
+    takes_of (AllNeedsMemory file) (one_answer (all_answer_of which file)) c.in_ok-places.places c.args.base c.args.addresses.now (g.K.Sink.taken c.args.out.now) (g.K.Sink.taken c.write_lines.new.out) written (c.in_ok-places.ensures.has which file are).1 c.in_ok-write_lines.ensures.takes

@@ -1,6 +1,5 @@
 use Rattle.std.proofs.Common.{◌≡◌, true}
-use Rattle.binfarce_command.specs.Show.{section_of}
-use Rattle.binfarce_command.proofs.FileFates.{show_failed, took_all, was_shown}
+use Rattle.binfarce_command.proofs.FileFates.{show_failed, was_shown}
 use Rattle.binfarce_command.proofs.files.show_held.Goals as goal
 
 pub returns-in_err-show : goal.returns-in_err-show
@@ -11,4 +10,4 @@ returns-in_err-show g c = λ file is.
 pub returns : goal.returns
 returns g c = λ file is.
     was_shown g.W.Write.contents c.args.asked.now (g.S.Source.may_fail c.args.source.now ≡ true) file c.args.out.now c.show.new.out c.end.new.self _ _ c.end.result
-    (took_all (section_of c.args.asked.now.symbols) c.args.asked.now.kind c.args.asked.now.symbols.which file _ _ (c.in_ok-show.ensures.takes file is)) c.end.ensures.kept c.end.ensures.written c.end.ensures.fails
+    (c.in_ok-show.ensures.takes file is) c.end.ensures.kept c.end.ensures.written c.end.ensures.fails

@@ -1,6 +1,6 @@
 use Rattle.std.proofs.Common.{◌≡◌, length, arith}
 use Rattle.std.proofs.lemmas.Grind.{common_steps}
-use Rattle.binfarce_command.proofs.Streams.{first_are, all_are, read_more, read_all}
+use Rattle.binfarce_command.proofs.Streams.{first_are}
 use Rattle.binfarce_command.proofs.held.read_first.Goals as goal
 
 pub returns-then-len-ge-MAGIC_LENGTH : goal.returns-then-len-ge-MAGIC_LENGTH

@@ -1,30 +1,14 @@
-use Rattle.std.proofs.Common.{Ok, sym, subst}
+use Rattle.std.proofs.Common.{ℕ, List}
 use Rattle.binfarce_tools.specs.AllAnswer.{all_answer_of, AllNeedsMemory, one_answer}
-use Rattle.binfarce_tools.specs.Report.{IsSumsOf}
-use Rattle.binfarce_tools.proofs.Reports.{no_memory, not_written, sums_of_listed, takes, takes_beginning, was_written}
+use Rattle.binfarce_tools.specs.Report.{Share, IsSumsOfShares}
+use Rattle.binfarce_tools.specs.ReportWords.{outcome_of}
+use Rattle.binfarce_tools.proofs.Reports.{ends, takes}
 use Rattle.binfarce_tools.proofs.all.report_all.Goals as goal
-
-pub returns-in_err-text-clause-outcome : goal.returns-in_err-text-clause-outcome
-returns-in_err-text-clause-outcome g c = λ which file are.
-    no_memory (AllNeedsMemory file) (one_answer (all_answer_of which file)) c.in_ok-sums.sums c.from_residual-in_err-text.result (c.in_ok-sums.ensures.sums which file are) c.from_residual-in_err-text.ensures.1
-
-pub returns-in_err-write_whole-clause-outcome : goal.returns-in_err-write_whole-clause-outcome
-returns-in_err-write_whole-clause-outcome g c = λ which file are.
-    not_written (AllNeedsMemory file) (one_answer (all_answer_of which file)) c.in_ok-sums.sums
-    c.in_err-write_whole.field-0.0 c.from_residual-in_err-write_whole.result (c.in_ok-sums.ensures.sums which file are) c.in_err-write_whole.ensures.takes.0 c.from_residual-in_err-write_whole.ensures.1
-
-pub returns-in_err-write_whole-clause-takes : goal.returns-in_err-write_whole-clause-takes
-returns-in_err-write_whole-clause-takes g c = λ which file are.
-    let listed = c.in_ok-sums.ensures.sums which file are in
-    takes_beginning IsSumsOf (one_answer (all_answer_of which file)) listed.0 c.as_bytes.result.now _ _ c.in_err-write_whole.field-0.0 c.from_residual-in_err-write_whole.result
-    listed.1 (subst (IsSumsOf listed.0) (sym c.as_bytes.ensures.value) (sums_of_listed listed.0 c.in_ok-sums.sums _ listed.2 c.in_ok-text.ensures)) c.in_err-write_whole.ensures.takes c.from_residual-in_err-write_whole.ensures.1
 
 pub returns-clause-outcome : goal.returns-clause-outcome
 returns-clause-outcome g c = λ which file are.
-    was_written (AllNeedsMemory file) (one_answer (all_answer_of which file)) c.in_ok-sums.sums (c.in_ok-sums.ensures.sums which file are)
+    ends (AllNeedsMemory file) (one_answer (all_answer_of which file)) c.in_ok-sums.sums c.sums_text.result _ _ (outcome_of c.write_made.result) (c.in_ok-sums.ensures.sums which file are) c.write_made.ensures.takes
 
 pub returns-clause-takes : goal.returns-clause-takes
 returns-clause-takes g c = λ which file are.
-    let listed = c.in_ok-sums.ensures.sums which file are in
-    takes IsSumsOf (one_answer (all_answer_of which file)) listed.0 c.as_bytes.result.now _ _ (Ok tt)
-    listed.1 (subst (IsSumsOf listed.0) (sym c.as_bytes.ensures.value) (sums_of_listed listed.0 c.in_ok-sums.sums _ listed.2 c.in_ok-text.ensures)) c.in_ok-write_whole.ensures.takes
+    takes (λ (shares : List Share) (size : ℕ). IsSumsOfShares shares) (AllNeedsMemory file) (one_answer (all_answer_of which file)) c.in_ok-sums.sums c.sums_text.result _ _ (outcome_of c.write_made.result) (c.in_ok-sums.ensures.sums which file are) c.sums_text.ensures c.write_made.ensures.takes

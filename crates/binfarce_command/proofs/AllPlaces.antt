@@ -7,7 +7,7 @@ use Rattle.binfarce_addresses.specs.Lines.{AreLinesAt}
 use Rattle.binfarce_tools.specs.AllAnswer.{as_one, one_answer}
 use Rattle.binfarce_tools.specs.Listing.{ListingFits}
 use Rattle.binfarce_tools.specs.Writing.{Fails, Outcome, Takes, EndsAs}
-use Rattle.binfarce_command.specs.At.{HasPlaces}
+use Rattle.binfarce_command.specs.At.{HasPlaces, lines_outcome}
 use Rattle.binfarce_command.specs.Faults.{outcome_of}
 use Rattle.binfarce_command.specs.declared.fault.Fault.{Fault}
 use Rattle.binfarce_command.specs.declared.fault.Fault.TheVariants.{Unreadable, Input, OutOfMemory, Write, Unknown, Parse, TooLarge, NoSection, NoBytes, PastEnd, SharedAddresses, Missing}
@@ -30,6 +30,10 @@ still failed (Missing count) other = refl
 pub still_so : (failed : Bool) (e : Fault) (result : Result (Unit {0}) Fault) → IsErrAnd result (λ f. f ≡ e) → e ≢ Write → Fails failed failed (outcome_of result)
 still_so failed e (Ok x) is other = absurd is
 still_so failed e (Err f) is other = subst (λ (f : Fault). Fails failed failed (outcome_of (Err f))) (sym is) (still failed e other)
+
+pub lines_still_so : (failed : Bool) (e : Fault) (result : Result ℕ Fault) → IsErrAnd result (λ f. f ≡ e) → e ≢ Write → Fails failed failed (lines_outcome result)
+lines_still_so failed e (Ok x) is other = absurd is
+lines_still_so failed e (Err f) is other = still_so failed e (Err f) is other
 
 -- what is told and taken of the lines is that of the file's answer
 pub tells_of : (memory : Result Listed Refusal → Type 0) (answer : Option (Result AllSymbols Refusal)) (entries : List Entry) (o : Outcome) → HasPlaces memory answer (Ok entries)

@@ -1,6 +1,7 @@
 -- Addresses by the function symbols of all sections.
-use Rattle.std.proofs.Common.{◌≡◌, ◌≢◌, Bool, Result, Ok, Err, IsErrAnd, refl, sym, subst}
+use Rattle.std.proofs.Common.{◌≡◌, ◌≢◌, ℕ, Bool, Result, Ok, Err, IsErrAnd, refl, sym, subst}
 use Rattle.binfarce_tools.specs.Writing.{Fails}
+use Rattle.binfarce_command.specs.At.{lines_outcome}
 use Rattle.binfarce_command.specs.Faults.{outcome_of}
 use Rattle.binfarce_command.specs.declared.fault.Fault.{Fault}
 use Rattle.binfarce_command.specs.declared.fault.Fault.TheVariants.{Unreadable, Input, OutOfMemory, Write, Unknown, Parse, TooLarge, NoSection, NoBytes, PastEnd, SharedAddresses, Missing}
@@ -23,3 +24,7 @@ still failed (Missing count) other = refl
 pub still_so : (failed : Bool) (e : Fault) (result : Result (Unit {0}) Fault) → IsErrAnd result (λ f. f ≡ e) → e ≢ Write → Fails failed failed (outcome_of result)
 still_so failed e (Ok x) is other = absurd is
 still_so failed e (Err f) is other = subst (λ (f : Fault). Fails failed failed (outcome_of (Err f))) (sym is) (still failed e other)
+
+pub lines_still_so : (failed : Bool) (e : Fault) (result : Result ℕ Fault) → IsErrAnd result (λ f. f ≡ e) → e ≢ Write → Fails failed failed (lines_outcome result)
+lines_still_so failed e (Ok x) is other = absurd is
+lines_still_so failed e (Err f) is other = still_so failed e (Err f) is other

@@ -11,7 +11,8 @@ use Rattle.binfarce_addresses.specs.declared.stream.LinesError.{LinesError}
 use Rattle.binfarce_tools.specs.declared.list.ListError.{ListError}
 use Rattle.binfarce_tools.specs.AllAnswer.{all_answer_of, one_answer}
 use Rattle.binfarce_tools.specs.declared.SymbolTable.{SymbolTable}
-use Rattle.binfarce_command.specs.Faults.{lines_fault, list_fault}
+use Rattle.binfarce_tools.specs.Writing.{Outcome, written}
+use Rattle.binfarce_command.specs.Faults.{lines_fault, list_fault, outcome_of}
 use Rattle.binfarce_command.specs.Show.{section_of}
 use Rattle.binfarce_command.specs.declared.show.Symbols.{Symbols}
 use Rattle.binfarce_words.specs.Words.{Wrong, no_address}
@@ -40,6 +41,11 @@ IsUntouched given left old new = Consumes given left [] × Appends old new []
 abbrev pub lines_end : Result ℕ LinesError → Result ℕ Fault
 lines_end (Ok count) = Ok count
 lines_end (Err e) = Err (lines_fault e)
+
+-- the outcome of it
+abbrev pub lines_outcome : Result ℕ Fault → Outcome
+lines_outcome (Ok count) = written
+lines_outcome (Err fault) = outcome_of (Err fault)
 
 -- an answer is that of an object file, whose sections share addresses
 abbrev pub addresses_are_shared : Option (Result AllSymbols Refusal) → Bool

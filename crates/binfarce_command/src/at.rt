@@ -1,6 +1,6 @@
 //! `binfarce at [--base=ADDRESS] FILE [ADDRESS..]`: the function symbol at each address.
 
-ghost use Rattle.std.specs.Prelude.{◌≡◌, ◌≢◌, ℕ, List, true, false, map, Some, IfErr};
+ghost use Rattle.std.specs.Prelude.{◌≡◌, ◌≢◌, ℕ, List, true, false, map, Some, Err, IfErr};
 ghost use Rattle.binfarce_addresses.specs.Lines.{AreLinesAt};
 ghost use Rattle.binfarce_addresses.specs.PlacesViews.{IsMadeOf};
 ghost use Rattle.binfarce_tools.specs.AllAnswer.{all_answer_of, AllNeedsMemory, one_answer};
@@ -9,11 +9,12 @@ ghost use Rattle.binfarce_tools.specs.Answer.{answer_of, FileNeedsMemory};
 ghost use Rattle.binfarce_tools.specs.Listing.{ListingFits};
 ghost use Rattle.binfarce_tools.specs.Tables.{AreTablesOf};
 ghost use Rattle.binfarce_tools.specs.declared.SymbolTable.{SymbolTable};
+ghost use Rattle.binfarce_tools.specs.declared.list.ListError.TheVariants.{Write as PlacesUnwritten};
 ghost use Rattle.binfarce_tools.specs.Writing.{EndsAs, ProgramEndsAs, Takes, Fails, Leaves};
-ghost use Rattle.binfarce_command.specs.At.{AnswersLines, HasPlaces, IsShared, addresses_of, addresses_are_shared, share_addresses};
+ghost use Rattle.binfarce_command.specs.At.{AnswersLines, HasPlaces, IsShared, lines_outcome, addresses_of, addresses_are_shared, share_addresses};
 ghost use Rattle.binfarce_command.specs.Faults.{outcome_of};
 ghost use Rattle.binfarce_command.specs.Show.{MemoryFor, answer_for};
-ghost use Rattle.binfarce_command.specs.declared.fault.Fault.TheVariants.{Write as Unwritten};
+ghost use Rattle.binfarce_command.specs.declared.fault.Fault.TheVariants.{Input, Write as Unwritten};
 ghost use Rattle.binfarce_words.specs.WordViews.{Gives};
 
 use crate::fault::Fault;
@@ -72,6 +73,7 @@ pub fn answer_all<S: Source, K: Sink>(
         → IsShared (S.may_fail source.now ≡ true) result }
     ensures takes { (file : List ℕ) → S.bytes source.now ≡ Some file → Takes (AreLinesAt base addresses.now)
         (answer_for symbols.now file) (K.taken out.old) (K.taken out.new) (outcome_of result) }
+    ensures of_file { result ≢ Err Input }
     ensures fails { Fails (K.has_failed out.old) (K.has_failed out.new) (outcome_of result) }
     ensures leaves { Leaves out.old out.new (outcome_of result) }
 {
@@ -101,6 +103,7 @@ fn answer_tables<K: Sink>(
     ensures takes { (which : SymbolTable) (file section : List ℕ) → AreTablesOf which file section tables.now
         → Takes (AreLinesAt base addresses.now)
         (answer_of which file section) (K.taken out.old) (K.taken out.new) (outcome_of result) }
+    ensures of_file { result ≢ Err Input }
     ensures fails { Fails (K.has_failed out.old) (K.has_failed out.new) (outcome_of result) }
     ensures leaves { Leaves out.old out.new (outcome_of result) }
 {
@@ -123,6 +126,7 @@ fn answer_all_tables<K: Sink>(
     ensures takes { (which : SymbolTable) (file : List ℕ) → AreAllTablesOf which file tables.now
         → Takes (AreLinesAt base addresses.now)
         (one_answer (all_answer_of which file)) (K.taken out.old) (K.taken out.new) (outcome_of result) }
+    ensures of_file { result ≢ Err Input }
     ensures fails { Fails (K.has_failed out.old) (K.has_failed out.new) (outcome_of result) }
     ensures leaves { Leaves out.old out.new (outcome_of result) }
 {
@@ -134,6 +138,7 @@ fn answer_all_tables<K: Sink>(
 fn places_of_all(alloc: Global, tables: &AllTables) -> Result<Places<'_>, Fault>
     ensures has { (which : SymbolTable) (file : List ℕ) → AreAllTablesOf which file tables.entry.now
         → HasPlaces (AllNeedsMemory file) (all_answer_of which file) result }
+    ensures of_file { IfErr result (λ e. e ≢ Input) }
     ensures unwritten { IfErr result (λ e. e ≢ Unwritten) }
 {
     let places = Places::of_all(alloc, tables)?;
@@ -157,9 +162,10 @@ pub fn answer_input<S: Source, I: Read, K: Sink>(
     input: &mut I,
     out: &mut K,
 ) -> Result<u64, Fault>
-    ensures { (file : List ℕ) → S.bytes source.now ≡ Some file → AnswersLines (S.may_fail source.now ≡ true)
+    ensures answers { (file : List ℕ) → S.bytes source.now ≡ Some file → AnswersLines (S.may_fail source.now ≡ true)
         (share_addresses symbols.now file) (MemoryFor symbols.now file) (answer_for symbols.now file) base
         (I.remaining input.old) (I.remaining input.new) (K.taken out.old) (K.taken out.new) result }
+    ensures fails { Fails (K.has_failed out.old) (K.has_failed out.new) (lines_outcome result) }
 {
     match symbols.section {
         Some(section) => {
@@ -181,9 +187,10 @@ fn answer_in_tables<I: Read, K: Sink>(
     input: &mut I,
     out: &mut K,
 ) -> Result<u64, Fault>
-    ensures { (which : SymbolTable) (file section : List ℕ) → AreTablesOf which file section tables.now
+    ensures answers { (which : SymbolTable) (file section : List ℕ) → AreTablesOf which file section tables.now
         → AnswersLines ⊥ false (FileNeedsMemory file) (answer_of which file section) base
         (I.remaining input.old) (I.remaining input.new) (K.taken out.old) (K.taken out.new) result }
+    ensures fails { Fails (K.has_failed out.old) (K.has_failed out.new) (lines_outcome result) }
 {
     let places = named_places(alloc, tables)?;
     let missing = answer_lines(alloc, &places, base, input, out)?;
@@ -198,10 +205,11 @@ fn answer_in_all<I: Read, K: Sink>(
     input: &mut I,
     out: &mut K,
 ) -> Result<u64, Fault>
-    ensures { (which : SymbolTable) (file : List ℕ) → AreAllTablesOf which file tables.now
+    ensures answers { (which : SymbolTable) (file : List ℕ) → AreAllTablesOf which file tables.now
         → AnswersLines ⊥ (addresses_are_shared (all_answer_of which file)) (AllNeedsMemory file)
         (one_answer (all_answer_of which file)) base
         (I.remaining input.old) (I.remaining input.new) (K.taken out.old) (K.taken out.new) result }
+    ensures fails { Fails (K.has_failed out.old) (K.has_failed out.new) (lines_outcome result) }
 {
     let mut places = places_of_all(alloc, tables)?;
     places.keep_names(alloc)?;
@@ -211,8 +219,9 @@ fn answer_in_all<I: Read, K: Sink>(
 
 // The places of the function symbols, with their names.
 fn named_places(alloc: Global, tables: &Tables) -> Result<Places<'_>, ListError>
-    ensures { (which : SymbolTable) (file section : List ℕ) → AreTablesOf which file section tables.entry.now
+    ensures made { (which : SymbolTable) (file section : List ℕ) → AreTablesOf which file section tables.entry.now
         → IsMadeOf (FileNeedsMemory file) (answer_of which file section) result }
+    ensures unwritten { IfErr result (λ e. e ≢ PlacesUnwritten) }
 {
     let mut places = Places::of_tables(alloc, tables)?;
     places.keep_names(alloc)?;

@@ -1,5 +1,5 @@
 -- What clauses see of a call, of its options and operands, and of a wrong call.
-use Rattle.std.specs.Prelude.{◌≡◌, ◌⊎◌, map, Option, Some, None, Result, Ok, Err}
+use Rattle.std.specs.Prelude.{◌≡◌, ◌⊎◌, ◌++◌, ℕ, List, codes, map, Option, Some, None, Result, Ok, Err}
 use Rattle.std.specs.Option.{option_map}
 use Rattle.binfarce_words.specs.Named.{IsNearest}
 use Rattle.binfarce_words.specs.Words as words
@@ -21,6 +21,23 @@ abbrev pub call_view : Call → words.Call
 call_view (calls.Help topic) = words.show_help topic
 call_view calls.Version = words.show_version
 call_view (calls.Run command given) = words.run command (given_view given)
+
+-- the printed words of a wrong call
+abbrev pub wrong_words : Wrong → List ℕ
+wrong_words NoCommand = codes "no command; binfarce --help shows them"
+wrong_words (UnknownCommand word None) = codes "no command " ++ (word.now ++ codes "; binfarce --help shows them")
+wrong_words (UnknownCommand word (Some near)) = codes "no command " ++ (word.now ++ (codes "; the nearest is " ++ command_name near))
+wrong_words (UnknownOption command word None) =
+    codes "no option " ++ (word.now ++ (codes " of " ++ (command_name command ++ (codes "; binfarce " ++ (command_name command ++ codes " --help shows them")))))
+wrong_words (UnknownOption command word (Some near)) =
+    codes "no option " ++ (word.now ++ (codes " of " ++ (command_name command ++ (codes "; the nearest is " ++ flag_name near))))
+wrong_words (NoValue flag) = flag_name flag ++ codes " has no value"
+wrong_words (Exclusive one other) = flag_name one ++ (codes " and " ++ (flag_name other ++ codes " exclude each other"))
+wrong_words (NoAddress word) = codes "not an address: " ++ word.now
+wrong_words (NoFile command) = codes "no file; binfarce " ++ (command_name command ++ codes " --help shows how it is called")
+wrong_words (TooMany word) = codes "one argument too many: " ++ word.now
+wrong_words NotUtf8 = codes "an argument is not UTF-8"
+wrong_words OutOfMemory = codes "out of memory"
 
 -- the call is wrong for this reason; an unknown name comes with the nearest one
 abbrev pub IsWrong : words.Wrong → Wrong → Type 0

@@ -1,6 +1,6 @@
 //! The command line of a call.
 
-ghost use Rattle.std.specs.Prelude.{◌≡◌, ◌∷◌, map, Ok, None, false};
+ghost use Rattle.std.specs.Prelude.{◌≡◌, ◌∷◌, map, Ok, Some, None, false};
 ghost use Rattle.std.specs.Option.{option_map};
 ghost use Rattle.std.specs.String.{string_bytes};
 ghost use Rattle.binfarce_words.specs.Words.{asks_help, asks_version, command_call, command_named, call_of, call_with, flag_named, flags_of, takes_value, is_option, value_parts, with_flag, with_operand, after_option, after_name, after_value, after_word, begun, given_of, finished, help_call, help_of, fault_of, operand_fault, run_of, unknown_command, unknown_option};
@@ -153,28 +153,32 @@ pub enum Wrong<'a> {
 }
 
 impl<'a> fmt::Display for Wrong<'a> {
+    ghost use Rattle.binfarce_words.specs.WordViews.{wrong_words};
+
+    ghost output = { λ e. Some (wrong_words e) };
+
     fn fmt<W: fmt::Write>(&self, f: &mut fmt::Formatter<W>) -> fmt::Result {
         match self {
             Wrong::NoCommand => write!(f, "no command; binfarce --help shows them"),
-            Wrong::UnknownCommand(word, None) => write!(
-                f,
-                "no command {word}; binfarce --help shows them"
-            ),
-            Wrong::UnknownCommand(word, Some(near)) => {
-                let name = near.name();
-                write!(f, "no command {word}; the nearest is {name}")
-            }
-            Wrong::UnknownOption(command, word, None) => {
+            Wrong::UnknownCommand(word, near) => match near {
+                None => write!(f, "no command {word}; binfarce --help shows them"),
+                Some(near) => {
+                    let name = near.name();
+                    write!(f, "no command {word}; the nearest is {name}")
+                }
+            },
+            Wrong::UnknownOption(command, word, near) => {
                 let name = command.name();
-                write!(
-                    f,
-                    "no option {word} of {name}; binfarce {name} --help shows them"
-                )
-            }
-            Wrong::UnknownOption(command, word, Some(near)) => {
-                let name = command.name();
-                let option = near.name();
-                write!(f, "no option {word} of {name}; the nearest is {option}")
+                match near {
+                    None => write!(
+                        f,
+                        "no option {word} of {name}; binfarce {name} --help shows them"
+                    ),
+                    Some(near) => {
+                        let option = near.name();
+                        write!(f, "no option {word} of {name}; the nearest is {option}")
+                    }
+                }
             }
             Wrong::NoValue(flag) => {
                 let name = flag.name();

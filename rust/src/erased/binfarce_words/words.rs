@@ -141,25 +141,25 @@ impl<'a> fmt::Display for Wrong<'a> {
     fn fmt(&self, f: &mut fmt::Formatter<'_>) -> fmt::Result {
         match self {
             Wrong::NoCommand => write!(f, "no command; binfarce --help shows them"),
-            Wrong::UnknownCommand(word, None) => write!(
-                f,
-                "no command {word}; binfarce --help shows them"
-            ),
-            Wrong::UnknownCommand(word, Some(near)) => {
-                let name = near.name();
-                write!(f, "no command {word}; the nearest is {name}")
-            }
-            Wrong::UnknownOption(command, word, None) => {
+            Wrong::UnknownCommand(word, near) => match near {
+                None => write!(f, "no command {word}; binfarce --help shows them"),
+                Some(near) => {
+                    let name = near.name();
+                    write!(f, "no command {word}; the nearest is {name}")
+                }
+            },
+            Wrong::UnknownOption(command, word, near) => {
                 let name = command.name();
-                write!(
-                    f,
-                    "no option {word} of {name}; binfarce {name} --help shows them"
-                )
-            }
-            Wrong::UnknownOption(command, word, Some(near)) => {
-                let name = command.name();
-                let option = near.name();
-                write!(f, "no option {word} of {name}; the nearest is {option}")
+                match near {
+                    None => write!(
+                        f,
+                        "no option {word} of {name}; binfarce {name} --help shows them"
+                    ),
+                    Some(near) => {
+                        let option = near.name();
+                        write!(f, "no option {word} of {name}; the nearest is {option}")
+                    }
+                }
             }
             Wrong::NoValue(flag) => {
                 let name = flag.name();

@@ -35,10 +35,8 @@ pub fn symbols_of_list(
     symbols_of(alloc, functions.iter().copied())
 }
 
-/// One symbol for each function symbol, in order, with its name in readable form.
-///
-/// The only error is a failed allocation. An empty iterator needs none.
-pub fn symbols_of<'a, I: Iterator<Item = FunctionSymbol<'a>>>(
+// One symbol for each function symbol that comes, in order.
+fn symbols_of<'a, I: Iterator<Item = FunctionSymbol<'a>>>(
     alloc: Global,
     functions: I,
 ) -> Result<Vec<SymbolData>, AllocError> {

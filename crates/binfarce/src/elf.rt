@@ -12,7 +12,7 @@ ghost use Rattle.binfarce_elf.specs.ElfAll.{all_answer, all_left};
 ghost use Rattle.binfarce_elf.specs.ElfViews.{header_view, section_view, functions_view};
 ghost use Rattle.binfarce_elf.specs.declared.symbol_table.SymbolTable.TheVariants.{Symtab, Dynsym};
 
-use crate::symbols::symbols_of;
+use crate::symbols::symbols_of_elf;
 use binfarce_bytes::{ByteOrder, ParseError};
 use binfarce_elf::all::{self, AllFunctions};
 use binfarce_elf::class::Class;
@@ -199,7 +199,7 @@ impl<'a, C: Class> Elf<'a, C> {
             (elf_answer Symtab C.table (section_table C.table self.now) section_name.now) result }
     {
         let (functions, size) = self.functions(section_name)?;
-        Ok((symbols_of(alloc, functions)?, size))
+        Ok((symbols_of_elf(alloc, functions)?, size))
     }
 
     /// The functions of the dynamic symbol table as symbols with readable names, and the section's size in bytes.
@@ -216,7 +216,7 @@ impl<'a, C: Class> Elf<'a, C> {
             (elf_answer Dynsym C.table (section_table C.table self.now) section_name.now) result }
     {
         let (functions, size) = self.dynamic_functions(section_name)?;
-        let symbols = symbols_of(alloc, functions)?;
+        let symbols = symbols_of_elf(alloc, functions)?;
         Ok((symbols, size))
     }
 

@@ -13,7 +13,7 @@ ghost use Rattle.binfarce_bytes.specs.SymbolViews.{HoldsFunctions, HoldsSectionF
 ghost use Rattle.binfarce_macho.specs.MachoViews.{header_view, section_view};
 ghost use Rattle.binfarce.specs.Symbol.{HoldsSymbols};
 
-use crate::symbols::symbols_of;
+use crate::symbols::symbols_of_list;
 use binfarce_bytes::ParseError;
 use binfarce_bytes::functions::{FunctionSymbol, SectionFunction};
 use binfarce_macho::all::functions_of_sections;
@@ -151,7 +151,7 @@ impl<'a> Macho<'a> {
         ensures sizes { SizesEntries self.now }
     {
         let (functions, text_size) = self.functions(alloc)?;
-        let symbols = symbols_of(alloc, functions.iter().copied())?;
+        let symbols = symbols_of_list(alloc, &functions)?;
         Ok((symbols, text_size))
     }
 

@@ -15,7 +15,7 @@ ghost use Rattle.binfarce_pe.specs.PeSymbols.{pe_answer, ArrangesRows};
 ghost use Rattle.binfarce_pe.specs.PeViews.{header_view, section_view};
 ghost use Rattle.binfarce.specs.PeSizes.{EqualAddressesEqualSizes};
 
-use crate::symbols::symbols_of;
+use crate::symbols::symbols_of_list;
 use binfarce_bytes::ParseError;
 use binfarce_bytes::functions::{FunctionSymbol, SectionFunction};
 use binfarce_names::demangle::SymbolData;
@@ -164,7 +164,7 @@ impl<'a> Pe<'a> {
         ensures sizes { IfOk result (λ answer. EqualAddressesEqualSizes answer.0.items) }
     {
         let (functions, size) = self.functions(alloc)?;
-        let symbols = symbols_of(alloc, functions.into_iter())?;
+        let symbols = symbols_of_list(alloc, &functions)?;
         Ok((symbols, size))
     }
 

@@ -1,19 +1,52 @@
 //! Function symbols as symbols with readable names.
 
-ghost use Rattle.std.specs.Prelude.{List, Some, map, IfOk, OnErr};
+ghost use Rattle.std.specs.Prelude.{◌≢◌, List, [], Some, map, IfOk, OnErr};
 ghost use Rattle.std.specs.Iterator.{IsFinite, Drains};
 ghost use Rattle.binfarce_bytes.specs.SymbolViews.{function_view};
 ghost use Rattle.binfarce_bytes.specs.declared.functions.FunctionSymbol.{FunctionSymbol};
+ghost use Rattle.binfarce_elf.specs.ElfViews.{functions_left};
 ghost use Rattle.binfarce.specs.Symbol.{IsSymbolOf, AreSymbolsOf};
 
 use binfarce_bytes::functions::FunctionSymbol;
+use binfarce_elf::class::Class;
+use binfarce_elf::symbols::Functions;
 use binfarce_names::demangle::{Demangler, SymbolData};
 use std::alloc::{AllocError, Global};
 
-/// One symbol for each function symbol, in order, with its name in readable form.
+/// One symbol for each function symbol that an ELF file's iterator has left, in order, with its name in readable form.
+/// Names are copied; nothing borrows from the file.
 ///
-/// The only error is a failed allocation. An empty iterator needs none.
-pub fn symbols_of<'a, I: Iterator<Item = FunctionSymbol<'a>> + Drop>(
+/// # Errors
+///
+/// A failed allocation, only where a function symbol is left.
+pub fn symbols_of_elf<C: Class>(
+    alloc: Global,
+    functions: Functions<'_, C>,
+) -> Result<Vec<SymbolData>, AllocError>
+    ensures symbols { IfOk result (λ v. AreSymbolsOf (functions_left C.table functions.entry) v.items) }
+    ensures memory { OnErr result (functions_left C.table functions.entry ≢ []) }
+{
+    symbols_of(alloc, functions)
+}
+
+/// One symbol for each function symbol of a list, in order, with its name in readable form. Names are copied; nothing
+/// borrows from the list.
+///
+/// # Errors
+///
+/// A failed allocation, only where the list isn't empty.
+pub fn symbols_of_list(
+    alloc: Global,
+    functions: &[FunctionSymbol<'_>],
+) -> Result<Vec<SymbolData>, AllocError>
+    ensures symbols { IfOk result (λ v. AreSymbolsOf (map function_view functions.now) v.items) }
+    ensures memory { OnErr result (functions.now ≢ []) }
+{
+    symbols_of(alloc, functions.iter().copied())
+}
+
+// One symbol for each function symbol that comes, in order.
+fn symbols_of<'a, I: Iterator<Item = FunctionSymbol<'a>> + Drop>(
     alloc: Global,
     functions: I,
 ) -> Result<Vec<SymbolData>, AllocError>

@@ -2,7 +2,7 @@
 
 use binfarce::ParseError;
 use binfarce_image::image::ImageError;
-use binfarce_reading::ReadError;
+use binfarce_tables::ReadError;
 use binfarce_tools::SymbolTable;
 use binfarce_tools::all::{list_all, map_all, read_all, report_all};
 use binfarce_tools::list::{ListError, Out, list};

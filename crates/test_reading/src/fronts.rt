@@ -5,7 +5,7 @@ use binfarce_bytes::source::Source;
 use binfarce_bytes::{ByteOrder, ParseError};
 use binfarce_elf::class::Class;
 use binfarce_elf::symbols::Functions;
-use binfarce_reading::ReadError;
+use binfarce_tables::ReadError;
 use std::alloc::Global;
 use test_samples::elf::Layout;
 use test_samples::files::File;
@@ -64,7 +64,7 @@ fn compared_32<S: Source>(
         Ok(elf) => elf.functions(section),
         Err(e) => Err(e),
     };
-    match binfarce_reading::elf32::read(alloc, source, order, section) {
+    match binfarce_tables::elf32::read(alloc, source, order, section) {
         Ok(parts) => beside(whole, Ok(parts.functions())),
         Err(e) => beside(whole, Err(e)),
     }
@@ -81,7 +81,7 @@ fn compared_64<S: Source>(
         Ok(elf) => elf.functions(section),
         Err(e) => Err(e),
     };
-    match binfarce_reading::elf64::read(alloc, source, order, section) {
+    match binfarce_tables::elf64::read(alloc, source, order, section) {
         Ok(parts) => beside(whole, Ok(parts.functions())),
         Err(e) => beside(whole, Err(e)),
     }

@@ -2,7 +2,7 @@
 
 use crate::fronts::{Given, beside_whole};
 use binfarce_bytes::source::Source;
-use binfarce_reading::ReadError;
+use binfarce_tables::ReadError;
 use std::alloc::Global;
 use test_samples::macho::{MACHO, SIZEOFCMDS};
 use test_samples::{Patch, patched};
@@ -16,7 +16,7 @@ pub fn compared<S: Source>(alloc: Global, file: &[u8], source: &S) -> Given {
         Ok(macho) => macho.functions(alloc),
         Err(e) => Err(e),
     };
-    match binfarce_reading::macho::read(alloc, source) {
+    match binfarce_tables::macho::read(alloc, source) {
         Ok(parts) => match parts.functions(alloc) {
             Ok(answer) => beside_whole(&whole, &Ok(answer)),
             Err(e) => beside_whole(&whole, &Err(ReadError::Refused(e))),

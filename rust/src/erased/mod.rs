@@ -18,7 +18,6 @@ pub mod binfarce_macho;
 pub mod binfarce_pe;
 pub mod binfarce_tables;
 pub mod binfarce;
-pub mod binfarce_reading;
 pub mod binfarce_image;
 pub mod binfarce_chart;
 pub mod binfarce_tools;

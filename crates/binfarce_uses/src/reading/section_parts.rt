@@ -1,13 +1,13 @@
 ghost use Rattle.std.specs.Prelude.{◌≡◌, List, ℕ, Some};
 ghost use Rattle.binfarce.specs.Elf.{elf64};
 ghost use Rattle.binfarce.specs.declared.ByteOrder.TheVariants.{LittleEndian};
-ghost use Rattle.binfarce_reading.specs.Reading.{Reads};
-ghost use Rattle.binfarce_reading.specs.SectionReading.{file_sections, sections_view};
+ghost use Rattle.binfarce_tables.specs.Reading.{Reads};
+ghost use Rattle.binfarce_tables.specs.SectionReading.{file_sections, sections_view};
 
 use binfarce::ByteOrder;
 use binfarce_bytes::source::Source;
-use binfarce_reading::ReadError;
-use binfarce_reading::elf64::{SectionParts, read_sections};
+use binfarce_tables::ReadError;
+use binfarce_tables::elf64::{SectionParts, read_sections};
 use std::alloc::Global;
 
 /// The parts of a file that have its sections and their names.

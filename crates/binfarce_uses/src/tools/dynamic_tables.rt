@@ -3,7 +3,7 @@ ghost use Rattle.binfarce_tools.specs.Tables.{ReadsTables};
 ghost use Rattle.binfarce_tools.specs.declared.SymbolTable.TheVariants.{Dynsym};
 
 use binfarce_bytes::source::Source;
-use binfarce_reading::ReadError;
+use binfarce_tables::ReadError;
 use binfarce_tools::SymbolTable;
 use binfarce_tools::tables::{Tables, read_by};
 use std::alloc::Global;

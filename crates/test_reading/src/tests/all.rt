@@ -6,7 +6,7 @@ use super::samples;
 use crate::all;
 use crate::fronts::Given;
 use binfarce_bytes::source::Source;
-use binfarce_reading::ReadError;
+use binfarce_tables::ReadError;
 use binfarce_tools::SymbolTable;
 use binfarce_tools::all::{AllTables, read_all};
 use std::alloc::{AllocError, Global};

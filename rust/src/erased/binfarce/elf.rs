@@ -3,7 +3,7 @@
 //! ELF files of either class (System V gABI).
 
 use crate::shim::Vec;
-use crate::erased::binfarce::symbols::symbols_of;
+use crate::erased::binfarce::symbols::symbols_of_elf;
 use crate::erased::binfarce_bytes::{ByteOrder, ParseError};
 use crate::erased::binfarce_elf::all::{self, AllFunctions};
 use crate::erased::binfarce_elf::class::Class;
@@ -142,7 +142,7 @@ impl<'a, C: Class> Elf<'a, C> {
         section_name: &str,
     ) -> Result<(Vec<SymbolData>, u64), ParseError> {
         let (functions, size) = self.functions(section_name)?;
-        Ok((symbols_of(alloc, functions)?, size))
+        Ok((symbols_of_elf(alloc, functions)?, size))
     }
 
     /// The functions of the dynamic symbol table as symbols with readable names, and the section's size in bytes.
@@ -156,7 +156,7 @@ impl<'a, C: Class> Elf<'a, C> {
         section_name: &str,
     ) -> Result<(Vec<SymbolData>, u64), ParseError> {
         let (functions, size) = self.dynamic_functions(section_name)?;
-        let symbols = symbols_of(alloc, functions)?;
+        let symbols = symbols_of_elf(alloc, functions)?;
         Ok((symbols, size))
     }
 

@@ -3,7 +3,7 @@
 //! 64-bit Mach-O files, which are little endian (Apple's `<mach-o/loader.h>` and `<mach-o/nlist.h>`).
 
 use crate::shim::Vec;
-use crate::erased::binfarce::symbols::symbols_of;
+use crate::erased::binfarce::symbols::symbols_of_list;
 use crate::erased::binfarce_bytes::ParseError;
 use crate::erased::binfarce_bytes::functions::{FunctionSymbol, SectionFunction};
 use crate::erased::binfarce_macho::all::functions_of_sections;
@@ -105,7 +105,7 @@ impl<'a> Macho<'a> {
     /// a value that isn't 0; it may replace the last error.
     pub fn symbols(&self, alloc: Global) -> Result<(Vec<SymbolData>, u64), ParseError> {
         let (functions, text_size) = self.functions(alloc)?;
-        let symbols = symbols_of(alloc, functions.iter().copied())?;
+        let symbols = symbols_of_list(alloc, &functions)?;
         Ok((symbols, text_size))
     }
 

@@ -3,7 +3,7 @@
 //! PE files with COFF symbols (Microsoft PE Format), which are little endian.
 
 use crate::shim::Vec;
-use crate::erased::binfarce::symbols::symbols_of;
+use crate::erased::binfarce::symbols::symbols_of_list;
 use crate::erased::binfarce_bytes::ParseError;
 use crate::erased::binfarce_bytes::functions::{FunctionSymbol, SectionFunction};
 use crate::erased::binfarce_names::demangle::SymbolData;
@@ -115,7 +115,7 @@ impl<'a> Pe<'a> {
     /// Those of `functions`.
     pub fn symbols(&self, alloc: Global) -> Result<(Vec<SymbolData>, u64), ParseError> {
         let (functions, size) = self.functions(alloc)?;
-        let symbols = symbols_of(alloc, functions.into_iter())?;
+        let symbols = symbols_of_list(alloc, &functions)?;
         Ok((symbols, size))
     }
 

@@ -4,13 +4,39 @@
 
 use crate::shim::Vec;
 use crate::erased::binfarce_bytes::functions::FunctionSymbol;
+use crate::erased::binfarce_elf::class::Class;
+use crate::erased::binfarce_elf::symbols::Functions;
 use crate::erased::binfarce_names::demangle::{Demangler, SymbolData};
 use crate::shim::alloc::{AllocError, Global};
 
-/// One symbol for each function symbol, in order, with its name in readable form.
+/// One symbol for each function symbol that an ELF file's iterator has left, in order, with its name in readable form.
+/// Names are copied; nothing borrows from the file.
 ///
-/// The only error is a failed allocation. An empty iterator needs none.
-pub fn symbols_of<'a, I: Iterator<Item = FunctionSymbol<'a>>>(
+/// # Errors
+///
+/// A failed allocation, only where a function symbol is left.
+pub fn symbols_of_elf<C: Class>(
+    alloc: Global,
+    functions: Functions<'_, C>,
+) -> Result<Vec<SymbolData>, AllocError> {
+    symbols_of(alloc, functions)
+}
+
+/// One symbol for each function symbol of a list, in order, with its name in readable form. Names are copied; nothing
+/// borrows from the list.
+///
+/// # Errors
+///
+/// A failed allocation, only where the list isn't empty.
+pub fn symbols_of_list(
+    alloc: Global,
+    functions: &[FunctionSymbol<'_>],
+) -> Result<Vec<SymbolData>, AllocError> {
+    symbols_of(alloc, functions.iter().copied())
+}
+
+// One symbol for each function symbol that comes, in order.
+fn symbols_of<'a, I: Iterator<Item = FunctionSymbol<'a>>>(
     alloc: Global,
     functions: I,
 ) -> Result<Vec<SymbolData>, AllocError> {

@@ -4,7 +4,7 @@
 
 use crate::erased::binfarce::ParseError;
 use crate::erased::binfarce_image::image::ImageError;
-use crate::erased::binfarce_reading::ReadError;
+use crate::erased::binfarce_tables::ReadError;
 use crate::erased::binfarce_tools::SymbolTable;
 use crate::erased::binfarce_tools::all::{list_all, map_all, read_all, report_all};
 use crate::erased::binfarce_tools::list::{ListError, Out, list};

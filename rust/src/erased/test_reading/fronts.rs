@@ -8,7 +8,7 @@ use crate::erased::binfarce_bytes::source::Source;
 use crate::erased::binfarce_bytes::{ByteOrder, ParseError};
 use crate::erased::binfarce_elf::class::Class;
 use crate::erased::binfarce_elf::symbols::Functions;
-use crate::erased::binfarce_reading::ReadError;
+use crate::erased::binfarce_tables::ReadError;
 use crate::shim::alloc::Global;
 use crate::erased::test_samples::elf::Layout;
 use crate::erased::test_samples::files::File;
@@ -67,7 +67,7 @@ fn compared_32<S: Source>(
         Ok(elf) => elf.functions(section),
         Err(e) => Err(e),
     };
-    match crate::erased::binfarce_reading::elf32::read(alloc, source, order, section) {
+    match crate::erased::binfarce_tables::elf32::read(alloc, source, order, section) {
         Ok(parts) => beside(whole, Ok(parts.functions())),
         Err(e) => beside(whole, Err(e)),
     }
@@ -84,7 +84,7 @@ fn compared_64<S: Source>(
         Ok(elf) => elf.functions(section),
         Err(e) => Err(e),
     };
-    match crate::erased::binfarce_reading::elf64::read(alloc, source, order, section) {
+    match crate::erased::binfarce_tables::elf64::read(alloc, source, order, section) {
         Ok(parts) => beside(whole, Ok(parts.functions())),
         Err(e) => beside(whole, Err(e)),
     }

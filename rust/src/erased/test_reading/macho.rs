@@ -4,7 +4,7 @@
 
 use crate::erased::test_reading::fronts::{Given, beside_whole};
 use crate::erased::binfarce_bytes::source::Source;
-use crate::erased::binfarce_reading::ReadError;
+use crate::erased::binfarce_tables::ReadError;
 use crate::shim::alloc::Global;
 use crate::erased::test_samples::macho::{MACHO, SIZEOFCMDS};
 use crate::erased::test_samples::{Patch, patched};
@@ -18,7 +18,7 @@ pub fn compared<S: Source>(alloc: Global, file: &[u8], source: &S) -> Given {
         Ok(macho) => macho.functions(alloc),
         Err(e) => Err(e),
     };
-    match crate::erased::binfarce_reading::macho::read(alloc, source) {
+    match crate::erased::binfarce_tables::macho::read(alloc, source) {
         Ok(parts) => match parts.functions(alloc) {
             Ok(answer) => beside_whole(&whole, &Ok(answer)),
             Err(e) => beside_whole(&whole, &Err(ReadError::Refused(e))),

@@ -4,7 +4,7 @@
 
 use crate::erased::test_reading::fronts::{Given, beside_whole};
 use crate::erased::binfarce_bytes::source::Source;
-use crate::erased::binfarce_reading::ReadError;
+use crate::erased::binfarce_tables::ReadError;
 use crate::shim::alloc::Global;
 
 /// The answer of the source, beside that of the whole file.
@@ -13,7 +13,7 @@ pub fn compared<S: Source>(alloc: Global, file: &[u8], source: &S) -> Given {
         Ok(pe) => pe.functions(alloc),
         Err(e) => Err(e),
     };
-    match crate::erased::binfarce_reading::pe::read(alloc, source) {
+    match crate::erased::binfarce_tables::pe::read(alloc, source) {
         Ok(parts) => match parts.functions(alloc) {
             Ok(answer) => beside_whole(&whole, &Ok(answer)),
             Err(e) => beside_whole(&whole, &Err(ReadError::Refused(e))),

@@ -9,7 +9,7 @@ use super::samples;
 use crate::erased::test_reading::all;
 use crate::erased::test_reading::fronts::Given;
 use crate::erased::binfarce_bytes::source::Source;
-use crate::erased::binfarce_reading::ReadError;
+use crate::erased::binfarce_tables::ReadError;
 use crate::erased::binfarce_tools::SymbolTable;
 use crate::erased::binfarce_tools::all::{AllTables, read_all};
 use crate::shim::alloc::{AllocError, Global};

@@ -126,7 +126,7 @@ class Prover:
                     alone, said = self.check(crate, [edit], over_holes)
                     line = alone.get(edit.refused_in)
             refused += bool(line)
-            verdict = f"refused: {line}" if line else f"NOT REFUSED: {said}"
+            verdict = f"refused: {line}" if line else f"NOT REFUSED, and the check ends with {said}"
             print(f"must-fail {crate}/{edit.name}.edit: {verdict[:200]}\n", end="", flush=True)
         return refused, len(these) - refused
 

@@ -159,7 +159,8 @@ def main(gate, log):
     os.nice(19)
     prover, always = Prover(gate), [it for it in edits() if it.always]
     # Lowest crates first, as they are proved.
-    sets = [(crate, these) for crate in prover.crates for these in in_sets([it for it in always if it.crate == crate])]
+    crates = sorted(prover.crates, key=lambda it: len(prover.below(it)))
+    sets = [(crate, these) for crate in crates for these in in_sets([it for it in always if it.crate == crate])]
     with ThreadPoolExecutor(os.cpu_count()) as pool:
         refused, kept = map(sum, zip(*pool.map(lambda it: try_when_proved(prover, log, *it), sets)))
     print(f"wrong bodies: {refused} refused, {kept} not")

@@ -31,7 +31,7 @@ SOURCE = [
     (r"# \[ derive \( Drop \) \]", ""), (r"\+ Drop\b|: Drop\b", ""), (r"# \[ error \( \S+ \) \]", ""),
     *((rf"(# \[ derive \( [^)]*) , {it}\b", r"\1") for it in ("Error", "Drop")),
     (r'extern "C" fn', "fn"), (r"(?:\bpub )?\bfn main \(", "pub fn main ("),
-    (r"fn fmt < W : fmt :: Write > \( & self , f : & mut fmt :: Formatter < W >", "fn fmt ( & self , f : & mut fmt :: Formatter < '_ >"),
+    (r"\bfn fmt < W : fmt :: Write >", "fn fmt"), (r"\bFormatter < W >", "Formatter < '_ >"),
     (rf"vec ! \[ in ({VALUE}) ; ([^;\]]*) ; ([^;\]]*) \]", r"Vec :: filled ( \1 , \2 , \3 )"),
     (rf"\b(assert|assert_eq|unreachable) ! \( {VALUE} ;", r"\1 ! ("),
     (rf"\b(eprintln|println) ! \( ({VALUE}) ; ({ITEMS})\)", r"\2 . \1 ( format_args ! ( \3 ) )"),
@@ -45,8 +45,9 @@ ERASED = [
 ]
 USE = r"(pub )?\buse ((?:\w+ :: )*)(\w+(?: as \w+)?|\{ [^{}]*\}) ;"
 ERROR = r"# \[ error \( (\S+) \) \] (\w+)"
-SHOWS = (r"impl std :: fmt :: Display for (\w+) \{ fn fmt \( & self , f : & mut std :: fmt :: Formatter < '_ > \) -> std :: fmt :: Result "
-         r"\{ match self \{ ((?:\1 :: \w+ (?:\( e \) )?=> write ! \( f , \S+ \) , )*)\} \} \} impl std :: error :: Error for \1 \{ \}")
+SHOWS = (r"impl std :: fmt :: Display for (\w+) \{ fn fmt \( & self , f : & mut std :: fmt :: Formatter < '_ > \) "
+         r"-> std :: fmt :: Result \{ match self \{ ((?:\1 :: \w+ (?:\( e \) )?=> write ! \( f , \S+ \) , )*)\} \} \} "
+         r"impl std :: error :: Error for \1 \{ \}")
 
 def without(text, start, ends):
     """The text without what begins so."""
@@ -65,7 +66,8 @@ def plain(path, own, rules):
     text = " ".join(word.translate(HIDDEN) if word[-1] in "\"'#" and len(word) > 1 else word for word in words)
     for start, ends in LACKS:
         text = without(text, start, ends)
-    others = {(variant, words.replace("{0}".translate(HIDDEN), "{e}".translate(HIDDEN))) for words, variant in re.findall(ERROR, text)}
+    value, named = "{0}".translate(HIDDEN), "{e}".translate(HIDDEN)
+    others = {(variant, words.replace(value, named)) for words, variant in re.findall(ERROR, text)}
     for impl in re.finditer(SHOWS, text):
         others |= set(re.findall(r":: (\w+) [(e) ]*=> write ! \( f , (\S+)", impl[2]))
     for pattern, new in [(SHOWS, ""), *rules, *EITHER]:

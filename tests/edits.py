@@ -5,80 +5,68 @@ Lines that `rt` doesn't read come first: `does:` (what the wrong body does), `re
 it changes. Functions have their paths in the crate, as the prover names them: `elf::parse`, `sections::Section::name`.
 """
 
-import os
+import collections
+import functools
+import pathlib
 import re
 
-TOP = os.path.dirname(os.path.dirname(os.path.abspath(__file__)))
-ITEM = re.compile(r"(?:pub(?:\([a-z]+\))? )?(?:const )?(?:extern .C. )?(fn|const|static|struct|enum|trait|impl)\b(?:<.*?>)? ?(\w*)")
+CRATES = pathlib.Path(__file__).resolve().parent.parent / "crates"
+# An item's comments and attributes, the indent of one in an impl, its kind, and the rest of its first line.
+ITEM = re.compile(r"""(?:^\ *(?://|\#\[).*\n)*^(\ {4})?(?:pub(?:\(\w+\))?\ )?(?:(?:const|unsafe|extern\ "C")\ (?=[a-z]))*
+    (fn|const|static|struct|enum|trait|impl)\b(.*)""", re.M | re.X)
+Item = collections.namedtuple("Item", "file kind name path indent text line")
 
-def read(path):
-    with open(f"{TOP}/{path}", encoding="utf-8") as file:
-        return file.read()
-
-def indent(line):
-    return len(line) - len(line.lstrip(" "))
-
-def impl_name(impl):
-    """What the prover calls an impl or a trait, of its first line: `impl From<io::Error> for ReadError {` is ReadErrorFromIoError."""
-    if not re.match(r"(unsafe )?impl\b", impl):
-        return ITEM.match(impl)[2]
-    parameters, head = re.match(r"(?:unsafe )?impl(<[^>]*>)? ?(.*?)[ {]*$", impl).groups()
+def impl_name(head):
+    """What the prover calls an impl: `impl<'a> From<io::Error> for Fault<'a> {` is FaultFromIoError."""
+    parameters, head = re.match(r"(<[^>]*>)? ?(.*?)[ {]*$", head).groups()
     head = re.sub(r"(^| for )(\w+::)+", r"\1", head)
     trait, _, name = head.rpartition(" for ")
     name = re.sub(r"<.*>", "", name.replace("&", " Ref ").replace("[", " Slice "))
     # Its own parameters have no part in the name.
-    own = re.findall(r"(\w+)(?=[:,>])", parameters or "")
+    own = re.findall(r"[<,] *'?(\w+)", parameters or "")
     return "".join(word[:1].upper() + word[1:] for word in re.findall(r"\w+", f"{name} {trait}") if word not in own)
 
 def module_of(file):
     module = file.removeprefix("src/").removesuffix(".rt").replace("/", "::")
     return "" if module in ("lib", "main") else module
 
-def home(crate, file, impl):
-    """The module that the prover counts an impl to: its own, or for an impl without a trait the one of the type."""
-    if " for " in impl or not re.match(r"impl\b", impl):
-        return module_of(file)
-    top, defined = f"{TOP}/crates/{crate}", re.compile(rf"\b(struct|enum) {impl_name(impl)}\b")
-    others = sorted(os.path.relpath(f"{folder}/{name}", top) for folder, _, names in os.walk(f"{top}/src") for name in names)
-    return module_of(next((it for it in [file, *others] if defined.search(read(f"crates/{crate}/{it}"))), file))
+@functools.cache
+def items(crate):
+    """The items of a crate's sources, as `rt fmt` lays them out. What a function or a trait has in it is a part of its text."""
+    files = [path for path in sorted((CRATES / crate / "src").rglob("*.rt")) if path.name != "tests.rt"]
+    texts = {str(path.relative_to(CRATES / crate)): path.read_text() for path in files}
+    homes = {name: module_of(file) for file, text in texts.items() for name in re.findall(r"\b(?:struct|enum) (\w+)", text)}
+    found = []
+    for file, text in texts.items():
+        module, holder, heads = module_of(file), "", []
+        for head in ITEM.finditer(text):
+            indent, kind, rest = head.groups()
+            name = re.match(r" ?(\w*)", rest)[1]
+            if kind == "impl":
+                name = impl_name(rest)
+                # An impl without a trait belongs to the module of its type.
+                is_here = " for " in rest or re.search(rf"\b(struct|enum) {name}\b", text)
+                holder = f"{module if is_here else homes.get(name, module)}::{name}"
+            elif not indent:
+                holder = ""
+            elif not holder:
+                continue
+            heads.append((head.start(), kind, name, f"{holder or module}::{name}".removeprefix("::"), indent or ""))
+        for (start, *what), (end, *_) in zip(heads, [*heads[1:], (len(text),)]):
+            found.append(Item(file, *what, text[start:end], text.count("\n", 0, start)))
+    return found
 
-def item_at(crate, file, lines, at):
-    """The item of a source file, as `rt fmt` lays it out, that holds a line: its kind, its name and its path."""
-    while re.match(r"\s*(#\[|//)", lines[at]):
-        at += 1
-    kind, name, holder = "", "", module_of(file)
-    depth = indent(lines[at]) + 1
-    for line in reversed(lines[: at + 1]):
-        found = ITEM.match(line.strip())
-        if found and indent(line) < depth:
-            if found[1] in ("impl", "trait"):
-                holder = f"{home(crate, file, line.strip())}::{impl_name(line.strip())}"
-            elif not kind or found[1] == "fn" and kind != "fn":
-                kind, name = found.groups()
-            depth = indent(line)
-        if depth == 0 and kind:
-            break
-    return kind, name, f"{holder}::{name}".removeprefix("::")
-
-def functions(crate):
-    """The path, file and text of each function with a body in a crate's sources, but for tests and traits."""
-    top = f"{TOP}/crates/{crate}"
-    for file in sorted(os.path.relpath(f"{folder}/{name}", top) for folder, _, names in os.walk(f"{top}/src") for name in names):
-        text = "" if file == "src/tests.rt" else read(f"crates/{crate}/{file}")
-        traits = {f"{module_of(file)}::{it}".removeprefix("::") for it in re.findall(r"^(?:pub )?trait (\w+)", text, re.M)}
-        for found in re.finditer(r'(?:^ *#\[.*\n)*^( *)(?:pub(?:\(\w+\))? )?(?:const )?(?:extern "C" )?fn \w', text, re.M):
-            path = item_at(crate, file, text.split("\n"), text.count("\n", 0, found.start()))[2]
-            if path.rpartition("::")[0] not in traits:
-                yield path, file, text[found.start() : re.compile(rf"^{found[1]}\}}$|\{{\}}$", re.M).search(text, found.end()).end()]
+def item_at(crate, file, line):
+    """The item of a source file that has the line of this number, from 0."""
+    return [it for it in items(crate) if it.file == file and it.line <= line][-1]
 
 class Edit:
-    """One wrong body: what it says of itself, its replacements, and the function in which it is refused."""
+    """One wrong body: what it says of itself, its replacements, the item that it changes, and the function that refuses it."""
 
-    def __init__(self, crate, name):
-        self.crate, self.name, self.pairs = crate, name, []
-        self.path = f"crates/{crate}/must-fail/{name}.edit"
+    def __init__(self, path):
+        self.path, self.crate, self.name, self.pairs = path, path.parts[-3], path.stem, []
         self.says, file, old = {}, "", ""
-        for line in read(self.path).split("\n"):
+        for line in path.read_text().split("\n"):
             key, _, value = line.partition(":")
             value = value.removeprefix(" ")
             if key == "file":
@@ -90,29 +78,24 @@ class Edit:
             elif line and not self.pairs:
                 self.says[key] = value.strip()
         self.always = self.says.get("tried") == "always"
-        self.file, old, _ = self.pairs[0]
-        text = read(f"crates/{crate}/{self.file}")
-        start = max(text.find(old), 0) + len(old) - len(old.lstrip())
-        self.kind, self.function, self.own = item_at(crate, self.file, text.split("\n"), text.count("\n", 0, start))
-        self.refused_in = self.says.get("in", self.own)
-
-    def is_alone(self):
-        """Whether it may change what other functions rely on, so that it is tried alone."""
-        return "in" in self.says or not self.file.startswith("src/")
+        file, old, _ = self.pairs[0]
+        text = (CRATES / self.crate / file).read_text()
+        self.item = item_at(self.crate, file, text.count("\n", 0, max(text.find(old), 0)))
+        self.refused_in = self.says.get("in", self.item.path)
 
 def edits():
-    for crate in sorted(os.listdir(f"{TOP}/crates")):
-        folder = f"{TOP}/crates/{crate}/must-fail"
-        for name in sorted(os.listdir(folder)) if os.path.isdir(folder) else ():
-            yield Edit(crate, name.removesuffix(".edit"))
+    return [Edit(path) for path in sorted(CRATES.glob("*/must-fail/*.edit"))]
 
 def changed(these):
     """The texts of the files that these edits of one crate change, by path; a ValueError where one can't be made."""
     texts = {}
     for edit in these:
+        own = {}
         for file, old, new in edit.pairs:
-            text = texts.get(file) or read(f"crates/{edit.crate}/{file}")
+            text = own.get(file) or (CRATES / edit.crate / file).read_text()
             if text.count(old) != 1:
-                raise ValueError(f"{edit.path}: an old text is in {file} {text.count(old)} times, and not once")
-            texts[file] = text.replace(old, new)
-    return texts
+                raise ValueError(f"an old text is in {file} {text.count(old)} times, and not once")
+            lines, at = texts.setdefault(file, text.split("\n")), text.count("\n", 0, text.index(old))
+            own[file] = text.replace(old, new)
+            lines[at] = own[file].split("\n")[at]
+    return {file: "\n".join(lines) for file, lines in texts.items()}

@@ -1,6 +1,6 @@
 #!/bin/sh
-# Compares the manual pages with the programs' usage lines, and tries `install` and `uninstall`: with what cargo builds, and with a
-# stub of cargo for what goes wrong. Status 1 where anything is otherwise than it must be.
+# Compares the manual pages with the programs' usage lines, and tries `install` and `uninstall`: with what cargo builds, and with
+# a stub of cargo for what goes wrong. Status 1 where anything is otherwise than it must be.
 set -eu
 cd "$(dirname "$0")/.."
 scratch=$(mktemp -d)
@@ -27,15 +27,11 @@ for name in $programs; do
 done
 [ "$(ls man/*.1 | wc -l)" -eq "$(echo "$programs" | wc -l)" ] || fail "a page is of no program"
 
+installed="include/binfarce.h lib/libbinfarce.a lib/libbinfarce.so lib/libbinfarce.so.0 lib/pkgconfig/binfarce.pc
+    share/bash-completion/completions/binfarce $(for name in $programs; do echo "bin/$name share/man/man1/$name.1"; done)"
 # All that is installed below a prefix, and all that is there.
 files() {
-    for name in $programs; do
-        printf '%s\n' "$1/bin/$name" "$1/share/man/man1/$name.1"
-    done >"$scratch/files"
-    for name in include/binfarce.h lib/libbinfarce.a lib/libbinfarce.so lib/libbinfarce.so.0 lib/pkgconfig/binfarce.pc \
-        share/bash-completion/completions/binfarce; do
-        echo "$1/$name"
-    done | LC_ALL=C sort - "$scratch/files"
+    for name in $installed; do echo "$1/$name"; done | LC_ALL=C sort
 }
 found() {
     find "$1" ! -type d | LC_ALL=C sort
@@ -64,7 +60,8 @@ pkg-config --validate binfarce
 # As a shell reads what pkg-config prints.
 eval "set -- $(pkg-config --cflags --libs binfarce)"
 gcc examples/symbols.c "$@" -o "$scratch/client"
-LD_LIBRARY_PATH="$prefix/lib" "$scratch/client" "$sample" | cmp - crates/binfarce_list/stdout || fail "another listing by a client"
+export LD_LIBRARY_PATH="$prefix/lib"
+"$scratch/client" "$sample" | cmp - crates/binfarce_list/stdout || fail "another listing by a client"
 readelf -d "$scratch/client" | grep -q 'NEEDED.*\[libbinfarce\.so\.0\]' || fail "the client asks for another library"
 what="removed again, and nothing else"
 echo mine >"$prefix/bin/other"
@@ -73,8 +70,9 @@ runs 0 "" ./uninstall "$prefix"
 runs 0 "" ./uninstall "$prefix"
 what="below DESTDIR, the default prefix"
 DESTDIR="$scratch/package" runs 0 "" ./install
-[ "$(found "$scratch/package")" = "$(files "$scratch/package/usr/local")" ] || fail "other files: $(found "$scratch/package")"
-grep -qx prefix=/usr/local "$scratch/package/usr/local/lib/pkgconfig/binfarce.pc" || fail "the pkg-config file names another prefix"
+root="$scratch/package/usr/local"
+[ "$(found "$scratch/package")" = "$(files "$root")" ] || fail "other files: $(found "$scratch/package")"
+grep -qx prefix=/usr/local "$root/lib/pkgconfig/binfarce.pc" || fail "the pkg-config file names another prefix"
 
 what="wrong calls"
 runs 2 "install: PREFIX must begin with a slash, and is here" ./install here

@@ -3,10 +3,9 @@
 # in little memory), on a path with blanks, a pipe, files of /proc and /sys, a folder, a missing file, several files, and with
 # wrong calls. Status 1 where one ends otherwise than it must.
 #
-# Usage: tests/programs.sh FOLDER, which has the programs as `binfarce_list` or as `binfarce-list`
+# Usage: tests/programs.sh FOLDER, which has the programs
 set -eu
-[ "$#" -eq 1 ] || { sed -n 's/^# \(Usage.*\)/\1/p' "$0" >&2; exit 2; }
-folder=$(cd "$1" && pwd)
+folder=$(cd "${1:?Usage: tests/programs.sh FOLDER}" && pwd)
 cd "$(dirname "$0")/.."
 scratch=$(mktemp -d)
 holder=
@@ -34,12 +33,10 @@ fail() {
 }
 # call PROGRAM ARGUMENT..: runs a program of the folder, which ends with the status $ended.
 call() {
-    for called in "$folder/$1" "$folder/$(echo "$1" | tr - _)" "$folder/$1_command"; do
-        [ ! -f "$called" ] || break
-    done
+    called=$1
     shift
     ended=0
-    "$called" "$@" 2>"$scratch/error" || ended=$?
+    "$folder/$called" "$@" 2>"$scratch/error" || ended=$?
 }
 # ends STATUS OUTPUT LINE PROGRAM ARGUMENT..: it must end with this status, and write what the file OUTPUT holds and, to standard
 # error, this line or nothing. Where OUTPUT is no file, standard output is where it is.
@@ -78,12 +75,10 @@ for shown in binfarce-list binfarce-size; do
     fails "$shown: write failed" 1 "$shown: write failed" "$shown" "$sample"
     reads "crates/$(echo "$shown" | tr - _)/stdout" "$shown"
     ends 1 /dev/null "$shown: symbols section is missing" "$shown" "$scratch/large" .data
-    for file in "$of_sys" /dev/null; do
-        ends 1 /dev/null "$shown: unknown file format" "$shown" "$file"
-    done
-    for file in "$scratch" "$missing"; do
-        ends 1 /dev/null "$shown: cannot read file" "$shown" "$file"
-    done
+    ends 1 /dev/null "$shown: unknown file format" "$shown" "$of_sys"
+    ends 1 /dev/null "$shown: unknown file format" "$shown" /dev/null
+    ends 1 /dev/null "$shown: cannot read file" "$shown" "$scratch"
+    ends 1 /dev/null "$shown: cannot read file" "$shown" "$missing"
     ends 2 /dev/null "usage: $shown FILE [SECTION]" "$shown"
     ends 2 /dev/null "usage: $shown FILE [SECTION]" "$shown" "$sample" .text more
 done
@@ -99,8 +94,9 @@ for command in list size map section; do
     for file in "$of_sys" /dev/null /dev/zero; do
         ends 1 /dev/null "binfarce: $file: unknown file format" binfarce "$command" "$file"
     done
-    ends 2 /dev/null "binfarce: no file; binfarce $command --help shows how it is called" binfarce "$command"
-    ends 2 /dev/null "binfarce: no option --frob of $command; binfarce $command --help shows them" binfarce "$command" --frob "$sample"
+    shows="binfarce $command --help shows"
+    ends 2 /dev/null "binfarce: no file; $shows how it is called" binfarce "$command"
+    ends 2 /dev/null "binfarce: no option --frob of $command; $shows them" binfarce "$command" --frob "$sample"
     call binfarce "$command" --help >"$scratch/help"
     ends 0 "$scratch/help" "" binfarce help "$command"
     grep -q "^usage: binfarce $command " "$scratch/help"
@@ -142,7 +138,8 @@ ends 2 /dev/null "binfarce: no option --half of filter; the nearest is --help" b
 printf 'a[0]::b\nfoo::bar::h05af221e174051e9\n-x\n' >"$scratch/lines"
 ends 0 "$scratch/lines" "" binfarce filter _RNvC1a1b --full _ZN3foo3bar17h05af221e174051e9E -- -x
 echo 'in a::b' >"$scratch/line"
-{ echo 'in _RNvC1a1b'; sleep 2; cmp "$scratch/output" "$scratch/line" >&2 && rm "$scratch/line"; } | call binfarce filter >"$scratch/output"
+{ echo 'in _RNvC1a1b'; sleep 2; cmp "$scratch/output" "$scratch/line" >&2 && rm "$scratch/line"; } |
+    call binfarce filter >"$scratch/output"
 [ ! -e "$scratch/line" ] || fail "binfarce filter: a line isn't written before the next one is read"
 
 # Addresses as arguments and on standard input, where answers come as soon as their lines do.
@@ -181,9 +178,9 @@ ends 1 /dev/null "$lacks" binfarce list "$scratch/stripped"
 call binfarce list --dynamic --all "$scratch/stripped" | cut -c1-16 >"$scratch/lines"
 readelf -W --dyn-syms "$library" | awk '$4 == "FUNC" && $3 != "0" && $7 ~ /^[0-9]+$/ { print $2 }' | cmp "$scratch/lines" -
 # The symbols of all sections, in an object file with a section for each function, as readelf has them.
-printf 'int f(int x) { return x + 1; }\nint g(int x) { return x * x; }\nint h(int x) { return f(x) - g(x); }\n' >"$scratch/functions.c"
 object="$scratch/functions.o"
-gcc -ffunction-sections -c -o "$object" "$scratch/functions.c"
+echo 'int f(int x) { return x; } int g(int x) { return x * x; } int h(int x) { return f(x) - g(x); }' |
+    gcc -ffunction-sections -c -o "$object" -x c -
 readelf -SW "$object" | sed -n 's/^ *\[ *\([0-9]*\)\] \(\.[^ ]*\) .*/\1 \2/p' >"$scratch/sections"
 readelf -sW "$object" | awk 'NR == FNR { section[$1] = $2; next }
     $4 == "FUNC" { printf "%s %10d %s %s\n", $2, $3, section[$7], $8 }' "$scratch/sections" - >"$scratch/all"

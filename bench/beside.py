@@ -1,8 +1,8 @@
 #!/usr/bin/env python3
 """Measures commands beside each other: beside.py RUNS [--stdin FILE] COMMAND [-- COMMAND ..]
 
-Each command is run RUNS times, in turn with the others, with its output thrown away. A line tells its least processor time (user
-and system), its least wall time, its peak memory, and its processor time in parts of the first one's.
+Each command is run RUNS times, in turn with the others, with its output thrown away. A line has its least processor time (user
+and system), its least wall time, its peak memory, and the ratio of its processor time to the first one's.
 """
 import os
 import subprocess

@@ -1,4 +1,4 @@
-"""What the comparing scripts share: running the listing program, asking a peer for names, and telling what disagrees.
+"""What the comparing scripts share: running the listing program, asking a peer for names, and reporting differences.
 
 A listing is a list of (address, size, name) and the size of the section, or the words of a refusal.
 Names are bytes throughout.

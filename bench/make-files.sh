@@ -7,7 +7,7 @@ set -u
 trap 'exit 130' HUP INT TERM
 side=20
 
-# A line for each number of a row or a column, which stands for each & of the line.
+# A line for each number of a row or a column, which replaces each & of the line.
 numbered() {
     seq 0 $((side - 1)) | sed "s/.*/$1/"
 }

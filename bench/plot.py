@@ -24,7 +24,7 @@ def read(path):
 
 
 def place(ratio):
-    """Where a ratio stands on the axis, which doubles at each step, from a quarter to 32."""
+    """The position of a ratio on the axis, which doubles at each step, from a quarter to 32."""
     low, high = TICKS[0], TICKS[-1]
     return WIDE * math.log2(min(max(ratio, low), high) / low) / math.log2(high / low)
 

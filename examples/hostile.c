@@ -1,10 +1,10 @@
 /*
- * hostile [NAMES [FILES]]: asks the library what nobody would, and checks what has to hold whatever is answered.
+ * hostile [NAMES [FILES]]: passes hostile names and files to the library, and checks what must hold for every answer.
  *
- * Every buffer ends right before a page that can't be read or written, so a byte too far ends the program. NAMES texts and
- * FILES files are made by a generator of numbers: bytes of any value, and mangled names and small files with bytes changed,
- * cut and repeated. Of each: a buffer of every length from 0 to the text's and one more gives the same beginning, the same
- * whole length, and leaves the rest of the buffer unchanged. Ten calls for each name keep no memory.
+ * Every buffer ends right before a page that can't be read or written, so an access past the end ends the program. A random
+ * generator makes NAMES texts and FILES files: random bytes, and mangled names and small files with bytes changed, cut and
+ * repeated. For each, a buffer of every length from 0 to one more than the text's gets the same beginning and the same whole
+ * length, and its other bytes stay unchanged. Ten calls for each name keep no memory.
  */
 #define _DEFAULT_SOURCE
 #include "binfarce.h"

@@ -1,4 +1,4 @@
-/* listing FILE [SECTION]: the listing that the library makes, as binfarce-list writes it. */
+/* listing FILE [SECTION]: writes the library's listing of a file, as binfarce-list does. */
 #include "read.h"
 
 int main(int argc, char **argv) {

@@ -1,7 +1,7 @@
 /*
- * pointers FILE: holds each pointer that the library gives against the offset at which the file itself has the name: the names
- * of the sections and of the function symbols of a 64-bit little-endian ELF file, as <elf.h> lays it out, and the part that is
- * kept of some names. Prints how many pointers were compared.
+ * pointers FILE: compares each pointer that the library returns with the offset that the file states for the name. These are
+ * the names of sections and function symbols of a 64-bit little-endian ELF file, read by <elf.h>, and the kept parts of some
+ * names. Prints how many pointers were compared.
  */
 #include "read.h"
 
@@ -9,7 +9,7 @@
 
 static size_t compared;
 
-/* Whether a pointer goes to this offset; says so where it doesn't. */
+/* Whether a pointer points to this offset; reports one that doesn't. */
 static bool goes_to(const uint8_t *base, size_t offset, const uint8_t *given, const char *what) {
     compared++;
     if (given != base + offset)
@@ -64,7 +64,7 @@ static bool function_names(const uint8_t *file, size_t length, const Elf64_Ehdr 
     return right && next == given.count && next > 0;
 }
 
-/* The kept part begins behind the prefix of its mangling, and is all of a name that isn't mangled. */
+/* The kept part begins after the prefix of a mangling, and is all of a name that isn't mangled. */
 static bool kept_parts(void) {
     static const struct {
         const char *name;

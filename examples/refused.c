@@ -1,6 +1,6 @@
 /*
- * refused FILE: lets each allocation of each call fail in turn, until a run in which none does. A call in which one failed
- * gives its whole answer or says so, and then leaves what it was given as it was. Linked with
+ * refused FILE: lets each allocation of each call fail in turn, until a run in which none fails. A call in which one failed
+ * returns its whole answer, or reports the failure and leaves its buffers unchanged. Linked with
  * -Wl,--wrap=malloc,--wrap=realloc.
  */
 #include "read.h"
@@ -25,7 +25,7 @@ static const uint8_t *const TEXT = (const uint8_t *)".text";
 static uint8_t out[4096];
 static struct binfarce_function found[16];
 
-/* One of the calls that take memory: its status. */
+/* The status of one of the calls that allocate. */
 static uint32_t ask(int call, const uint8_t *file, size_t length) {
     const uint8_t *name = (const uint8_t *)NAME;
     switch (call) {

@@ -1,6 +1,5 @@
 /*
- * sections FILE: lists the sections of an ELF, Mach-O or PE file, all of one call, and finds each by its number and by its name
- * again. A line is `{number} {segment} {name} {type} {address:x} {offset:x} {size:x}`.
+ * sections FILE: lists the sections of an ELF, Mach-O or PE file by one call, and then finds each by its number and its name. A line is `{number} {segment} {name} {type} {address:x} {offset:x} {size:x}`.
  */
 #include "read.h"
 

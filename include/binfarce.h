@@ -3,27 +3,26 @@
  *
  * `cargo build --release` makes libbinfarce.a and libbinfarce.so from plain Rust, erased from proved sources;
  * bindings/archive.sh makes a libbinfarce.a by the Rattle kit, proved down to these functions: for every name and every file a
- * call returns what the written definitions say. Both assume, and don't check, that the caller keeps these rules:
+ * call returns what the written definitions say. Both assume, without a check, that the caller keeps these rules:
  *
- * - Pointers. Each pointer points to as many readable (where it isn't const: writable) bytes as the length after it says,
- *   for the whole call. None may be NULL, even where its length is 0: any other address will do then (`""`, or the
- *   address of a variable). No length is above PTRDIFF_MAX.
+ * - Pointers. Each pointer points to as many bytes as the length after it says, for the whole call. They are readable, and
+ *   writable where the pointer isn't const. No pointer may be NULL, even where its length is 0: any other address will do then
+ *   (`""`, or the address of a variable). No length is above PTRDIFF_MAX.
  * - Overlap. What a call writes to overlaps nothing else that is passed to the call.
  * - Alignment. A pointer to a struct is aligned as C aligns it; bytes need no alignment.
  * - Stack. A call nests as deep as a name does, at most 500 levels; the deepest names tried took less than 256 KiB with the
  *   kit's archive and less than 512 KiB with cargo's. No proof bounds it.
  *
- * Ownership. The library keeps nothing between calls, and no pointer after a call: there is nothing to be freed. What is
- * written is the caller's buffer. A `struct binfarce_function` and a `struct binfarce_section` point into the caller's own
- * file, and a `struct binfarce_mangling` into the caller's own name.
+ * Ownership. The library keeps no memory and no pointer after a call, so nothing has to be freed. It writes only to the
+ * caller's buffers. A `struct binfarce_function` and a `struct binfarce_section` point into the caller's file, and a
+ * `struct binfarce_mangling` into the caller's name.
  *
- * Texts are UTF-8, without a NUL at the end: their length is returned. A name may contain any character, also line feeds.
+ * Texts are UTF-8, without a NUL at the end: their length is returned. A name may contain any character, even a line feed.
  *
  * Lengths. A call that gives a text writes as much of it as the buffer has room for, and leaves the rest of the buffer
  * unchanged. It always returns the whole length: where that is more than the buffer's, the caller grows the buffer and calls
  * again. A text may be cut within a character. A call that gives no text (status isn't BINFARCE_OK) leaves the buffer
- * unchanged, and its lengths are 0. Arrays of functions follow the same rule; of sections those before a refusal are given
- * with it.
+ * unchanged, and its lengths are 0. Arrays of functions follow the same rule. With a refusal come the sections before it.
  *
  * Memory. The calls that say so allocate by malloc and realloc while they run (on Windows by HeapAlloc), and free all of it
  * before they return. Where an allocation fails they return BINFARCE_OUT_OF_MEMORY. With the kit's archive malloc has to align
@@ -91,16 +90,16 @@ struct binfarce_name {
 };
 
 /*
- * The words of a status, as the programs print them; `expected section type 3 but found N` is "unexpected section type".
- * Returns their length. Does not allocate.
+ * The words of a status, as the programs print them, but without the number of BINFARCE_UNEXPECTED_SECTION_TYPE: its words
+ * are "unexpected section type". Returns their length. Does not allocate.
  */
 size_t binfarce_status_text(uint32_t status, uint8_t *out, size_t out_length);
 
 /*
- * All of a name's readable form. The complete text has the disambiguators of crates, or of a legacy name its hash; the
- * trimmed one doesn't. The crate is that of a v0 name's first crate root. A name that isn't mangled stays unchanged in
- * both texts, and so does a v0 name that nests deeper than 500 levels or takes more than 65,536 steps. A buffer whose text
- * isn't wanted has the length 0. Allocates.
+ * A name's readable form: both texts and the crate. The complete text has the disambiguators of crates, or of a legacy name
+ * its hash; the trimmed one doesn't. The crate is that of a v0 name's first crate root. A name that isn't mangled stays
+ * unchanged in both texts, and so does a v0 name that nests deeper than 500 levels or takes more than 65,536 steps. A buffer
+ * whose text isn't wanted has the length 0. Allocates.
  */
 struct binfarce_name binfarce_demangle(const uint8_t *name, size_t name_length,
                                        uint8_t *complete, size_t complete_length,
@@ -126,7 +125,7 @@ struct binfarce_mangling {
 
 /*
  * How a name is mangled, without printing it: a v0 name whose text would exceed the limits is BINFARCE_KIND_V0 here, and
- * BINFARCE_KIND_UNKNOWN in binfarce_demangle. Returns BINFARCE_OK, or BINFARCE_NOT_UTF8 and leaves `out` as it was then.
+ * BINFARCE_KIND_UNKNOWN in binfarce_demangle. Returns BINFARCE_OK, or BINFARCE_NOT_UTF8 with `out` unchanged.
  * Does not allocate.
  */
 uint32_t binfarce_mangling(const uint8_t *name, size_t name_length, struct binfarce_mangling *out);
@@ -183,7 +182,7 @@ struct binfarce_elf_header {
 
 /*
  * Reads the file header in the given byte order. Returns BINFARCE_OK, or BINFARCE_UNEXPECTED_EOF for fewer than 52 or 64
- * bytes, and leaves `out` as it was then. Does not allocate.
+ * bytes, with `out` unchanged. Does not allocate.
  */
 uint32_t binfarce_elf32_header(const uint8_t *file, size_t file_length, bool big_endian, struct binfarce_elf_header *out);
 uint32_t binfarce_elf64_header(const uint8_t *file, size_t file_length, bool big_endian, struct binfarce_elf_header *out);
@@ -233,15 +232,15 @@ struct binfarce_section {
     uint64_t address;      /* of its first byte in memory; in a PE file counted from the image base */
     uint32_t kind;         /* in ELF its type (sh_type), in other formats 0 */
     uint32_t range_status; /* BINFARCE_OK; BINFARCE_MALFORMED_INPUT where its end passes 64 bits: start and end are 0 then */
-    size_t start;          /* where its bytes begin in the file; nothing says that they lie in it */
+    size_t start;          /* where its bytes begin in the file; they may lie past its end */
     size_t end;            /* the offset after the last one */
     uint64_t entries;      /* in ELF how many entries of its entry size it has, 0 where that is 0; in other formats 0 */
     bool has_name;         /* false for an ELF section whose name isn't in the file, or isn't UTF-8; a name may be empty too */
 };
 
 /*
- * The first section with this name, in a Mach-O file of this segment. Returns BINFARCE_OK, or leaves `out` as it was and
- * returns BINFARCE_NONE where there is none, a reader's refusal, or BINFARCE_NOT_UTF8 for a name. Does not allocate.
+ * The first section with this name, in a Mach-O file also with this segment. Returns BINFARCE_OK, or with `out` unchanged
+ * BINFARCE_NONE where there is none, a reader's refusal, or BINFARCE_NOT_UTF8 for a name. Does not allocate.
  */
 uint32_t binfarce_elf32_section(const uint8_t *file, size_t file_length, bool big_endian,
                                 const uint8_t *name, size_t name_length, struct binfarce_section *out);
@@ -254,10 +253,9 @@ uint32_t binfarce_pe_section(const uint8_t *file, size_t file_length,
                              const uint8_t *name, size_t name_length, struct binfarce_section *out);
 
 /*
- * The section with this number, counted from 0 in file order; in a Mach-O or PE file those are counted whose names are valid.
- * Returns BINFARCE_OK, or leaves `out` as it was and returns BINFARCE_NONE past the last one, or a reader's refusal in place
- * of the first that can't be read. Each call reads the headers before it: for all sections take the calls below. Does not
- * allocate.
+ * The section with this number, counted from 0 in file order; in a Mach-O or PE file only sections with a valid name count.
+ * Returns BINFARCE_OK, or with `out` unchanged BINFARCE_NONE past the last one, or a reader's refusal in place of the first
+ * that can't be read. Each call reads the headers before it: for all sections use the calls below. Does not allocate.
  */
 uint32_t binfarce_elf32_section_at(const uint8_t *file, size_t file_length, bool big_endian, size_t index,
                                    struct binfarce_section *out);
@@ -268,13 +266,13 @@ uint32_t binfarce_pe_section_at(const uint8_t *file, size_t file_length, size_t 
 
 /* What a call that gives all sections returns. */
 struct binfarce_sections {
-    uint32_t status; /* BINFARCE_OK, or why what follows the last of them can't be read */
+    uint32_t status; /* BINFARCE_OK, or the refusal that ends the walk after the last of them */
     size_t count;    /* how many there are, however many of them the array has room for */
 };
 
 /*
- * All sections of a file in file order, in the caller's array: those that the calls above give by their numbers, in one walk.
- * Where one can't be read, those before it are given, and its refusal. These calls don't allocate.
+ * All sections of a file in file order, in the caller's array, by one walk: those that the calls above give by number. Where
+ * one can't be read, those before it are given, and its refusal. These calls don't allocate.
  */
 struct binfarce_sections binfarce_elf32_sections(const uint8_t *file, size_t file_length, bool big_endian,
                                                  struct binfarce_section *out, size_t out_length);

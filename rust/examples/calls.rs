@@ -1,5 +1,5 @@
-//! calls ROUNDS: makes the names of standard input readable, one a line, ROUNDS times, by `SymbolName::demangle`. What a call
-//! through this crate costs; with another crate of the same name, what it costs there.
+//! calls ROUNDS: demangles the names of standard input, one a line, ROUNDS times, by `SymbolName::demangle`. It measures what a
+//! call costs in this crate, or in another crate of the same name.
 
 use binfarce::demangle::SymbolName;
 use std::{env, io};

@@ -61,13 +61,14 @@ debug_by_name!(Functions, Sections);
 
 /// Returns the bytes of the first section with this name, a part of the file.
 ///
-/// In a Mach-O file the name is `SEGMENT,SECTION`, as `__TEXT,__text`, or that of a section in any segment. In a PE file a
-/// name of more than 8 bytes is looked up in the string table, and the bytes end at the section's size in memory.
+/// In a Mach-O file the name is `SEGMENT,SECTION`, such as `__TEXT,__text`, or the name of a section in any segment. A PE
+/// section with a name of more than 8 bytes has its stored name here, such as `/4`: the string table isn't read. The bytes of
+/// a PE section end at its size in memory.
 ///
 /// # Errors
 ///
 /// [`Error::UnknownFormat`]; [`Error::Parse`] where the reader refuses the file before the section is found;
-/// [`Error::NoSection`]; [`Error::NoBytes`] where the section has no bytes in the file, as `.bss`; [`Error::PastEnd`] where
+/// [`Error::NoSection`]; [`Error::NoBytes`] where the section has no bytes in the file, such as `.bss`; [`Error::PastEnd`] where
 /// they end past the file.
 ///
 /// # Examples

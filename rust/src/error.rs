@@ -17,7 +17,7 @@ use std::{error, fmt, io, num};
 /// ```
 #[derive(Debug, Clone, Copy, PartialEq, Eq, Hash)]
 pub enum ParseError {
-    /// No section has the name that was asked for. A Mach-O or PE file has no text section.
+    /// No section of an ELF file has the requested name, or a Mach-O or PE file has no text section.
     SymbolsSectionIsMissing,
     /// An ELF file has no symbol table (`.symtab`), or its symbol table links to no section (`.strtab`).
     SectionIsMissing(&'static str),

@@ -172,7 +172,7 @@ impl<'a> Pe<'a> {
     /// addresses in table order.
     ///
     /// The function symbols of a section are those that `functions` would give if it were the section `.text`:
-    /// addresses are offsets in the section, and a size ends at the least greater address in the same section, or with
+    /// addresses are offsets in the section, and a size ends at the next greater address in the same section, or with
     /// the section's bytes in the file. Sections are numbered from 1 on, also those whose name isn't UTF-8. A row
     /// without a section, or whose section doesn't exist, isn't kept.
     ///

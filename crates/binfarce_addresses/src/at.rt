@@ -35,7 +35,7 @@ use std::marker::Model;
 
 /// The function symbols of a file, arranged for lookups by address.
 ///
-/// Clauses see the entries in their order.
+/// Contracts speak of its entries, in the order of the listing.
 #[derive(Drop)]
 pub struct Places<'a> {
     functions: Vec<FunctionSymbol<'a>>,
@@ -83,8 +83,8 @@ impl<'a> Places<'a> {
         Ok(places)
     }
 
-    /// The places of the function symbols of all sections of a file. Those of an object file share addresses, so that an address
-    /// names no place there.
+    /// The places of the function symbols of all sections of a file. The sections of an object file share addresses
+    /// (`AllTables::shares_addresses`), so an address may symbolize to another section's symbol.
     ///
     /// # Errors
     ///
@@ -140,7 +140,7 @@ impl<'a> Places<'a> {
     ///
     /// # Errors
     ///
-    /// `AllocError` where an allocation failed.
+    /// `AllocError` where an allocation failed: the text is then unspecified.
     pub fn push_line(
         &self,
         alloc: Global,
@@ -406,7 +406,7 @@ pub fn at_tables<S: Sink>(
     write_lines(alloc, &places, base, addresses, out)
 }
 
-/// Writes what stands at each of the addresses by these places, which are those of a file: a line each, as `at` has them.
+/// Writes a line for each address, as `at` does, by the places of a file.
 ///
 /// # Errors
 ///

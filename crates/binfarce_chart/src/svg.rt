@@ -14,7 +14,7 @@ use std::alloc::{AllocError, Global};
 ///
 /// The sum of the sizes has to be below 2^64. Of more than 40 bars, the last one sums up all from the 40th on. The
 /// lengths are shares of the sum in hundredths of a per cent, and are written beside the bars; they add up to 100.00.
-/// Names are escaped. The only error is a failed allocation.
+/// `section_size` is shown in the caption. Names are escaped. The only error is a failed allocation.
 pub fn chart(alloc: Global, bars: &[Bar<'_>], section_size: u64) -> Result<String, AllocError>
     requires { total (map bar_view bars.now) < 2 ^ 64 }
     ensures { IfOk result (λ t. IsChartOf (map bar_view bars.now) section_size (string_bytes t)) }

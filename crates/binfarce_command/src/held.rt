@@ -86,7 +86,7 @@ impl<F: Source> Source for Held<F> {
 ///
 /// # Errors
 ///
-/// As `hold`.
+/// As `load`.
 pub fn read_judged<R: Read>(alloc: Global, reader: &mut R) -> Result<Vec<u8>, Fault>
     ensures { ReadsJudged (R.remaining reader.old) (R.remaining reader.new) result }
 {

@@ -25,8 +25,8 @@ pub enum SectionError {
     OutOfMemory,
     /// A write of the sink failed. It took a beginning of the output.
     Write,
-    /// The source can't be read at offsets, or a read of it failed, as where it became shorter. Never for bytes in
-    /// memory.
+    /// The source can't be read at offsets, or a read of it failed, for instance because it became shorter. Never
+    /// for bytes in memory.
     Unreadable,
 }
 

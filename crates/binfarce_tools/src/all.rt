@@ -277,7 +277,7 @@ pub fn map_all<S: Sink>(alloc: Global, tables: &AllTables, out: &mut S) -> Resul
     write_made(out, picture(alloc, &sums))
 }
 
-/// The sums that `report_all` shows; `section_size` is that of all sizes.
+/// The sums that `report_all` shows; `section_size` is the sum of all sizes.
 ///
 /// # Errors
 ///

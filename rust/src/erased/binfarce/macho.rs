@@ -91,7 +91,7 @@ impl<'a> Macho<'a> {
 
     /// The function symbols of the first section, in the order of their addresses, and the text's size in bytes.
     ///
-    /// A symbol's size is the distance to the least greater address in the whole table, or to the text's end where
+    /// A symbol's size is the distance to the next greater address in the whole table, or to the text's end where
     /// there is none. It keeps rows with a value, a name offset, one of the type bits 0x0A and section 1, if they have
     /// a size and a valid name. Rows of one address keep their table order. Without a symbol table the answer is an
     /// empty list and 0.
@@ -124,7 +124,7 @@ impl<'a> Macho<'a> {
     /// addresses in table order. Without a symbol table the list is empty.
     ///
     /// `functions` keeps rows of section 1; this keeps rows of each section, by the same rule. A symbol's size is the
-    /// distance to the least greater address in the whole table, or to the end of its own section where there is none.
+    /// distance to the next greater address in the whole table, or to the end of its own section where there is none.
     /// Sections are numbered from 1 on, segment by segment, also those whose names aren't valid. A row's section number
     /// is at most 255; a row whose section doesn't exist isn't kept.
     ///

@@ -65,7 +65,7 @@ pub struct Answered {
 ///
 /// # Errors
 ///
-/// `AllocError` where an allocation failed.
+/// `AllocError` where an allocation failed: `text` is then unspecified.
 pub fn push_lines(
     alloc: Global,
     places: &Places<'_>,

@@ -65,7 +65,7 @@ impl<F: Source> Source for Held<F> {
 ///
 /// # Errors
 ///
-/// As `hold`.
+/// As `load`.
 pub fn read_judged<R: Read>(alloc: Global, reader: &mut R) -> Result<Vec<u8>, Fault> {
     let mut bytes = Vec::new(alloc);
     read_first(reader, &mut bytes)?;

@@ -25,7 +25,8 @@ usage: binfarce COMMAND [OPTION..] ..
   --version                          the version
 
 `--` ends the options, and `-` as a FILE is standard input. Status: 0; 1 if a file
-was refused, or a read or a write failed; 2 for a wrong call.
+was refused, or a read or a write failed; 2 for a wrong call, or for lines without
+an address.
 ";
 
 const LIST: &str = "\
@@ -95,7 +96,7 @@ const SECTION: &str = "\
 usage: binfarce section FILE [SECTION]
 
 Writes the bytes of the section, or without SECTION a line for each section. A
-section of a Mach-O file is SEGMENT,SECTION.
+section of a Mach-O file is named SECTION or SEGMENT,SECTION.
 
   --help           this text
 ";

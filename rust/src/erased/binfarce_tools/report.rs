@@ -65,8 +65,8 @@ impl From<ListError> for ReportError {
     }
 }
 
-/// Reports how many bytes the function symbols of a file's section take: a line for each crate, in the order of the
-/// crates' bytes, and two lines for the whole.
+/// Reports how many bytes the function symbols of a file's section take: a line for each crate, in the byte order of
+/// the crates' names, and two lines for the whole.
 ///
 /// The symbols are those that `list` lists. The line of a crate is `{sum:>10} {name}`, with the sum of the sizes of its
 /// symbols; after these come `sum {total}`, with the sum of all sizes, and `text {size}`, with that of the section. The

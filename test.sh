@@ -1,13 +1,18 @@
 #!/bin/sh
 # Runs all tests; the last line is `N passed, 0 failed`.
 #
+# Usage: ./test.sh [--whole]
+#
 # First what takes seconds. Then the gate (`rt ci`), and beside it all that needs no proof; as soon as the libraries are proved,
 # the wrong bodies that are always tried. Last the programs, proved and erased.
 #
 # The gate runs in a copy without must-fail folders, since it would try each edit in a check of its own, and without tests, since
-# tests/crates.sh runs them with the checks that their proofs would make needless. `rt ci` alone proves and tries all.
+# tests/crates.sh runs them with the checks that their proofs would make needless. With --whole `rt ci` proves and tries all;
+# `rt ci NAME..` does so for some crates and those below them.
 set -eu
 cd "$(dirname "$0")"
+[ "$*" != --whole ] || exec rt ci
+[ $# -eq 0 ] || { echo "usage: ./test.sh [--whole]" >&2; exit 2; }
 
 tools="rt python3 cargo gcc g++ nm readelf strip valgrind pkg-config groff tar pgrep"
 missing=$(for tool in $tools; do command -v "$tool" >/dev/null || echo "$tool"; done)

@@ -205,7 +205,8 @@ impl Demangler {
     ///
     /// `AllocError` where an allocation failed.
     pub fn crate_of(&mut self, name: &str) -> Result<Option<String>, AllocError>
-        ensures crate_found { IfOk result (λ c. (n : Name) × IsNamed name.now n × (option_map string_bytes c ≡ crate_of n)) }
+        ensures crate_found { IfOk result
+            (λ c. (n : Name) × IsNamed name.now n × (option_map string_bytes c ≡ crate_of n)) }
     {
         crate_of(self.memory.alloc, name)
     }
@@ -231,7 +232,8 @@ pub fn push_trimmed(alloc: Global, text: &mut String, name: &str) -> Result<(), 
 ///
 /// `AllocError` where an allocation failed.
 pub fn crate_of(alloc: Global, name: &str) -> Result<Option<String>, AllocError>
-    ensures crate_found { IfOk result (λ c. (n : Name) × IsNamed name.now n × (option_map string_bytes c ≡ crate_of n)) }
+    ensures crate_found { IfOk result
+        (λ c. (n : Name) × IsNamed name.now n × (option_map string_bytes c ≡ crate_of n)) }
 {
     let mut text = String::new(alloc);
     if push_crate(alloc, &mut text, name)? {
@@ -265,7 +267,8 @@ pub fn push_crate(alloc: Global, text: &mut String, name: &str) -> Result<bool, 
 // unchanged.
 fn push_path_crate(text: &mut String, part: &str) -> Result<bool, AllocError>
     requires { IsAscii part.now }
-    ensures crate_found { IfOk result (λ crate_found. (elements : List Element) (rest : List ℕ) → Reads part.now elements rest
+    ensures crate_found { IfOk result
+        (λ crate_found. (elements : List Element) (rest : List ℕ) → Reads part.now elements rest
         → GrowsByCrate (path_crate (encode_utf8_all (legacy_chars elements))) crate_found (string_bytes text.old)
         (string_bytes text.new)) }
     ensures unchanged { OnErr result (string_bytes text.new ≡ string_bytes text.old) }

@@ -197,8 +197,10 @@ fn push_root(
 /// unfolds to a tree within the limits. Nothing else is written. The only error is a failed allocation; `text` is then
 /// unchanged.
 pub fn push_crate_name(alloc: Global, text: &mut String, name: &str) -> Result<bool, AllocError>
-    ensures crate_found { IfOk result (λ crate_found. (crate_name : Option (List ℕ)) × IsCrateName name.now crate_name
-        × (crate_found ≡ is_some crate_name) × (string_bytes text.new ≡ string_bytes text.old ++ unwrap_or crate_name [])) }
+    ensures crate_found { IfOk result
+        (λ crate_found. (crate_name : Option (List ℕ)) × IsCrateName name.now crate_name
+        × (crate_found ≡ is_some crate_name)
+        × (string_bytes text.new ≡ string_bytes text.old ++ unwrap_or crate_name [])) }
     ensures unchanged { OnErr result (string_bytes text.new ≡ string_bytes text.old) }
 {
     let Some(part) = candidate(name) else {

@@ -61,8 +61,8 @@ pub extern "C" fn binfarce_elf32_functions(
     section: &[u8],
     out: &mut [Function],
 ) -> Functions
-    ensures { GivesFunctions section.now (elf_file_answer Symtab elf32 (order_of big_endian) file.now section.now) out.old
-        out.new result }
+    ensures { GivesFunctions section.now (elf_file_answer Symtab elf32 (order_of big_endian) file.now section.now)
+        out.old out.new result }
 {
     match str::from_utf8(section) {
         Ok(section) => give(of_elf32(alloc, file, order_of(big_endian), section), out),
@@ -79,8 +79,8 @@ pub extern "C" fn binfarce_elf64_functions(
     section: &[u8],
     out: &mut [Function],
 ) -> Functions
-    ensures { GivesFunctions section.now (elf_file_answer Symtab elf64 (order_of big_endian) file.now section.now) out.old
-        out.new result }
+    ensures { GivesFunctions section.now (elf_file_answer Symtab elf64 (order_of big_endian) file.now section.now)
+        out.old out.new result }
 {
     match str::from_utf8(section) {
         Ok(section) => give(of_elf64(alloc, file, order_of(big_endian), section), out),

@@ -41,7 +41,10 @@ impl Model for AllParts {
 
     ghost Value = { AllTables };
 
-    ghost view = { λ p. record { sections = headers_alone p.headers.items p.section_count; symbols = records_view p.records } };
+    ghost view = { λ p. record {
+      sections = headers_alone p.headers.items p.section_count;
+      symbols = records_view p.records;
+    } };
 
     ghost invariant = { λ p. p.section_count ≤ whole_in (headers_alone p.headers.items p.section_count) };
 }

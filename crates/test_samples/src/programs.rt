@@ -73,8 +73,8 @@ pub fn wrong_text<P: Program>(
     Ok(None)
 }
 
-/// The first reader or source of no symbols, or the large file, of which the program writes anything, or that it reports otherwise than by its
-/// name, a colon, a blank and the words for it.
+/// The first reader or source of no symbols, or the large file, of which the program writes anything, or that it reports
+/// otherwise than by its name, a colon, a blank and the words for it.
 pub fn wrong_fault<P: Program>(
     alloc: Global,
     program: &P,

@@ -1,10 +1,11 @@
 ghost use Rattle.std.specs.Prelude.{◌≡◌, List, ℕ, Ok, Err, Some, IfOk, codes};
 ghost use Rattle.binfarce.specs.Elf.{elf64};
+ghost use Rattle.binfarce.specs.ElfSymbols.{elf_file_answer};
 ghost use Rattle.binfarce.specs.Refusal.{refusal_of};
 ghost use Rattle.binfarce.specs.Symbol.{Listed, HoldsSymbols};
 ghost use Rattle.binfarce.specs.declared.ByteOrder.TheVariants.{LittleEndian};
 ghost use Rattle.binfarce.specs.declared.ParseError.{ParseError};
-ghost use Rattle.binfarce_tables.specs.Reading.{file_answer};
+ghost use Rattle.binfarce.specs.declared.SymbolTable.TheVariants.{Symtab};
 ghost use Rattle.binfarce_tables.specs.declared.ReadError.TheVariants.{Refused};
 
 use binfarce::ByteOrder;
@@ -20,10 +21,10 @@ pub fn elf_symbols<S: Source>(
     source: &S,
 ) -> Result<(Vec<SymbolData>, u64), ReadError>
     ensures symbols { (file : List ℕ) → S.bytes source.now ≡ Some file → IfOk result
-        (λ symbols. (listed : Listed) → file_answer elf64 LittleEndian file (codes ".text") ≡ Ok listed
+        (λ symbols. (listed : Listed) → elf_file_answer Symtab elf64 LittleEndian file (codes ".text") ≡ Ok listed
         → HoldsSymbols listed symbols) }
     ensures refused { (file : List ℕ) (e : ParseError) → S.bytes source.now ≡ Some file → result ≡ Err (Refused e)
-        → file_answer elf64 LittleEndian file (codes ".text") ≡ Err (refusal_of e) }
+        → elf_file_answer Symtab elf64 LittleEndian file (codes ".text") ≡ Err (refusal_of e) }
 {
     let parts = elf64::read(alloc, source, ByteOrder::LittleEndian, ".text")?;
     let (functions, size) = parts.functions();

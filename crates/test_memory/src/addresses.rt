@@ -11,7 +11,7 @@ use test_samples::streams::Source;
 
 const LINES: &str = "0000000000001000 foo+0x0\n000000000000100f foo+0xf\n0000000000001010 ??\n";
 
-fn is_told(alloc: Global) -> Row {
+fn are_lines(alloc: Global) -> Row {
     let mut out = Out::new(Expected::new(LINES.as_bytes()));
     let addresses = [0x1000, 0x100f, 0x1010];
     let result = at(alloc, &ELF64_LITTLE, ".text", 0, &addresses, &mut out);
@@ -42,7 +42,7 @@ fn is_answered(alloc: Global, text: &[u8]) -> Row {
 }
 
 pub(crate) fn add_addresses(alloc: Global, tally: &mut Tally) {
-    tally.add("addresses", is_told(alloc));
+    tally.add("addresses", are_lines(alloc));
     tally.add("lines", is_answered(alloc, b"1000\n100f\n1010\n"));
     tally.add("a last line", is_answered(alloc, b"1000\n100f\n1010"));
 }

@@ -132,7 +132,7 @@ const ENDS: [(Result<(), Failure>, bool, Result<(), Failure>); 4] = [
 #[test]
 fn tells_the_first_fault(rt: HostRuntime) {
     for (ended, fails, want) in ENDS {
-        let told = finish(Flushed { fails }, ended);
-        assert!(&rt; told == want, "{ended:?} {fails}");
+        let finished = finish(Flushed { fails }, ended);
+        assert!(&rt; finished == want, "{ended:?} {fails}");
     }
 }

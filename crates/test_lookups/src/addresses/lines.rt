@@ -9,7 +9,7 @@ use std::test::Fail;
 use test_samples::elf::ELF64_LITTLE;
 
 // The lines of addresses in a file, after a base is subtracted.
-fn told(
+fn lines_of(
     alloc: Global,
     file: &[u8],
     base: u64,
@@ -23,13 +23,13 @@ fn told(
     }
 }
 
-fn is_told(alloc: Global, base: u64, addresses: &[u64], lines: &str) -> Result<bool, AllocError> {
-    let told = told(alloc, &ELF64_LITTLE, base, addresses)?;
-    Ok(told.is_ok_and(|text| text.as_slice() == lines.as_bytes()))
+fn are_lines(alloc: Global, base: u64, addresses: &[u64], lines: &str) -> Result<bool, AllocError> {
+    let found = lines_of(alloc, &ELF64_LITTLE, base, addresses)?;
+    Ok(found.is_ok_and(|text| text.as_slice() == lines.as_bytes()))
 }
 
 // A base, addresses, and their lines.
-const TOLD: [(u64, &[u64], &str); 5] = [
+const LINES: [(u64, &[u64], &str); 5] = [
     (0, &[], ""),
     (0, &[0x1000], "0000000000001000 foo+0x0\n"),
     (
@@ -50,22 +50,22 @@ const TOLD: [(u64, &[u64], &str); 5] = [
 ];
 
 #[test]
-fn lines_are_told(rt: HostRuntime) -> Result<(), Fail> {
-    for (base, addresses, lines) in &TOLD {
-        assert!(rt; is_told(rt.alloc(), *base, addresses, lines)?, "{lines}");
+fn lines_of_addresses(rt: HostRuntime) -> Result<(), Fail> {
+    for (base, addresses, lines) in &LINES {
+        assert!(rt; are_lines(rt.alloc(), *base, addresses, lines)?, "{lines}");
     }
     Ok(())
 }
 
 #[test]
-fn lines_are_told_of_tables(rt: HostRuntime) -> Result<(), Fail> {
+fn lines_of_tables(rt: HostRuntime) -> Result<(), Fail> {
     let Ok(tables) = read(rt.alloc(), &ELF64_LITTLE.as_slice(), ".text") else {
         return Err(Fail::from("no tables"));
     };
-    for (base, addresses, lines) in &TOLD {
+    for (base, addresses, lines) in &LINES {
         let mut out = Out::new(Vec::new(rt.alloc()));
-        let told = at_tables(rt.alloc(), &tables, *base, addresses, &mut out);
-        assert!(rt; told == Ok(()), "{lines}");
+        let written = at_tables(rt.alloc(), &tables, *base, addresses, &mut out);
+        assert!(rt; written == Ok(()), "{lines}");
         assert!(rt; out.into_inner().as_slice() == lines.as_bytes(), "{lines}");
     }
     Ok(())
@@ -73,7 +73,7 @@ fn lines_are_told_of_tables(rt: HostRuntime) -> Result<(), Fail> {
 
 #[test]
 fn refuses_as_list_does(rt: HostRuntime) -> Result<(), Fail> {
-    let refused = told(rt.alloc(), &[], 0, &[1])?;
+    let refused = lines_of(rt.alloc(), &[], 0, &[1])?;
     assert!(rt; refused == Err(ListError::Unknown));
     Ok(())
 }

@@ -1,6 +1,6 @@
 //! Names and their answers, row by row.
 
-use super::answers::{check_lines, root_of, tells};
+use super::answers::{check_lines, is_root, root_of};
 use std::alloc::Global;
 use std::process::Abort;
 use std::test::Fail;
@@ -68,8 +68,8 @@ foo|-
 fn check_crates(rt: &impl Abort, alloc: Global, lines: &str, count: usize) -> Result<(), Fail> {
     assert_eq!(rt; lines.lines().count(), count);
     for line in lines.lines() {
-        let (name, told) = line.split_once('|').ok_or("a line without a bar")?;
-        assert!(rt; tells(alloc, name, root_of(told))?, "{name}");
+        let (name, root) = line.split_once('|').ok_or("a line without a bar")?;
+        assert!(rt; is_root(alloc, name, root_of(root))?, "{name}");
     }
     Ok(())
 }

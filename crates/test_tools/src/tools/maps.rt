@@ -82,7 +82,7 @@ fn draws_each_format(rt: HostRuntime) -> Result<(), Fail> {
     Ok(())
 }
 
-// The first function's size stands at 112 in the file, and the second one's is 16.
+// The first function's size is at 112 in the file, and the second one's is 16.
 #[test]
 fn sizes_may_be_too_large(rt: HostRuntime) -> Result<(), Fail> {
     let file = file_beside(rt.alloc(), "a")?;

@@ -14,7 +14,7 @@ pub(crate) struct Name {
     trimmed: &'static str,
     crate_name: Option<&'static str>,
     // The answer of `crate_of`.
-    told: Option<&'static str>,
+    crate_of: Option<&'static str>,
 }
 
 pub(crate) const NAMES: [Name; 9] = [
@@ -24,7 +24,7 @@ pub(crate) const NAMES: [Name; 9] = [
         complete: "foo::bar",
         trimmed: "foo",
         crate_name: None,
-        told: Some("foo"),
+        crate_of: Some("foo"),
     },
     Name {
         name: "_ZN28_$u7b$$u7b$closure$u7d$$u7d$E",
@@ -32,7 +32,7 @@ pub(crate) const NAMES: [Name; 9] = [
         complete: "{{closure}}",
         trimmed: "{{closure}}",
         crate_name: None,
-        told: Some("{{closure}}"),
+        crate_of: Some("{{closure}}"),
     },
     Name {
         name: "_ZN4testE",
@@ -40,7 +40,7 @@ pub(crate) const NAMES: [Name; 9] = [
         complete: "test",
         trimmed: "test",
         crate_name: None,
-        told: Some("test"),
+        crate_of: Some("test"),
     },
     Name {
         name: "foo",
@@ -48,7 +48,7 @@ pub(crate) const NAMES: [Name; 9] = [
         complete: "foo",
         trimmed: "foo",
         crate_name: None,
-        told: None,
+        crate_of: None,
     },
     Name {
         name: "_RNCINkXs25_NgCsbmNqQUJIY6D_4core5sliceINyB9_4IterhENuNgNoBb_4iter8iterator8Iterator9rpositionNCNgNpB9_6memchr7memrchrs_0E0Bb_",
@@ -56,7 +56,7 @@ pub(crate) const NAMES: [Name; 9] = [
         complete: "<core[846817f741e54dfd]::slice::Iter<u8> as core[846817f741e54dfd]::iter::iterator::Iterator>::rposition::<core[846817f741e54dfd]::slice::memchr::memrchr::{closure#1}>::{closure#0}",
         trimmed: "<core::slice::Iter<u8> as core::iter::iterator::Iterator>::rposition::<core::slice::memchr::memrchr::{closure#1}>::{closure#0}",
         crate_name: Some("core"),
-        told: Some("core"),
+        crate_of: Some("core"),
     },
     Name {
         name: "_RINbNbCskIICzLVDPPb_5alloc5alloc8box_freeDINbNiB4_5boxed5FnBoxuEp6OutputuEL_ECs1iopQbuBiw2_3std",
@@ -64,7 +64,7 @@ pub(crate) const NAMES: [Name; 9] = [
         complete: "alloc[f15a878b47eb696b]::alloc::box_free::<dyn alloc[f15a878b47eb696b]::boxed::FnBox<(), Output = ()>>",
         trimmed: "alloc::alloc::box_free::<dyn alloc::boxed::FnBox<(), Output = ()>>",
         crate_name: Some("alloc"),
-        told: Some("alloc"),
+        crate_of: Some("alloc"),
     },
     // Twenty targets.
     Name {
@@ -73,7 +73,7 @@ pub(crate) const NAMES: [Name; 9] = [
         complete: "<([i8], [bool], [char], [f64], [str], [f32], [u8], [isize], [usize], [i32], [u32], [i128], [u128], [_], [i16], [u16], [()], [i64], [u64], [!], [i8], [bool], [char], [f64], [str], [f32], [u8], [isize], [usize], [i32], [u32], [i128], [u128], [_], [i16], [u16], [()], [i64], [u64], [!])>",
         trimmed: "<([i8], [bool], [char], [f64], [str], [f32], [u8], [isize], [usize], [i32], [u32], [i128], [u128], [_], [i16], [u16], [()], [i64], [u64], [!], [i8], [bool], [char], [f64], [str], [f32], [u8], [isize], [usize], [i32], [u32], [i128], [u128], [_], [i16], [u16], [()], [i64], [u64], [!])>",
         crate_name: Some(""),
-        told: Some(""),
+        crate_of: Some(""),
     },
     // A target after the first 256 positions.
     Name {
@@ -82,7 +82,7 @@ pub(crate) const NAMES: [Name; 9] = [
         complete: "<(a[0]::xxxxxxxxxxxxxxxxxxxxxxxxxxxxxxxxxxxxxxxxxxxxxxxxxxxxxxxxxxxxxxxxxxxxxxxxxxxxxxxxxxxxxxxxxxxxxxxxxxxxxxxxxxxxxxxxxxxxxxxxxxxxxxxxxxxxxxxxxxxxxxxxxxxxxxxxxxxxxxxxxxxxxxxxxxxxxxxxxxxxxxxxxxxxxxxxxxxxxxxxxxxxxxxxxxxxxxxxxxxxxxxxxxxxxxxxxxxxxxxxxxxxxxxxxxxxxxxxxxxx, [u8], [u8])>",
         trimmed: "<(a::xxxxxxxxxxxxxxxxxxxxxxxxxxxxxxxxxxxxxxxxxxxxxxxxxxxxxxxxxxxxxxxxxxxxxxxxxxxxxxxxxxxxxxxxxxxxxxxxxxxxxxxxxxxxxxxxxxxxxxxxxxxxxxxxxxxxxxxxxxxxxxxxxxxxxxxxxxxxxxxxxxxxxxxxxxxxxxxxxxxxxxxxxxxxxxxxxxxxxxxxxxxxxxxxxxxxxxxxxxxxxxxxxxxxxxxxxxxxxxxxxxxxxxxxxxxxxxxxxxxx, [u8], [u8])>",
         crate_name: Some(""),
-        told: Some(""),
+        crate_of: Some(""),
     },
     // 98,304 steps.
     Name {
@@ -91,7 +91,7 @@ pub(crate) const NAMES: [Name; 9] = [
         complete: "_RMC0TTTTTTTTTTTTTTTpBh_EBg_EBf_EBe_EBd_EBc_EBb_EBa_EB9_EB8_EB7_EB6_EB5_EB4_EB3_E",
         trimmed: "_RMC0TTTTTTTTTTTTTTTpBh_EBg_EBf_EBe_EBd_EBc_EBb_EBa_EB9_EB8_EB7_EB6_EB5_EB4_EB3_E",
         crate_name: None,
-        told: None,
+        crate_of: None,
     },
 ];
 
@@ -149,14 +149,14 @@ pub(crate) fn add_trimmed(alloc: Global, tally: &mut Tally) {
     }
 }
 
-fn is_told(alloc: Global, row: &Name) -> Row {
-    let told = crate_of(alloc, row.name)?;
-    Ok(is_text(told.as_ref(), row.told))
+fn is_crate(alloc: Global, row: &Name) -> Row {
+    let found = crate_of(alloc, row.name)?;
+    Ok(is_text(found.as_ref(), row.crate_of))
 }
 
 pub(crate) fn add_crates(alloc: Global, tally: &mut Tally) {
     for row in &NAMES {
-        tally.add(row.name, is_told(alloc, row));
+        tally.add(row.name, is_crate(alloc, row));
     }
 }
 

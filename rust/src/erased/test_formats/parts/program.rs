@@ -137,7 +137,7 @@ const ENDS: [(Result<(), Failure>, bool, Result<(), Failure>); 4] = [
 fn tells_the_first_fault() {
     let rt = HostRuntime::new();
     for (ended, fails, want) in ENDS {
-        let told = finish(Flushed { fails }, ended);
-        assert!(told == want, "{ended:?} {fails}");
+        let finished = finish(Flushed { fails }, ended);
+        assert!(finished == want, "{ended:?} {fails}");
     }
 }

@@ -12,7 +12,7 @@ use crate::shim::test::Fail;
 use crate::erased::test_samples::elf::ELF64_LITTLE;
 
 // The lines of addresses in a file, after a base is subtracted.
-fn told(
+fn lines_of(
     alloc: Global,
     file: &[u8],
     base: u64,
@@ -26,13 +26,13 @@ fn told(
     }
 }
 
-fn is_told(alloc: Global, base: u64, addresses: &[u64], lines: &str) -> Result<bool, AllocError> {
-    let told = told(alloc, &ELF64_LITTLE, base, addresses)?;
-    Ok(told.is_ok_and(|text| text.as_slice() == lines.as_bytes()))
+fn are_lines(alloc: Global, base: u64, addresses: &[u64], lines: &str) -> Result<bool, AllocError> {
+    let found = lines_of(alloc, &ELF64_LITTLE, base, addresses)?;
+    Ok(found.is_ok_and(|text| text.as_slice() == lines.as_bytes()))
 }
 
 // A base, addresses, and their lines.
-const TOLD: [(u64, &[u64], &str); 5] = [
+const LINES: [(u64, &[u64], &str); 5] = [
     (0, &[], ""),
     (0, &[0x1000], "0000000000001000 foo+0x0\n"),
     (
@@ -53,24 +53,24 @@ const TOLD: [(u64, &[u64], &str); 5] = [
 ];
 
 #[test]
-fn lines_are_told() -> Result<(), Fail> {
+fn lines_of_addresses() -> Result<(), Fail> {
     let rt = HostRuntime::new();
-    for (base, addresses, lines) in &TOLD {
-        assert!(is_told(rt.alloc(), *base, addresses, lines)?, "{lines}");
+    for (base, addresses, lines) in &LINES {
+        assert!(are_lines(rt.alloc(), *base, addresses, lines)?, "{lines}");
     }
     Ok(())
 }
 
 #[test]
-fn lines_are_told_of_tables() -> Result<(), Fail> {
+fn lines_of_tables() -> Result<(), Fail> {
     let rt = HostRuntime::new();
     let Ok(tables) = read(rt.alloc(), &ELF64_LITTLE.as_slice(), ".text") else {
         return Err(Fail::from("no tables"));
     };
-    for (base, addresses, lines) in &TOLD {
+    for (base, addresses, lines) in &LINES {
         let mut out = Out::new(Vec::new(rt.alloc()));
-        let told = at_tables(rt.alloc(), &tables, *base, addresses, &mut out);
-        assert!(told == Ok(()), "{lines}");
+        let written = at_tables(rt.alloc(), &tables, *base, addresses, &mut out);
+        assert!(written == Ok(()), "{lines}");
         assert!(out.into_inner().as_slice() == lines.as_bytes(), "{lines}");
     }
     Ok(())
@@ -79,7 +79,7 @@ fn lines_are_told_of_tables() -> Result<(), Fail> {
 #[test]
 fn refuses_as_list_does() -> Result<(), Fail> {
     let rt = HostRuntime::new();
-    let refused = told(rt.alloc(), &[], 0, &[1])?;
+    let refused = lines_of(rt.alloc(), &[], 0, &[1])?;
     assert!(refused == Err(ListError::Unknown));
     Ok(())
 }

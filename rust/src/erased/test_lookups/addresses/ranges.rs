@@ -152,7 +152,7 @@ fn finds_the_range() -> Result<(), AllocError> {
 }
 
 // Where a span gives the answer for an address, it is right.
-fn is_told(span: Option<Span>, address: u64, place: Option<usize>) -> bool {
+fn is_place(span: Option<Span>, address: u64, place: Option<usize>) -> bool {
     match span {
         Some(span) => {
             if span.address <= address && address < span.end {
@@ -173,7 +173,7 @@ fn spans_tell_what_is_found() -> Result<(), AllocError> {
         for row in 0..count {
             for (address, place) in places.iter() {
                 assert!(
-                    is_told(ranges.span(row), *address, *place),
+                    is_place(ranges.span(row), *address, *place),
                     "{label}: {address:x}"
                 );
             }

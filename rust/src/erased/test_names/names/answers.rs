@@ -1,6 +1,6 @@
 // From crates/test_names/src/names/answers.rt, by tools/erase.
 
-//! The answers that rows want of names. A test hands on what it is told as one truth: each assertion with a message of
+//! The answers that rows want of names. A test hands on what it finds as one truth: each assertion with a message of
 //! its own takes seconds to prove.
 
 use crate::shim::String;
@@ -26,8 +26,8 @@ struct Row<'a> {
 }
 
 /// The crate of a row: `-` for none.
-pub(super) fn root_of(told: &str) -> Option<&str> {
-    if told == "-" { None } else { Some(told) }
+pub(super) fn root_of(text: &str) -> Option<&str> {
+    if text == "-" { None } else { Some(text) }
 }
 
 // The row of a line, which begins with its kind where none is given. Where the line doesn't say what it shows, that is its
@@ -78,9 +78,9 @@ fn is_trimmed_alone(alloc: Global, row: &Row<'_>) -> Result<bool, AllocError> {
 }
 
 /// The crate alone is this one.
-pub(super) fn tells(alloc: Global, name: &str, root: Option<&str>) -> Result<bool, AllocError> {
-    let told = crate_of(alloc, name)?;
-    Ok(told.as_ref().map(String::as_str) == root)
+pub(super) fn is_root(alloc: Global, name: &str, root: Option<&str>) -> Result<bool, AllocError> {
+    let found = crate_of(alloc, name)?;
+    Ok(found.as_ref().map(String::as_str) == root)
 }
 
 // The row's name has its answer. A legacy name has a crate, but its answer has none.
@@ -92,7 +92,7 @@ fn check(rt: &impl Abort, alloc: Global, row: &Row<'_>) -> Result<(), AllocError
         row.what
     );
     assert!(
-        row.kind == Kind::Legacy || tells(alloc, row.name, row.root)?,
+        row.kind == Kind::Legacy || is_root(alloc, row.name, row.root)?,
         "the crate alone: {}",
         row.what
     );
@@ -113,9 +113,9 @@ fn is_answered_after(
     demangler.push_trimmed(text, before)?;
     let answer = demangler.demangle(row.name)?;
     let _ = demangler.crate_of(before)?;
-    let told = demangler.crate_of(row.name)?;
-    let tells = row.kind == Kind::Legacy || told.as_ref().map(String::as_str) == row.root;
-    Ok(same && tells && is_answer(&answer, row))
+    let found = demangler.crate_of(row.name)?;
+    let is_right = row.kind == Kind::Legacy || found.as_ref().map(String::as_str) == row.root;
+    Ok(same && is_right && is_answer(&answer, row))
 }
 
 /// One demangler answers each line, as those of `check_lines` are, after each of these names.

@@ -7,7 +7,7 @@ use super::answers::check_names;
 use crate::erased::binfarce_names::demangle::Kind;
 use crate::shim::test::Fail;
 
-// A line is a name, its complete text, its trimmed text and `-`, as its answer tells no crate, with a
+// A line is a name, its complete text, its trimmed text and `-`, as its answer has no crate, with a
 // bar between them. The names are symbols of two programs that `rustc` 1.95 mangled with
 // `-C symbol-mangling-version=legacy`: one with generics, closures, trait impls and identifiers
 // outside ASCII, and one of many small generic functions over the standard collections. Of names that

@@ -3,7 +3,7 @@
 //! Names and their answers, row by row.
 
 use crate::shim::HostRuntime;
-use super::answers::{check_lines, root_of, tells};
+use super::answers::{check_lines, is_root, root_of};
 use crate::shim::alloc::Global;
 use crate::shim::test::Abort;
 use crate::shim::test::Fail;
@@ -72,8 +72,8 @@ foo|-
 fn check_crates(rt: &impl Abort, alloc: Global, lines: &str, count: usize) -> Result<(), Fail> {
     assert_eq!(lines.lines().count(), count);
     for line in lines.lines() {
-        let (name, told) = line.split_once('|').ok_or("a line without a bar")?;
-        assert!(tells(alloc, name, root_of(told))?, "{name}");
+        let (name, root) = line.split_once('|').ok_or("a line without a bar")?;
+        assert!(is_root(alloc, name, root_of(root))?, "{name}");
     }
     Ok(())
 }

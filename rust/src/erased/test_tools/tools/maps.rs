@@ -87,7 +87,7 @@ fn draws_each_format() -> Result<(), Fail> {
     Ok(())
 }
 
-// The first function's size stands at 112 in the file, and the second one's is 16.
+// The first function's size is at 112 in the file, and the second one's is 16.
 #[test]
 fn sizes_may_be_too_large() -> Result<(), Fail> {
     let rt = HostRuntime::new();

@@ -5,7 +5,7 @@
 use crate::shim::String;
 use crate::shim::alloc::{AllocError, Global};
 
-// A row of a picture: the name as it stands in the document, the length of its bar in per cent, and the size.
+// A row of a picture: the name as the document has it, the length of its bar in per cent, and the size.
 pub(super) type Row = (&'static str, &'static str, u64);
 
 // The document that shows these rows, the sum of all sizes, and the section's size.

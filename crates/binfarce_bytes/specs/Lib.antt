@@ -11,4 +11,5 @@ pub mod SymbolViews
 pub mod Found
 pub mod Sizes
 pub mod RowViews
+pub mod Part
 pub mod Source

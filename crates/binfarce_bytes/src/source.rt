@@ -1,8 +1,9 @@
 //! Sources that are read at offsets: a file, or bytes in memory.
 
-ghost use Rattle.std.specs.Prelude.{◌≡◌, ◌⊎◌, Bool, true, List, ℕ, Option, None, IfOk, IfErr, OnOk, IfSome, length};
+ghost use Rattle.std.specs.Prelude.{◌≡◌, ◌⊎◌, Bool, true, false, List, ℕ, Option, None, IfOk, IfErr, OnOk, IfSome, length};
 ghost use Rattle.std.specs.IoError.{error_kind};
 ghost use Rattle.std.specs.declared.io.ErrorKind.TheVariants.{OutOfMemory};
+ghost use Rattle.binfarce_bytes.specs.Part.{Part, part};
 ghost use Rattle.binfarce_bytes.specs.Source.{IsPart, MayMiss};
 
 use std::alloc::Global;
@@ -18,15 +19,20 @@ pub trait Source {
     // Whether it may fail to give its length, or bytes that it has.
     ghost may_fail: { Self → Bool } = { λ _. true };
 
+    // Whether it surely gives these bytes. One that can't give its length gives none surely.
+    ghost is_sure: { Self → Part → Bool } = { λ _ _. false };
+
     /// Its length in bytes. An error where it can't be read at offsets.
     fn length(&self) -> io::Result<u64>
         ensures length { IfOk result (λ n. IfSome (bytes self.now) (λ all. n ≡ length all)) }
-        ensures failed { IfErr result (λ _. may_fail self.now ≡ true) };
+        ensures failed { IfErr result (λ _. may_fail self.now ≡ true) }
+        ensures unsure { IfErr result (λ _. (p : Part) → is_sure self.now p ≡ false) };
 
     /// Fills the buffer with the bytes from the offset on. An error where they end before the buffer is full.
     fn fill_at(&self, offset: u64, buf: &mut [u8]) -> io::Result<()>
         ensures part { OnOk result (IsPart (bytes self.now) offset buf.new) }
-        ensures failed { IfErr result (λ _. MayMiss (may_fail self.now) (bytes self.now) offset (length buf.new)) };
+        ensures failed { IfErr result (λ _. MayMiss (may_fail self.now) (bytes self.now) offset (length buf.new)) }
+        ensures unsure { IfErr result (λ _. is_sure self.now (part offset (length buf.new)) ≡ false) };
 }
 
 impl Source for File {
@@ -46,11 +52,13 @@ impl Source for File {
 }
 
 impl Source for &[u8] {
-    ghost use Rattle.std.specs.Prelude.{Some, false};
+    ghost use Rattle.std.specs.Prelude.{◌+◌, Some, false, length, nat_le};
 
     ghost bytes = { λ s. Some s.now };
 
     ghost may_fail = { λ _. false };
+
+    ghost is_sure = { λ s p. nat_le (p.offset + p.size) (length s.now) };
 
     fn length(&self) -> io::Result<u64> {
         Ok(self.len() as u64)
@@ -80,6 +88,8 @@ pub fn read_part<S: Source>(
     ensures part { IfOk result (λ v. IsPart (S.bytes source.now) offset v.items) }
     ensures failed { IfErr result
         (λ e. (error_kind e ≡ OutOfMemory) ⊎ MayMiss (S.may_fail source.now) (S.bytes source.now) offset size) }
+    ensures unsure { IfErr result
+        (λ e. (error_kind e ≡ OutOfMemory) ⊎ (S.is_sure source.now (part offset size) ≡ false)) }
 {
     let mut bytes = Vec::with_capacity(alloc, size)?;
     bytes.resize(size, 0)?;

@@ -1,0 +1,38 @@
+-- A part of a file, files that agree in parts, and sources that surely give parts.
+use Rattle.std.specs.Prelude.{◌≡◌, ℕ, ◌+◌, Bool, true, List, [], ◌∷◌, length, All, Option, Some, None, nat_le, if◌then◌else◌}
+use Rattle.binfarce_bytes.specs.Field.{Field}
+use Rattle.binfarce_bytes.specs.Number.{bytes_at}
+
+-- so many bytes of a file from an offset on; for a part that extends past the file's end, those that are there
+pub record Part : Type 0 where
+  pub offset : ℕ
+  pub size : ℕ
+
+abbrev pub part : ℕ → ℕ → Part
+part offset size = record { offset = offset; size = size }
+
+-- a field of the structure that begins at start
+abbrev pub field_part : ℕ → Field → Part
+field_part start f = part (start + f.offset) f.width
+
+-- bytes that are read only where all of them lie in the file: a part there, and else none
+abbrev pub whole_part : List ℕ → ℕ → ℕ → List Part
+whole_part file offset size = if nat_le (offset + size) (length file) then part offset size ∷ [] else []
+
+-- the parts of an optional structure
+abbrev pub parts_if : {A : Type 0} → Option A → (A → List Part) → List Part
+parts_if None parts = []
+parts_if (Some x) parts = parts x
+
+-- two files agree in a part
+abbrev pub SameIn : List ℕ → List ℕ → Part → Type 0
+SameIn file other p = bytes_at file p.offset p.size ≡ bytes_at other p.offset p.size
+
+-- two files of one length agree in each of these parts
+pub record SameParts (parts : List Part) (file other : List ℕ) : Type 0 where
+  pub lengths : length file ≡ length other
+  pub each : All (SameIn file other) parts
+
+-- a source surely gives each of these parts
+abbrev pub AreSure : (Part → Bool) → List Part → Type 0
+AreSure is_sure parts = All (λ p. is_sure p ≡ true) parts

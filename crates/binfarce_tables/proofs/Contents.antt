@@ -1,11 +1,12 @@
 -- The bytes of a section, and the section names.
-use Rattle.std.proofs.Common.{◌≡◌, ℕ, ◌+◌, ◌*◌, ◌-◌, ◌/◌, ◌<◌, ◌≤◌, ◌^◌, ◌⊎◌, List, length, drop, Some, None, Result, Ok, Err, refl, sym, ap, ◌∙◌, arith, inl, inr, length-drop}
+use Rattle.std.proofs.Common.{◌≡◌, ℕ, ◌+◌, ◌*◌, ◌-◌, ◌/◌, ◌<◌, ◌≤◌, ◌^◌, ◌⊎◌, List, length, drop, Option, Some, None, Result, Ok, Err, refl, sym, ap, ◌∙◌, arith, inl, inr, length-drop}
 use Rattle.std.proofs.Math.Nat.{div-mul-le_self}
 use Rattle.std.proofs.lemmas.Bool.{cases_lt, lt-leb, le-leb, lt-ltb, le-ltb}
 use Rattle.std.proofs.lemmas.List.{length-take-le}
 use Rattle.binfarce_bytes.specs.Number.{bytes_at}
+use Rattle.binfarce_bytes.specs.Steps.{◌>>=◌}
 use Rattle.binfarce_bytes.specs.Refusal.{Refusal, malformed_input, unexpected_eof, bytes_in_file}
-use Rattle.binfarce_elf.specs.Elf.{ElfClass, SectionTable, Section, section_at, section_of, whole_headers, contents, names_bytes}
+use Rattle.binfarce_elf.specs.Elf.{ElfClass, SectionTable, Section, section_at, section_of, whole_headers, contents, names_section, names_bytes}
 use Rattle.binfarce_elf.specs.ElfSymbols.{section_data}
 use Rattle.binfarce_tables.proofs.HeadersAlone.{HasWithin, section_in}
 
@@ -55,7 +56,7 @@ pub no_names : (class : ElfClass) (table : SectionTable) → whole_headers class
 no_names class table past = rw (le-ltb table.shstrndx (whole_headers class table) past) refl
 
 -- the end of a whole header lies in the file
-pub header_inside : (len shoff size i : ℕ) → i < (len - shoff) / size → (shoff + i * size) + size ≤ len
+header_inside : (len shoff size i : ℕ) → i < (len - shoff) / size → (shoff + i * size) + size ≤ len
 header_inside len shoff size i lt =
     let all : (len - shoff) / size * size ≤ len - shoff = div-mul-le_self (len - shoff) size in
     let below : i * size + size ≤ (len - shoff) / size * size = count i ((len - shoff) / size) size lt in
@@ -68,20 +69,40 @@ header_inside len shoff size i lt =
     positive : (room i size : ℕ) → i < room / size → 0 < room
     positive room i size lt = grind arith
 
--- the section of the names, read from its header alone
-pub names_are : (class : ElfClass) (table : SectionTable) (header : List ℕ) (section : Section) → HasWithin class → table.shstrndx < whole_headers class table
+-- a section header that is whole, by the room that a file has for the table
+pub index_below : (class : ElfClass) (table : SectionTable) (len room size : ℕ) → len ≡ length table.file → room ≡ len - table.shoff → size ≡ class.section_length → table.shstrndx < room / size
+    → table.shstrndx < whole_headers class table
+index_below class table len room size long left is lt =
+    let whole : room / size ≡ whole_headers class table = cc in
+    rw (← whole) lt
+
+-- the section of the names, by its header alone
+pub names_section_is : (class : ElfClass) (table : SectionTable) (header : List ℕ) (section : Section) → HasWithin class → table.shstrndx < whole_headers class table
     → header ≡ bytes_at table.file (table.shoff + table.shstrndx * class.section_length) class.section_length
     → section ≡ section_at class table.order header 0 table.shstrndx
-    → names_bytes class table ≡ contents table.file section
-names_are class table header section within lt is at =
+    → names_section class table ≡ Some section
+names_section_is class table header section within lt is at =
     let start = table.shoff + table.shstrndx * class.section_length in
     let read : section_at class table.order header 0 table.shstrndx ≡ section_at class table.order table.file (start + 0) table.shstrndx =
     ap (λ bytes. section_at class table.order bytes 0 table.shstrndx) is ∙ section_in class table.order table.file start class.section_length 0 table.shstrndx within (omega arith) in
     let same : section_of class table table.shstrndx ≡ section = ap (λ n. section_at class table.order table.file n table.shstrndx) (from_end start) ∙ sym read ∙ sym at in
-    rw (lt-ltb table.shstrndx (whole_headers class table) lt) (ap (contents table.file) same)
+    rw (lt-ltb table.shstrndx (whole_headers class table) lt) (ap Some same)
   where
     from_end : (n : ℕ) → n ≡ n + 0
     from_end n = omega arith
+
+-- by the header that was read
+pub names_section_read : (class : ElfClass) (table : SectionTable) (header : List ℕ) (section : Section) (size : ℕ) → HasWithin class → size ≡ class.section_length → table.shstrndx < whole_headers class table
+    → ((table.shoff + table.shstrndx * size) + size ≤ length table.file → header ≡ bytes_at table.file (table.shoff + table.shstrndx * size) size)
+    → section ≡ section_at class table.order header 0 table.shstrndx
+    → names_section class table ≡ Some section
+names_section_read class table header section size within is lt read at =
+    let there : (table.shoff + table.shstrndx * size) + size ≤ length table.file = rw is (header_inside (length table.file) table.shoff class.section_length table.shstrndx lt) in
+    names_section_is class table header section within lt (read there ∙ ap (λ (n : ℕ). bytes_at table.file (table.shoff + table.shstrndx * n) n) is) at
+
+-- its contents are the section names
+pub names_are : (class : ElfClass) (table : SectionTable) (section : Section) → names_section class table ≡ Some section → names_bytes class table ≡ contents table.file section
+names_are class table section is = ap (λ (o : Option Section). o >>= contents table.file) is
 
 -- as many bytes as lie in the file
 pub part_long : (file : List ℕ) (start size : ℕ) → start + size ≤ length file → length (bytes_at file start size) ≡ size

@@ -14,7 +14,7 @@ use Rattle.binfarce_tables.specs.machine.Places.{table_step, headers_of}
 use Rattle.binfarce_tables.proofs.HeadersAlone.{HasWithin, headers_walk}
 
 -- nothing is found after the file's end
-walk_outside : (class : ElfClass) (table : SectionTable) → length table.file ≤ table.shoff → walk class table ≡ ended (Some unexpected_eof)
+pub walk_outside : (class : ElfClass) (table : SectionTable) → length table.file ≤ table.shoff → walk class table ≡ ended (Some unexpected_eof)
 unfolding walk
 walk_outside class table outside =
     let room : length table.file - table.shoff ≡ 0 = omega arith in
@@ -27,7 +27,7 @@ unfolding needed
 needed_outside which class table names wanted outside = ap (λ (w : Walk Section). needed which w names wanted) (walk_outside class table outside)
 
 -- nothing is found where there are no sections
-walk_of_none : (class : ElfClass) (table : SectionTable) → table.shoff < length table.file → table.shnum ≡ 0 → walk class table ≡ ended None
+pub walk_of_none : (class : ElfClass) (table : SectionTable) → table.shoff < length table.file → table.shnum ≡ 0 → walk class table ≡ ended None
 unfolding walk
 walk_of_none class table inside empty =
     let count : min table.shnum (whole_headers class table) ≡ 0 = omega arith in
@@ -82,7 +82,7 @@ module _ (class : ElfClass) (file : List ℕ) (sections : TableSections) where
 abbrev pub after_needed : ElfClass → ByteOrder → List ℕ → NeededSections → Result Listed Refusal
 after_needed class order file sections = rows_at class file sections.table >>= λ found. Ok (listed_of class order sections.section found)
 
-answer_from : (which : SymbolTable) (class : ElfClass) (table : SectionTable) (wanted : List ℕ) → elf_answer which class table wanted ≡ (needed which (walk class table) (names_bytes class table) wanted >>= after_needed class table.order table.file)
+pub answer_from : (which : SymbolTable) (class : ElfClass) (table : SectionTable) (wanted : List ℕ) → elf_answer which class table wanted ≡ (needed which (walk class table) (names_bytes class table) wanted >>= after_needed class table.order table.file)
 unfolding elf_answer
 answer_from which class table wanted = refl
 

@@ -1,21 +1,24 @@
 -- Where the symbols of all sections of a Mach-O file are, by what was read of it.
-use Rattle.std.proofs.Common.{◌≡◌, ◌⊎◌, ◌≢◌, ℕ, ◌+◌, ◌*◌, ◌≤◌, Bool, false, nat_eq, List, [], ◌∷◌, length, map, All, Option, None, Some, Result, Ok, Err, inl, inr, refl, sym, ap, ap₂, subst, ◌∙◌}
+use Rattle.std.proofs.Common.{◌≡◌, ◌⊎◌, ◌≢◌, ℕ, ◌+◌, ◌*◌, ◌≤◌, Bool, true, false, cond, nat_eq, List, [], ◌∷◌, length, map, All, Option, None, Some, Result, Ok, Err, inl, inr, refl, sym, ap, ap₂, subst, ◌∙◌}
 use Rattle.std.specs.Global.{Vec}
 use Rattle.std.proofs.lemmas.Bool.{le-ltb}
 use Rattle.std.proofs.lemmas.List.Elements.{All-head, All-tail}
 use Rattle.binfarce_bytes.specs.declared.error.ParseError.{ParseError}
+use Rattle.binfarce_bytes.specs.Number.{bytes_at}
 use Rattle.binfarce_bytes.specs.Refusal.{◌>>=◌, Refusal, refusal_of, out_of_memory}
 use Rattle.binfarce_bytes.specs.declared.functions.SectionFunction.{SectionFunction}
 use Rattle.binfarce_bytes.specs.SectionEntries.{AnswersAll}
 use Rattle.binfarce_bytes.specs.SymbolViews.{HoldsSectionFunctions}
 use Rattle.binfarce_macho.specs.Macho.{header_of}
 use Rattle.binfarce_macho.specs.MachoAll.{AllLocated, Symbols, all_located, all_located_answer, all_entries, section_starts, end_at, name_at, symbols_by, symbols_of, all_of}
+use Rattle.binfarce_macho.specs.MachoParts.{holds_commands}
 use Rattle.binfarce_macho.specs.MachoSymbols.{SymbolTable, slice_at, symbol_command, symbol_length, named_table, table_of}
 use Rattle.binfarce_tables.specs.declared.error.ReadError.{ReadError}
 use Rattle.binfarce_tables.specs.declared.error.ReadError.TheVariants.{Refused, Unreadable, OutOfMemory}
 use Rattle.binfarce_tables.specs.Reading.{Reads}
-use Rattle.binfarce_tables.specs.machine.MachoPlaces.{CommandParts, all_commands, command_bytes}
-use Rattle.binfarce_tables.proofs.MachoPrefix.{assoc, same_sections}
+use Rattle.binfarce_tables.specs.MachoReads.{said_end, command_bytes}
+use Rattle.binfarce_tables.specs.machine.MachoPlaces.{CommandParts, all_commands}
+use Rattle.binfarce_tables.proofs.MachoPrefix.{assoc, same_sections, starts_inside}
 
 -- functions that agree on what is held
 map_held : {X : Type 0} (f g : ℕ → X) (len : ℕ) (starts : List ℕ) → ((start : ℕ) → start + 52 ≤ len → f start ≡ g start) → All (λ start. start + 52 ≤ len) starts → map f starts ≡ map g starts
@@ -44,6 +47,25 @@ module _ (file bytes : List ℕ) (inside : 28 ≤ length file) (are : bytes ≡ 
       let names_are : map (name_at file) starts ≡ found.names = sym (map_held (name_at bytes) (name_at file) (length bytes) starts same.names held) ∙ sym names in
       let object_is : nat_eq (header_of file).filetype 1 ≡ found.shares_addresses = sym (object ∙ ap (λ (n : ℕ). nat_eq n 1) same.filetype) in
       rw (sym same.starts ∙ at, sym same.table ∙ table, ends_are, names_are, object_is) refl
+
+-- what the commands say is decided by the bytes that they are in
+pub commands_of_bytes : (file : List ℕ) → 28 ≤ length file → all_commands (command_bytes file) ≡ all_commands file
+commands_of_bytes file inside = by_held (holds_commands (bytes_at file 0 (said_end file))) refl
+  where
+    by_steps : (starts : Result (List ℕ) Refusal) (table : Result (Option (SymbolTable ℕ)) Refusal) → holds_commands (bytes_at file 0 (said_end file)) ≡ true → bytes_at file 0 (said_end file) ≡ command_bytes file
+        → section_starts (bytes_at file 0 (said_end file)) ≡ starts → table_of (bytes_at file 0 (said_end file)) ≡ table → all_commands (bytes_at file 0 (said_end file)) ≡ all_commands file
+    by_steps (Err why) table held are at is = rw at (sym (starts_refused file (bytes_at file 0 (said_end file)) inside are why at))
+    by_steps (Ok starts) (Err why) held are at is = rw (at, is) (sym (table_refused file (bytes_at file 0 (said_end file)) inside are starts why at is))
+    by_steps (Ok starts) (Ok table) held are at is =
+        let bytes = bytes_at file 0 (said_end file) in
+        let found : CommandParts = record { ends = map (end_at bytes) starts; names = map (name_at bytes) starts; table = table; shares_addresses = nat_eq (header_of bytes).filetype 1 } in
+        rw (at, is) (sym (all_found file bytes inside are starts found at (starts_inside file starts inside held at) refl refl is refl))
+
+    by_held : (b : Bool) → holds_commands (bytes_at file 0 (said_end file)) ≡ b → all_commands (cond b (bytes_at file 0 (said_end file)) file) ≡ all_commands file
+    by_held true held =
+        let bytes = bytes_at file 0 (said_end file) in
+        by_steps (section_starts bytes) (table_of bytes) held (sym (ap (λ (b : Bool). cond b bytes file) held)) refl refl
+    by_held false held = refl
 
 -- what follows the commands
 abbrev pub after_commands : List ℕ → CommandParts → Result AllLocated Refusal

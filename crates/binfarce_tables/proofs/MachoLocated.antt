@@ -9,7 +9,7 @@ use Rattle.binfarce_bytes.specs.declared.functions.FunctionSymbol.{FunctionSymbo
 use Rattle.binfarce_bytes.specs.Entries.{Listed, Answers}
 use Rattle.binfarce_bytes.specs.SymbolViews.{HoldsFunctions}
 use Rattle.binfarce_tables.specs.MachoReading.{located_answer}
-use Rattle.binfarce_tables.specs.machine.MachoPlaces.{command_bytes}
+use Rattle.binfarce_tables.specs.MachoReads.{command_bytes}
 use Rattle.binfarce_tables.proofs.MachoPrefix.{command_bytes_long, needed_of_bytes}
 
 -- what follows the bytes of the symbol table, and those of the string table
@@ -49,7 +49,7 @@ module _ (file commands : List ℕ) (inside : 28 ≤ length file) (are : command
   commands_long = rw are (command_bytes_long file inside)
 
   -- what is needed, by the bytes that the commands are in
-  needed_is : needed file ≡ needed commands
+  pub needed_is : needed file ≡ needed commands
   needed_is = sym (ap needed are ∙ needed_of_bytes file inside)
 
   located_is : located_answer file ≡ located file

@@ -3,7 +3,9 @@ use Rattle.std.proofs.Common.{◌≡◌, ℕ, zero, suc, ◌+◌, ◌-◌, ◌<�
 use Rattle.std.proofs.Math.Nat.{div-mul-le_self}
 use Rattle.std.proofs.lemmas.Bool.{and_parts, ltb-false, ltb-true, leb-true, eqb-true, le-ltb, le-leb}
 use Rattle.std.proofs.lemmas.List.{length-take-le, take_all}
+use Rattle.std.proofs.lemmas.List.Elements.{All-nil, All-same, All-append, All-take}
 use Rattle.std.proofs.lemmas.Nat.{le-div}
+use Rattle.std.specs.Prelude.{All}
 use Rattle.std.specs.List.{range_with_len, filter_map, cons_option}
 use Rattle.std.specs.Option.{option_map}
 use Rattle.binfarce_bytes.specs.declared.ByteOrder.TheVariants.{LittleEndian}
@@ -16,9 +18,10 @@ use Rattle.binfarce_macho.specs.Macho.{Command, Section, header_of, header_field
 use Rattle.binfarce_macho.specs.MachoSymbols.{SymbolTable, symbol_table_at, symbol_table_fields, text_section, some_size, symbol_command, whole_table, NeededTables, needed, named_table, table_of}
 use Rattle.binfarce_macho.specs.MachoAll.{first_starts, starts_in, starts_among, section_starts, end_at, full_name, name_at}
 use Rattle.binfarce_macho.specs.MachoParts.{holds_body, holds_from, holds_commands}
+use Rattle.binfarce_macho.proofs.AllWalks.{with_room}
 use Rattle.binfarce_macho.proofs.CommandWalks.{bad, given}
 use Rattle.binfarce_tables.specs.BeginningReading.{Begins, macho_sections}
-use Rattle.binfarce_tables.specs.machine.MachoPlaces.{said_end, command_bytes}
+use Rattle.binfarce_tables.specs.MachoReads.{said_end, command_bytes}
 use Rattle.binfarce_tables.proofs.HeadersAlone.{bytes_in}
 
 pub assoc : {A B C : Type 0} (r : Result A Refusal) (f : A → Result B Refusal) (g : B → Result C Refusal) → ((r >>= f) >>= g) ≡ (r >>= λ x. f x >>= g)
@@ -52,8 +55,30 @@ needed_as file = by_text (text_section file)
     by_text (Err e) = refl
     by_text (Ok found) = by_size (some_size found)
 
+-- the needed table is the one that the commands name
+pub needed_table : (file : List ℕ) (n : NeededTables) → needed file ≡ Ok n → table_of file ≡ Ok n.table
+unfolding needed_by
+needed_table file n is = by_text (text_section file) (sym (needed_as file) ∙ is)
+  where
+    by_table : (text : Section) (r : Result (Option (SymbolTable ℕ)) Refusal) → (r >>= both text) ≡ Ok n → r ≡ Ok n.table
+    by_table text (Ok table) is = cc
+    by_table text (Err why) is = absurd cc
+
+    by_size : (r : Result Section Refusal) → (r >>= λ text. table_of file >>= both text) ≡ Ok n → table_of file ≡ Ok n.table
+    by_size (Ok text) is = by_table text (table_of file) is
+    by_size (Err why) is = absurd cc
+
+    by_text : (r : Result Section Refusal) → needed_by r (table_of file) ≡ Ok n → table_of file ≡ Ok n.table
+    by_text (Ok found) is = by_size (some_size found) is
+    by_text (Err why) is = absurd cc
+
 abbrev text_in : Walk Section → Result Section Refusal
 text_in sections = first (λ section. is_named (codes "__TEXT") (codes "__text") section) sections >>= required symbols_section_is_missing
+
+-- what there is, unless it is refused
+unless_refused : {A : Type 0} (refusal : Option Refusal) (all given : A) → unless refusal all ≡ Ok given → given ≡ all
+unless_refused None all given is = cc
+unless_refused (Some why) all given is = absurd cc
 
 -- functions that agree on so many numbers
 filter_map_same : {X : Type 0} (f g : ℕ → Option X) (a n : ℕ) → ((i : ℕ) → i < a + n → f i ≡ g i) → filter_map f (range_with_len a n) ≡ filter_map g (range_with_len a n)
@@ -225,6 +250,23 @@ module _ (file bytes : List ℕ) (short : length bytes ≤ length file) (same : 
       by_kind true is rest = ap₂ (λ (xs ys : List ℕ). xs ++ ys) (ap (λ (n : ℕ). first_starts (body_of command) n) (count_held command is held.0)) rest
       by_kind false is rest = rest
 
+  -- its sections lie in the bytes
+  room_held : (command : Command) → is_segment command ≡ true → holds_body bytes command ≡ true → All (λ start. start + 52 ≤ length bytes) (starts_in bytes (body_of command))
+  room_held command is held =
+      let fits = and_parts (leb (body_of command + 60) (length bytes)) (leb (section_count bytes (body_of command)) (whole_headers bytes (body_of command))) (rw is at held) in
+      with_room (length bytes) (body_of command) (section_count bytes (body_of command)) [] (starts_in bytes (body_of command))
+      (leb-true (section_count bytes (body_of command)) (whole_headers bytes (body_of command)) fits.1) (All-nil (λ start. start + 52 ≤ length bytes)) refl
+
+  starts_whole : (commands : List Command) → AreHeld commands → All (λ start. start + 52 ≤ length bytes) (starts_among bytes commands)
+  unfolding AreHeld
+  starts_whole [] held = All-nil (λ start. start + 52 ≤ length bytes)
+  starts_whole (command ∷ others) held = by_kind (is_segment command) refl (starts_whole others held.1)
+    where
+      by_kind : (b : Bool) → is_segment command ≡ b → All (λ start. start + 52 ≤ length bytes) (starts_among bytes others)
+          → All (λ start. start + 52 ≤ length bytes) (cond b (starts_in bytes (body_of command)) [] ++ starts_among bytes others)
+      by_kind true is rest = All-append (λ start. start + 52 ≤ length bytes) (starts_in bytes (body_of command)) (starts_among bytes others) (room_held command is held.0) rest
+      by_kind false is rest = rest
+
   -- what is read of a section
   pub end_same : (start : ℕ) → start + 52 ≤ length bytes → end_at bytes start ≡ end_at file start
   unfolding end_at section_fields
@@ -260,6 +302,13 @@ module _ (file bytes : List ℕ) (short : length bytes ≤ length file) (same : 
     starts_same =
         ap₂ (λ (end : Option Refusal) (starts : List ℕ). unless end (take 255 starts)) (ap (λ (w : Walk Section). w.refusal) walk_same)
         (starts_held (commands bytes).items agrees.1 ∙ ap (λ (w : Walk Command). starts_among file w.items) commands_same)
+
+    pub each_whole : (starts : List ℕ) → section_starts bytes ≡ Ok starts → All (λ start. start + 52 ≤ length bytes) starts
+    unfolding section_starts
+    each_whole starts is =
+        let all = starts_among bytes (commands bytes).items in
+        All-same (λ start. start + 52 ≤ length bytes) starts (take 255 all) (unless_refused (walk bytes).refusal (take 255 all) starts is)
+        (All-take (λ start. start + 52 ≤ length bytes) 255 all (starts_whole (commands bytes).items agrees.1))
 
     pub table_held : table_of bytes ≡ table_of file
     table_held = named_held
@@ -326,6 +375,13 @@ begins_with_commands file bytes is = by_held (holds_commands (bytes_at file 0 (s
     by_held : (b : Bool) → bytes ≡ cond b (bytes_at file 0 (said_end file)) file → Begins file bytes
     by_held true is = (said_end file, is)
     by_held false is = (length file, is ∙ sym (take_all (length file) file (omega arith)))
+
+-- the sections of a file lie in the prefix that holds its commands
+pub starts_inside : (file : List ℕ) (starts : List ℕ) → 28 ≤ length file → holds_commands (bytes_at file 0 (said_end file)) ≡ true
+    → section_starts (bytes_at file 0 (said_end file)) ≡ Ok starts → All (λ start. start + 52 ≤ length (bytes_at file 0 (said_end file))) starts
+starts_inside file starts inside held is =
+    let long = prefix_long file (said_end file) (omega arith) in
+    each_whole file (bytes_at file 0 (said_end file)) (omega (arith, long)) (λ k width h. prefix_same file (said_end file) k width (omega arith) h) (omega (arith, long, inside)) held starts is
 
 -- what the bytes that its commands are in say of a file's sections and of its symbol table
 pub record SameSections (file bytes : List ℕ) : Type 0 where

@@ -53,7 +53,7 @@ after_test : (b : Bool) (file : List ℕ) → cond b (Err unexpected_eof) (after
 after_test true file = refl
 after_test false file = refl
 
-steps_are : (file : List ℕ) → pe_file_answer file ≡ (places_step file >>= after_places file)
+pub steps_are : (file : List ℕ) → pe_file_answer file ≡ (places_step file >>= after_places file)
 steps_are file =
     ap (λ (a : Result Listed Refusal). cond (ltb (length file) (least_length file)) (Err unexpected_eof) a)
     (answer_is file ∙ same_listed (text_section file) (symbol_table file) ∙ ap₂ by_places (sym (text_of file (section_table file) refl)) (table_is file) ∙ after_is file)

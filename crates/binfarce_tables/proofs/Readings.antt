@@ -1,6 +1,6 @@
 -- The steps of a reading.
 use Rattle.std.proofs.Common.{◌≡◌, ◌⊎◌, ◌+◌, ◌≤◌, ◌<◌, ℕ, Bool, true, false, arith, List, length, Option, Some, None, Result, Ok, Err, refl, sym, subst, ap, ◌∙◌, inl, inr}
-use Rattle.std.specs.Prelude.{IfSome, IfErr}
+use Rattle.std.specs.Prelude.{◌≢◌, IfSome, IfErr}
 use Rattle.std.specs.Result.{IsErr, IsErrAnd}
 use Rattle.binfarce_bytes.specs.Number.{bytes_at}
 use Rattle.std.specs.declared.io.ErrorKind.{ErrorKind}
@@ -110,3 +110,18 @@ pub passed : {X Y : Type 0} (fails : Bool) (view : X → Y) (answer : Result Y R
     → (IsErr r × IsErrAnd r (λ x. x ≡ e)) → Reads fails view answer (Err e) → Reads fails view answer r
 passed fails view answer e (Ok x) is step = let never : false ≡ true = is.0 in absurd cc
 passed fails view answer e (Err x) is step = subst (λ (error : ReadError). Reads fails view answer (Err error)) (sym is.1) step
+
+known_kind : (kind : ErrorKind) → kind ≡ kinds.OutOfMemory → read_error kind ≢ Unreadable
+known_kind kind out unreadable = let never : OutOfMemory ≡ Unreadable = sym (ap read_error out) ∙ unreadable in absurd cc
+
+-- a part that is surely given is not unreadable
+pub surely : {X : Type 0} (sure : Bool) (kind : ErrorKind) (r : Result X ReadError) → sure ≡ true → (kind ≡ kinds.OutOfMemory) ⊎ (sure ≡ false)
+    → (IsErr r × IsErrAnd r (λ e. e ≡ read_error kind)) → IfErr r (λ e. e ≢ Unreadable)
+surely sure kind (Ok x) is is_known error = tt
+surely sure kind (Err e) is (inl out) error = rw error.1 (known_kind kind out)
+surely sure kind (Err e) is (inr not) error = let never : true ≡ false = sym is ∙ not in absurd cc
+
+-- an error of a step that is not unreadable, as `?` passes it on
+pub passed_surely : {X : Type 0} (e : ReadError) (r : Result X ReadError) → e ≢ Unreadable → (IsErr r × IsErrAnd r (λ x. x ≡ e)) → IfErr r (λ x. x ≢ Unreadable)
+passed_surely e (Ok x) is error = tt
+passed_surely e (Err x) is error = rw error.1 is

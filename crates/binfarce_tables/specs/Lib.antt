@@ -1,10 +1,13 @@
 pub mod BeginningReading
 pub mod ElfAllReading
+pub mod ElfReads
 pub mod Errors
 pub mod PeReading
+pub mod PeReads
 pub mod Reading
 pub mod SectionReading
 pub mod MachoReading
+pub mod MachoReads
 pub mod MachoAllReading
 pub mod PeAllReading
 pub mod machine

@@ -2,3 +2,4 @@
 pub mod Places
 pub mod PePlaces
 pub mod MachoPlaces
+pub mod FirstBytes

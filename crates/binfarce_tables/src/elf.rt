@@ -1,14 +1,16 @@
 //! The parts of an ELF file of either class that have the function symbols of a section.
 
-ghost use Rattle.std.specs.Prelude.{◌≡◌, ◌⊎◌, ◌+◌, ◌<◌, ◌≤◌, List, ℕ, Ok, Some, length, MatchResult, IfOk, IfErr};
+ghost use Rattle.std.specs.Prelude.{◌≡◌, ◌≢◌, ◌⊎◌, ◌+◌, ◌<◌, ◌≤◌, List, ℕ, true, Ok, Some, length, MatchResult, IfOk, IfErr};
 ghost use Rattle.std.specs.Result.{IsErr};
 ghost use Rattle.std.specs.Option.{option_map};
 ghost use Rattle.binfarce_bytes.specs.Number.{bytes_at};
+ghost use Rattle.binfarce_bytes.specs.Part.{part, AreSure};
 ghost use Rattle.binfarce_bytes.specs.Refusal.{Gives, refusal_of, unexpected_eof};
 ghost use Rattle.binfarce_elf.specs.Elf.{contents, header_of, names_bytes, walk};
 ghost use Rattle.binfarce_elf.specs.ElfParts.{headers_alone, needed_view, table_sections_view};
 ghost use Rattle.binfarce_elf.specs.ElfSymbols.{elf_file_answer, needed, rows_at, section_data};
 ghost use Rattle.binfarce_elf.specs.ElfViews.{header_view, section_view, functions_view};
+ghost use Rattle.binfarce_tables.specs.ElfReads.{elf_parts, headers_size, names_parts, rows_parts, section_parts, table_parts};
 ghost use Rattle.binfarce_tables.specs.Reading.{Reads, Known, parts_view};
 ghost use Rattle.binfarce_tables.specs.declared.error.ReadError.TheVariants.{Unreadable, OutOfMemory};
 ghost use Rattle.binfarce_tables.specs.machine.Places.{table_at, table_step, headers_of, rows_view};
@@ -62,9 +64,12 @@ pub(crate) fn read_parts<C: Class, S: Source>(
     which: SymbolTable,
     section_name: &str,
 ) -> Result<Parts<C>, ReadError>
-    ensures { (file : List ℕ) → S.bytes source.now ≡ Some file
+    ensures answer { (file : List ℕ) → S.bytes source.now ≡ Some file
         → Reads (S.may_fail source.now) (parts_view C.table C.number_of)
         (elf_file_answer which C.table byte_order file section_name.now) result }
+    ensures nothing_else { (file : List ℕ) → S.bytes source.now ≡ Some file
+        → AreSure (S.is_sure source.now) (elf_parts which C.table byte_order file)
+        → IfErr result (λ e. e ≢ Unreadable) }
 {
     let len = source.length()? as usize;
     let place = read_place::<C, S>(alloc, source, len, byte_order)?;
@@ -88,6 +93,8 @@ pub(crate) fn read_place<C: Class, S: Source>(
         → Reads (S.may_fail source.now) (table_at file) (table_step C.table byte_order file) result }
     ensures type_is { (file : List ℕ) → Known (S.bytes source.now) len file
         → IfOk result (λ p. p.elf_type ≡ (header_of C.table byte_order file).elf_type) }
+    ensures nothing_else { S.is_sure source.now (part 0 C.table.header_length) ≡ true
+        → IfErr result (λ e. e ≢ Unreadable) }
 {
     let size = 40 + 3 * C::SIZE;
     if len < size {
@@ -122,9 +129,12 @@ fn read_needed<C: Class, S: Source>(
     which: SymbolTable,
     section_name: &str,
 ) -> Result<Needed<C>, ReadError>
-    ensures { (file : List ℕ) → Known (S.bytes source.now) len file → let table = table_at file place in
+    ensures answer { (file : List ℕ) → Known (S.bytes source.now) len file → let table = table_at file place in
         Reads (S.may_fail source.now) (needed_view C.number_of)
         (needed which (walk C.table table) (names_bytes C.table table) section_name.now) result }
+    ensures nothing_else { (file : List ℕ) → Known (S.bytes source.now) len file
+        → AreSure (S.is_sure source.now) (table_parts C.table (table_at file place))
+        → IfErr result (λ e. e ≢ Unreadable) }
 {
     if place.shoff >= len {
         return Err(ReadError::Refused(ParseError::UnexpectedEof));
@@ -176,8 +186,11 @@ pub(crate) fn read_headers<C: Class, S: Source>(
     len: usize,
     place: Place,
 ) -> Result<Vec<u8>, ReadError>
-    ensures { (file : List ℕ) → Known (S.bytes source.now) len file → place.shoff ≤ len
+    ensures answer { (file : List ℕ) → Known (S.bytes source.now) len file → place.shoff ≤ len
         → Reads (S.may_fail source.now) (λ v. v.items) (Ok (headers_of C.table (table_at file place))) result }
+    ensures nothing_else { (file : List ℕ) → Known (S.bytes source.now) len file
+        → S.is_sure source.now (part place.shoff (headers_size C.table (table_at file place))) ≡ true
+        → IfErr result (λ e. e ≢ Unreadable) }
 {
     let whole = len.saturating_sub(place.shoff) / C::SECTION_LENGTH;
     let count = whole.min(place.shnum as usize);
@@ -191,16 +204,20 @@ pub(crate) fn read_names<C: Class, S: Source>(
     len: usize,
     place: Place,
 ) -> Result<Option<Vec<u8>>, ReadError>
-    ensures { (file : List ℕ) → Known (S.bytes source.now) len file
+    ensures answer { (file : List ℕ) → Known (S.bytes source.now) len file
         → Reads (S.may_fail source.now) (option_map (λ v. v.items))
         (Ok (names_bytes C.table (table_at file place))) result }
+    ensures nothing_else { (file : List ℕ) → Known (S.bytes source.now) len file
+        → AreSure (S.is_sure source.now) (names_parts C.table (table_at file place))
+        → IfErr result (λ e. e ≢ Unreadable) }
 {
-    let whole = len.saturating_sub(place.shoff) / C::SECTION_LENGTH;
+    let size = C::SECTION_LENGTH;
+    let whole = len.saturating_sub(place.shoff) / size;
     if place.shstrndx as usize >= whole {
         return Ok(None);
     }
-    let start = place.shoff + place.shstrndx as usize * C::SECTION_LENGTH;
-    let header = part(alloc, source, start, C::SECTION_LENGTH)?;
+    let start = place.shoff + place.shstrndx as usize * size;
+    let header = part(alloc, source, start, size)?;
     match section_at::<C>(&header, 0, place.byte_order, place.shstrndx) {
         Ok(section) => read_contents::<C, S>(alloc, source, len, section),
         Err(_) => Ok(None),
@@ -221,9 +238,12 @@ pub(crate) fn read_rows<C: Class, S: Source>(
     len: usize,
     sections: TableSections<C>,
 ) -> Result<TableParts, ReadError>
-    ensures { (file : List ℕ) → Known (S.bytes source.now) len file
+    ensures answer { (file : List ℕ) → Known (S.bytes source.now) len file
         → Reads (S.may_fail source.now) rows_view
         (rows_at C.table file (table_sections_view C.number_of sections)) result }
+    ensures nothing_else { (file : List ℕ) → Known (S.bytes source.now) len file
+        → AreSure (S.is_sure source.now) (rows_parts file (table_sections_view C.number_of sections))
+        → IfErr result (λ e. e ≢ Unreadable) }
 {
     let strings = read_section::<C, S>(alloc, source, len, sections.strings)?;
     let rows = read_section::<C, S>(alloc, source, len, sections.symbols)?;
@@ -238,9 +258,12 @@ fn read_contents<C: Class, S: Source>(
     len: usize,
     section: Section<C>,
 ) -> Result<Option<Vec<u8>>, ReadError>
-    ensures { (file : List ℕ) → Known (S.bytes source.now) len file
+    ensures answer { (file : List ℕ) → Known (S.bytes source.now) len file
         → Reads (S.may_fail source.now) (option_map (λ v. v.items))
         (Ok (contents file (section_view C.number_of section))) result }
+    ensures nothing_else { (file : List ℕ) → Known (S.bytes source.now) len file
+        → AreSure (S.is_sure source.now) (section_parts file (section_view C.number_of section))
+        → IfErr result (λ e. e ≢ Unreadable) }
 {
     match read_section::<C, S>(alloc, source, len, section) {
         Ok(bytes) => Ok(Some(bytes)),
@@ -256,8 +279,11 @@ pub(crate) fn read_section<C: Class, S: Source>(
     len: usize,
     section: Section<C>,
 ) -> Result<Vec<u8>, ReadError>
-    ensures { (file : List ℕ) → Known (S.bytes source.now) len file
+    ensures answer { (file : List ℕ) → Known (S.bytes source.now) len file
         → Reads (S.may_fail source.now) (λ v. v.items) (section_data file (section_view C.number_of section)) result }
+    ensures nothing_else { (file : List ℕ) → Known (S.bytes source.now) len file
+        → AreSure (S.is_sure source.now) (section_parts file (section_view C.number_of section))
+        → IfErr result (λ e. e ≢ Unreadable) }
 {
     let range = section.range()?;
     if range.end > len {
@@ -283,6 +309,7 @@ pub fn part<S: Source>(
     ensures past_end { (file : List ℕ) → S.bytes source.now ≡ Some file → length file < offset + size → IsErr result }
     ensures size { IfOk result (λ v. length v.items ≡ size) }
     ensures failed { IfErr result (λ e. (e ≡ Unreadable) ⊎ (e ≡ OutOfMemory)) }
+    ensures nothing_else { S.is_sure source.now (part offset size) ≡ true → IfErr result (λ e. e ≢ Unreadable) }
 {
     Ok(read_part(alloc, source, offset as u64, size)?)
 }

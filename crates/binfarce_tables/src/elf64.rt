@@ -1,13 +1,16 @@
 //! 64-bit ELF files of either byte order, of which only the tables are read (System V gABI).
 
-ghost use Rattle.std.specs.Prelude.{◌≡◌, List, ℕ, Some};
+ghost use Rattle.std.specs.Prelude.{◌≡◌, ◌≢◌, List, ℕ, Some, IfErr};
+ghost use Rattle.binfarce_bytes.specs.Part.{AreSure};
 ghost use Rattle.binfarce_elf.specs.Elf.{elf64};
 ghost use Rattle.binfarce_elf.specs.ElfAll.{all_file_answer};
 ghost use Rattle.binfarce_elf.specs.ElfSymbols.{elf_file_answer};
 ghost use Rattle.binfarce_elf.specs.declared.symbol_table.SymbolTable.TheVariants.{Symtab};
 ghost use Rattle.binfarce_tables.specs.ElfAllReading.{all_view};
+ghost use Rattle.binfarce_tables.specs.ElfReads.{elf_parts, elf_section_parts};
 ghost use Rattle.binfarce_tables.specs.Reading.{Reads, parts_view};
 ghost use Rattle.binfarce_tables.specs.SectionReading.{file_sections, sections_view};
+ghost use Rattle.binfarce_tables.specs.declared.error.ReadError.TheVariants.{Unreadable};
 
 use crate::error::ReadError;
 use crate::{elf, elf_all, sections};
@@ -41,9 +44,11 @@ pub fn read<S: Source>(
     byte_order: ByteOrder,
     section_name: &str,
 ) -> Result<Parts, ReadError>
-    ensures { (file : List ℕ) → S.bytes source.now ≡ Some file
+    ensures answer { (file : List ℕ) → S.bytes source.now ≡ Some file
         → Reads (S.may_fail source.now) (parts_view elf64 (λ n. n))
         (elf_file_answer Symtab elf64 byte_order file section_name.now) result }
+    ensures nothing_else { (file : List ℕ) → S.bytes source.now ≡ Some file
+        → AreSure (S.is_sure source.now) (elf_parts Symtab elf64 byte_order file) → IfErr result (λ e. e ≢ Unreadable) }
 {
     read_by(alloc, source, byte_order, SymbolTable::Symtab, section_name)
 }
@@ -60,9 +65,11 @@ pub fn read_by<S: Source>(
     which: SymbolTable,
     section_name: &str,
 ) -> Result<Parts, ReadError>
-    ensures { (file : List ℕ) → S.bytes source.now ≡ Some file
+    ensures answer { (file : List ℕ) → S.bytes source.now ≡ Some file
         → Reads (S.may_fail source.now) (parts_view elf64 (λ n. n))
         (elf_file_answer which elf64 byte_order file section_name.now) result }
+    ensures nothing_else { (file : List ℕ) → S.bytes source.now ≡ Some file
+        → AreSure (S.is_sure source.now) (elf_parts which elf64 byte_order file) → IfErr result (λ e. e ≢ Unreadable) }
 {
     elf::read_parts::<u64, S>(alloc, source, byte_order, which, section_name)
 }
@@ -82,8 +89,11 @@ pub fn read_sections<S: Source>(
     source: &S,
     byte_order: ByteOrder,
 ) -> Result<SectionParts, ReadError>
-    ensures { (file : List ℕ) → S.bytes source.now ≡ Some file
+    ensures answer { (file : List ℕ) → S.bytes source.now ≡ Some file
         → Reads (S.may_fail source.now) (sections_view elf64) (file_sections elf64 byte_order file) result }
+    ensures nothing_else { (file : List ℕ) → S.bytes source.now ≡ Some file
+        → AreSure (S.is_sure source.now) (elf_section_parts elf64 byte_order file)
+        → IfErr result (λ e. e ≢ Unreadable) }
 {
     sections::read_sections::<u64, S>(alloc, source, byte_order)
 }
@@ -105,8 +115,10 @@ pub fn read_all<S: Source>(
     byte_order: ByteOrder,
     which: SymbolTable,
 ) -> Result<AllParts, ReadError>
-    ensures { (file : List ℕ) → S.bytes source.now ≡ Some file
+    ensures answer { (file : List ℕ) → S.bytes source.now ≡ Some file
         → Reads (S.may_fail source.now) (all_view elf64) (all_file_answer which elf64 byte_order file) result }
+    ensures nothing_else { (file : List ℕ) → S.bytes source.now ≡ Some file
+        → AreSure (S.is_sure source.now) (elf_parts which elf64 byte_order file) → IfErr result (λ e. e ≢ Unreadable) }
 {
     elf_all::read_all::<u64, S>(alloc, source, byte_order, which)
 }

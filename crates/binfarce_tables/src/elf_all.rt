@@ -1,10 +1,13 @@
 //! The parts of an ELF file of either class that have the function symbols of all sections.
 
-ghost use Rattle.std.specs.Prelude.{◌≡◌, List, ℕ, Some};
+ghost use Rattle.std.specs.Prelude.{◌≡◌, ◌≢◌, List, ℕ, Some, IfErr};
 ghost use Rattle.std.specs.Option.{option_map};
+ghost use Rattle.binfarce_bytes.specs.Part.{AreSure};
 ghost use Rattle.binfarce_elf.specs.ElfAll.{all_file_answer, all_left};
 ghost use Rattle.binfarce_tables.specs.Reading.{Reads};
 ghost use Rattle.binfarce_tables.specs.ElfAllReading.{all_view};
+ghost use Rattle.binfarce_tables.specs.ElfReads.{elf_parts};
+ghost use Rattle.binfarce_tables.specs.declared.error.ReadError.TheVariants.{Unreadable};
 
 use crate::elf::{read_names, read_place, read_rows, slice_of};
 use crate::error::ReadError;
@@ -72,8 +75,11 @@ pub(crate) fn read_all<C: Class, S: Source>(
     byte_order: ByteOrder,
     which: SymbolTable,
 ) -> Result<AllParts<C>, ReadError>
-    ensures { (file : List ℕ) → S.bytes source.now ≡ Some file
+    ensures answer { (file : List ℕ) → S.bytes source.now ≡ Some file
         → Reads (S.may_fail source.now) (all_view C.table) (all_file_answer which C.table byte_order file) result }
+    ensures nothing_else { (file : List ℕ) → S.bytes source.now ≡ Some file
+        → AreSure (S.is_sure source.now) (elf_parts which C.table byte_order file)
+        → IfErr result (λ e. e ≢ Unreadable) }
 {
     let len = source.length()? as usize;
     let place = read_place::<C, S>(alloc, source, len, byte_order)?;

@@ -2,6 +2,7 @@
 #![tactic(auto)]
 
 mod beginning;
+pub mod begun;
 pub mod elf;
 pub mod elf32;
 pub mod elf64;

@@ -1,6 +1,8 @@
 //! 64-bit Mach-O files, of which only the tables are read (Apple's `<mach-o/loader.h>` and `<mach-o/nlist.h>`).
 
-ghost use Rattle.std.specs.Prelude.{◌≡◌, ◌<◌, ◌≤◌, List, ℕ, Ok, Some, length, MatchResult};
+ghost use Rattle.std.specs.Prelude.{◌≡◌, ◌≢◌, ◌<◌, ◌≤◌, List, ℕ, true, Ok, Some, length, MatchResult, IfErr};
+ghost use Rattle.std.specs.Option.{option_map};
+ghost use Rattle.binfarce_bytes.specs.Part.{part, whole_part, parts_if, AreSure};
 ghost use Rattle.binfarce_bytes.specs.Refusal.{Gives, refusal_of};
 ghost use Rattle.binfarce_macho.specs.Macho.{least_length, header_of};
 ghost use Rattle.binfarce_macho.specs.MachoParts.{SomeAddress, needed_view, table_view, holds_commands};
@@ -10,8 +12,9 @@ ghost use Rattle.binfarce_bytes.specs.Entries.{Answers};
 ghost use Rattle.binfarce_bytes.specs.SymbolViews.{HoldsFunctions};
 ghost use Rattle.binfarce_tables.specs.BeginningReading.{ReadsBeginning, macho_sections};
 ghost use Rattle.binfarce_tables.specs.MachoReading.{located_answer, parts_view, tables_view};
+ghost use Rattle.binfarce_tables.specs.MachoReads.{said_end, command_bytes, macho_section_parts, macho_parts, table_parts};
 ghost use Rattle.binfarce_tables.specs.Reading.{Reads, Known};
-ghost use Rattle.binfarce_tables.specs.machine.MachoPlaces.{said_end, command_bytes};
+ghost use Rattle.binfarce_tables.specs.declared.error.ReadError.TheVariants.{Unreadable};
 
 use crate::beginning::Beginning;
 use crate::elf::part;
@@ -87,8 +90,10 @@ fn listed(alloc: Global, tables: &Tables) -> Result<(Vec<FunctionSymbol<'_>>, u6
 /// symbol table's rows; `Unreadable` where the source can't be read at offsets, or a read of it fails, and never for a
 /// source that can't fail, such as bytes in memory; `OutOfMemory` where an allocation fails.
 pub fn read<S: Source>(alloc: Global, source: &S) -> Result<Parts, ReadError>
-    ensures { (file : List ℕ) → S.bytes source.now ≡ Some file
+    ensures answer { (file : List ℕ) → S.bytes source.now ≡ Some file
         → Reads (S.may_fail source.now) parts_view (located_answer file) result }
+    ensures nothing_else { (file : List ℕ) → S.bytes source.now ≡ Some file
+        → AreSure (S.is_sure source.now) (macho_parts file) → IfErr result (λ e. e ≢ Unreadable) }
 {
     let len = source.length()? as usize;
     if len < HEADER {
@@ -110,8 +115,10 @@ pub fn read<S: Source>(alloc: Global, source: &S) -> Result<Parts, ReadError>
 /// read of it fails, and never for a source that can't fail, such as bytes in memory; `OutOfMemory` where an allocation
 /// fails.
 pub fn read_sections<S: Source>(alloc: Global, source: &S) -> Result<Beginning, ReadError>
-    ensures { (file : List ℕ) → S.bytes source.now ≡ Some file
+    ensures answer { (file : List ℕ) → S.bytes source.now ≡ Some file
         → ReadsBeginning (S.may_fail source.now) macho_sections file result }
+    ensures nothing_else { (file : List ℕ) → S.bytes source.now ≡ Some file
+        → AreSure (S.is_sure source.now) (macho_section_parts file) → IfErr result (λ e. e ≢ Unreadable) }
 {
     let file_length = source.length()?;
     let len = file_length as usize;
@@ -129,8 +136,10 @@ pub(crate) fn read_commands<S: Source>(
     len: usize,
 ) -> Result<Vec<u8>, ReadError>
     requires { least_length ≤ len }
-    ensures { (file : List ℕ) → Known (S.bytes source.now) len file
+    ensures answer { (file : List ℕ) → Known (S.bytes source.now) len file
         → Reads (S.may_fail source.now) (λ v. v.items) (Ok (command_bytes file)) result }
+    ensures nothing_else { (file : List ℕ) → Known (S.bytes source.now) len file
+        → AreSure (S.is_sure source.now) (macho_section_parts file) → IfErr result (λ e. e ≢ Unreadable) }
 {
     let end = read_end(alloc, source, len)?;
     let commands = part(alloc, source, 0, end)?;
@@ -144,8 +153,9 @@ pub(crate) fn read_commands<S: Source>(
 // Where the load commands end, as the header states, but within the file.
 fn read_end<S: Source>(alloc: Global, source: &S, len: usize) -> Result<usize, ReadError>
     requires { least_length ≤ len }
-    ensures { (file : List ℕ) → Known (S.bytes source.now) len file
+    ensures answer { (file : List ℕ) → Known (S.bytes source.now) len file
         → Reads (S.may_fail source.now) (λ n. n) (Ok (said_end file)) result }
+    ensures nothing_else { S.is_sure source.now (part 0 least_length) ≡ true → IfErr result (λ e. e ≢ Unreadable) }
 {
     let bytes = part(alloc, source, 0, HEADER)?;
     let header = header_in(&bytes)?;
@@ -183,8 +193,11 @@ fn read_tables<S: Source>(
     len: usize,
     needed: Needed<'_>,
 ) -> Result<Parts, ReadError>
-    ensures { (file : List ℕ) → Known (S.bytes source.now) len file
+    ensures answer { (file : List ℕ) → Known (S.bytes source.now) len file
         → Reads (S.may_fail source.now) parts_view (tables_in file (needed_view needed.entry)) result }
+    ensures nothing_else { (file : List ℕ) → Known (S.bytes source.now) len file
+        → AreSure (S.is_sure source.now) (parts_if (option_map table_view needed.entry.table) (table_parts file))
+        → IfErr result (λ e. e ≢ Unreadable) }
 {
     match needed.table {
         None => Ok(Parts { tables: None }),
@@ -204,9 +217,11 @@ fn read_located<S: Source>(
     text: Section<'_>,
     table: SymbolTable,
 ) -> Result<Tables, ReadError>
-    ensures { (file : List ℕ) → Known (S.bytes source.now) len file
+    ensures answer { (file : List ℕ) → Known (S.bytes source.now) len file
         → Reads (S.may_fail source.now) tables_view
         (located_in file (section_view text.entry) (table_view table)) result }
+    ensures nothing_else { (file : List ℕ) → Known (S.bytes source.now) len file
+        → AreSure (S.is_sure source.now) (table_parts file (table_view table)) → IfErr result (λ e. e ≢ Unreadable) }
 {
     let strings_at = table.strings_offset as usize;
     let strings = read_table(alloc, source, len, strings_at, table.strings_size as usize)?;
@@ -229,8 +244,10 @@ pub(crate) fn read_table<S: Source>(
     offset: usize,
     size: usize,
 ) -> Result<Vec<u8>, ReadError>
-    ensures { (file : List ℕ) → Known (S.bytes source.now) len file
+    ensures answer { (file : List ℕ) → Known (S.bytes source.now) len file
         → Reads (S.may_fail source.now) (λ v. v.items) (slice_at file offset size) result }
+    ensures nothing_else { (file : List ℕ) → Known (S.bytes source.now) len file
+        → AreSure (S.is_sure source.now) (whole_part file offset size) → IfErr result (λ e. e ≢ Unreadable) }
 {
     if offset > len || size > len - offset {
         return Err(ReadError::Refused(ParseError::UnexpectedEof));

@@ -1,7 +1,8 @@
 //! The parts of a 64-bit Mach-O file that have the function symbols of all sections.
 
-ghost use Rattle.std.specs.Prelude.{◌≡◌, ◌≢◌, ◌⊎◌, ◌≤◌, List, ℕ, [], Some, false, length};
+ghost use Rattle.std.specs.Prelude.{◌≡◌, ◌≢◌, ◌⊎◌, ◌≤◌, List, ℕ, [], Some, false, length, IfErr};
 ghost use Rattle.std.specs.Option.{option_map};
+ghost use Rattle.binfarce_bytes.specs.Part.{parts_if, AreSure};
 ghost use Rattle.binfarce_bytes.specs.Refusal.{refusal_of, out_of_memory};
 ghost use Rattle.binfarce_bytes.specs.SectionEntries.{AnswersAll};
 ghost use Rattle.binfarce_bytes.specs.SymbolViews.{HoldsSectionFunctions};
@@ -10,9 +11,10 @@ ghost use Rattle.binfarce_macho.specs.MachoAll as macho_symbols;
 ghost use Rattle.binfarce_macho.specs.MachoAll.{all_located_answer, all_entries, name_of, symbols_by};
 ghost use Rattle.binfarce_macho.specs.MachoParts.{table_view};
 ghost use Rattle.binfarce_tables.specs.MachoAllReading.{all_view, symbols_view};
+ghost use Rattle.binfarce_tables.specs.MachoReads.{command_bytes, macho_parts, table_parts};
 ghost use Rattle.binfarce_tables.specs.Reading.{Reads, Known};
-ghost use Rattle.binfarce_tables.specs.declared.error.ReadError.TheVariants.{Refused, OutOfMemory};
-ghost use Rattle.binfarce_tables.specs.machine.MachoPlaces.{command_bytes, all_commands, found_view};
+ghost use Rattle.binfarce_tables.specs.declared.error.ReadError.TheVariants.{Refused, Unreadable, OutOfMemory};
+ghost use Rattle.binfarce_tables.specs.machine.MachoPlaces.{all_commands, found_view};
 
 use crate::error::ReadError;
 use crate::macho::{HEADER, header_in, read_commands, read_table};
@@ -100,8 +102,10 @@ fn bytes_of(symbols: &SymbolParts) -> SymbolBytes<'_>
 /// the symbol table's rows; `Unreadable` where the source can't be read at offsets, or a read of it fails, and never
 /// for a source that can't fail, such as bytes in memory; `OutOfMemory` where an allocation fails.
 pub fn read_all<S: Source>(alloc: Global, source: &S) -> Result<AllParts, ReadError>
-    ensures { (file : List ℕ) → S.bytes source.now ≡ Some file
+    ensures answer { (file : List ℕ) → S.bytes source.now ≡ Some file
         → Reads (S.may_fail source.now) all_view (all_located_answer file) result }
+    ensures nothing_else { (file : List ℕ) → S.bytes source.now ≡ Some file
+        → AreSure (S.is_sure source.now) (macho_parts file) → IfErr result (λ e. e ≢ Unreadable) }
 {
     let len = source.length()? as usize;
     if len < HEADER {
@@ -166,9 +170,12 @@ fn read_symbols<S: Source>(
     len: usize,
     table: Option<SymbolTable>,
 ) -> Result<Option<SymbolParts>, ReadError>
-    ensures { (file : List ℕ) → Known (S.bytes source.now) len file
+    ensures answer { (file : List ℕ) → Known (S.bytes source.now) len file
         → Reads (S.may_fail source.now) (option_map symbols_view) (symbols_by file (option_map table_view table))
         result }
+    ensures nothing_else { (file : List ℕ) → Known (S.bytes source.now) len file
+        → AreSure (S.is_sure source.now) (parts_if (option_map table_view table) (table_parts file))
+        → IfErr result (λ e. e ≢ Unreadable) }
 {
     let table = match table {
         None => return Ok(None),

@@ -1,13 +1,16 @@
 //! PE files, of which only the tables are read (Microsoft PE Format).
 
-ghost use Rattle.std.specs.Prelude.{◌≡◌, List, ℕ, Ok, Some};
+ghost use Rattle.std.specs.Prelude.{◌≡◌, ◌≢◌, List, ℕ, true, Ok, Some, IfErr};
 ghost use Rattle.binfarce_bytes.specs.Entries.{Answers, ListsSome};
+ghost use Rattle.binfarce_bytes.specs.Part.{AreSure};
 ghost use Rattle.binfarce_bytes.specs.SymbolViews.{HoldsFunctions};
 ghost use Rattle.binfarce_pe.specs.PeParts.{places_view, text_view};
 ghost use Rattle.binfarce_pe.specs.PeSymbols.{pe_file_answer};
 ghost use Rattle.binfarce_tables.specs.BeginningReading.{ReadsBeginning, pe_sections};
 ghost use Rattle.binfarce_tables.specs.PeReading.{parts_view};
+ghost use Rattle.binfarce_tables.specs.PeReads.{pointer_part, places_parts, headers_part, table_parts, pe_section_parts, pe_parts};
 ghost use Rattle.binfarce_tables.specs.Reading.{Reads, Known};
+ghost use Rattle.binfarce_tables.specs.declared.error.ReadError.TheVariants.{Unreadable};
 ghost use Rattle.binfarce_tables.specs.machine.PePlaces.{signature_step, places_step, text_at, table_at, records_view};
 
 use crate::beginning::Beginning;
@@ -61,8 +64,10 @@ impl Parts {
 /// can't be read at offsets, or a read of it fails, and never for a source that can't fail, such as bytes in memory;
 /// `OutOfMemory` where an allocation fails.
 pub fn read<S: Source>(alloc: Global, source: &S) -> Result<Parts, ReadError>
-    ensures { (file : List ℕ) → S.bytes source.now ≡ Some file
+    ensures answer { (file : List ℕ) → S.bytes source.now ≡ Some file
         → Reads (S.may_fail source.now) parts_view (pe_file_answer file) result }
+    ensures nothing_else { (file : List ℕ) → S.bytes source.now ≡ Some file
+        → AreSure (S.is_sure source.now) (pe_parts file) → IfErr result (λ e. e ≢ Unreadable) }
 {
     let len = source.length()? as usize;
     let places = read_places(alloc, source, len)?;
@@ -85,8 +90,10 @@ pub fn read<S: Source>(alloc: Global, source: &S) -> Result<Parts, ReadError>
 /// be read at offsets, or a read of it fails, and never for a source that can't fail, such as bytes in memory;
 /// `OutOfMemory` where an allocation fails.
 pub fn read_sections<S: Source>(alloc: Global, source: &S) -> Result<Beginning, ReadError>
-    ensures { (file : List ℕ) → S.bytes source.now ≡ Some file
+    ensures answer { (file : List ℕ) → S.bytes source.now ≡ Some file
         → ReadsBeginning (S.may_fail source.now) pe_sections file result }
+    ensures nothing_else { (file : List ℕ) → S.bytes source.now ≡ Some file
+        → AreSure (S.is_sure source.now) (pe_section_parts file) → IfErr result (λ e. e ≢ Unreadable) }
 {
     let file_length = source.length()?;
     let len = file_length as usize;
@@ -105,8 +112,10 @@ pub(crate) fn read_places<S: Source>(
     source: &S,
     len: usize,
 ) -> Result<Places, ReadError>
-    ensures { (file : List ℕ) → Known (S.bytes source.now) len file
+    ensures answer { (file : List ℕ) → Known (S.bytes source.now) len file
         → Reads (S.may_fail source.now) places_view (places_step file) result }
+    ensures nothing_else { (file : List ℕ) → Known (S.bytes source.now) len file
+        → AreSure (S.is_sure source.now) (places_parts file) → IfErr result (λ e. e ≢ Unreadable) }
 {
     let signature = read_signature(alloc, source, len)?;
     let offset = signature as usize;
@@ -118,8 +127,9 @@ pub(crate) fn read_places<S: Source>(
 }
 
 fn read_signature<S: Source>(alloc: Global, source: &S, len: usize) -> Result<u32, ReadError>
-    ensures { (file : List ℕ) → Known (S.bytes source.now) len file
+    ensures answer { (file : List ℕ) → Known (S.bytes source.now) len file
         → Reads (S.may_fail source.now) (λ n. n) (signature_step file) result }
+    ensures nothing_else { S.is_sure source.now pointer_part ≡ true → IfErr result (λ e. e ≢ Unreadable) }
 {
     if len < SIGNATURE_POINTER + 4 {
         return Err(ReadError::Refused(ParseError::UnexpectedEof));
@@ -135,8 +145,10 @@ fn read_text<S: Source>(
     len: usize,
     places: Places,
 ) -> Result<Text, ReadError>
-    ensures { (file : List ℕ) → Known (S.bytes source.now) len file
+    ensures answer { (file : List ℕ) → Known (S.bytes source.now) len file
         → Reads (S.may_fail source.now) text_view (text_at file (places_view places)) result }
+    ensures nothing_else { (file : List ℕ) → Known (S.bytes source.now) len file
+        → S.is_sure source.now (headers_part file (places_view places)) ≡ true → IfErr result (λ e. e ≢ Unreadable) }
 {
     let offset = places.sections;
     if offset >= len {
@@ -164,8 +176,10 @@ pub(crate) fn read_records<S: Source>(
     len: usize,
     places: Places,
 ) -> Result<Records, ReadError>
-    ensures { (file : List ℕ) → Known (S.bytes source.now) len file
+    ensures answer { (file : List ℕ) → Known (S.bytes source.now) len file
         → Reads (S.may_fail source.now) records_view (table_at file (places_view places)) result }
+    ensures nothing_else { (file : List ℕ) → Known (S.bytes source.now) len file
+        → AreSure (S.is_sure source.now) (table_parts file (places_view places)) → IfErr result (λ e. e ≢ Unreadable) }
 {
     let offset = places.symbols;
     if offset >= len || places.symbols_size > len - offset {

@@ -1,14 +1,17 @@
 //! The parts of a PE file that have the function symbols of all sections.
 
-ghost use Rattle.std.specs.Prelude.{◌≡◌, ◌≢◌, ◌≤◌, List, ℕ, Ok, Some, IfOk};
+ghost use Rattle.std.specs.Prelude.{◌≡◌, ◌≢◌, ◌≤◌, List, ℕ, true, Ok, Some, IfOk, IfErr};
 ghost use Rattle.std.specs.Option.{option_map};
+ghost use Rattle.binfarce_bytes.specs.Part.{AreSure};
 ghost use Rattle.binfarce_bytes.specs.SectionEntries.{AnswersAll};
 ghost use Rattle.binfarce_bytes.specs.SymbolViews.{HoldsSectionFunctions};
 ghost use Rattle.binfarce_pe.specs.Pe.{header_of};
 ghost use Rattle.binfarce_pe.specs.PeAll.{all_file_answer};
 ghost use Rattle.binfarce_pe.specs.PeParts.{headers_alone, places_view, whole_in};
 ghost use Rattle.binfarce_tables.specs.PeAllReading.{all_view};
+ghost use Rattle.binfarce_tables.specs.PeReads.{headers_part, pe_parts};
 ghost use Rattle.binfarce_tables.specs.Reading.{Reads, Known};
+ghost use Rattle.binfarce_tables.specs.declared.error.ReadError.TheVariants.{Unreadable};
 ghost use Rattle.binfarce_tables.specs.machine.PePlaces.{whole_at};
 
 use crate::elf::part;
@@ -91,10 +94,12 @@ impl AllParts {
 /// can't be read at offsets, or a read of it fails, and never for a source that can't fail, such as bytes in memory;
 /// `OutOfMemory` where an allocation fails.
 pub fn read_all<S: Source>(alloc: Global, source: &S) -> Result<AllParts, ReadError>
-    ensures parts { (file : List ℕ) → S.bytes source.now ≡ Some file
+    ensures answer { (file : List ℕ) → S.bytes source.now ≡ Some file
         → Reads (S.may_fail source.now) all_view (all_file_answer file) result }
     ensures count { (file : List ℕ) → S.bytes source.now ≡ Some file
         → IfOk result (λ p. p.sections.count ≡ (header_of file).number_of_sections) }
+    ensures nothing_else { (file : List ℕ) → S.bytes source.now ≡ Some file
+        → AreSure (S.is_sure source.now) (pe_parts file) → IfErr result (λ e. e ≢ Unreadable) }
 {
     let len = source.length()? as usize;
     let places = read_places(alloc, source, len)?;
@@ -114,11 +119,13 @@ fn read_headers<S: Source>(
     len: usize,
     places: Places,
 ) -> Result<Vec<u8>, ReadError>
-    ensures headers { (file : List ℕ) → Known (S.bytes source.now) len file
+    ensures answer { (file : List ℕ) → Known (S.bytes source.now) len file
         → Reads (S.may_fail source.now) (λ v. headers_alone v.items places.section_count)
         (whole_at file (places_view places)) result }
     ensures whole { IfOk result
         (λ v. places.section_count ≤ whole_in (headers_alone v.items places.section_count)) }
+    ensures nothing_else { (file : List ℕ) → Known (S.bytes source.now) len file
+        → S.is_sure source.now (headers_part file (places_view places)) ≡ true → IfErr result (λ e. e ≢ Unreadable) }
 {
     let offset = places.sections;
     if offset >= len {

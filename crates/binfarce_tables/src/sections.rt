@@ -1,12 +1,15 @@
 //! The section headers and the section names of an ELF file of either class, read at their offsets.
 
-ghost use Rattle.std.specs.Prelude.{◌≡◌, List, ℕ, Ok, Some};
+ghost use Rattle.std.specs.Prelude.{◌≡◌, ◌≢◌, List, ℕ, Ok, Some, IfErr};
 ghost use Rattle.std.specs.Option.{option_map};
+ghost use Rattle.binfarce_bytes.specs.Part.{AreSure};
 ghost use Rattle.binfarce_elf.specs.Elf.{walk};
 ghost use Rattle.binfarce_elf.specs.ElfParts.{headers_alone};
 ghost use Rattle.binfarce_elf.specs.ElfViews.{section_view};
+ghost use Rattle.binfarce_tables.specs.ElfReads.{elf_section_parts, headers_parts};
 ghost use Rattle.binfarce_tables.specs.Reading.{Reads, Known};
 ghost use Rattle.binfarce_tables.specs.SectionReading.{file_sections, sections_view};
+ghost use Rattle.binfarce_tables.specs.declared.error.ReadError.TheVariants.{Unreadable};
 ghost use Rattle.binfarce_tables.specs.machine.Places.{table_at};
 
 use crate::elf::{Place, part, read_headers, read_names, read_place, slice_of};
@@ -61,8 +64,11 @@ pub(crate) fn read_sections<C: Class, S: Source>(
     source: &S,
     byte_order: ByteOrder,
 ) -> Result<SectionParts<C>, ReadError>
-    ensures { (file : List ℕ) → S.bytes source.now ≡ Some file
+    ensures answer { (file : List ℕ) → S.bytes source.now ≡ Some file
         → Reads (S.may_fail source.now) (sections_view C.table) (file_sections C.table byte_order file) result }
+    ensures nothing_else { (file : List ℕ) → S.bytes source.now ≡ Some file
+        → AreSure (S.is_sure source.now) (elf_section_parts C.table byte_order file)
+        → IfErr result (λ e. e ≢ Unreadable) }
 {
     let len = source.length()? as usize;
     let place = read_place::<C, S>(alloc, source, len, byte_order)?;
@@ -86,10 +92,13 @@ pub(crate) fn read_table<C: Class, S: Source>(
     len: usize,
     place: Place,
 ) -> Result<Vec<u8>, ReadError>
-    ensures { (file : List ℕ) → Known (S.bytes source.now) len file
+    ensures answer { (file : List ℕ) → Known (S.bytes source.now) len file
         → Reads (S.may_fail source.now)
         (λ v. walk C.table (headers_alone place.byte_order v.items place.shnum))
         (Ok (walk C.table (table_at file place))) result }
+    ensures nothing_else { (file : List ℕ) → Known (S.bytes source.now) len file
+        → AreSure (S.is_sure source.now) (headers_parts C.table (table_at file place))
+        → IfErr result (λ e. e ≢ Unreadable) }
 {
     if place.shoff >= len {
         return Ok(Vec::new(alloc));

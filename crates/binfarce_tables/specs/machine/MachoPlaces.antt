@@ -1,22 +1,13 @@
--- The bytes of a Mach-O file that have its load commands, and the sections and tables found in them.
-use Rattle.std.specs.Prelude.{ℕ, ◌+◌, Bool, List, length, map, min, nat_eq, Option, Result, Ok, if◌then◌else◌}
+-- The sections and the table that are found in the load commands of a Mach-O file.
+use Rattle.std.specs.Prelude.{ℕ, Bool, List, map, nat_eq, Option, Result, Ok}
 use Rattle.std.specs.Option.{option_map}
 use Rattle.std.specs.String.{string_bytes}
-use Rattle.binfarce_bytes.specs.Number.{bytes_at}
 use Rattle.binfarce_bytes.specs.Refusal.{◌>>=◌, Refusal}
-use Rattle.binfarce_macho.specs.Macho.{header_of, header_length}
+use Rattle.binfarce_macho.specs.Macho.{header_of}
 use Rattle.binfarce_macho.specs.MachoAll.{section_starts, end_at, name_at, extent_end}
-use Rattle.binfarce_macho.specs.MachoParts.{holds_commands, table_view}
+use Rattle.binfarce_macho.specs.MachoParts.{table_view}
 use Rattle.binfarce_macho.specs.MachoSymbols.{SymbolTable, table_of}
 use Rattle.binfarce_tables.specs.declared.macho_all.Found.{Found}
-
--- where the commands end, as the header states, but within the file
-abbrev pub said_end : List ℕ → ℕ
-said_end file = min (header_length + (header_of file).sizeofcmds) (length file)
-
--- the file's bytes up to there; or all, where the commands or their fields extend past it
-abbrev pub command_bytes : List ℕ → List ℕ
-command_bytes file = if holds_commands (bytes_at file 0 (said_end file)) then bytes_at file 0 (said_end file) else file
 
 -- what the load commands say that the function symbols of all sections need
 pub record CommandParts : Type 0 where

@@ -1,7 +1,7 @@
 -- What private clauses see of a reading of a PE file's parts.
 use Rattle.std.specs.Prelude.{ℕ, ◌+◌, ◌-◌, ◌*◌, List, length, drop, min, Result, Ok, Err, nat_le, if◌then◌else◌}
 use Rattle.binfarce_bytes.specs.Number.{bytes_at}
-use Rattle.binfarce_bytes.specs.Refusal.{◌>>=◌, Refusal, unexpected_eof, if_as_long_as}
+use Rattle.binfarce_bytes.specs.Refusal.{Refusal, unexpected_eof, if_as_long_as}
 use Rattle.binfarce_bytes.specs.SectionEntries.{unless}
 use Rattle.binfarce_pe.specs.Pe.{least_length, signature_offset, section_length}
 use Rattle.binfarce_pe.specs.PeParts.{TablePlaces, places_of, SectionTable, headers_alone, table_walk, TextPlace, text_place}

@@ -1,10 +1,11 @@
 -- What private clauses see of a reading of a file's parts.
-use Rattle.std.specs.Prelude.{ℕ, ◌*◌, List, min, Result, Ok}
+use Rattle.std.specs.Prelude.{ℕ, List, Result, Ok}
 use Rattle.binfarce_bytes.specs.declared.ByteOrder.{ByteOrder}
 use Rattle.binfarce_bytes.specs.Number.{bytes_at}
 use Rattle.binfarce_bytes.specs.Refusal.{Refusal, if_as_long_as}
-use Rattle.binfarce_elf.specs.Elf.{ElfClass, SectionTable, section_table, whole_headers}
+use Rattle.binfarce_elf.specs.Elf.{ElfClass, SectionTable}
 use Rattle.binfarce_elf.specs.ElfSymbols.{TableRows}
+use Rattle.binfarce_tables.specs.ElfReads.{table_of, headers_size}
 use Rattle.binfarce_tables.specs.declared.elf.TableParts.{TableParts}
 use Rattle.binfarce_tables.specs.declared.elf.Place.{Place}
 
@@ -14,11 +15,11 @@ table_at file place = record { order = place.byte_order; file = file; shoff = pl
 
 -- the file's table, where the file holds a header
 abbrev pub table_step : ElfClass → ByteOrder → List ℕ → Result SectionTable Refusal
-table_step class order file = if_as_long_as class.header_length file (Ok (section_table class (record { order = order; bytes = file })))
+table_step class order file = if_as_long_as class.header_length file (Ok (table_of class order file))
 
 -- the section headers that are whole and below the count
 abbrev pub headers_of : ElfClass → SectionTable → List ℕ
-headers_of class table = bytes_at table.file table.shoff (min table.shnum (whole_headers class table) * class.section_length)
+headers_of class table = bytes_at table.file table.shoff (headers_size class table)
 
 -- a `TableParts`
 abbrev pub rows_view : TableParts → TableRows

@@ -1,5 +1,5 @@
 use Rattle.std.specs.IoError.{error_kind}
-use Rattle.binfarce_tables.proofs.Readings.{part_read, none_past, unread, no_refusal}
+use Rattle.binfarce_tables.proofs.Readings.{part_read, none_past, unread, no_refusal, surely}
 use Rattle.binfarce_tables.proofs.elf.part.Goals as goal
 
 pub returns-clause-part : goal.returns-clause-part
@@ -14,3 +14,6 @@ returns-in_err-read_part-clause-part g c = λ file known inside.
 
 pub returns-in_err-read_part-clause-failed : goal.returns-in_err-read_part-clause-failed
 returns-in_err-read_part-clause-failed g c = no_refusal (error_kind c.in_err-read_part.field-0.0) c.from_residual.result c.from_residual.ensures
+
+pub returns-in_err-read_part-clause-nothing_else : goal.returns-in_err-read_part-clause-nothing_else
+returns-in_err-read_part-clause-nothing_else g c = λ sure. surely _ (error_kind c.in_err-read_part.field-0.0) c.from_residual.result sure c.in_err-read_part.ensures.unsure c.from_residual.ensures

@@ -1,26 +1,41 @@
-use Rattle.std.proofs.Common.{◌≡◌, ℕ, ap₂, ◌+◌, ◌*◌, ◌-◌, ◌/◌, ◌<◌, ◌≤◌, Ok, ap, ◌∙◌, length}
-use Rattle.binfarce_bytes.specs.Number.{bytes_at}
-use Rattle.binfarce_elf.specs.Elf.{whole_headers}
+use Rattle.std.proofs.Common.{◌≡◌, ℕ, true, ◌+◌, ◌*◌, ap, ◌∙◌, Ok}
+use Rattle.binfarce_bytes.specs.Part.{part}
 use Rattle.binfarce_elf.specs.ElfViews.{section_view}
 use Rattle.binfarce_tables.specs.machine.Places.{table_at}
-use Rattle.binfarce_tables.proofs.Contents.{names_are, header_inside}
+use Rattle.binfarce_tables.proofs.Contents.{index_below, names_section_read, names_are}
+use Rattle.binfarce_tables.proofs.ElfSure.{of_names_header, of_names}
 use Rattle.binfarce_tables.proofs.HeadersAlone.{HasWithin, within_class}
-use Rattle.binfarce_tables.proofs.Readings.{instead, taken}
+use Rattle.binfarce_tables.proofs.Readings.{instead, taken, passed_surely}
 use Rattle.binfarce_tables.proofs.elf.read_names.Goals as goal
 
-pub returns-in-Ok : goal.returns-in-Ok
-returns-in-Ok g c = λ file known.
+pub returns-in_err-header-clause-nothing_else : goal.returns-in_err-header-clause-nothing_else
+returns-in_err-header-clause-nothing_else g c = λ file known sure.
     let class = g.C.Class.table in
     let table = table_at file c.args.place in
-    let one : c.SECTION_LENGTH.result ≡ class.section_length = c.SECTION_LENGTH.ensures ∙ g.met.C.Class.section_length in
-    let two : c.SECTION_LENGTH-2.result ≡ class.section_length = c.SECTION_LENGTH-2.ensures ∙ g.met.C.Class.section_length in
-    let three : c.SECTION_LENGTH-3.result ≡ class.section_length = c.SECTION_LENGTH-3.ensures ∙ g.met.C.Class.section_length in
-    let room : c.saturating_sub.result ≡ length file - c.args.place.shoff = c.saturating_sub.ensures ∙ ap (λ n. n - c.args.place.shoff) known.1 in
-    let whole : c.saturating_sub.result / c.SECTION_LENGTH.result ≡ whole_headers class table = cc in
-    let lt : c.args.place.shstrndx < whole_headers class table = rw (← whole) c.if-place-whole.false in
+    let is_sure = g.S.Source.is_sure c.args.source.now in
+    let size : c.SECTION_LENGTH-size.result ≡ class.section_length = c.SECTION_LENGTH-size.ensures ∙ g.met.C.Class.section_length in
+    let lt = index_below class table c.args.len c.saturating_sub.result c.SECTION_LENGTH-size.result known.1 c.saturating_sub.ensures size c.if-place-whole.false in
+    passed_surely c.in_err-header.field-0.0 c.from_residual.result
+    (c.in_err-header.ensures.nothing_else (ap (λ (n : ℕ). is_sure (part (c.args.place.shoff + c.args.place.shstrndx * n) n)) size ∙ of_names_header (λ p. is_sure p ≡ true) class table lt sure)) c.from_residual.ensures
+
+pub returns-in-Ok-clause-answer : goal.returns-in-Ok-clause-answer
+returns-in-Ok-clause-answer g c = λ file known.
+    let class = g.C.Class.table in
+    let table = table_at file c.args.place in
+    let section = section_view g.C.Class.number_of c.in-Ok.section in
+    let size : c.SECTION_LENGTH-size.result ≡ class.section_length = c.SECTION_LENGTH-size.ensures ∙ g.met.C.Class.section_length in
+    let lt = index_below class table c.args.len c.saturating_sub.result c.SECTION_LENGTH-size.result known.1 c.saturating_sub.ensures size c.if-place-whole.false in
     let within : HasWithin class = within_class class g.C.RawNumber.SIZE g.met.C.Class.header g.met.C.Class.header_length g.met.C.Class.section g.met.C.Class.section_fields in
-    let there : (c.args.place.shoff + c.args.place.shstrndx * c.SECTION_LENGTH-2.result) + c.SECTION_LENGTH-3.result ≤ length file = rw (two, three) (header_inside (length file) c.args.place.shoff class.section_length c.args.place.shstrndx lt) in
-    let part : c.in_ok-header.header.items ≡ bytes_at file (c.args.place.shoff + c.args.place.shstrndx * c.SECTION_LENGTH-2.result) c.SECTION_LENGTH-3.result =
-    taken (c.in_ok-header.ensures.part file known.0 there) in
-    let header : c.deref.result.now ≡ bytes_at file (c.args.place.shoff + c.args.place.shstrndx * class.section_length) class.section_length = c.deref.ensures.value ∙ part ∙ ap₂ (λ (a b : ℕ). bytes_at file (c.args.place.shoff + c.args.place.shstrndx * a) b) two three in
-    instead _ _ _ _ _ (ap Ok (names_are class table c.deref.result.now (section_view g.C.Class.number_of c.in-Ok.section) within lt header c.in-Ok.ensures.1)) (c.read_contents.ensures file known)
+    let is = names_section_read class table c.deref.result.now section c.SECTION_LENGTH-size.result within size lt (λ there. c.deref.ensures.value ∙ taken (c.in_ok-header.ensures.part file known.0 there)) c.in-Ok.ensures.1 in
+    instead _ _ _ _ _ (ap Ok (names_are class table section is)) (c.read_contents.ensures.answer file known)
+
+pub returns-in-Ok-clause-nothing_else : goal.returns-in-Ok-clause-nothing_else
+returns-in-Ok-clause-nothing_else g c = λ file known sure.
+    let class = g.C.Class.table in
+    let table = table_at file c.args.place in
+    let section = section_view g.C.Class.number_of c.in-Ok.section in
+    let size : c.SECTION_LENGTH-size.result ≡ class.section_length = c.SECTION_LENGTH-size.ensures ∙ g.met.C.Class.section_length in
+    let lt = index_below class table c.args.len c.saturating_sub.result c.SECTION_LENGTH-size.result known.1 c.saturating_sub.ensures size c.if-place-whole.false in
+    let within : HasWithin class = within_class class g.C.RawNumber.SIZE g.met.C.Class.header g.met.C.Class.header_length g.met.C.Class.section g.met.C.Class.section_fields in
+    let is = names_section_read class table c.deref.result.now section c.SECTION_LENGTH-size.result within size lt (λ there. c.deref.ensures.value ∙ taken (c.in_ok-header.ensures.part file known.0 there)) c.in-Ok.ensures.1 in
+    c.read_contents.ensures.nothing_else file known (of_names (λ p. g.S.Source.is_sure c.args.source.now p ≡ true) class table section is sure)

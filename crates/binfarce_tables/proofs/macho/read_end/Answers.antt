@@ -5,15 +5,15 @@ use Rattle.binfarce_tables.proofs.MachoPrefix.{prefix_long, header_said}
 use Rattle.binfarce_tables.proofs.Readings.{taken}
 use Rattle.binfarce_tables.proofs.macho.read_end.Goals as goal
 
-pub returns-in_err-header : goal.returns-in_err-header
-returns-in_err-header g c = λ file known.
+pub returns-in_err-header-clause-answer : goal.returns-in_err-header-clause-answer
+returns-in_err-header-clause-answer g c = λ file known.
     let inside : 28 ≤ length file = omega (arith, known.1, c.requires) in
     let bytes : c.deref.result.now ≡ bytes_at file 0 28 = c.deref.ensures.value ∙ taken (c.in_ok-bytes.ensures.part file known.0 inside) in
     let long : length c.deref.result.now ≡ 28 = ap length bytes ∙ prefix_long file 28 inside in
     absurd (omega (arith, long, c.in_err-header.ensures))
 
-pub returns : goal.returns
-returns g c = λ file known.
+pub returns-clause-answer : goal.returns-clause-answer
+returns-clause-answer g c = λ file known.
     let inside : 28 ≤ length file = omega (arith, known.1, c.requires) in
     let bytes : c.deref.result.now ≡ bytes_at file 0 28 = c.deref.ensures.value ∙ taken (c.in_ok-bytes.ensures.part file known.0 inside) in
     let said : c.in_ok-header.header.sizeofcmds ≡ (header_of file).sizeofcmds =

@@ -3,38 +3,64 @@ use Rattle.std.specs.Option.{option_map}
 use Rattle.binfarce_macho.specs.MachoAll.{all_located_answer, symbols_by}
 use Rattle.binfarce_tables.specs.MachoAllReading.{all_view, symbols_view}
 use Rattle.binfarce_tables.specs.Reading.{Known}
-use Rattle.binfarce_tables.specs.machine.MachoPlaces.{command_bytes, all_commands, found_view}
+use Rattle.binfarce_tables.specs.MachoReads.{command_bytes}
+use Rattle.binfarce_tables.specs.machine.MachoPlaces.{all_commands, found_view}
 use Rattle.binfarce_tables.proofs.MachoAllLocated.{after_commands, steps_are, from_found, in_memory}
-use Rattle.binfarce_tables.proofs.Readings.{after_err, instead, passed, length_known, taken}
+use Rattle.binfarce_tables.proofs.Readings.{after_err, instead, passed, passed_surely, length_known, taken}
+use Rattle.binfarce_bytes.specs.Part.{part}
+use Rattle.binfarce_tables.proofs.MachoSure.{Given, header_part, section_parts, symbol_parts, commands_table}
+use Rattle.binfarce_tables.proofs.Sure.{long}
 use Rattle.binfarce_tables.proofs.macho_all.read_all.Goals as goal
 
-pub returns-in_err-found : goal.returns-in_err-found
-returns-in_err-found g c = λ file known.
+pub returns-in_err-found-clause-answer : goal.returns-in_err-found-clause-answer
+returns-in_err-found-clause-answer g c = λ file known.
     let is_known : Known (g.S.Source.bytes c.args.source.now) c.in_ok-len.len file = (known, length_known _ file c.in_ok-len.len known c.in_ok-len.ensures.length) in
     let fails = g.S.Source.may_fail c.args.source.now in
     let inside : 28 ≤ length file = omega (arith, is_known.1, c.if-len-lt-HEADER.false) in
-    let are : c.deref.result.now ≡ command_bytes file = c.deref.ensures.value ∙ taken (c.in_ok-commands.ensures file is_known) in
+    let are : c.deref.result.now ≡ command_bytes file = c.deref.ensures.value ∙ taken (c.in_ok-commands.ensures.answer file is_known) in
     let e = c.in_err-found.field-0.0 in
     passed fails all_view _ e c.from_residual-in_err-found.result c.from_residual-in_err-found.ensures
     (instead fails all_view (all_located_answer file) _ (Err e) (steps_are file inside)
     (after_err fails found_view all_view (all_commands file) (after_commands file) e (in_memory fails found_view (all_commands file) e (c.in_err-found.ensures file inside are))))
 
-pub returns-in_err-symbols : goal.returns-in_err-symbols
-returns-in_err-symbols g c = λ file known.
+pub returns-in_err-symbols-clause-answer : goal.returns-in_err-symbols-clause-answer
+returns-in_err-symbols-clause-answer g c = λ file known.
     let is_known : Known (g.S.Source.bytes c.args.source.now) c.in_ok-len.len file = (known, length_known _ file c.in_ok-len.len known c.in_ok-len.ensures.length) in
     let fails = g.S.Source.may_fail c.args.source.now in
     let inside : 28 ≤ length file = omega (arith, is_known.1, c.if-len-lt-HEADER.false) in
-    let are : c.deref.result.now ≡ command_bytes file = c.deref.ensures.value ∙ taken (c.in_ok-commands.ensures file is_known) in
+    let are : c.deref.result.now ≡ command_bytes file = c.deref.ensures.value ∙ taken (c.in_ok-commands.ensures.answer file is_known) in
     let found = found_view c.in_ok-found.found in
     let e = c.in_err-symbols.field-0.0 in
     passed fails all_view _ e c.from_residual-in_err-symbols.result c.from_residual-in_err-symbols.ensures
     (instead fails all_view (all_located_answer file) (after_commands file found) (Err e) (from_found file found inside (c.in_ok-found.ensures file inside are))
-    (after_err fails (option_map symbols_view) all_view (symbols_by file found.table) _ e (c.in_err-symbols.ensures file is_known)))
+    (after_err fails (option_map symbols_view) all_view (symbols_by file found.table) _ e (c.in_err-symbols.ensures.answer file is_known)))
 
-pub returns : goal.returns
-returns g c = λ file known.
+pub returns-clause-answer : goal.returns-clause-answer
+returns-clause-answer g c = λ file known.
     let is_known : Known (g.S.Source.bytes c.args.source.now) c.in_ok-len.len file = (known, length_known _ file c.in_ok-len.len known c.in_ok-len.ensures.length) in
     let inside : 28 ≤ length file = omega (arith, is_known.1, c.if-len-lt-HEADER.false) in
-    let are : c.deref.result.now ≡ command_bytes file = c.deref.ensures.value ∙ taken (c.in_ok-commands.ensures file is_known) in
+    let are : c.deref.result.now ≡ command_bytes file = c.deref.ensures.value ∙ taken (c.in_ok-commands.ensures.answer file is_known) in
     let found = found_view c.in_ok-found.found in
-    rw (from_found file found inside (c.in_ok-found.ensures file inside are), c.in_ok-symbols.ensures file is_known) refl
+    rw (from_found file found inside (c.in_ok-found.ensures file inside are), c.in_ok-symbols.ensures.answer file is_known) refl
+
+pub returns-in_err-len-clause-nothing_else : goal.returns-in_err-len-clause-nothing_else
+returns-in_err-len-clause-nothing_else g c = λ file known sure.
+    let is_sure = g.S.Source.is_sure c.args.source.now in
+    long is_sure (part 0 28) c.from_residual.result (header_part (Given is_sure) file (section_parts (Given is_sure) file sure)) c.in_err-len.ensures.unsure
+
+pub returns-in_err-commands-clause-nothing_else : goal.returns-in_err-commands-clause-nothing_else
+returns-in_err-commands-clause-nothing_else g c = λ file known sure.
+    let is_known : Known (g.S.Source.bytes c.args.source.now) c.in_ok-len.len file = (known, length_known _ file c.in_ok-len.len known c.in_ok-len.ensures.length) in
+    passed_surely c.in_err-commands.field-0.0 c.from_residual-in_err-commands.result
+    (c.in_err-commands.ensures.nothing_else file is_known (section_parts (Given (g.S.Source.is_sure c.args.source.now)) file sure)) c.from_residual-in_err-commands.ensures
+
+pub returns-in_err-symbols-clause-nothing_else : goal.returns-in_err-symbols-clause-nothing_else
+returns-in_err-symbols-clause-nothing_else g c = λ file known sure.
+    let is_known : Known (g.S.Source.bytes c.args.source.now) c.in_ok-len.len file = (known, length_known _ file c.in_ok-len.len known c.in_ok-len.ensures.length) in
+    let inside : 28 ≤ length file = omega (arith, is_known.1, c.if-len-lt-HEADER.false) in
+    let are : c.deref.result.now ≡ command_bytes file = c.deref.ensures.value ∙ taken (c.in_ok-commands.ensures.answer file is_known) in
+    let found = found_view c.in_ok-found.found in
+    passed_surely c.in_err-symbols.field-0.0 c.from_residual-in_err-symbols.result
+    (c.in_err-symbols.ensures.nothing_else file is_known
+    (symbol_parts (Given (g.S.Source.is_sure c.args.source.now)) file found.table (commands_table file found (c.in_ok-found.ensures file inside are)) sure))
+    c.from_residual-in_err-symbols.ensures

@@ -5,14 +5,14 @@ use Rattle.binfarce_tables.proofs.PeAlone.{headers_of, text_alone, text_of_none,
 use Rattle.binfarce_tables.proofs.Readings.{taken, converted}
 use Rattle.binfarce_tables.proofs.pe.read_text.Goals as goal
 
-pub returns-then-offset-len : goal.returns-then-offset-len
-returns-then-offset-len g c = λ file known. text_outside file (places_view c.args.places) (omega (arith, known.1, c.if-offset-len.true))
+pub returns-then-offset-len-clause-answer : goal.returns-then-offset-len-clause-answer
+returns-then-offset-len-clause-answer g c = λ file known. text_outside file (places_view c.args.places) (omega (arith, known.1, c.if-offset-len.true))
 
-pub returns-then-places-eq0 : goal.returns-then-places-eq0
-returns-then-places-eq0 g c = λ file known. text_of_none file (places_view c.args.places) (omega (arith, known.1, c.if-offset-len.false)) c.if-places-eq0.true
+pub returns-then-places-eq0-clause-answer : goal.returns-then-places-eq0-clause-answer
+returns-then-places-eq0-clause-answer g c = λ file known. text_of_none file (places_view c.args.places) (omega (arith, known.1, c.if-offset-len.false)) c.if-places-eq0.true
 
-pub returns-in_err-text_in : goal.returns-in_err-text_in
-returns-in_err-text_in g c = λ file known.
+pub returns-in_err-text_in-clause-answer : goal.returns-in_err-text_in-clause-answer
+returns-in_err-text_in-clause-answer g c = λ file known.
     let places = places_view c.args.places in
     let size = c.args.places.section_count * 40 in
     let inside : places.sections < length file = omega (arith, known.1, c.if-offset-len.false) in
@@ -22,8 +22,8 @@ returns-in_err-text_in g c = λ file known.
     let same = sym (text_alone file places inside any) ∙ ap (λ h. text_place (headers_alone h places.section_count)) (sym headers) in
     converted (g.S.Source.may_fail c.args.source.now) text_view _ c.in_err-text_in.field-0.0 c.from_residual-in_err-text_in.result c.from_residual-in_err-text_in.ensures (same ∙ c.in_err-text_in.ensures)
 
-pub returns : goal.returns
-returns g c = λ file known.
+pub returns-clause-answer : goal.returns-clause-answer
+returns-clause-answer g c = λ file known.
     let places = places_view c.args.places in
     let size = c.args.places.section_count * 40 in
     let inside : places.sections < length file = omega (arith, known.1, c.if-offset-len.false) in

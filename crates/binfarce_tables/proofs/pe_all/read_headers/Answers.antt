@@ -3,15 +3,15 @@ use Rattle.binfarce_pe.specs.PeParts.{places_view}
 use Rattle.binfarce_tables.proofs.PeAllLocated.{outside, truncated, whole, headers_read}
 use Rattle.binfarce_tables.proofs.pe_all.read_headers.Goals as goal
 
-pub returns-then-offset-len-clause-headers : goal.returns-then-offset-len-clause-headers
-returns-then-offset-len-clause-headers g c = λ file known. outside file (places_view c.args.places) (omega (arith, known.1, c.if-offset-len.true))
+pub returns-then-offset-len-clause-answer : goal.returns-then-offset-len-clause-answer
+returns-then-offset-len-clause-answer g c = λ file known. outside file (places_view c.args.places) (omega (arith, known.1, c.if-offset-len.true))
 
-pub returns-then-saturating_sub-rest-clause-headers : goal.returns-then-saturating_sub-rest-clause-headers
-returns-then-saturating_sub-rest-clause-headers g c = λ file known.
+pub returns-then-saturating_sub-rest-clause-answer : goal.returns-then-saturating_sub-rest-clause-answer
+returns-then-saturating_sub-rest-clause-answer g c = λ file known.
     truncated file (places_view c.args.places) (omega (arith, known.1, c.if-offset-len.false)) (omega (arith, known.1, c.saturating_sub.ensures, c.if-saturating_sub-rest.true))
 
-pub returns-clause-headers : goal.returns-clause-headers
-returns-clause-headers g c = λ file known.
+pub returns-clause-answer : goal.returns-clause-answer
+returns-clause-answer g c = λ file known.
     let places = places_view c.args.places in
     let begins : places.sections < length file = omega (arith, known.1, c.if-offset-len.false) in
     let fits : places.section_count * 40 - 16 ≤ length file - places.sections = omega (arith, known.1, c.saturating_sub.ensures, c.if-saturating_sub-rest.false) in

@@ -1,16 +1,52 @@
+use Rattle.std.proofs.Common.{◌≡◌, true}
 use Rattle.std.specs.Option.{option_map}
+use Rattle.binfarce_bytes.specs.Part.{Part, part}
 use Rattle.binfarce_elf.specs.Elf.{walk}
 use Rattle.binfarce_elf.specs.ElfParts.{headers_alone}
+use Rattle.binfarce_tables.specs.ElfReads.{names_parts, headers_parts}
 use Rattle.binfarce_tables.specs.Reading.{Known}
 use Rattle.binfarce_tables.specs.machine.Places.{table_at}
-use Rattle.binfarce_tables.proofs.Readings.{taken, length_known}
+use Rattle.binfarce_tables.proofs.ElfSure.{of_file_header, of_table}
+use Rattle.binfarce_tables.proofs.Readings.{taken, passed_surely, length_known}
 use Rattle.binfarce_tables.proofs.SectionsRead.{sections_read}
+use Rattle.binfarce_tables.proofs.Sure.{front, back, long}
 use Rattle.binfarce_tables.proofs.sections.read_sections.Goals as goal
 
-pub returns : goal.returns
-returns g c = λ file known.
+pub returns-clause-answer : goal.returns-clause-answer
+returns-clause-answer g c = λ file known.
     let class = g.C.Class.table in
     let place = c.in_ok-place.place in
     let is_known : Known (g.S.Source.bytes c.args.source.now) c.in_ok-len.len file = (known, length_known _ file c.in_ok-len.len known c.in_ok-len.ensures.length) in
     sections_read class c.args.byte_order file (table_at file place) (walk class (headers_alone place.byte_order c.in_ok-headers.headers.items place.shnum)) (option_map (λ v. v.items) c.in_ok-names.names) c.in_ok-len.len
-    (c.in_ok-place.ensures.table file is_known) (taken (c.in_ok-headers.ensures file is_known)) (taken (c.in_ok-names.ensures file is_known)) is_known.1
+    (c.in_ok-place.ensures.table file is_known) (taken (c.in_ok-headers.ensures.answer file is_known)) (taken (c.in_ok-names.ensures.answer file is_known)) is_known.1
+
+pub returns-in_err-len-clause-nothing_else : goal.returns-in_err-len-clause-nothing_else
+returns-in_err-len-clause-nothing_else g c = λ file known sure.
+    let class = g.C.Class.table in
+    let IsSure : Part → Type 0 = λ p. g.S.Source.is_sure c.args.source.now p ≡ true in
+    long (g.S.Source.is_sure c.args.source.now) (part 0 class.header_length) c.from_residual.result (of_file_header IsSure class c.args.byte_order file sure) c.in_err-len.ensures.unsure
+
+pub returns-in_err-place-clause-nothing_else : goal.returns-in_err-place-clause-nothing_else
+returns-in_err-place-clause-nothing_else g c = λ file known sure.
+    let IsSure : Part → Type 0 = λ p. g.S.Source.is_sure c.args.source.now p ≡ true in
+    passed_surely c.in_err-place.field-0.0 c.from_residual-in_err-place.result (c.in_err-place.ensures.nothing_else (of_file_header IsSure g.C.Class.table c.args.byte_order file sure)) c.from_residual-in_err-place.ensures
+
+pub returns-in_err-names-clause-nothing_else : goal.returns-in_err-names-clause-nothing_else
+returns-in_err-names-clause-nothing_else g c = λ file known sure.
+    let class = g.C.Class.table in
+    let IsSure : Part → Type 0 = λ p. g.S.Source.is_sure c.args.source.now p ≡ true in
+    let is_known : Known (g.S.Source.bytes c.args.source.now) c.in_ok-len.len file = (known, length_known _ file c.in_ok-len.len known c.in_ok-len.ensures.length) in
+    let table = table_at file c.in_ok-place.place in
+    passed_surely c.in_err-names.field-0.0 c.from_residual-in_err-names.result
+    (c.in_err-names.ensures.nothing_else file is_known (front IsSure (names_parts class table) (headers_parts class table) (of_table IsSure class c.args.byte_order file table (c.in_ok-place.ensures.table file is_known) sure)))
+    c.from_residual-in_err-names.ensures
+
+pub returns-in_err-headers-clause-nothing_else : goal.returns-in_err-headers-clause-nothing_else
+returns-in_err-headers-clause-nothing_else g c = λ file known sure.
+    let class = g.C.Class.table in
+    let IsSure : Part → Type 0 = λ p. g.S.Source.is_sure c.args.source.now p ≡ true in
+    let is_known : Known (g.S.Source.bytes c.args.source.now) c.in_ok-len.len file = (known, length_known _ file c.in_ok-len.len known c.in_ok-len.ensures.length) in
+    let table = table_at file c.in_ok-place.place in
+    passed_surely c.in_err-headers.field-0.0 c.from_residual-in_err-headers.result
+    (c.in_err-headers.ensures.nothing_else file is_known (back IsSure (names_parts class table) (headers_parts class table) (of_table IsSure class c.args.byte_order file table (c.in_ok-place.ensures.table file is_known) sure)))
+    c.from_residual-in_err-headers.ensures

@@ -1,21 +1,22 @@
-use Rattle.std.proofs.Common.{◌+◌, ◌<◌, ◌≤◌, List, Vec, Global, ℕ, Ok, ap, sym, ◌∙◌, arith, length}
+use Rattle.std.proofs.Common.{◌≡◌, true, ◌+◌, ◌<◌, ◌≤◌, List, Vec, Global, ℕ, Ok, ap, sym, ◌∙◌, arith, length}
 use Rattle.binfarce_bytes.specs.Number.{bytes_at}
 use Rattle.binfarce_elf.specs.Elf.{walk}
 use Rattle.binfarce_elf.specs.ElfParts.{headers_alone}
 use Rattle.binfarce_tables.specs.machine.Places.{table_at, headers_of}
 use Rattle.binfarce_tables.proofs.Contents.{part_long}
+use Rattle.binfarce_tables.proofs.ElfSure.{of_headers, of_no_header}
 use Rattle.binfarce_tables.proofs.HeadersAlone.{HasWithin, within_class, headers_walk}
 use Rattle.binfarce_tables.proofs.SectionsRead.{seen_as, walk_outside, walk_of_none}
 use Rattle.binfarce_tables.proofs.sections.read_table.Goals as goal
 
-pub returns-then-place-len : goal.returns-then-place-len
-returns-then-place-len g c = λ file known.
+pub returns-then-place-len-clause-answer : goal.returns-then-place-len-clause-answer
+returns-then-place-len-clause-answer g c = λ file known.
     let class = g.C.Class.table in
     let some : 0 < class.section_length = omega (arith, g.met.C.Class.some_section, g.met.C.Class.section_length) in
     ap Ok (walk_outside class (table_at file c.args.place) c.new.result.items some (omega (arith, known.1, c.if-place-len.true)) c.new.ensures.items)
 
-pub returns-then-place-eq0 : goal.returns-then-place-eq0
-returns-then-place-eq0 g c = λ file known.
+pub returns-then-place-eq0-clause-answer : goal.returns-then-place-eq0-clause-answer
+returns-then-place-eq0-clause-answer g c = λ file known.
     let class = g.C.Class.table in
     let table = table_at file c.args.place in
     let inside : c.args.place.shoff < length file = omega (arith, known.1, c.if-place-len.false) in
@@ -25,8 +26,8 @@ returns-then-place-eq0 g c = λ file known.
     (λ v is. sym (walk_of_none class table v.items inside c.if-place-eq0.true (ap length is ∙ part_long file c.args.place.shoff 1 there)))
     (c.part.ensures.part file known.0 there)
 
-pub returns : goal.returns
-returns g c = λ file known.
+pub returns-clause-answer : goal.returns-clause-answer
+returns-clause-answer g c = λ file known.
     let class = g.C.Class.table in
     let table = table_at file c.args.place in
     let within : HasWithin class = within_class class g.C.RawNumber.SIZE g.met.C.Class.header g.met.C.Class.header_length g.met.C.Class.section g.met.C.Class.section_fields in
@@ -36,4 +37,13 @@ returns g c = λ file known.
     seen_as (g.S.Source.may_fail c.args.source.now) (λ (v : Vec ℕ Global). v.items) (λ (v : Vec ℕ Global). walk class (headers_alone c.args.place.byte_order v.items c.args.place.shnum))
     (headers_of class table) (walk class table) c.read_headers.result
     (λ v is. ap (λ (h : List ℕ). walk class (headers_alone c.args.place.byte_order h c.args.place.shnum)) is ∙ headers_walk class table within some inside any)
-    (c.read_headers.ensures file known (omega (arith, c.if-place-len.false)))
+    (c.read_headers.ensures.answer file known (omega (arith, c.if-place-len.false)))
+
+pub returns-then-place-eq0-clause-nothing_else : goal.returns-then-place-eq0-clause-nothing_else
+returns-then-place-eq0-clause-nothing_else g c = λ file known sure.
+    c.part.ensures.nothing_else (of_no_header (λ p. g.S.Source.is_sure c.args.source.now p ≡ true) g.C.Class.table (table_at file c.args.place) (omega (arith, known.1, c.if-place-len.false)) c.if-place-eq0.true sure)
+
+pub returns-clause-nothing_else : goal.returns-clause-nothing_else
+returns-clause-nothing_else g c = λ file known sure.
+    c.read_headers.ensures.nothing_else file known
+    (of_headers (λ p. g.S.Source.is_sure c.args.source.now p ≡ true) g.C.Class.table (table_at file c.args.place) (omega (arith, known.1, c.if-place-len.false)) (omega (arith, c.if-place-eq0.false)) sure)

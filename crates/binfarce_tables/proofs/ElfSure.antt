@@ -1,0 +1,108 @@
+-- What is true of each part of an ELF file that is read, by the step that reads it.
+use Rattle.std.proofs.Common.{◌≡◌, ℕ, ◌+◌, ◌*◌, ◌<◌, Bool, true, false, cond, ltb, eqb, List, length, Option, Some, None, Result, Ok, Err, ap, subst, ◌∙◌, arith}
+use Rattle.std.specs.Prelude.{All}
+use Rattle.std.proofs.lemmas.Bool.{lt-ltb, ne_eqb, eq-eqb}
+use Rattle.std.proofs.lemmas.List.Elements.{All-head, All-tail}
+use Rattle.binfarce_bytes.specs.declared.ByteOrder.{ByteOrder}
+use Rattle.binfarce_bytes.specs.Part.{Part, part, parts_if}
+use Rattle.binfarce_bytes.specs.Refusal.{◌>>=◌, Refusal, symbols_section_is_missing, unexpected_eof}
+use Rattle.binfarce_bytes.specs.SectionEntries.{unless}
+use Rattle.binfarce_bytes.specs.Walk.{Walk}
+use Rattle.binfarce_elf.specs.Elf.{ElfClass, SectionTable, Section, walk, whole_headers, names_section, name_among}
+use Rattle.binfarce_elf.specs.ElfAll.{needed_of_all}
+use Rattle.binfarce_elf.specs.ElfSymbols.{TableSections, NeededSections, needed, table_sections, sought, is_named}
+use Rattle.binfarce_elf.specs.declared.symbol_table.SymbolTable.{SymbolTable}
+use Rattle.binfarce_tables.specs.ElfReads.{table_of, section_parts, names_header, names_parts, headers_size, headers_parts, table_parts, rows_parts, found_parts, elf_section_parts, elf_parts}
+use Rattle.binfarce_tables.specs.machine.Places.{table_step}
+use Rattle.binfarce_tables.proofs.Sure.{front, back, only, of_some}
+
+module _ (P : Part → Type 0) (class : ElfClass) (table : SectionTable) where
+  -- of the header of the section names' own section
+  pub of_names_header : table.shstrndx < whole_headers class table → All P (names_parts class table) → P (part (table.shoff + table.shstrndx * class.section_length) class.section_length)
+  unfolding names_parts
+  of_names_header lt all =
+      let header : All P (names_header class table) = front P (names_header class table) (parts_if (names_section class table) (section_parts table.file)) all in
+      only P (part (table.shoff + table.shstrndx * class.section_length) class.section_length) (rw (lt-ltb table.shstrndx (whole_headers class table) lt) at header)
+
+  -- of the section names
+  pub of_names : (section : Section) → names_section class table ≡ Some section → All P (names_parts class table) → All P (section_parts table.file section)
+  unfolding names_parts
+  of_names section is all = of_some P (names_section class table) section (section_parts table.file) is (back P (names_header class table) (parts_if (names_section class table) (section_parts table.file)) all)
+
+  of_first : table.shoff < length table.file → All P (headers_parts class table) → P (part table.shoff (cond (eqb table.shnum 0) 1 (headers_size class table)))
+  unfolding headers_parts
+  of_first inside all = only P (part table.shoff (cond (eqb table.shnum 0) 1 (headers_size class table))) (rw (lt-ltb table.shoff (length table.file) inside) at all)
+
+  -- of the section headers
+  pub of_headers : table.shoff < length table.file → 0 < table.shnum → All P (headers_parts class table) → P (part table.shoff (headers_size class table))
+  of_headers inside any all = subst (λ (none : Bool). P (part table.shoff (cond none 1 (headers_size class table)))) (ne_eqb table.shnum 0 (λ e. omega (arith, e, any))) (of_first inside all)
+
+  -- of the first byte of a table without headers
+  pub of_no_header : table.shoff < length table.file → table.shnum ≡ 0 → All P (headers_parts class table) → P (part table.shoff 1)
+  of_no_header inside none all = subst (λ (is : Bool). P (part table.shoff (cond is 1 (headers_size class table)))) (eq-eqb table.shnum 0 none) (of_first inside all)
+
+-- of the strings and the rows of a symbol table that is found
+pub of_found : (P : Part → Type 0) (file : List ℕ) (found : Result TableSections Refusal) (sections : TableSections) → found ≡ Ok sections → All P (found_parts file found) → All P (rows_parts file sections)
+unfolding found_parts
+of_found P file found sections is all = subst (λ (f : Result TableSections Refusal). All P (found_parts file f)) is all
+
+-- a file's table, where the file has a header
+table_found : (class : ElfClass) (order : ByteOrder) (file : List ℕ) (table : SectionTable) → table_step class order file ≡ Ok table → table_of class order file ≡ table
+table_found class order file table step = by_test (ltb (length file) class.header_length) step
+  where
+    by_test : (short : Bool) → cond short (Err unexpected_eof) (Ok (table_of class order file)) ≡ Ok table → table_of class order file ≡ table
+    by_test true is = absurd cc
+    by_test false is = cc
+
+module _ (P : Part → Type 0) (class : ElfClass) (order : ByteOrder) (file : List ℕ) where
+  -- of the file header
+  pub of_file_header : All P (elf_section_parts class order file) → P (part 0 class.header_length)
+  unfolding elf_section_parts
+  of_file_header all = All-head P (part 0 class.header_length) (table_parts class (table_of class order file)) all
+
+  -- of the section names and the section headers
+  pub of_tables : All P (elf_section_parts class order file) → All P (table_parts class (table_of class order file))
+  unfolding elf_section_parts
+  of_tables all = All-tail P (part 0 class.header_length) (table_parts class (table_of class order file)) all
+
+  -- of the parts of its sections, and of those of the symbol table
+  pub of_sections : (which : SymbolTable) → All P (elf_parts which class order file) → All P (elf_section_parts class order file)
+  unfolding elf_parts
+  of_sections which all = front P (elf_section_parts class order file) (found_parts file (table_sections which (walk class (table_of class order file)))) all
+
+  pub of_symbols : (which : SymbolTable) → All P (elf_parts which class order file) → All P (found_parts file (table_sections which (walk class (table_of class order file))))
+  unfolding elf_parts
+  of_symbols which all = back P (elf_section_parts class order file) (found_parts file (table_sections which (walk class (table_of class order file)))) all
+
+  -- those of a table that was found
+  module _ (table : SectionTable) (placed : table_step class order file ≡ Ok table) where
+    pub of_table : All P (elf_section_parts class order file) → All P (table_parts class table)
+    of_table all = subst (λ (t : SectionTable). All P (table_parts class t)) (table_found class order file table placed) (of_tables all)
+
+    pub of_rows : (which : SymbolTable) (sections : TableSections) → table_sections which (walk class table) ≡ Ok sections → All P (elf_parts which class order file) → All P (rows_parts file sections)
+    of_rows which sections found all =
+        of_found P file (table_sections which (walk class (table_of class order file))) sections
+        (ap (λ (t : SectionTable). table_sections which (walk class t)) (table_found class order file table placed) ∙ found) (of_symbols which all)
+
+-- the symbol table that is needed is the one that is found
+pub needed_table : (which : SymbolTable) (sections : Walk Section) (names : Option (List ℕ)) (wanted : List ℕ) (found : NeededSections) → needed which sections names wanted ≡ Ok found → table_sections which sections ≡ Ok found.table
+unfolding needed
+needed_table which sections names wanted found is = by_section (sought symbols_section_is_missing (λ s. is_named wanted (name_among names s.name_offset)) sections) is
+  where
+    by_table : (section : Section) (tables : Result TableSections Refusal) → (tables >>= λ table. Ok (record { section = section; table = table })) ≡ Ok found → tables ≡ Ok found.table
+    by_table section (Ok table) e =
+        let same : record { section = section; table = table } ≡ found = cc in
+        ap (λ (n : NeededSections). Ok n.table) same
+    by_table section (Err refusal) e = absurd cc
+
+    by_section : (o : Result Section Refusal) → (o >>= λ section. table_sections which sections >>= λ table. Ok (record { section = section; table = table })) ≡ Ok found → table_sections which sections ≡ Ok found.table
+    by_section (Ok section) e = by_table section (table_sections which sections) e
+    by_section (Err refusal) e = absurd cc
+
+pub needed_of_all_table : (which : SymbolTable) (sections : Walk Section) (found : TableSections) → needed_of_all which sections ≡ Ok found → table_sections which sections ≡ Ok found
+unfolding needed_of_all
+needed_of_all_table which sections found is = by_end sections.refusal is
+  where
+    by_end : (end : Option Refusal) → (unless end sections >>= table_sections which) ≡ Ok found → table_sections which sections ≡ Ok found
+    by_end None e = e
+    by_end (Some refusal) e = absurd cc

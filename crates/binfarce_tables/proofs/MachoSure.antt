@@ -1,0 +1,52 @@
+-- The parts of a Mach-O file that are surely given.
+use Rattle.std.proofs.Common.{◌≡◌, ℕ, Bool, true, false, eqb, map, List, ◌∷◌, length, Option, Result, Ok, Err, subst}
+use Rattle.std.specs.Prelude.{All}
+use Rattle.std.proofs.lemmas.List.Elements.{All-head, All-tail}
+use Rattle.binfarce_bytes.specs.Number.{bytes_at}
+use Rattle.binfarce_bytes.specs.Part.{Part, part, parts_if}
+use Rattle.binfarce_bytes.specs.Refusal.{◌>>=◌, Refusal}
+use Rattle.binfarce_macho.specs.Macho.{header_of}
+use Rattle.binfarce_macho.specs.MachoAll.{section_starts, end_at, name_at}
+use Rattle.binfarce_macho.specs.MachoParts.{holds_commands}
+use Rattle.binfarce_macho.specs.MachoSymbols.{SymbolTable, table_of}
+use Rattle.binfarce_tables.specs.MachoReads.{said_end, whole_file, macho_section_parts, table_parts, found_parts, macho_parts}
+use Rattle.binfarce_tables.specs.machine.MachoPlaces.{CommandParts, all_commands}
+use Rattle.binfarce_tables.proofs.Sure.{front, back, only}
+
+-- a source surely gives this part
+abbrev pub Given : (Part → Bool) → Part → Type 0
+Given is_sure p = is_sure p ≡ true
+
+-- what is true of each part that is read is true of these
+module _ (P : Part → Type 0) (file : List ℕ) where
+  pub header_part : All P (macho_section_parts file) → P (part 0 28)
+  unfolding macho_section_parts
+  header_part all = All-head P (part 0 28) (part 0 (said_end file) ∷ whole_file file) all
+
+  pub prefix_part : All P (macho_section_parts file) → P (part 0 (said_end file))
+  unfolding macho_section_parts
+  prefix_part all = All-head P (part 0 (said_end file)) (whole_file file) (All-tail P (part 0 28) (part 0 (said_end file) ∷ whole_file file) all)
+
+  pub file_part : holds_commands (bytes_at file 0 (said_end file)) ≡ false → All P (macho_section_parts file) → P (part 0 (length file))
+  unfolding macho_section_parts
+  file_part past all =
+      let rest : All P (whole_file file) = All-tail P (part 0 (said_end file)) (whole_file file) (All-tail P (part 0 28) (part 0 (said_end file) ∷ whole_file file) all) in
+      only P (part 0 (length file)) (rw past at rest)
+
+  pub section_parts : All P (macho_parts file) → All P (macho_section_parts file)
+  unfolding macho_parts
+  section_parts all = front P (macho_section_parts file) (found_parts file (table_of file)) all
+
+  pub symbol_parts : (table : Option (SymbolTable ℕ)) → table_of file ≡ Ok table → All P (macho_parts file) → All P (parts_if table (table_parts file))
+  unfolding macho_parts
+  symbol_parts table is all = subst (λ (r : Result (Option (SymbolTable ℕ)) Refusal). All P (found_parts file r)) is (back P (macho_section_parts file) (found_parts file (table_of file)) all)
+
+-- the table that is found with the sections is the one that the commands name
+pub commands_table : (file : List ℕ) (found : CommandParts) → all_commands file ≡ Ok found → table_of file ≡ Ok found.table
+commands_table file found is = by_starts (section_starts file) (table_of file) is
+  where
+    by_starts : (starts : Result (List ℕ) Refusal) (table : Result (Option (SymbolTable ℕ)) Refusal)
+        → (starts >>= λ s. table >>= λ t. Ok (record { ends = map (end_at file) s; names = map (name_at file) s; table = t; shares_addresses = eqb (header_of file).filetype 1 })) ≡ Ok found → table ≡ Ok found.table
+    by_starts (Ok s) (Ok t) is = cc
+    by_starts (Ok s) (Err why) is = absurd cc
+    by_starts (Err why) table is = absurd cc

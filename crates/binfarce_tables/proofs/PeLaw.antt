@@ -1,0 +1,170 @@
+-- PE files of one length that agree in the parts that are read have one answer.
+use Rattle.std.proofs.Common.{◌≡◌, ℕ, ◌+◌, ◌*◌, ◌-◌, ◌/◌, ◌<◌, ◌≤◌, Bool, true, false, cond, ltb, leb, ◌&&◌, List, [], ◌∷◌, length, min, max, Option, Some, None, Result, Ok, Err, refl, sym, ap, ap₂, ◌∙◌, arith, inl, inr}
+use Rattle.std.specs.Prelude.{All}
+use Rattle.std.proofs.lemmas.Bool.{cases_lt, cases_eq, lt-ltb, le-ltb, le-leb}
+use Rattle.std.proofs.lemmas.List.Elements.{All-head, All-tail}
+use Rattle.binfarce_bytes.specs.declared.ByteOrder.TheVariants.{LittleEndian}
+use Rattle.binfarce_bytes.specs.Number.{bytes_at, number}
+use Rattle.binfarce_bytes.specs.Part.{Part, part, SameIn, SameParts}
+use Rattle.binfarce_bytes.specs.Refusal.{◌>>=◌, Refusal, unexpected_eof}
+use Rattle.binfarce_bytes.specs.SectionEntries.{unless}
+use Rattle.binfarce_pe.specs.Pe.{header_after, header_of, least_length, signature_offset}
+use Rattle.binfarce_pe.specs.PeAll.{all_file_answer}
+use Rattle.binfarce_pe.specs.PeParts.{TablePlaces, TextPlace, SectionTable, headers_alone, places_after, places_of, table_walk, text_place}
+use Rattle.binfarce_pe.specs.PeSymbols.{SymbolTable, pe_file_answer}
+use Rattle.binfarce_tables.specs.BeginningReading.{pe_sections}
+use Rattle.binfarce_tables.specs.PeAllReading.{all_view}
+use Rattle.binfarce_tables.specs.PeReads.{pointer_part, header_part, headers_part, table_parts, beginning_part, pe_section_parts, pe_parts}
+use Rattle.binfarce_tables.specs.machine.PePlaces.{places_step, headers_at, text_at, whole_at, table_at}
+use Rattle.binfarce_tables.proofs.PeAllLocated as all
+use Rattle.binfarce_tables.proofs.PeAlone.{headers_of, header_alone, text_alone, text_of_none, text_outside}
+use Rattle.binfarce_tables.proofs.PeBeginning.{sections_held}
+use Rattle.binfarce_tables.proofs.PeSteps.{steps_are, after_places, listed, table_inside, table_outside, table_past}
+
+-- what follows the places of a file
+then_same : {X : Type 0} (file : List ℕ) (f g : TablePlaces → Result X Refusal) → f (places_of file) ≡ g (places_of file) → (places_step file >>= f) ≡ (places_step file >>= g)
+then_same {X} file f g same = by_test (ltb (length file) (least_length file))
+  where
+    by_test : (short : Bool) → Path (Result X Refusal) (cond short (Err unexpected_eof) (Ok (places_of file)) >>= f) (cond short (Err unexpected_eof) (Ok (places_of file)) >>= g)
+    by_test true = refl
+    by_test false = same
+
+module _ (file other : List ℕ) (long : length file ≡ length other) where
+  -- what is read at these places
+  module _ (places : TablePlaces) where
+    headers_same : SameIn file other (headers_part file places) → headers_of other places ≡ headers_of file places
+    headers_same same = ap (λ (n : ℕ). bytes_at other places.sections (min (places.section_count * 40) (n - places.sections))) (sym long) ∙ sym same
+
+    text_same : SameIn file other (headers_part file places) → text_at other places ≡ text_at file places
+    text_same same = elim (cases_lt places.sections (length file)) [
+      | inl inside ↦ elim (cases_eq places.section_count 0) [
+        | inl none ↦ text_of_none other places (omega (arith, inside, long)) none ∙ sym (text_of_none file places inside none)
+        | inr some ↦
+            let any : 0 < places.section_count = omega (arith, some) in
+            sym (text_alone other places (omega (arith, inside, long)) any)
+            ∙ ap (λ (headers : List ℕ). text_place (headers_alone headers places.section_count)) (headers_same same)
+            ∙ text_alone file places inside any
+      ]
+      | inr past ↦ text_outside other places (omega (arith, past, long)) ∙ sym (text_outside file places past)
+    ]
+
+    refusal_same : (table_walk (headers_at other places)).refusal ≡ (table_walk (headers_at file places)).refusal
+    unfolding table_walk
+    refusal_same = ap (λ (n : ℕ). cond (ltb places.sections n && leb places.section_count ((n + 16 - places.sections) / 40)) None (Some unexpected_eof)) (sym long)
+
+    whole_same : SameIn file other (headers_part file places) → whole_at other places ≡ whole_at file places
+    whole_same same = ap₂ (λ (why : Option Refusal) (headers : List ℕ). unless why (headers_alone headers places.section_count)) refusal_same (headers_same same)
+
+    abbrev end : ℕ
+    end = places.symbols + places.symbols_size
+
+    abbrev rows_part : Part
+    rows_part = part places.symbols places.symbols_size
+
+    abbrev strings_part : Part
+    strings_part = part end (length file - end)
+
+    abbrev table_of : List ℕ → List ℕ → Result SymbolTable Refusal
+    table_of rows strings = Ok (record { rows = rows; strings = strings })
+
+    inside_same : places.symbols < length file → end ≤ length file → All (SameIn file other) (rows_part ∷ strings_part ∷ []) → table_at other places ≡ table_at file places
+    inside_same begins inside same =
+        let rows : SameIn file other rows_part = All-head (SameIn file other) rows_part (strings_part ∷ []) same in
+        let strings : SameIn file other strings_part = All-head (SameIn file other) strings_part [] (All-tail (SameIn file other) rows_part (strings_part ∷ []) same) in
+        table_inside other places (omega (arith, begins, long)) (omega (arith, inside, long))
+        ∙ ap₂ table_of (sym rows) (ap (λ (n : ℕ). bytes_at other end (n - end)) (sym long) ∙ sym strings)
+        ∙ sym (table_inside file places begins inside)
+
+    table_same : All (SameIn file other) (table_parts file places) → table_at other places ≡ table_at file places
+    table_same same = elim (cases_lt places.symbols (length file)) [
+      | inl begins ↦ elim (cases_lt (length file) end) [
+        | inl past ↦ table_past other places (omega (arith, begins, long)) (omega (arith, past, long)) ∙ sym (table_past file places begins past)
+        | inr inside ↦ inside_same begins inside (rw (le-leb end (length file) inside) at same)
+      ]
+      | inr past ↦ table_outside other places (omega (arith, past, long)) ∙ sym (table_outside file places past)
+    ]
+
+  -- the places themselves
+  module _ (pointer : SameIn file other pointer_part) (header : SameIn file other (header_part file)) where
+    signature_same : signature_offset other ≡ signature_offset file
+    signature_same = ap (number LittleEndian) (sym pointer)
+
+    header_same : header_of other ≡ header_of file
+    header_same =
+        ap (header_after other) signature_same
+        ∙ sym (header_alone other (signature_offset file))
+        ∙ ap (λ (bytes : List ℕ). header_after bytes 0) (sym header)
+        ∙ header_alone file (signature_offset file)
+
+    step_same : places_step other ≡ places_step file
+    step_same =
+        ap₂ (λ (n s : ℕ). cond (ltb n (max 64 (s + 24))) (Err unexpected_eof) (Ok (places_of other))) (sym long) signature_same
+        ∙ ap (λ (places : TablePlaces). cond (ltb (length file) (least_length file)) (Err unexpected_eof) (Ok places)) (ap₂ places_after signature_same header_same)
+
+    sections_same : SameIn file other (beginning_part file (places_of file)) → pe_sections other ≡ pe_sections file
+    sections_same same = elim (cases_lt (length file) (least_length file)) [
+      | inl short ↦ rw (lt-ltb (length file) (least_length file) short, lt-ltb (length other) (least_length other) (omega (arith, short, long, signature_same))) refl
+      | inr room ↦
+          let places = places_of file in
+          let end = min (max (places.sections + max (places.section_count * 40) 1) 64) (length file) in
+          let step : places_step file ≡ Ok places = rw (le-ltb (length file) (least_length file) room) refl in
+          sym (sections_held other places end (step_same ∙ step) (ap (min (max (places.sections + max (places.section_count * 40) 1) 64)) long))
+          ∙ ap pe_sections (sym same)
+          ∙ sections_held file places end step refl
+    ]
+
+module _ (file other : List ℕ) (same : SameParts (pe_parts file) file other) where
+  abbrev P : Part → Type 0
+  P = SameIn file other
+
+  abbrev rest : List Part
+  rest = headers_part file (places_of file) ∷ table_parts file (places_of file)
+
+  each : All P (pointer_part ∷ header_part file ∷ rest)
+  unfolding pe_parts
+  each = same.each
+
+  after_pointer : All P (header_part file ∷ rest)
+  after_pointer = All-tail P pointer_part (header_part file ∷ rest) each
+
+  after_header : All P rest
+  after_header = All-tail P (header_part file) rest after_pointer
+
+  step : places_step other ≡ places_step file
+  step = step_same file other same.lengths (All-head P pointer_part (header_part file ∷ rest) each) (All-head P (header_part file) rest after_pointer)
+
+  headers : SameIn file other (headers_part file (places_of file))
+  headers = All-head P (headers_part file (places_of file)) (table_parts file (places_of file)) after_header
+
+  table : table_at other (places_of file) ≡ table_at file (places_of file)
+  table = table_same file other same.lengths (places_of file) (All-tail P (headers_part file (places_of file)) (table_parts file (places_of file)) after_header)
+
+  -- of `.text`
+  pub file_answer_same : pe_file_answer other ≡ pe_file_answer file
+  file_answer_same =
+      steps_are other
+      ∙ ap (λ (r : Result TablePlaces Refusal). r >>= after_places other) step
+      ∙ then_same file (after_places other) (after_places file)
+      (ap₂ (λ (text : Result TextPlace Refusal) (table : Result SymbolTable Refusal). text >>= λ text. table >>= listed text) (text_same file other same.lengths (places_of file) headers) table)
+      ∙ sym (steps_are file)
+
+  -- of all sections
+  pub all_answer_same : all_file_answer other ≡ all_file_answer file
+  all_answer_same =
+      all.steps_are other
+      ∙ ap (λ (r : Result TablePlaces Refusal). r >>= all.after_places other) step
+      ∙ then_same file (all.after_places other) (all.after_places file)
+      (ap₂ (λ (sections : Result SectionTable Refusal) (table : Result SymbolTable Refusal). sections >>= λ sections. table >>= λ symbols. Ok (all_view (record { sections = sections; symbols = symbols }))) (whole_same file other same.lengths (places_of file) headers) table)
+      ∙ sym (all.steps_are file)
+
+-- the sections
+pub file_sections_same : (file other : List ℕ) → SameParts (pe_section_parts file) file other → pe_sections other ≡ pe_sections file
+unfolding pe_section_parts
+file_sections_same file other same =
+    let P = SameIn file other in
+    let beginning = beginning_part file (places_of file) in
+    let after_pointer = All-tail P pointer_part (header_part file ∷ beginning ∷ []) same.each in
+    sections_same file other same.lengths
+    (All-head P pointer_part (header_part file ∷ beginning ∷ []) same.each)
+    (All-head P (header_part file) (beginning ∷ []) after_pointer)
+    (All-head P beginning [] (All-tail P (header_part file) (beginning ∷ []) after_pointer))

@@ -1,0 +1,82 @@
+-- The parts of a PE file that a source surely gives.
+use Rattle.std.proofs.Common.{◌≡◌, ℕ, ◌+◌, ◌-◌, ◌≤◌, Bool, true, List, [], ◌∷◌, length, Ok, sym, subst}
+use Rattle.std.proofs.lemmas.Bool.{le-leb}
+use Rattle.std.proofs.lemmas.List.Elements.{All-head, All-tail, All-take}
+use Rattle.binfarce_bytes.specs.Part.{Part, part, AreSure}
+use Rattle.binfarce_pe.specs.PeParts.{TablePlaces, places_of}
+use Rattle.binfarce_tables.specs.PeReads.{pointer_part, header_part, places_parts, headers_part, table_parts, beginning_part, pe_section_parts, pe_parts}
+use Rattle.binfarce_tables.specs.machine.PePlaces.{signature_step, places_step}
+use Rattle.binfarce_tables.proofs.PeBeginning.{places_read}
+use Rattle.binfarce_tables.proofs.PeSteps.{signature_known}
+
+module _ (sure : Part → Bool) (file : List ℕ) where
+  abbrev P : Part → Type 0
+  P = λ (p : Part). sure p ≡ true
+
+  -- those of the symbols, at the places that were read
+  module _ (are : AreSure sure (pe_parts file)) where
+    each : AreSure sure (pointer_part ∷ header_part file ∷ headers_part file (places_of file) ∷ table_parts file (places_of file))
+    unfolding pe_parts
+    each = are
+
+    rest : AreSure sure (headers_part file (places_of file) ∷ table_parts file (places_of file))
+    rest =
+        All-tail P (header_part file) (headers_part file (places_of file) ∷ table_parts file (places_of file))
+        (All-tail P pointer_part (header_part file ∷ headers_part file (places_of file) ∷ table_parts file (places_of file)) each)
+
+    pub pointer_sure : sure pointer_part ≡ true
+    pointer_sure = All-head P pointer_part (header_part file ∷ headers_part file (places_of file) ∷ table_parts file (places_of file)) each
+
+    pub places_sure : AreSure sure (places_parts file)
+    places_sure = All-take P 2 (pointer_part ∷ header_part file ∷ headers_part file (places_of file) ∷ table_parts file (places_of file)) each
+
+    module _ (places : TablePlaces) (step : places_step file ≡ Ok places) where
+      same : places_of file ≡ places
+      same = let is = places_read file places step in sym is.0
+
+      pub headers_sure : sure (headers_part file places) ≡ true
+      headers_sure = subst (λ (p : TablePlaces). sure (headers_part file p) ≡ true) same (All-head P (headers_part file (places_of file)) (table_parts file (places_of file)) rest)
+
+      pub table_sure : AreSure sure (table_parts file places)
+      table_sure = subst (λ (p : TablePlaces). AreSure sure (table_parts file p)) same (All-tail P (headers_part file (places_of file)) (table_parts file (places_of file)) rest)
+
+  -- those of the sections
+  module _ (are : AreSure sure (pe_section_parts file)) where
+    section_each : AreSure sure (pointer_part ∷ header_part file ∷ beginning_part file (places_of file) ∷ [])
+    unfolding pe_section_parts
+    section_each = are
+
+    pub section_pointer_sure : sure pointer_part ≡ true
+    section_pointer_sure = All-head P pointer_part (header_part file ∷ beginning_part file (places_of file) ∷ []) section_each
+
+    pub section_places_sure : AreSure sure (places_parts file)
+    section_places_sure = All-take P 2 (pointer_part ∷ header_part file ∷ beginning_part file (places_of file) ∷ []) section_each
+
+    pub beginning_sure : (places : TablePlaces) → places_step file ≡ Ok places → sure (beginning_part file places) ≡ true
+    beginning_sure places step =
+        let is = places_read file places step in
+        let beginning = beginning_part file (places_of file) in
+        subst (λ (p : TablePlaces). sure (beginning_part file p) ≡ true) (sym is.0)
+        (All-head P beginning [] (All-tail P (header_part file) (beginning ∷ []) (All-tail P pointer_part (header_part file ∷ beginning ∷ []) section_each)))
+
+  -- the headers, at the offset that was read
+  pub header_sure : (signature : ℕ) → signature_step file ≡ Ok signature → AreSure sure (places_parts file) → sure (part signature 24) ≡ true
+  header_sure signature step are =
+      let is = signature_known file signature step in
+      subst (λ (n : ℕ). sure (part n 24) ≡ true) (sym is.1) (All-head P (header_part file) [] (All-tail P pointer_part (header_part file ∷ []) are))
+
+  -- those of a symbol table that lies in the file
+  module _ (places : TablePlaces) (are : AreSure sure (table_parts file places)) (inside : places.symbols + places.symbols_size ≤ length file) where
+    abbrev end : ℕ
+    end = places.symbols + places.symbols_size
+
+    both : AreSure sure (part places.symbols places.symbols_size ∷ part end (length file - end) ∷ [])
+    both = rw (le-leb end (length file) inside) at are
+
+    pub rows_sure : sure (part places.symbols places.symbols_size) ≡ true
+    rows_sure = All-head P (part places.symbols places.symbols_size) (part end (length file - end) ∷ []) both
+
+    pub strings_sure : (len : ℕ) → len ≡ length file → sure (part end (len - end)) ≡ true
+    strings_sure len is =
+        subst (λ (n : ℕ). sure (part end (n - end)) ≡ true) (sym is)
+        (All-head P (part end (length file - end)) [] (All-tail P (part places.symbols places.symbols_size) (part end (length file - end) ∷ []) both))

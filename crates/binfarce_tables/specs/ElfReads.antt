@@ -1,0 +1,60 @@
+-- The parts of an ELF file that are read.
+use Rattle.std.specs.Prelude.{ℕ, ◌+◌, ◌*◌, List, [], ◌∷◌, ◌++◌, length, min, Result, Ok, Err, nat_eq, nat_lt, if◌then◌else◌}
+use Rattle.binfarce_bytes.specs.declared.ByteOrder.{ByteOrder}
+use Rattle.binfarce_bytes.specs.Part.{Part, part, whole_part, parts_if}
+use Rattle.binfarce_bytes.specs.Refusal.{Refusal}
+use Rattle.binfarce_elf.specs.Elf.{ElfClass, SectionTable, Section, section_table, walk, whole_headers, names_section}
+use Rattle.binfarce_elf.specs.ElfSymbols.{TableSections, table_sections}
+use Rattle.binfarce_elf.specs.declared.symbol_table.SymbolTable.{SymbolTable}
+
+-- the section header table as a file's header describes it
+abbrev pub table_of : ElfClass → ByteOrder → List ℕ → SectionTable
+table_of class order file = section_table class (record { order = order; bytes = file })
+
+-- the bytes of a section, if it lies in the file
+abbrev pub section_parts : List ℕ → Section → List Part
+section_parts file section = whole_part file section.offset section.size
+
+-- the header of the section names' own section, if it is whole: its index may be past the count
+abbrev pub names_header : ElfClass → SectionTable → List Part
+names_header class table =
+    if nat_lt table.shstrndx (whole_headers class table)
+    then part (table.shoff + table.shstrndx * class.section_length) class.section_length ∷ []
+    else []
+
+-- that header, and the section names
+unfoldable pub names_parts : ElfClass → SectionTable → List Part
+names_parts class table = names_header class table ++ parts_if (names_section class table) (section_parts table.file)
+
+-- how many bytes the section headers have that are whole and below the count
+abbrev pub headers_size : ElfClass → SectionTable → ℕ
+headers_size class table = min table.shnum (whole_headers class table) * class.section_length
+
+-- these headers, of a table that begins in the file; of one without headers, its first byte
+unfoldable pub headers_parts : ElfClass → SectionTable → List Part
+headers_parts class table =
+    if nat_lt table.shoff (length table.file)
+    then part table.shoff (if nat_eq table.shnum 0 then 1 else headers_size class table) ∷ []
+    else []
+
+-- the section names and the section headers
+abbrev pub table_parts : ElfClass → SectionTable → List Part
+table_parts class table = names_parts class table ++ headers_parts class table
+
+-- the strings and the rows of a symbol table
+abbrev pub rows_parts : List ℕ → TableSections → List Part
+rows_parts file sections = section_parts file sections.strings ++ section_parts file sections.symbols
+
+-- those of a symbol table that is found
+unfoldable pub found_parts : List ℕ → Result TableSections Refusal → List Part
+found_parts file (Ok sections) = rows_parts file sections
+found_parts file (Err refusal) = []
+
+-- what a reading of the sections reads: the file header, the section names and the section headers
+unfoldable pub elf_section_parts : ElfClass → ByteOrder → List ℕ → List Part
+elf_section_parts class order file = part 0 class.header_length ∷ table_parts class (table_of class order file)
+
+-- what a reading of the function symbols reads: that, and the strings and the rows of this symbol table
+unfoldable pub elf_parts : SymbolTable → ElfClass → ByteOrder → List ℕ → List Part
+elf_parts which class order file =
+    elf_section_parts class order file ++ found_parts file (table_sections which (walk class (table_of class order file)))

@@ -1,0 +1,41 @@
+-- The parts of a PE file that are read.
+use Rattle.std.specs.Prelude.{ℕ, ◌+◌, ◌-◌, ◌*◌, List, [], ◌∷◌, length, min, max, nat_le, if◌then◌else◌}
+use Rattle.binfarce_bytes.specs.Field.{field}
+use Rattle.binfarce_bytes.specs.Part.{Part, field_part, part}
+use Rattle.binfarce_pe.specs.Pe.{headers_length, signature_offset, section_length}
+use Rattle.binfarce_pe.specs.PeParts.{TablePlaces, places_of}
+
+-- the signature's offset, in the MS-DOS stub
+abbrev pub pointer_part : Part
+pointer_part = field_part 0 (field 0x3C 4)
+
+-- the signature and the file header
+abbrev pub header_part : List ℕ → Part
+header_part file = part (signature_offset file) headers_length
+
+-- these state where the tables are
+abbrev pub places_parts : List ℕ → List Part
+places_parts file = pointer_part ∷ header_part file ∷ []
+
+-- the section headers: as many of their bytes as the file has
+abbrev pub headers_part : List ℕ → TablePlaces → Part
+headers_part file places = part places.sections (min (places.section_count * section_length) (length file - places.sections))
+
+-- the records of the symbol table, and the bytes after them, which have the strings; none where the records extend past the file's end
+abbrev pub table_parts : List ℕ → TablePlaces → List Part
+table_parts file places =
+    let end = places.symbols + places.symbols_size in
+    if nat_le end (length file) then part places.symbols places.symbols_size ∷ part end (length file - end) ∷ [] else []
+
+-- the beginning up to the end of the section headers, or where there are none up to the end of the first byte of their table; at least the stub, but no
+-- more than the file has
+abbrev pub beginning_part : List ℕ → TablePlaces → Part
+beginning_part file places = part 0 (min (max (places.sections + max (places.section_count * section_length) 1) 64) (length file))
+
+-- what a reading of the sections reads
+unfoldable pub pe_section_parts : List ℕ → List Part
+pe_section_parts file = pointer_part ∷ header_part file ∷ beginning_part file (places_of file) ∷ []
+
+-- what a reading of the symbols reads, of `.text` or of all sections
+unfoldable pub pe_parts : List ℕ → List Part
+pe_parts file = pointer_part ∷ header_part file ∷ headers_part file (places_of file) ∷ table_parts file (places_of file)

@@ -68,10 +68,6 @@ module _ (rows : List Row) (nodes : List Node) (links : AreLinksOf rows nodes) (
       let is : node ≡ node - 1 + 1 = omega arith in
       omega (arith, ap (λ (n : ℕ). (node_at nodes n).last) is, reached (node - 1) (omega arith), past)
 
-  -- one step out
-  pub step_out : ((node_at nodes node).outer < node) × ArePast rows address (node_at nodes node).outer node
-  step_out = (links.linked.outer_below node some in_nodes, λ k low high. omega (arith, links.linked.outer_covers node (k + 1) in_nodes (omega arith) (omega arith), reached k (omega arith), short))
-
   -- a jump to a node that doesn't reach the address either
   pub step_over : 0 < (node_at nodes node).jump → (row_at rows ((node_at nodes node).jump - 1)).last < address → ((node_at nodes node).jump < node) × ArePast rows address (node_at nodes node).jump node
   step_over inside low_too =
@@ -81,16 +77,9 @@ module _ (rows : List Row) (nodes : List Node) (links : AreLinksOf rows nodes) (
       let there : (node_at nodes jump).last < address = omega (arith, ap (λ (n : ℕ). (node_at nodes n).last) is, reached (jump - 1) (omega (arith, below)), low_too) in
       (below, λ k low high. omega (arith, links.linked.jump_covers node (k + 1) in_nodes (omega arith) (omega arith), reached k (omega arith), there))
 
--- where no node is needed, no earlier row reaches the address
-pub none_before : (rows : List Row) (node address : ℕ) → DoReachFurther rows → 0 < node → node ≤ length rows → (row_at rows (node - 1)).last < address → ArePast rows address 0 node
-none_before rows node address further some within past k low high = omega (arith, further k (node - 1) (omega arith) (omega arith), past)
-
 -- some nodes, and none
 pub are_some : (n : ℕ) → (n == 0) ≡ false → 0 < n
 are_some n e = grind (arith, nat_tests)
-
-pub are_none : (n : ℕ) → (n == 0) ≡ true → n ≡ 0
-are_none n e = grind (arith, nat_tests)
 
 -- no earlier row reaches further than one whose node has none before it but the first
 pub reach_further : (rows : List Row) (nodes : List Node) → AreNodesOf rows nodes → (k : ℕ) → k < length rows → (node_at nodes (k + 1)).outer ≡ 0 → (j : ℕ) → j ≤ k → (row_at rows j).last ≤ (row_at rows k).last

@@ -11,10 +11,6 @@ use Rattle.binfarce_addresses.specs.machine.Index.{AreLinked, JumpsOver, Follows
 pub jumped : (nodes : List Node) (v : ℕ) → AreLinked nodes → v < length nodes → JumpsOver nodes v (node_at nodes v).jump
 jumped nodes v linked within = record { below = linked.jump_within v within; covers = λ k low high. linked.jump_covers v k within low high }
 
--- a jump on the spot
-pub on_the_spot : (nodes : List Node) (v : ℕ) → JumpsOver nodes v v
-on_the_spot nodes v = record { below = omega arith; covers = λ k low high. let same : k ≡ v = omega arith in rw same (omega arith) }
-
 -- two jumps are one
 pub jumped_on : (nodes : List Node) (v far farther : ℕ) → JumpsOver nodes v far → JumpsOver nodes far farther → JumpsOver nodes v farther
 jumped_on nodes v far farther first then = record {
@@ -102,7 +98,3 @@ pub first_node : (nodes new : List Node) (node : Node) → nodes ≡ [] → new 
 first_node nodes new node none is last outer jump =
     let alone : new ≡ node ∷ [] = is ∙ ap (λ (xs : List Node). xs ++ node ∷ []) none in
     subst AreLinked (sym alone) (root_linked node last outer jump)
-
--- what is read at a place
-pub read_node : (nodes : List Node) (k : ℕ) (node : Node) → k < length nodes → node ≡ get_or nodes k node → node ≡ node_at nodes k
-read_node nodes k node lt is = is ∙ get_or_default nodes k node no_node lt

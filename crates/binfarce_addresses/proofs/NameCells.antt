@@ -19,33 +19,11 @@ use Rattle.binfarce_addresses.specs.machine.Places.{AreNamesOf, ranges_of}
 use Rattle.binfarce_addresses.proofs.KeptNames.{kept}
 use Rattle.binfarce_addresses.proofs.Shown.{found_none, shown_by}
 
--- no cell yet
-pub no_cells : (ranges : List AddressRange) (bounds : List ℕ) (cells : List Cell) → length cells ≡ 0 → AreCellsOf ranges bounds cells
-no_cells ranges bounds cells none = record { each = λ k lt. absurd (omega arith) }
-
--- one more
-pub one_cell : (ranges : List AddressRange) (bounds : List ℕ) (cells new : List Cell) (cell : Cell) → AreCellsOf ranges bounds cells → IsCellOf ranges bounds cell → new ≡ cells ++ cell ∷ [] → AreCellsOf ranges bounds new
-one_cell ranges bounds cells new cell are is grown = record {
-  each = λ k lt. elim (cases_lt k (length cells)) [
-    | inl old ↦
-        let here : cell_at new k ≡ cell_at cells k = ap (λ (cs : List Cell). get_or cs k no_cell) grown ∙ get_or-append cells (cell ∷ []) no_cell k old in
-        subst (λ (x : Cell). IsCellOf ranges bounds x) (sym here) (are.each k old)
-    | inr ge ↦
-        let last : k ≡ length cells = omega (arith, lt, ap (length {A = Cell}) grown, length-append cells (cell ∷ [])) in
-        let here : cell_at new k ≡ cell = ap (λ (cs : List Cell). get_or cs k no_cell) grown ∙ ap (λ n. get_or (cells ++ cell ∷ []) n no_cell) last ∙ get_or-append_seam cells cell [] no_cell in
-        subst (λ (x : Cell). IsCellOf ranges bounds x) (sym here) is
-  ];
-}
-
 -- a cell that is read is one of them
 pub cell_is : (ranges : List AddressRange) (bounds : List ℕ) (cells : List Cell) (k : ℕ) (cell : Cell) → AreCellsOf ranges bounds cells → k < length cells → cell ≡ cell_at cells k → IsCellOf ranges bounds cell
 cell_is ranges bounds cells k cell are lt is = subst (λ (x : Cell). IsCellOf ranges bounds x) (sym is) (are.each k lt)
 
 module _ (functions : List FunctionSymbol) (ranges : List AddressRange) (entries : List Entry) (text bounds : List ℕ) (are : ranges ≡ ranges_of functions) (named : AreNamesOf (map function_view functions) text bounds) (seen : map function_view functions ≡ entries) (cell : Cell) (is : IsCellOf ranges bounds cell) where
-  -- its name is in the text
-  pub in_text : cell.start + cell.len ≤ length text
-  in_text = let rise = named.rise is.place is.kept in omega (arith, rise.1, is.stops)
-
   -- and is that of the entry that the address symbolizes to
   pub name_at : (base address x stop : ℕ) (shown : List ℕ) → in_file base address ≡ Some x → x ≡ address - base → shown ≡ text → stop ≡ cell.start + cell.len → cell.address ≤ x → x - cell.address < cell.size → IsNameAt entries base address (take (stop - cell.start) (drop cell.start shown)) (x - cell.address)
   name_at base address x stop shown inside left same ends low high =

@@ -73,7 +73,7 @@ impl<'a> Places<'a> {
     /// # Errors
     ///
     /// As `of_file`.
-    pub fn of_tables(alloc: Global, tables: &'a Tables) -> Result<Places<'a>, ListError>
+    pub fn of_tables(alloc: Global, tables: &'a Tables<'_>) -> Result<Places<'a>, ListError>
         ensures made { (which : SymbolTable) (file section : List ℕ) → AreTablesOf which file section tables.entry.now
             → IsMadeOf (FileNeedsMemory file) (answer_of which file section) result }
         ensures unwritten { IfErr result (λ e. e ≢ Write) }
@@ -378,8 +378,7 @@ pub fn at<S: Sink>(
     ensures fails { Fails (S.has_failed out.old) (S.has_failed out.new) (outcome_of result) }
     ensures leaves { Leaves out.old out.new (outcome_of result) }
 {
-    let places = Places::of_file(alloc, data, section)?;
-    write_lines(alloc, &places, base, addresses, out)
+    at_tables(alloc, &Tables::whole(data, section), base, addresses, out)
 }
 
 /// As `at`, from the tables of a file: for the section that they were read for.
@@ -389,7 +388,7 @@ pub fn at<S: Sink>(
 /// As `at`.
 pub fn at_tables<S: Sink>(
     alloc: Global,
-    tables: &Tables,
+    tables: &Tables<'_>,
     base: u64,
     addresses: &[u64],
     out: &mut S,

@@ -16,7 +16,3 @@ one_line names i name text more new lt here first second lines =
     let next : lines_of (map (λ (n : Bor (List ℕ)). n.now) (drop i names)) ≡ line ++ left =
     rw (add-one, drop-cons names i name) (ap (λ (n : Bor (List ℕ)). (n.now ++ 10 ∷ []) ++ lines_of (map (λ (n : Bor (List ℕ)). n.now) (drop (suc i) names))) (sym here)) in
     ap (λ (x : List ℕ). x ++ left) whole ∙ append_assoc text line left ∙ ap (λ (x : List ℕ). text ++ x) (sym next) ∙ lines
-
-pub all_lines : (names : List (Bor (List ℕ))) (i : ℕ) (text : List ℕ) → length names ≤ i → HasLines names i text → text ≡ lines_of (map (λ name. name.now) names)
-all_lines names i text le lines =
-    sym (append-nil text) ∙ ap (λ (left : List (Bor (List ℕ))). text ++ lines_of (map (λ (n : Bor (List ℕ)). n.now) left)) (sym (drop_of_length-le names le)) ∙ lines

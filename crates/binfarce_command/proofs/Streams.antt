@@ -75,11 +75,6 @@ consumes_kept (Some a) None c first x y = absurd x
 consumes_kept (Some a) (Some b) None first x y = absurd y
 consumes_kept (Some a) (Some b) (Some c) first x y = x ∙ ap (λ (z : List ℕ). first ++ z) (sym y)
 
--- a byte more was read
-pub read_more : (a b c : Option (List ℕ)) (before part bytes : List ℕ) → Consumes a b before → bytes ≡ before ++ part → Consumes b c part → Consumes a c bytes
-read_more a b c before part bytes x is y =
-    let P : List ℕ → Type 0 = λ xs. Consumes a c xs in subst P (sym is) (consumes_more a b c before part x y)
-
 -- none is left
 pub read_all : (a b c : Option (List ℕ)) (before bytes : List ℕ) → Consumes a b before → bytes ≡ before → Consumes b c [] → Consumes a c bytes
 read_all a b c before bytes x is y =

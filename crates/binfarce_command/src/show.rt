@@ -86,7 +86,7 @@ pub fn show<S: Source, K: Sink>(
 fn show_tables<K: Sink>(
     alloc: Global,
     kind: Kind,
-    tables: &Tables,
+    tables: &Tables<'_>,
     out: &mut K,
 ) -> Result<(), Fault>
     ensures outcome { (which : SymbolTable) (file section : List ℕ) → AreTablesOf which file section tables.now

@@ -119,9 +119,6 @@ module _ {Y : Type 0} where
   abbrev pub Fit : BTreeMap (String Y) ℕ → ℕ → Type 0
   Fit crates total = (name : List ℕ) → sum_at crates name ≤ total
 
-  pub fit_begun : (crates : BTreeMap (String Y) ℕ) → IsEmpty crates → Fit crates 0
-  fit_begun crates empty name = rw empty (omega arith)
-
   pub fit_more : (old new : BTreeMap (String Y) ℕ) (s : Share) (total more : ℕ) → Adds old s new → Fit old total → more ≡ total + s.size → Fit new more
   fit_more old new s total more adds fit is name = omega (arith, is, fit name, sum_added old new s name adds, at_most s name)
 

@@ -14,12 +14,4 @@ pub mod Maps
 pub mod AllGiven
 pub mod AllSums
 mod Decided
-mod ElfHeld
-mod MachoSame
-mod MachoWalk
-mod PeSame
-mod Same
-mod Slices
-mod Split
 mod SymbolLaws
-mod PartTables

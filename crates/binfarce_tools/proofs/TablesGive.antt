@@ -1,6 +1,6 @@
 -- What the parts of a Mach-O or PE file give is what the file answers.
 use Rattle.std.proofs.Common.{◌≡◌, ℕ, Bool, true, false, ltb, List, [], length, Vec, Global, Option, Some, None, Result, Ok, Err, refl, sym, ap, subst, ◌∙◌, inl, inr}
-use Rattle.std.specs.Prelude.{◌≢◌, if◌then◌else◌}
+use Rattle.std.specs.Prelude.{◌≢◌, IfErr, if◌then◌else◌}
 use Rattle.std.specs.Result.{IsErrAnd}
 use Rattle.binfarce.specs.declared.Format.{Format}
 use Rattle.binfarce.specs.declared.Format.TheVariants as formats
@@ -18,6 +18,7 @@ use Rattle.binfarce.specs.SymbolViews.{HoldsFunctions}
 use Rattle.binfarce_tables.specs.MachoReading.{located_answer}
 use Rattle.binfarce_tools.specs.declared.functions.Functions.{Functions}
 use Rattle.binfarce_tools.specs.declared.list.ListError.{ListError}
+use Rattle.binfarce_tools.specs.declared.list.ListError.TheVariants.{Unknown, Parse, OutOfMemory, Write}
 use Rattle.binfarce_tools.specs.Answer.{symbols_answer, answer_of as answer_by, NeedsMemory}
 use Rattle.binfarce_tools.specs.Entries.{HoldsLeft, IsArranged, Gets}
 use Rattle.binfarce_tools.specs.ListWords.{list_error_of}
@@ -117,3 +118,19 @@ module _ (which : SymbolTable) (file section : List ℕ) (found : Option Located
       of_file result
       (reported_refusal (λ _. HasAddress file) (macho_file_answer file) e result (reported_macho file)
       (subst (λ (a : Result Listed Refusal). Answers HoldsLeft (λ _. HasAddress file) a (Err e)) same (of_err (SomeAddress found) (HasAddress file) (answer_of found) e some answers)) err)
+
+-- what a whole file gives is its own answer for its section by the symbol table
+pub of_whole : (which : SymbolTable) (file section whole named : List ℕ) (result : Result (Functions × ℕ) ListError) → (which ≡ Symtab) × (file ≡ whole) × (section ≡ named)
+    → Gets (NeedsMemory (format_of whole) whole) (answer_by Symtab whole named) result → Gets (NeedsMemory (format_of file) file) (answer_by which file section) result
+of_whole which file section whole named result is gets =
+    subst (λ (w : SymbolTable). Gets (NeedsMemory (format_of file) file) (answer_by w file section) result) (sym is.0)
+    (subst (λ (s : List ℕ). Gets (NeedsMemory (format_of file) file) (answer_by Symtab file s) result) (sym is.2)
+    (subst (λ (f : List ℕ). Gets (NeedsMemory (format_of f) f) (answer_by Symtab f named) result) (sym is.1) gets))
+
+-- no such answer is a failed write
+pub unwritten : (memory : Result Listed Refusal → Type 0) (answer : Option (Result Listed Refusal)) (result : Result (Functions × ℕ) ListError) → Gets memory answer result → IfErr result (λ e. e ≢ Write)
+unwritten memory answer (Ok value) gets = tt
+unwritten memory None (Err e) gets = λ write. let never : Unknown ≡ Write = sym gets ∙ write in absurd cc
+unwritten memory (Some (Ok listed)) (Err e) gets = λ write. let never : OutOfMemory ≡ Write = sym gets.1 ∙ write in absurd cc
+unwritten memory (Some (Err refusal)) (Err e) (inl is) = λ write. let never : Parse is.0 ≡ Write = sym is.2 ∙ write in absurd cc
+unwritten memory (Some (Err refusal)) (Err e) (inr is) = λ write. let never : OutOfMemory ≡ Write = sym is.1 ∙ write in absurd cc

@@ -1,8 +1,9 @@
 -- What was read of a file is what the file answers.
-use Rattle.std.proofs.Common.{◌≡◌, ℕ, Bool, true, false, ltb, List, [], ◌∷◌, length, take, Option, Some, None, Result, Ok, Err, refl, sym, ap, subst, ◌∙◌, arith}
-use Rattle.std.specs.Prelude.{IfSome, codes, if◌then◌else◌}
+use Rattle.std.proofs.Common.{◌≡◌, ℕ, Bool, true, false, ltb, List, [], ◌∷◌, length, take, Option, Some, Result, Ok, Err, refl, sym, ap, subst, ◌∙◌, arith}
+use Rattle.std.specs.Prelude.{codes, if◌then◌else◌}
 use Rattle.std.specs.Result.{IsErr, IsErrAnd}
 use Rattle.std.proofs.lemmas.Bool.{le-ltb}
+use Rattle.std.proofs.lemmas.List.{take-take}
 use Rattle.binfarce.specs.declared.ByteOrder.{ByteOrder}
 use Rattle.binfarce.specs.declared.Format.{Format}
 use Rattle.binfarce.specs.declared.Format.TheVariants as formats
@@ -40,16 +41,10 @@ format_of_first (a ∷ b ∷ c ∷ d ∷ e ∷ []) = refl
 format_of_first (a ∷ b ∷ c ∷ d ∷ e ∷ f ∷ []) = refl
 format_of_first (a ∷ b ∷ c ∷ d ∷ e ∷ f ∷ g ∷ []) = refl
 
--- what a step gave of a known file
-pub taken : {Y : Type 0} {a b : Y} → Path (Result Y Refusal) (Ok a) (Ok b) → b ≡ a
-taken step = cc
-
--- what a source says of its length is the file's
-pub length_known : (known : Option (List ℕ)) (file : List ℕ) (len : ℕ) → known ≡ Some file → IfSome known (λ all. len ≡ length all) → len ≡ length file
-length_known None file len is reported_is = absurd cc
-length_known (Some bytes) file len is reported_is =
-    let same : bytes ≡ file = cc in
-    reported_is ∙ ap length same
+-- so do the first 64
+pub format_of_head : (file : List ℕ) → format_of (take 64 file) ≡ format_of file
+format_of_head file =
+    sym (format_of_first (take 64 file)) ∙ ap format_of (take-take 8 64 file (omega arith)) ∙ format_of_first file
 
 -- the answer of an ELF file is that of its class
 pub answer_32 : (which : SymbolTable) (order : ByteOrder) (file section : List ℕ) (given : Result Listed Refusal) → format_of file ≡ formats.Elf32 order → elf_file_answer which elf32 order file section ≡ given → answer which file section ≡ Some given

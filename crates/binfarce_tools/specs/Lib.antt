@@ -13,10 +13,6 @@ pub mod Sums
 pub mod Tables
 pub mod machine
 pub mod Map
-pub mod ElfParts
-pub mod MachoParts
-pub mod Part
 pub mod Parts
-pub mod PeParts
 pub mod Given
 pub mod Status

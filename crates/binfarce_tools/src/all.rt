@@ -4,9 +4,12 @@ ghost use Rattle.std.specs.Prelude.{◌≡◌, ◌≢◌, ◌++◌, ℕ, List, m
 ghost use Rattle.std.specs.Iterator.{YieldsFirstBy};
 ghost use Rattle.std.specs.Option.{option_map};
 ghost use Rattle.std.specs.String.{string_bytes};
+ghost use Rattle.binfarce.specs.Format.{format_of};
 ghost use Rattle.binfarce.specs.SectionEntries.{AllSymbols};
 ghost use Rattle.binfarce.specs.SymbolViews.{section_function_view};
 ghost use Rattle.binfarce.specs.declared.SymbolTable.{SymbolTable};
+ghost use Rattle.binfarce_bytes.specs.Part.{AreSure};
+ghost use Rattle.binfarce_tables.specs.declared.error.ReadError.TheVariants.{Unreadable};
 ghost use Rattle.binfarce_tools.specs.AllAnswer.{all_answer_of, AllNeedsMemory, one_answer};
 ghost use Rattle.binfarce_tools.specs.AllListing.{section_text, IsLineIn, IsAllListingOf, AllListingFits};
 ghost use Rattle.binfarce_tools.specs.AllTables.{AreAllTablesOf, ReadsAllTables, section_names, shares_addresses_of};
@@ -15,6 +18,7 @@ ghost use Rattle.binfarce_tools.specs.ListWords.{outcome_of};
 ghost use Rattle.binfarce_tools.specs.Map.{IsMapOf};
 ghost use Rattle.binfarce_tools.specs.Report.{Share, IsSumsOf, ReportFits};
 ghost use Rattle.binfarce_tools.specs.ReportWords as reporting;
+ghost use Rattle.binfarce_tools.specs.Parts.{format_parts, parts_of};
 ghost use Rattle.binfarce_tools.specs.Sums.{AreSumsOf, GetsSums};
 ghost use Rattle.binfarce_tools.specs.Writing.{EndsAs, Takes, Fails, Leaves};
 ghost use Rattle.binfarce_tools.specs.declared.list.ListError.TheVariants.{Write};
@@ -25,11 +29,12 @@ use crate::head::push_head;
 use crate::list::{ListError, Sink};
 use crate::map::picture;
 use crate::report::{CrateSums, ReportError, crate_sums, sums_text, write_made};
-use crate::tables::{has_table, read_format};
+use crate::tables::has_table;
 use crate::writing::write_whole;
-use binfarce::{Format, SectionFunction, SymbolTable};
+use binfarce::{Format, SectionFunction, SymbolTable, detect_format};
 use binfarce_bytes::source::Source;
 use binfarce_names::demangle::Demangler;
+use binfarce_tables::begun::Begun;
 use binfarce_tables::{ReadError, elf32, elf64, macho, pe};
 use std::alloc::{AllocError, Global};
 
@@ -169,7 +174,7 @@ impl<'a> AllArranged<'a> {
     }
 }
 
-/// Reads the tables of a file for the function symbols of all sections, by this symbol table: its first 8 bytes, which
+/// Reads the tables of a file for the function symbols of all sections, by this symbol table: its first 64 bytes, which
 /// name its format, and the parts that `binfarce_tables` reads of a file of that format. Of a file of an unknown format
 /// no other byte is read. Each part that is kept takes no more memory than the file has bytes of it.
 ///
@@ -178,17 +183,35 @@ impl<'a> AllArranged<'a> {
 /// `Refused` with the error of the format's reader, and `SectionIsMissing` of `.dynsym` for the dynamic symbol table of
 /// a Mach-O or PE file; `Unreadable` where the source can't be read at offsets, or a read of it fails, and never for a
 /// source that can't fail, such as bytes in memory; `OutOfMemory` where an allocation fails.
-#[tactic(auto, unfolding(crate::specs::AllTables::AreAllTablesOf))]
 pub fn read_all<S: Source>(
     alloc: Global,
     source: &S,
     which: SymbolTable,
 ) -> Result<AllTables, ReadError>
-    ensures { (file : List ℕ) → S.bytes source.now ≡ Some file
+    ensures answer { (file : List ℕ) → S.bytes source.now ≡ Some file
         → ReadsAllTables (S.may_fail source.now ≡ true) which file result }
+    ensures nothing_else { (file : List ℕ) → S.bytes source.now ≡ Some file
+        → AreSure (S.is_sure source.now) (parts_of which file) → IfErr result (λ e. e ≢ Unreadable) }
 {
-    let len = source.length()? as usize;
-    match read_format(alloc, source, len)? {
+    let begun = Begun::new(alloc, source)?;
+    let format = detect_format(begun.head());
+    read_as(alloc, &begun, format, which)
+}
+
+// The tables of a file of this format.
+#[tactic(auto, unfolding(crate::specs::AllTables::AreAllTablesOf))]
+fn read_as<S: Source>(
+    alloc: Global,
+    source: &S,
+    format: Format,
+    which: SymbolTable,
+) -> Result<AllTables, ReadError>
+    ensures answer { (file : List ℕ) → S.bytes source.now ≡ Some file → format ≡ format_of file
+        → ReadsAllTables (S.may_fail source.now ≡ true) which file result }
+    ensures nothing_else { (file : List ℕ) → S.bytes source.now ≡ Some file
+        → AreSure (S.is_sure source.now) (format_parts which format file) → IfErr result (λ e. e ≢ Unreadable) }
+{
+    match format {
         Format::Elf32 { byte_order } => {
             let parts = elf32::read_all(alloc, source, byte_order, which)?;
             Ok(AllTables::Elf32(parts))

@@ -4,14 +4,18 @@ ghost use Rattle.std.specs.Prelude.{◌≡◌, ◌++◌, [], ◌∷◌, replicat
 ghost use Rattle.binfarce.specs.declared.ByteOrder.TheVariants.{LittleEndian};
 ghost use Rattle.binfarce.specs.Refusal.{symbols_section_is_missing, malformed_input, unexpected_eof};
 ghost use Rattle.binfarce.specs.Elf.{elf32, elf64};
+ghost use Rattle.binfarce.specs.ElfAll as elf_all;
 ghost use Rattle.binfarce.specs.ElfSymbols.{elf_file_answer};
+ghost use Rattle.binfarce.specs.MachoAll as macho_all;
 ghost use Rattle.binfarce.specs.MachoSymbols.{macho_file_answer};
+ghost use Rattle.binfarce.specs.PeAll as pe_all;
 ghost use Rattle.binfarce.specs.PeSymbols.{pe_file_answer};
+ghost use Rattle.binfarce.specs.declared.SymbolTable.{SymbolTable};
 ghost use Rattle.binfarce.specs.declared.SymbolTable.TheVariants.{Symtab};
-ghost use Rattle.binfarce_tools.specs.Part.{SameParts, part};
-ghost use Rattle.binfarce_tools.specs.ElfParts.{elf_parts, headers_size};
-ghost use Rattle.binfarce_tools.specs.MachoParts.{macho_parts};
-ghost use Rattle.binfarce_tools.specs.PeParts.{pe_parts};
+ghost use Rattle.binfarce_bytes.specs.Part.{SameParts, part};
+ghost use Rattle.binfarce_tables.specs.ElfReads.{elf_parts, headers_size};
+ghost use Rattle.binfarce_tables.specs.MachoReads.{macho_parts};
+ghost use Rattle.binfarce_tables.specs.PeReads.{pe_parts};
 ghost use Rattle.binfarce_tools.specs.Parts.{PartsDecide};
 ghost use Rattle.binfarce.specs.Symbol.{AreSymbolsOf, Listed};
 ghost use Rattle.binfarce_tools.specs.Listing.{IsListingOf};
@@ -21,12 +25,14 @@ ghost use Rattle.binfarce_tools.specs.machine.Symbols.{IsReportOfSymbols, symbol
 use binfarce::ByteOrder;
 use binfarce::demangle::SymbolData;
 
-/// Two files of one length that agree in the parts of the first have one format, and one answer for each section.
+/// Two files of one length that agree in the parts of the first have one format, one answer for each section, and one
+/// for all sections: by the symbol table, or by the dynamic one.
 ///
-/// No other byte matters to a listing or a report. The first eight bytes are a part of every file. Of an ELF file the
-/// others are the file header, the section headers, the section names, the symbol table and its string table; of a
-/// Mach-O file the load commands as far as they are read, the symbol table and its string table; of a PE file the file
-/// header, the section headers, the symbol table and the rest of the file after it; any other file has none.
+/// No other byte matters to a listing or a report, and `tables::read_by` and `all::read_all` need no other byte. The
+/// first 64 bytes are a part of every file. Of an ELF file the others are the file header, the section headers, the
+/// section names, the symbol table and its string table; of a Mach-O file the load commands, the symbol table and its
+/// string table; of a PE file the file header, the section headers, the symbol table and the rest of the file after it;
+/// any other file has none.
 pub fn parts_decide(file: &[u8], other: &[u8])
     ensures { PartsDecide file.now other.now }
 {
@@ -36,12 +42,18 @@ pub fn parts_decide(file: &[u8], other: &[u8])
 
 /// The same for the answers of the readers of both classes, in either order.
 pub fn elf_parts_decide(file: &[u8], other: &[u8], byte_order: ByteOrder, section: &str)
-    ensures of_32_bits { SameParts (elf_parts elf32 byte_order file.now) file.now other.now
-        → elf_file_answer Symtab elf32 byte_order other.now section.now
-        ≡ elf_file_answer Symtab elf32 byte_order file.now section.now }
-    ensures of_64_bits { SameParts (elf_parts elf64 byte_order file.now) file.now other.now
-        → elf_file_answer Symtab elf64 byte_order other.now section.now
-        ≡ elf_file_answer Symtab elf64 byte_order file.now section.now }
+    ensures of_32_bits { (which : SymbolTable)
+        → SameParts (elf_parts which elf32 byte_order file.now) file.now other.now
+        → (elf_file_answer which elf32 byte_order other.now section.now
+        ≡ elf_file_answer which elf32 byte_order file.now section.now)
+        × (elf_all.all_file_answer which elf32 byte_order other.now
+        ≡ elf_all.all_file_answer which elf32 byte_order file.now) }
+    ensures of_64_bits { (which : SymbolTable)
+        → SameParts (elf_parts which elf64 byte_order file.now) file.now other.now
+        → (elf_file_answer which elf64 byte_order other.now section.now
+        ≡ elf_file_answer which elf64 byte_order file.now section.now)
+        × (elf_all.all_file_answer which elf64 byte_order other.now
+        ≡ elf_all.all_file_answer which elf64 byte_order file.now) }
 {
     let _ = file;
     let _ = other;
@@ -49,18 +61,21 @@ pub fn elf_parts_decide(file: &[u8], other: &[u8], byte_order: ByteOrder, sectio
     let _ = section;
 }
 
-/// The same for the answer of the Mach-O reader.
+/// The same for the answers of the Mach-O reader.
 pub fn macho_parts_decide(file: &[u8], other: &[u8])
     ensures { SameParts (macho_parts file.now) file.now other.now
-        → macho_file_answer other.now ≡ macho_file_answer file.now }
+        → (macho_file_answer other.now ≡ macho_file_answer file.now)
+        × (macho_all.all_file_answer other.now ≡ macho_all.all_file_answer file.now) }
 {
     let _ = file;
     let _ = other;
 }
 
-/// The same for the answer of the PE reader.
+/// The same for the answers of the PE reader.
 pub fn pe_parts_decide(file: &[u8], other: &[u8])
-    ensures { SameParts (pe_parts file.now) file.now other.now → pe_file_answer other.now ≡ pe_file_answer file.now }
+    ensures { SameParts (pe_parts file.now) file.now other.now
+        → (pe_file_answer other.now ≡ pe_file_answer file.now)
+        × (pe_all.all_file_answer other.now ≡ pe_all.all_file_answer file.now) }
 {
     let _ = file;
     let _ = other;
@@ -94,33 +109,43 @@ fn worked_other_answers()
     ensures past_the_end { pe_file_answer (replicate 21 0 ++ 1 ∷ replicate 42 0) ≡ Err unexpected_eof }
 {}
 
-/// The parts of a file with one load command: a symbol table's, whose strings lie in the file or end past it; a segment's
-/// of two sections, of which the file has room for one; one that is refused for its size, and is a part all the same.
-#[tactic(auto, unfolding(crate::specs::MachoParts::macho_parts, crate::specs::MachoParts::heads_from, binfarce_macho::specs::Macho::header_fields, binfarce_macho::specs::Macho::header_of, binfarce_macho::specs::Macho::commands_from, binfarce_macho::specs::MachoSymbols::symbol_table_fields, binfarce_macho::specs::MachoSymbols::symbol_table_at, binfarce_bytes::proofs::Computing::computing))]
+/// The parts of a file of 52 bytes that states a section header table without headers at its beginning: the file
+/// header, the section header of the section names, which is whole there, the section names, which are empty, and the
+/// table's first byte.
+#[tactic(auto, unfolding(binfarce_tables::specs::ElfReads::elf_parts, binfarce_tables::specs::ElfReads::elf_section_parts, binfarce_tables::specs::ElfReads::names_parts, binfarce_tables::specs::ElfReads::headers_parts, binfarce_tables::specs::ElfReads::found_parts, binfarce_elf::specs::Elf::elf32, binfarce_elf::specs::Elf::section_table, binfarce_elf::specs::Elf::header_of, binfarce_elf::specs::Elf::section_at, binfarce_elf::specs::Elf::walk, binfarce_elf::specs::ElfSymbols::table_sections, binfarce_bytes::proofs::Computing::computing))]
+fn worked_elf_parts()
+    ensures { elf_parts Symtab elf32 LittleEndian (replicate 52 0)
+        ≡ part 0 52 ∷ part 0 40 ∷ part 0 0 ∷ part 0 1 ∷ [] }
+{}
+
+/// The parts of a file with one load command, a symbol table's of 24 bytes: its strings lie in the file, or end past it,
+/// or the header states that the commands have 23 bytes, and the whole file is read.
+#[tactic(auto, unfolding(binfarce_tables::specs::MachoReads::macho_section_parts, binfarce_tables::specs::MachoReads::macho_parts, binfarce_macho::specs::MachoParts::holds_from, binfarce_macho::specs::Macho::header_fields, binfarce_macho::specs::Macho::header_of, binfarce_macho::specs::Macho::commands_from, binfarce_macho::specs::MachoSymbols::symbol_table_fields, binfarce_macho::specs::MachoSymbols::symbol_table_at, binfarce_bytes::proofs::Computing::computing))]
 fn worked_macho_parts()
     ensures symbol_table { macho_parts
-        (replicate 16 0 ++ 1 ∷ replicate 15 0 ++ 2 ∷ 0 ∷ 0 ∷ 0 ∷ 24 ∷ 0 ∷ 0 ∷ 0 ∷ 56 ∷ 0 ∷ 0 ∷ 0 ∷ 1 ∷ 0 ∷ 0 ∷ 0 ∷ 72
-        ∷ 0 ∷ 0 ∷ 0 ∷ 4 ∷ 0 ∷ 0 ∷ 0 ∷ replicate 20 0)
-        ≡ part 16 4 ∷ part 32 8 ∷ part 40 16 ∷ part 72 4 ∷ part 56 16 ∷ [] }
+        (replicate 16 0 ++ 1 ∷ 0 ∷ 0 ∷ 0 ∷ 24 ∷ replicate 11 0 ++ 2 ∷ 0 ∷ 0 ∷ 0 ∷ 24 ∷ 0 ∷ 0 ∷ 0 ∷ 56 ∷ 0 ∷ 0 ∷ 0
+        ∷ 1 ∷ 0 ∷ 0 ∷ 0 ∷ 72 ∷ 0 ∷ 0 ∷ 0 ∷ 4 ∷ 0 ∷ 0 ∷ 0 ∷ replicate 20 0)
+        ≡ part 0 28 ∷ part 0 56 ∷ part 72 4 ∷ part 56 16 ∷ [] }
     ensures truncated_strings { macho_parts
-        (replicate 16 0 ++ 1 ∷ replicate 15 0 ++ 2 ∷ 0 ∷ 0 ∷ 0 ∷ 24 ∷ 0 ∷ 0 ∷ 0 ∷ 56 ∷ 0 ∷ 0 ∷ 0 ∷ 1 ∷ 0 ∷ 0 ∷ 0 ∷ 72
-        ∷ 0 ∷ 0 ∷ 0 ∷ 4 ∷ 0 ∷ 0 ∷ 0 ∷ replicate 19 0) ≡ part 16 4 ∷ part 32 8 ∷ part 40 16 ∷ part 56 16 ∷ [] }
-    ensures segment { macho_parts
-        (replicate 16 0 ++ 1 ∷ replicate 15 0 ++ 0x19 ∷ 0 ∷ 0 ∷ 0 ∷ 232 ∷ replicate 59 0 ++ 2 ∷ replicate 138 0)
-        ≡ part 16 4 ∷ part 32 8 ∷ part 96 4 ∷ part 104 52 ∷ [] }
-    ensures refused_command { macho_parts (replicate 16 0 ++ 1 ∷ replicate 23 0) ≡ part 16 4 ∷ part 32 8 ∷ [] }
+        (replicate 16 0 ++ 1 ∷ 0 ∷ 0 ∷ 0 ∷ 24 ∷ replicate 11 0 ++ 2 ∷ 0 ∷ 0 ∷ 0 ∷ 24 ∷ 0 ∷ 0 ∷ 0 ∷ 56 ∷ 0 ∷ 0 ∷ 0
+        ∷ 1 ∷ 0 ∷ 0 ∷ 0 ∷ 72 ∷ 0 ∷ 0 ∷ 0 ∷ 4 ∷ 0 ∷ 0 ∷ 0 ∷ replicate 19 0)
+        ≡ part 0 28 ∷ part 0 56 ∷ part 56 16 ∷ [] }
+    ensures past_the_end { macho_parts
+        (replicate 16 0 ++ 1 ∷ 0 ∷ 0 ∷ 0 ∷ 23 ∷ replicate 11 0 ++ 2 ∷ 0 ∷ 0 ∷ 0 ∷ 24 ∷ 0 ∷ 0 ∷ 0 ∷ 56 ∷ 0 ∷ 0 ∷ 0
+        ∷ 1 ∷ 0 ∷ 0 ∷ 0 ∷ 72 ∷ 0 ∷ 0 ∷ 0 ∷ 4 ∷ 0 ∷ 0 ∷ 0 ∷ replicate 20 0)
+        ≡ part 0 28 ∷ part 0 55 ∷ part 0 76 ∷ part 72 4 ∷ part 56 16 ∷ [] }
 {}
 
 /// The parts of a file with one section header right after the file header, and a symbol table of one record at 112: that
 /// with a string byte after it, or cut off in it.
-#[tactic(auto, unfolding(crate::specs::PeParts::pe_parts, binfarce_pe::specs::Pe::header_fields, binfarce_pe::specs::Pe::header_after, binfarce_bytes::proofs::Computing::computing))]
+#[tactic(auto, unfolding(binfarce_tables::specs::PeReads::pe_parts, binfarce_pe::specs::Pe::header_fields, binfarce_pe::specs::Pe::header_after, binfarce_bytes::proofs::Computing::computing))]
 fn worked_pe_parts()
     ensures whole { pe_parts
         (replicate 60 0 ++ 64 ∷ replicate 9 0 ++ 1 ∷ replicate 5 0 ++ 112 ∷ 0 ∷ 0 ∷ 0 ∷ 1 ∷ replicate 50 0)
-        ≡ part 60 4 ∷ part 68 18 ∷ part 88 24 ∷ part 112 19 ∷ [] }
+        ≡ part 60 4 ∷ part 64 24 ∷ part 88 40 ∷ part 112 18 ∷ part 130 1 ∷ [] }
     ensures truncated { pe_parts
         (replicate 60 0 ++ 64 ∷ replicate 9 0 ++ 1 ∷ replicate 5 0 ++ 112 ∷ 0 ∷ 0 ∷ 0 ∷ 1 ∷ replicate 48 0)
-        ≡ part 60 4 ∷ part 68 18 ∷ part 88 24 ∷ [] }
+        ≡ part 60 4 ∷ part 64 24 ∷ part 88 40 ∷ [] }
 {}
 
 /// The lines of the symbols of a file's entries are the file's listing, and the report of their shares is the file's

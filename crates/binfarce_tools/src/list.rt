@@ -13,7 +13,7 @@ ghost use Rattle.binfarce_tools.specs.Writing.{EndsAs, Takes, Fails, Leaves};
 ghost use Rattle.binfarce_tools.specs.Entries.{HoldsLeft};
 ghost use Rattle.binfarce_tools.specs.Tables.{AreTablesOf};
 
-use crate::functions::{Functions, functions_of_file};
+use crate::functions::Functions;
 use crate::head::push_head;
 use crate::tables::Tables;
 use crate::writing::write_whole;
@@ -179,9 +179,7 @@ pub fn list<S: Sink>(
     ensures fails { Fails (S.has_failed out.old) (S.has_failed out.new) (outcome_of result) }
     ensures leaves { Leaves out.old out.new (outcome_of result) }
 {
-    let (functions, size) = functions_of_file(alloc, data, section)?;
-    let text = listing(alloc, functions, size)?;
-    write_whole(out, text.as_bytes())
+    list_tables(alloc, &Tables::whole(data, section), out)
 }
 
 /// As `list`, from the tables of a file: for the section that they were read for.
@@ -189,7 +187,11 @@ pub fn list<S: Sink>(
 /// # Errors
 ///
 /// As `list`.
-pub fn list_tables<S: Sink>(alloc: Global, tables: &Tables, out: &mut S) -> Result<(), ListError>
+pub fn list_tables<S: Sink>(
+    alloc: Global,
+    tables: &Tables<'_>,
+    out: &mut S,
+) -> Result<(), ListError>
     ensures outcome { (which : SymbolTable) (file section : List ℕ) → AreTablesOf which file section tables.now
         → EndsAs ListingFits (FileNeedsMemory file) (answer_of which file section) (outcome_of result) }
     ensures takes { (which : SymbolTable) (file section : List ℕ) → AreTablesOf which file section tables.now

@@ -13,7 +13,7 @@ ghost use Rattle.binfarce_tools.specs.Writing.{EndsAs, Takes, Fails, Leaves};
 ghost use Rattle.binfarce_tools.specs.Map.{IsMapOf, IsMapOfShares, crate_rows};
 
 use crate::list::Sink;
-use crate::report::{CrateSums, ReportError, sums_of_file, sums_of_tables, write_made};
+use crate::report::{CrateSums, ReportError, sums_of_tables, write_made};
 use crate::tables::Tables;
 use binfarce_chart::bars::Bar;
 use binfarce_chart::svg::chart;
@@ -41,8 +41,7 @@ pub fn map<S: Sink>(
     ensures fails { Fails (S.has_failed out.old) (S.has_failed out.new) (outcome_of result) }
     ensures leaves { Leaves out.old out.new (outcome_of result) }
 {
-    let sums = sums_of_file(alloc, data, section)?;
-    write_made(out, picture(alloc, &sums))
+    map_tables(alloc, &Tables::whole(data, section), out)
 }
 
 /// As `map`, from the tables of a file: for the section that they were read for.
@@ -50,7 +49,11 @@ pub fn map<S: Sink>(
 /// # Errors
 ///
 /// As `map`.
-pub fn map_tables<S: Sink>(alloc: Global, tables: &Tables, out: &mut S) -> Result<(), ReportError>
+pub fn map_tables<S: Sink>(
+    alloc: Global,
+    tables: &Tables<'_>,
+    out: &mut S,
+) -> Result<(), ReportError>
     ensures outcome { (which : SymbolTable) (file section : List ℕ) → AreTablesOf which file section tables.now
         → EndsAs ReportFits (FileNeedsMemory file) (answer_of which file section) (outcome_of result) }
     ensures takes { (which : SymbolTable) (file section : List ℕ) → AreTablesOf which file section tables.now

@@ -17,7 +17,7 @@ ghost use Rattle.binfarce_tools.specs.Tables.{AreTablesOf};
 ghost use Rattle.binfarce_tools.specs.Sums.{AreSumsOf, GetsSums, sum_at};
 ghost use Rattle.binfarce_tools.specs.machine.Shares.{Adds, WritesMade};
 
-use crate::functions::{Functions, functions_of_file};
+use crate::functions::Functions;
 use crate::list::{ListError, Sink};
 use crate::tables::Tables;
 use crate::writing::write_whole;
@@ -116,8 +116,7 @@ pub fn report<S: Sink>(
     ensures fails { Fails (S.has_failed out.old) (S.has_failed out.new) (outcome_of result) }
     ensures leaves { Leaves out.old out.new (outcome_of result) }
 {
-    let sums = sums_of_file(alloc, data, section)?;
-    write_made(out, report_text(alloc, &sums))
+    report_tables(alloc, &Tables::whole(data, section), out)
 }
 
 /// As `report`, from the tables of a file: for the section that they were read for.
@@ -127,7 +126,7 @@ pub fn report<S: Sink>(
 /// As `report`.
 pub fn report_tables<S: Sink>(
     alloc: Global,
-    tables: &Tables,
+    tables: &Tables<'_>,
     out: &mut S,
 ) -> Result<(), ReportError>
     ensures outcome { (which : SymbolTable) (file section : List ℕ) → AreTablesOf which file section tables.now
@@ -161,8 +160,7 @@ pub fn sums_of_file(alloc: Global, data: &[u8], section: &str) -> Result<CrateSu
     ensures { GetsSums (FileNeedsMemory data.now)
         (file_answer data.now section.now) result }
 {
-    let (functions, size) = functions_of_file(alloc, data, section)?;
-    crate_sums(alloc, functions, size)
+    sums_of_tables(alloc, &Tables::whole(data, section))
 }
 
 /// The sums that `report_tables` shows.
@@ -170,7 +168,7 @@ pub fn sums_of_file(alloc: Global, data: &[u8], section: &str) -> Result<CrateSu
 /// # Errors
 ///
 /// As `report_tables`, but for `Write`.
-pub fn sums_of_tables(alloc: Global, tables: &Tables) -> Result<CrateSums, ReportError>
+pub fn sums_of_tables(alloc: Global, tables: &Tables<'_>) -> Result<CrateSums, ReportError>
     ensures sums { (which : SymbolTable) (file section : List ℕ) → AreTablesOf which file section tables.now
         → GetsSums (FileNeedsMemory file) (answer_of which file section) result }
     ensures made { IfOk result (λ s. (shares : List Share) × AreSumsOf shares s) }

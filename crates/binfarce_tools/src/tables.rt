@@ -1,29 +1,29 @@
 //! The tables of a file's function symbols, read from a source.
 
-ghost use Rattle.std.specs.Prelude.{◌≡◌, ◌≢◌, ℕ, List, take, true, Ok, Some, IfErr, MatchResult, codes};
+ghost use Rattle.std.specs.Prelude.{◌≡◌, ◌≢◌, ℕ, List, true, Some, IfErr, MatchResult, codes};
 ghost use Rattle.binfarce.specs.Refusal.{refusal_of, section_is_missing};
 ghost use Rattle.binfarce.specs.declared.SymbolTable.{SymbolTable};
 ghost use Rattle.binfarce.specs.declared.SymbolTable.TheVariants.{Symtab, Dynsym};
 ghost use Rattle.binfarce.specs.Format.{format_of};
-ghost use Rattle.binfarce_tables.specs.Reading.{Reads, Known};
+ghost use Rattle.binfarce_bytes.specs.Part.{AreSure};
+ghost use Rattle.binfarce_tables.specs.declared.error.ReadError.TheVariants.{Unreadable};
 ghost use Rattle.binfarce_tools.specs.Answer.{answer_of, FileNeedsMemory};
 ghost use Rattle.binfarce_tools.specs.Entries.{Gets};
+ghost use Rattle.binfarce_tools.specs.Parts.{format_parts, parts_of};
 ghost use Rattle.binfarce_tools.specs.declared.list.ListError.TheVariants.{Write};
 ghost use Rattle.binfarce_tools.specs.Tables.{AreTablesOf, ReadsTables};
 
-use crate::functions::{Functions, all_of};
+use crate::functions::{Functions, all_of, functions_of_file};
 use crate::list::ListError;
 use binfarce::{Format, ParseError, SymbolTable, detect_format};
-use binfarce_bytes::source::{Source, read_part};
+use binfarce_bytes::source::Source;
+use binfarce_tables::begun::Begun;
 use binfarce_tables::{ReadError, elf32, elf64, macho, pe};
 use std::alloc::Global;
 
-// How many of a file's first bytes name its format.
-const MAGIC_LENGTH: usize = 8;
-
-/// The tables that were read of a file for the function symbols of a section.
+/// The tables of a file for the function symbols of a section: those that were read, or a whole file in memory.
 #[derive(Drop)]
-pub enum Tables {
+pub enum Tables<'a> {
     /// The parts of an ELF file of 32 bits.
     Elf32(elf32::Parts),
     /// The parts of an ELF file of 64 bits.
@@ -34,9 +34,19 @@ pub enum Tables {
     Pe(pe::Parts),
     /// Nothing: the file's first bytes name no supported format.
     Unknown,
+    /// All bytes of a file, and the section.
+    Whole { data: &'a [u8], section: &'a str },
 }
 
-impl Tables {
+impl<'a> Tables<'a> {
+    /// The tables of a file in memory for a section, by the symbol table. Nothing is read yet.
+    #[tactic(auto, unfolding(crate::specs::Tables::AreTablesOf))]
+    pub fn whole(data: &'a [u8], section: &'a str) -> Tables<'a>
+        ensures { AreTablesOf Symtab data.entry.now section.entry.now result }
+    {
+        Self::Whole { data, section }
+    }
+
     /// The function symbols of the section and the symbol table that the tables were read for, and the section's size.
     /// For the symbol table these are the answer of `functions_of_file`.
     ///
@@ -67,11 +77,12 @@ impl Tables {
                 Ok(all_of(listed))
             }
             Tables::Unknown => Err(ListError::Unknown),
+            Tables::Whole { data, section } => functions_of_file(alloc, data, section),
         }
     }
 }
 
-/// Reads the tables of a file for the function symbols of a section: its first 8 bytes, which name its format, and the
+/// Reads the tables of a file for the function symbols of a section: its first 64 bytes, which name its format, and the
 /// parts that `binfarce_tables` reads of a file of that format. Of a file of an unknown format no other byte is read.
 /// Each part that is kept takes no more memory than the file has bytes of it.
 ///
@@ -80,9 +91,15 @@ impl Tables {
 /// `Refused` with the error of the format's reader; `Unreadable` where the source can't be read at offsets, or a read
 /// of it fails, and never for a source that can't fail, such as bytes in memory; `OutOfMemory` where an allocation
 /// fails.
-pub fn read<S: Source>(alloc: Global, source: &S, section: &str) -> Result<Tables, ReadError>
-    ensures { (file : List ℕ) → S.bytes source.now ≡ Some file
+pub fn read<S: Source>(
+    alloc: Global,
+    source: &S,
+    section: &str,
+) -> Result<Tables<'static>, ReadError>
+    ensures answer { (file : List ℕ) → S.bytes source.now ≡ Some file
         → ReadsTables (S.may_fail source.now ≡ true) Symtab file section.now result }
+    ensures nothing_else { (file : List ℕ) → S.bytes source.now ≡ Some file
+        → AreSure (S.is_sure source.now) (parts_of Symtab file) → IfErr result (λ e. e ≢ Unreadable) }
 {
     read_by(alloc, source, SymbolTable::Symtab, section)
 }
@@ -93,18 +110,37 @@ pub fn read<S: Source>(alloc: Global, source: &S, section: &str) -> Result<Table
 ///
 /// Those of `read`. For the dynamic symbol table, `Refused` has the error of `dynamic_functions` of an ELF reader, and
 /// `SectionIsMissing` of `.dynsym` for a Mach-O or PE file.
-#[tactic(auto, unfolding(crate::specs::Tables::AreTablesOf))]
 pub fn read_by<S: Source>(
     alloc: Global,
     source: &S,
     which: SymbolTable,
     section: &str,
-) -> Result<Tables, ReadError>
-    ensures { (file : List ℕ) → S.bytes source.now ≡ Some file
+) -> Result<Tables<'static>, ReadError>
+    ensures answer { (file : List ℕ) → S.bytes source.now ≡ Some file
         → ReadsTables (S.may_fail source.now ≡ true) which file section.now result }
+    ensures nothing_else { (file : List ℕ) → S.bytes source.now ≡ Some file
+        → AreSure (S.is_sure source.now) (parts_of which file) → IfErr result (λ e. e ≢ Unreadable) }
 {
-    let len = source.length()? as usize;
-    match read_format(alloc, source, len)? {
+    let begun = Begun::new(alloc, source)?;
+    let format = detect_format(begun.head());
+    read_as(alloc, &begun, format, which, section)
+}
+
+// The tables of a file of this format.
+#[tactic(auto, unfolding(crate::specs::Tables::AreTablesOf))]
+fn read_as<S: Source>(
+    alloc: Global,
+    source: &S,
+    format: Format,
+    which: SymbolTable,
+    section: &str,
+) -> Result<Tables<'static>, ReadError>
+    ensures answer { (file : List ℕ) → S.bytes source.now ≡ Some file → format ≡ format_of file
+        → ReadsTables (S.may_fail source.now ≡ true) which file section.now result }
+    ensures nothing_else { (file : List ℕ) → S.bytes source.now ≡ Some file
+        → AreSure (S.is_sure source.now) (format_parts which format file) → IfErr result (λ e. e ≢ Unreadable) }
+{
+    match format {
         Format::Elf32 { byte_order } => {
             let parts = elf32::read_by(alloc, source, byte_order, which, section)?;
             Ok(Tables::Elf32(parts))
@@ -137,25 +173,4 @@ pub(crate) fn has_table(which: SymbolTable) -> Result<(), ParseError>
         SymbolTable::Symtab => Ok(()),
         SymbolTable::Dynsym => Err(ParseError::SectionIsMissing(which.name())),
     }
-}
-
-/// The format that the first 8 bytes of a source of this length name. Of a shorter one all bytes are read.
-///
-/// # Errors
-///
-/// `Unreadable` where a read fails, and `OutOfMemory` where an allocation fails.
-pub fn read_format<S: Source>(alloc: Global, source: &S, len: usize) -> Result<Format, ReadError>
-    ensures { (file : List ℕ) → Known (S.bytes source.now) len file
-        → Reads (S.may_fail source.now) (λ f. f) (Ok (format_of file)) result }
-{
-    let magic = read_magic(alloc, source, len)?;
-    Ok(detect_format(&magic))
-}
-
-// The file's first bytes, which name its format.
-fn read_magic<S: Source>(alloc: Global, source: &S, len: usize) -> Result<Vec<u8>, ReadError>
-    ensures { (file : List ℕ) → Known (S.bytes source.now) len file
-        → Reads (S.may_fail source.now) (λ v. v.items) (Ok (take 8 file)) result }
-{
-    Ok(read_part(alloc, source, 0, len.min(MAGIC_LENGTH))?)
 }

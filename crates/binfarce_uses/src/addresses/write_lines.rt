@@ -14,7 +14,7 @@ use std::alloc::Global;
 /// Symbolizes addresses by the tables that were read of a file.
 pub fn write_lines<S: Sink>(
     alloc: Global,
-    tables: &Tables,
+    tables: &Tables<'_>,
     frames: &[u64],
     out: &mut S,
 ) -> Result<(), ListError>

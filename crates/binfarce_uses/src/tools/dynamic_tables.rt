@@ -9,7 +9,7 @@ use binfarce_tools::tables::{Tables, read_by};
 use std::alloc::Global;
 
 /// The tables of the function symbols of `.text` in the dynamic symbol table.
-pub fn dynamic_tables<S: Source>(alloc: Global, source: &S) -> Result<Tables, ReadError>
+pub fn dynamic_tables<S: Source>(alloc: Global, source: &S) -> Result<Tables<'static>, ReadError>
     ensures { (file : List ℕ) → S.bytes source.now ≡ Some file
         → ReadsTables (S.may_fail source.now ≡ true) Dynsym file (codes ".text") result }
 {

@@ -11,7 +11,7 @@ use binfarce_tools::tables::Tables;
 use std::alloc::Global;
 
 /// Lists the tables that were read of a file.
-pub fn list_text<S: Sink>(alloc: Global, tables: &Tables, out: &mut S) -> Result<(), ListError>
+pub fn list_text<S: Sink>(alloc: Global, tables: &Tables<'_>, out: &mut S) -> Result<(), ListError>
     ensures { (which : SymbolTable) (file section : List ℕ) → AreTablesOf which file section tables.now
         → Takes IsListingOf (answer_of which file section) (S.taken out.old) (S.taken out.new) (outcome_of result) }
 {

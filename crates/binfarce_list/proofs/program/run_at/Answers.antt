@@ -2,4 +2,4 @@ use Rattle.binfarce_tools.specs.declared.SymbolTable.TheVariants.{Symtab}
 use Rattle.binfarce_list.proofs.program.run_at.Goals as goal
 
 pub returns-clause-takes : goal.returns-clause-takes
-returns-clause-takes g c = λ bytes is. c.in-Err-list_tables.ensures.takes Symtab bytes c.args.section.now (c.in-Ok.ensures bytes is)
+returns-clause-takes g c = λ bytes is. c.in-Err-list_tables.ensures.takes Symtab bytes c.args.section.now (c.in-Ok.ensures.answer bytes is)

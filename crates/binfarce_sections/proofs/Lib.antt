@@ -4,3 +4,4 @@ pub mod Pads
 pub mod Searching
 pub mod TablesRead
 pub mod SourceAnswers
+pub mod Sure

@@ -3,10 +3,10 @@ use Rattle.std.proofs.Common.{◌≡◌, ℕ, List, [], Option, Some, None, Resu
 use Rattle.std.specs.Io.KnownBytes.{Appends}
 use Rattle.std.specs.Result.{IsErrAnd}
 use Rattle.binfarce.specs.Refusal.{refusal_of}
-use Rattle.binfarce.specs.Walk.{Walk, first}
+use Rattle.binfarce.specs.Walk.{Walk}
 use Rattle.binfarce_sections.specs.declared.error.SectionError.{SectionError}
 use Rattle.binfarce_sections.specs.declared.error.SectionError.TheVariants.{Unknown, Parse, NoSection, NoBytes, PastEnd, OutOfMemory, Write, Unreadable}
-use Rattle.binfarce_sections.specs.Named.{is_named, bytes_found, bytes_named, unknown_format, refused}
+use Rattle.binfarce_sections.specs.Named.{bytes_found, bytes_named, unknown_format, refused}
 use Rattle.binfarce_sections.specs.Section.{Section}
 use Rattle.binfarce_sections.specs.Results.{Hands, TakesLines}
 use Rattle.binfarce_sections.specs.declared.sections.Sections.{Sections}

@@ -1,16 +1,13 @@
 -- What the calls over a source return and write.
-use Rattle.std.proofs.Common.{◌≡◌, ℕ, ◌+◌, ◌<◌, ◌≤◌, Bool, true, false, not, cond, ltb, List, [], length, Option, Some, None, Vec, Global, Result, Ok, Err, refl, sym, ap, subst, ◌∙◌, append-nil}
-use Rattle.std.proofs.lemmas.Bool.{lt-ltb, le-ltb}
+use Rattle.std.proofs.Common.{◌≡◌, ℕ, Bool, true, false, List, [], Option, Some, None, Vec, Global, Result, Ok, Err, refl, sym, ap, subst, ◌∙◌, append-nil}
 use Rattle.std.specs.Prelude.{◌≢◌, IfErr}
 use Rattle.std.specs.Io.KnownBytes.{Appends}
 use Rattle.std.specs.Option.{option_map}
 use Rattle.std.specs.Result.{IsErr, IsErrAnd}
 use Rattle.binfarce.specs.declared.ParseError.{ParseError}
 use Rattle.binfarce.specs.Format.{format_of}
-use Rattle.binfarce.specs.Number.{bytes_at}
 use Rattle.binfarce.specs.Refusal.{Refusal, refusal_of}
 use Rattle.binfarce.specs.Walk.{Walk, ended, first}
-use Rattle.binfarce_tables.specs.Reading.{Reads}
 use Rattle.binfarce_tables.specs.declared.error.ReadError.{ReadError}
 use Rattle.binfarce_tables.specs.declared.error.ReadError.TheVariants as reading
 use Rattle.binfarce_sections.specs.declared.error.SectionError.{SectionError}
@@ -18,12 +15,12 @@ use Rattle.binfarce_sections.specs.declared.error.SectionError.TheVariants.{Unkn
 use Rattle.binfarce_sections.specs.declared.sections.Section as code
 use Rattle.binfarce_sections.specs.declared.sections.Sections.{Sections}
 use Rattle.binfarce_sections.specs.Lines.{section_lines}
-use Rattle.binfarce_sections.specs.Named.{Lack, unknown_format, refused, no_section, no_bytes, past_end, is_named, bytes_of, bytes_found, bytes_named}
+use Rattle.binfarce_sections.specs.Named.{Lack, unknown_format, refused, is_named, bytes_found, bytes_named}
 use Rattle.binfarce_sections.specs.Section.{Section, sections_of}
-use Rattle.binfarce_sections.specs.Results.{IsLack, TakesBytes, TakesLines, TakesRead, TakesReadLines, Fails, error_of}
+use Rattle.binfarce_sections.specs.Results.{TakesBytes, TakesLines, TakesRead, TakesReadLines, Fails, error_of}
 use Rattle.binfarce_sections.specs.Views.{Opens, section_view, sections_left}
 use Rattle.binfarce_sections.specs.machine.Found.{Finds, ReadsBytes}
-use Rattle.binfarce_sections.specs.machine.Tables.{Has, ReadsTables}
+use Rattle.binfarce_sections.specs.machine.Tables.{ReadsTables}
 
 nothing : (taken : Option (List ℕ)) → Appends taken taken []
 nothing None = tt
@@ -104,25 +101,6 @@ bytes_unread may_fail file word reading.OutOfMemory has = tt
 -- the same answer, read
 pub read_same : (may_fail : Bool) (a b : Result (List ℕ) Lack) (r : Result (Vec ℕ Global) SectionError) → a ≡ b → ReadsBytes may_fail b r → ReadsBytes may_fail a r
 read_same may_fail a b r same reads = subst (λ (answer : Result (List ℕ) Lack). ReadsBytes may_fail answer r) (sym same) reads
-
--- the bytes of a section that has some in the file, of one that has none, and of one that reaches past the end
-pub bytes_inside : (file : List ℕ) (s : Section) → s.has_bytes ≡ true → s.offset + s.size ≤ length file → bytes_of file s ≡ Ok (bytes_at file s.offset s.size)
-unfolding bytes_of
-bytes_inside file s has inside = rw (has, le-ltb (length file) (s.offset + s.size) inside) refl
-
-pub bytes_past : (file : List ℕ) (s : Section) → s.has_bytes ≡ true → length file < s.offset + s.size → bytes_of file s ≡ Err past_end
-unfolding bytes_of
-bytes_past file s has past = rw (has, lt-ltb (length file) (s.offset + s.size) past) refl
-
-pub bytes_none : (file : List ℕ) (s : Section) → s.has_bytes ≡ false → bytes_of file s ≡ Err no_bytes
-unfolding bytes_of
-bytes_none file s has = rw has refl
-
--- a part that was read, or why it wasn't
-pub part_unread : (may_fail : Bool) (bytes : List ℕ) (answer : Result (List ℕ) Lack) (e : ReadError) → Reads {X = Vec ℕ Global} may_fail (λ v. v.items) (Ok bytes) (Err e) → ReadsBytes may_fail answer (Err (error_of e))
-part_unread may_fail bytes answer (reading.Refused p) reads = let e : Path (Result (List ℕ) Refusal) (Ok bytes) (Err (refusal_of p)) = reads in absurd cc
-part_unread may_fail bytes answer reading.Unreadable reads = reads
-part_unread may_fail bytes answer reading.OutOfMemory reads = tt
 
 -- what is taken of these bytes
 pub bytes_taken : (may_fail : Bool) (answer : Result (List ℕ) Lack) (bytes : List ℕ) (old new : Option (List ℕ)) (r : Result (Unit {0}) SectionError)

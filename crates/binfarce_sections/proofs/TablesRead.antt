@@ -1,6 +1,5 @@
 -- What was read of a file has its sections.
 use Rattle.std.proofs.Common.{◌≡◌, ℕ, Bool, true, false, cond, ltb, List, length, Option, Some, None, Result, Ok, Err, refl, sym, ap, subst, ◌∙◌}
-use Rattle.std.specs.Prelude.{IfSome}
 use Rattle.std.specs.Result.{IsErr, IsErrAnd}
 use Rattle.binfarce.specs.declared.ByteOrder.{ByteOrder}
 use Rattle.binfarce.specs.declared.Format.{Format}
@@ -27,15 +26,8 @@ use Rattle.binfarce_sections.specs.declared.tables.Tables.TheVariants.{Elf32, El
 use Rattle.binfarce_sections.specs.machine.Tables.{Has, AreTablesOf, HasLength, ReadsTables}
 
 -- what a step gave of a known file
-pub taken : {Y : Type 0} {a b : Y} → Path (Result Y Refusal) (Ok a) (Ok b) → b ≡ a
+taken : {Y : Type 0} {a b : Y} → Path (Result Y Refusal) (Ok a) (Ok b) → b ≡ a
 taken step = cc
-
--- what a source says of its length is the file's
-pub length_known : (known : Option (List ℕ)) (file : List ℕ) (len : ℕ) → known ≡ Some file → IfSome known (λ all. len ≡ length all) → len ≡ length file
-length_known None file len is is_known = absurd cc
-length_known (Some bytes) file len is is_known =
-    let same : bytes ≡ file = cc in
-    is_known ∙ ap length same
 
 -- the sections of a file are those of its format
 pub of_elf32 : (order : ByteOrder) (file : List ℕ) → format_of file ≡ formats.Elf32 order → Has file (elf_sections elf32 order file)
@@ -123,6 +115,16 @@ not_read may_fail view seen answer file OutOfMemory has reads = tt
 passed_on : (may_fail : Bool) (file : List ℕ) (e : ReadError) (r : Result Tables ReadError) → ReadsTables may_fail file (Err e) → (IsErr r × IsErrAnd r (λ x. x ≡ e)) → ReadsTables may_fail file r
 passed_on may_fail file e (Ok x) step err = let never : false ≡ true = err.0 in absurd cc
 passed_on may_fail file e (Err x) step err = subst (λ (error : ReadError). ReadsTables may_fail file (Err error)) (sym err.1) step
+
+-- why a source's length and first bytes weren't read
+not_asked : {X : Type 0} (may_fail : Bool) (source : X) (file : List ℕ) (e : ReadError) → Reads {X = X} may_fail (λ x. x) (Ok source) (Err e) → ReadsTables may_fail file (Err e)
+not_asked {X = X} may_fail source file (Refused p) reads = let never : Path (Result X Refusal) (Ok source) (Err (refusal_of p)) = reads in absurd cc
+not_asked may_fail source file Unreadable reads = reads
+not_asked may_fail source file OutOfMemory reads = tt
+
+pub unasked : {X : Type 0} (may_fail : Bool) (source : X) (file : List ℕ) (e : ReadError) (r : Result Tables ReadError)
+    → Reads {X = X} may_fail (λ x. x) (Ok source) (Err e) → (IsErr r × IsErrAnd r (λ x. x ≡ e)) → ReadsTables may_fail file r
+unasked may_fail source file e r reads err = passed_on may_fail file e r (not_asked may_fail source file e reads) err
 
 pub unread : {S X : Type 0} (may_fail : Bool) (view : X → S) (seen : S → Walk Section) (answer : Result S Refusal) (file : List ℕ) (e : ReadError) (r : Result Tables ReadError)
     → Has file (walk_of seen answer) → Reads may_fail view answer (Err e) → (IsErr r × IsErrAnd r (λ x. x ≡ e)) → ReadsTables may_fail file r

@@ -3,4 +3,5 @@ pub mod Named
 pub mod Lines
 pub mod Results
 pub mod Views
+pub mod Parts
 pub mod machine

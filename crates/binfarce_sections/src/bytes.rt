@@ -1,15 +1,18 @@
 //! The bytes of the first section of a name.
 
-ghost use Rattle.std.specs.Prelude.{◌≡◌, ◌∷◌, ℕ, List, Ok, Some};
+ghost use Rattle.std.specs.Prelude.{◌≡◌, ◌≢◌, ◌∷◌, ℕ, List, Ok, Some, IfErr};
 ghost use Rattle.std.specs.Option.{option_map};
 ghost use Rattle.std.specs.Str.{bytes_eq};
 ghost use Rattle.binfarce.specs.Format.{format_of};
 ghost use Rattle.binfarce.specs.Refusal.{Gives, refusal_of};
 ghost use Rattle.binfarce.specs.Walk.{first};
+ghost use Rattle.binfarce_bytes.specs.Part.{AreSure};
 ghost use Rattle.binfarce_sections.specs.Named.{full_name, is_named, bytes_of, bytes_named};
+ghost use Rattle.binfarce_sections.specs.Parts.{named_parts_of};
 ghost use Rattle.binfarce_sections.specs.Section.{sections_of};
 ghost use Rattle.binfarce_sections.specs.Results.{Hands, TakesBytes, TakesRead, Fails};
 ghost use Rattle.binfarce_sections.specs.Views.{section_view, sections_left};
+ghost use Rattle.binfarce_sections.specs.declared.error.SectionError.TheVariants.{Unreadable};
 ghost use Rattle.binfarce_sections.specs.machine.Found.{Finds};
 
 use crate::error::SectionError;
@@ -66,7 +69,7 @@ fn write_all<S: Sink>(bytes: &[u8], out: &mut S) -> Result<(), SectionError>
     write_whole(out, bytes).map_err(|_| SectionError::Write)
 }
 
-/// The same for a source, of which only these bytes are read: the first 8 bytes, those that `read_sections` of
+/// The same for a source, of which only these bytes are read: the first 64 bytes, those that `read_sections` of
 /// `binfarce_tables` reads of a file of that format, and the section's bytes, into memory of its size.
 ///
 /// # Errors
@@ -83,6 +86,8 @@ pub fn write_section_of<F: Source, S: Sink>(
         → TakesRead (F.may_fail source.now) (bytes_named (sections_of (format_of file) file) file name.now)
         (S.taken out.old) (S.taken out.new) result }
     ensures fails { Fails (S.has_failed out.old) (S.has_failed out.new) result }
+    ensures nothing_else { (file : List ℕ) → F.bytes source.now ≡ Some file
+        → AreSure (F.is_sure source.now) (named_parts_of file name.now) → IfErr result (λ e. e ≢ Unreadable) }
 {
     let bytes = read_named(alloc, source, name)?;
     write_all(bytes.as_slice(), out)

@@ -1,13 +1,16 @@
 //! Lists the sections of an executable, a line each.
 
-ghost use Rattle.std.specs.Prelude.{◌≡◌, ◌++◌, ℕ, List, Some, OnOk, IfOk};
+ghost use Rattle.std.specs.Prelude.{◌≡◌, ◌≢◌, ◌++◌, ℕ, List, Some, OnOk, IfOk, IfErr};
 ghost use Rattle.std.specs.Option.{option_map};
 ghost use Rattle.std.specs.String.{string_bytes};
 ghost use Rattle.binfarce.specs.Format.{format_of};
+ghost use Rattle.binfarce_bytes.specs.Part.{AreSure};
 ghost use Rattle.binfarce_sections.specs.Lines.{section_line, line_head, name_text};
+ghost use Rattle.binfarce_sections.specs.Parts.{section_parts_of};
 ghost use Rattle.binfarce_sections.specs.Section.{sections_of};
 ghost use Rattle.binfarce_sections.specs.Results.{TakesLines, TakesReadLines, Fails};
 ghost use Rattle.binfarce_sections.specs.Views.{section_view, sections_left};
+ghost use Rattle.binfarce_sections.specs.declared.error.SectionError.TheVariants.{Unreadable};
 ghost use Rattle.binfarce_sections.specs.machine.Listed.{Lists};
 
 use crate::error::SectionError;
@@ -42,7 +45,7 @@ pub fn list_sections<S: Sink>(alloc: Global, data: &[u8], out: &mut S) -> Result
     write_lines(alloc, sections, out)
 }
 
-/// The same for a source, of which only these bytes are read: the first 8 bytes, and those that `read_sections` of
+/// The same for a source, of which only these bytes are read: the first 64 bytes, and those that `read_sections` of
 /// `binfarce_tables` reads of a file of that format.
 ///
 /// # Errors
@@ -58,6 +61,8 @@ pub fn list_source<F: Source, S: Sink>(
         → TakesReadLines (F.may_fail source.now) (sections_of (format_of file) file) (S.taken out.old)
         (S.taken out.new) result }
     ensures fails { Fails (S.has_failed out.old) (S.has_failed out.new) result }
+    ensures nothing_else { (file : List ℕ) → F.bytes source.now ≡ Some file
+        → AreSure (F.is_sure source.now) (section_parts_of file) → IfErr result (λ e. e ≢ Unreadable) }
 {
     let tables = read(alloc, source)?;
     let sections = tables.sections()?;

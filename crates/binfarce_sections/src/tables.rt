@@ -2,20 +2,23 @@
 
 ghost use Rattle.std.specs.Prelude.{◌≡◌, ◌≢◌, ℕ, List, Some, IfErr, length};
 ghost use Rattle.binfarce.specs.Format.{format_of};
+ghost use Rattle.binfarce_bytes.specs.Part.{AreSure};
+ghost use Rattle.binfarce_tables.specs.declared.error.ReadError.TheVariants as read_errors;
 ghost use Rattle.binfarce_sections.specs.Named.{bytes_of, bytes_named};
+ghost use Rattle.binfarce_sections.specs.Parts.{section_parts_of, named_parts_of, format_parts, bytes_parts};
 ghost use Rattle.binfarce_sections.specs.Section.{sections_of};
 ghost use Rattle.binfarce_sections.specs.Views.{section_view, Opens};
-ghost use Rattle.binfarce_sections.specs.declared.error.SectionError.TheVariants.{Write};
+ghost use Rattle.binfarce_sections.specs.declared.error.SectionError.TheVariants.{Write, Unreadable};
 ghost use Rattle.binfarce_sections.specs.machine.Found.{ReadsBytes};
 ghost use Rattle.binfarce_sections.specs.machine.Tables.{AreTablesOf, ReadsTables, HasLength};
 
 use crate::bytes::first_in;
 use crate::error::SectionError;
 use crate::sections::{Section, Sections, elf32_sections, elf64_sections, open_macho, open_pe};
-use binfarce::Format;
+use binfarce::{Format, detect_format};
 use binfarce_bytes::source::Source;
+use binfarce_tables::begun::Begun;
 use binfarce_tables::{Beginning, ReadError, elf32, elf64, macho, part, pe};
-use binfarce_tools::tables::read_format;
 use std::alloc::Global;
 
 // The tables of a file's sections.
@@ -38,8 +41,8 @@ impl Tables {
         match self {
             Tables::Elf32(parts) => Ok(elf32_sections(parts)),
             Tables::Elf64(parts) => Ok(elf64_sections(parts)),
-            Tables::Macho(begun) => Ok(open_macho(begun.bytes())?),
-            Tables::Pe(begun) => Ok(open_pe(begun.bytes())?),
+            Tables::Macho(beginning) => Ok(open_macho(beginning.bytes())?),
+            Tables::Pe(beginning) => Ok(open_pe(beginning.bytes())?),
             Tables::Unknown => Err(SectionError::Unknown),
         }
     }
@@ -51,20 +54,35 @@ impl Tables {
         match self {
             Tables::Elf32(parts) => parts.file_length(),
             Tables::Elf64(parts) => parts.file_length(),
-            Tables::Macho(begun) => begun.file_length(),
-            Tables::Pe(begun) => begun.file_length(),
+            Tables::Macho(beginning) => beginning.file_length(),
+            Tables::Pe(beginning) => beginning.file_length(),
             Tables::Unknown => 0,
         }
     }
 }
 
-// Reads the first bytes of a file, which name its format, and the tables of the sections of a file of that format
-// (`binfarce_tables`). Refused where the file is too short for its header.
+// Asks a source for its length and for the first bytes of a file, which name its format, and reads the tables of the
+// sections of a file of that format (`binfarce_tables`). Refused where the file is too short for its header.
 pub(crate) fn read<S: Source>(alloc: Global, source: &S) -> Result<Tables, ReadError>
-    ensures { (file : List ℕ) → S.bytes source.now ≡ Some file → ReadsTables (S.may_fail source.now) file result }
+    ensures reads { (file : List ℕ) → S.bytes source.now ≡ Some file
+        → ReadsTables (S.may_fail source.now) file result }
+    ensures nothing_else { (file : List ℕ) → S.bytes source.now ≡ Some file
+        → AreSure (S.is_sure source.now) (section_parts_of file) → IfErr result (λ e. e ≢ read_errors.Unreadable) }
 {
-    let len = source.length()? as usize;
-    match read_format(alloc, source, len)? {
+    let begun = Begun::new(alloc, source)?;
+    let format = detect_format(begun.head());
+    read_as(alloc, &begun, format)
+}
+
+// The tables of the sections of a file of this format.
+#[tactic(auto, unfolding(crate::specs::Parts::format_parts))]
+fn read_as<S: Source>(alloc: Global, source: &S, format: Format) -> Result<Tables, ReadError>
+    ensures reads { (file : List ℕ) → S.bytes source.now ≡ Some file → format ≡ format_of file
+        → ReadsTables (S.may_fail source.now) file result }
+    ensures nothing_else { (file : List ℕ) → S.bytes source.now ≡ Some file
+        → AreSure (S.is_sure source.now) (format_parts format file) → IfErr result (λ e. e ≢ read_errors.Unreadable) }
+{
+    match format {
         Format::Elf32 { byte_order } => {
             let parts = elf32::read_sections(alloc, source, byte_order)?;
             Ok(Tables::Elf32(parts))
@@ -74,12 +92,12 @@ pub(crate) fn read<S: Source>(alloc: Global, source: &S) -> Result<Tables, ReadE
             Ok(Tables::Elf64(parts))
         }
         Format::Macho => {
-            let begun = macho::read_sections(alloc, source)?;
-            Ok(Tables::Macho(begun))
+            let beginning = macho::read_sections(alloc, source)?;
+            Ok(Tables::Macho(beginning))
         }
         Format::PE => {
-            let begun = pe::read_sections(alloc, source)?;
-            Ok(Tables::Pe(begun))
+            let beginning = pe::read_sections(alloc, source)?;
+            Ok(Tables::Pe(beginning))
         }
         Format::Unknown => Ok(Tables::Unknown),
     }
@@ -94,6 +112,8 @@ pub(crate) fn read_named<F: Source>(
     ensures unwritten { IfErr result (λ e. e ≢ Write) }
     ensures reads { (file : List ℕ) → F.bytes source.now ≡ Some file
         → ReadsBytes (F.may_fail source.now) (bytes_named (sections_of (format_of file) file) file name.now) result }
+    ensures nothing_else { (file : List ℕ) → F.bytes source.now ≡ Some file
+        → AreSure (F.is_sure source.now) (named_parts_of file name.now) → IfErr result (λ e. e ≢ Unreadable) }
 {
     let tables = read(alloc, source)?;
     let sections = tables.sections()?;
@@ -115,6 +135,9 @@ fn read_bytes<F: Source>(
     ensures unwritten { IfErr result (λ e. e ≢ Write) }
     ensures reads { (file : List ℕ) → F.bytes source.now ≡ Some file → len ≡ length file
         → ReadsBytes (F.may_fail source.now) (bytes_of file (section_view section.entry)) result }
+    ensures nothing_else { (file : List ℕ) → F.bytes source.now ≡ Some file → len ≡ length file
+        → AreSure (F.is_sure source.now) (bytes_parts file (section_view section.entry))
+        → IfErr result (λ e. e ≢ Unreadable) }
 {
     if !section.has_bytes {
         return Err(SectionError::NoBytes);

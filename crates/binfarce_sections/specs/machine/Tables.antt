@@ -21,16 +21,16 @@ Has file walk = sections_of (format_of file) file ≡ Some walk
 abbrev pub AreTablesOf : List ℕ → Tables → Type 0
 AreTablesOf file (Elf32 parts) = let seen = sections_view elf32 parts in Has file (mapped (elf_named seen.name) seen.sections) × (seen.file_length ≡ length file)
 AreTablesOf file (Elf64 parts) = let seen = sections_view elf64 parts in Has file (mapped (elf_named seen.name) seen.sections) × (seen.file_length ≡ length file)
-AreTablesOf file (Macho begun) = Has file (macho_sections (bytes_of begun)) × (file_length_of begun ≡ length file)
-AreTablesOf file (Pe begun) = Has file (pe_sections (bytes_of begun)) × (file_length_of begun ≡ length file)
+AreTablesOf file (Macho beginning) = Has file (macho_sections (bytes_of beginning)) × (file_length_of beginning ≡ length file)
+AreTablesOf file (Pe beginning) = Has file (pe_sections (bytes_of beginning)) × (file_length_of beginning ≡ length file)
 AreTablesOf file Unknown = format_of file ≡ formats.Unknown
 
 -- such a length
 abbrev pub HasLength : Tables → ℕ → Type 0
 HasLength (Elf32 parts) n = n ≡ (sections_view elf32 parts).file_length
 HasLength (Elf64 parts) n = n ≡ (sections_view elf64 parts).file_length
-HasLength (Macho begun) n = n ≡ file_length_of begun
-HasLength (Pe begun) n = n ≡ file_length_of begun
+HasLength (Macho beginning) n = n ≡ file_length_of beginning
+HasLength (Pe beginning) n = n ≡ file_length_of beginning
 HasLength Unknown n = n ≡ 0
 
 -- the result of a reading of this file: its tables, or the refusal that comes before any section; or a source that may fail is unreadable, or an

@@ -1,7 +1,11 @@
+use Rattle.std.specs.Prelude.{◌≢◌, IfErr}
 use Rattle.binfarce.specs.Format.{format_of}
 use Rattle.binfarce_sections.specs.Section.{sections_of}
 use Rattle.binfarce_sections.specs.Results.{TakesReadLines, Fails, error_of}
+use Rattle.binfarce_sections.specs.Views.{sections_left}
+use Rattle.binfarce_sections.specs.declared.error.SectionError.TheVariants.{Unreadable}
 use Rattle.binfarce_sections.proofs.SourceAnswers.{err_is, lines_opened, lines_unopened, lines_read, lines_unread, unfailed}
+use Rattle.binfarce_sections.proofs.Sure.{read_surely, opened_surely, lines_surely}
 use Rattle.binfarce_sections.proofs.list.list_source.Goals as goal
 
 pub returns-in_err-tables-clause-takes : goal.returns-in_err-tables-clause-takes
@@ -10,7 +14,7 @@ returns-in_err-tables-clause-takes g c = λ file known.
     let old = g.S.Sink.taken c.args.out.now in
     let e = c.in_err-tables.field-0.0 in
     err_is (λ r. TakesReadLines fails (sections_of (format_of file) file) old old r) c.from_residual.result (error_of e) c.from_residual.ensures
-    (lines_unread fails file e old (c.in_err-tables.ensures file known))
+    (lines_unread fails file e old (c.in_err-tables.ensures.reads file known))
 
 pub returns-in_err-sections-clause-takes : goal.returns-in_err-sections-clause-takes
 returns-in_err-sections-clause-takes g c = λ file known.
@@ -18,7 +22,7 @@ returns-in_err-sections-clause-takes g c = λ file known.
     let old = g.S.Sink.taken c.args.out.now in
     let e = c.in_err-sections.field-0.0 in
     err_is (λ r. TakesReadLines fails (sections_of (format_of file) file) old old r) c.from_residual-in_err-sections.result e c.from_residual-in_err-sections.ensures
-    (lines_unopened fails (sections_of (format_of file) file) e old (c.in_err-sections.ensures.opens file (c.in_ok-tables.ensures file known)))
+    (lines_unopened fails (sections_of (format_of file) file) e old (c.in_err-sections.ensures.opens file (c.in_ok-tables.ensures.reads file known)))
 
 pub returns-clause-takes : goal.returns-clause-takes
 returns-clause-takes g c = λ file known.
@@ -26,10 +30,25 @@ returns-clause-takes g c = λ file known.
     let old = g.S.Sink.taken c.args.out.now in
     let new = g.S.Sink.taken c.write_lines.new.out in
     lines_read (g.F.Source.may_fail c.args.source.now) walk old new c.write_lines.result
-    (lines_opened walk c.in_ok-sections.sections old new c.write_lines.result (c.in_ok-sections.ensures.opens file (c.in_ok-tables.ensures file known)) c.write_lines.ensures.takes)
+    (lines_opened walk c.in_ok-sections.sections old new c.write_lines.result (c.in_ok-sections.ensures.opens file (c.in_ok-tables.ensures.reads file known)) c.write_lines.ensures.takes)
 
 pub returns-in_err-sections-clause-fails : goal.returns-in_err-sections-clause-fails
 returns-in_err-sections-clause-fails g c =
     let old = g.S.Sink.has_failed c.args.out.now in
     let e = c.in_err-sections.field-0.0 in
     err_is (λ r. Fails old old r) c.from_residual-in_err-sections.result e c.from_residual-in_err-sections.ensures (unfailed old e c.in_err-sections.ensures.unwritten)
+
+pub returns-in_err-tables-clause-nothing_else : goal.returns-in_err-tables-clause-nothing_else
+returns-in_err-tables-clause-nothing_else g c = λ file known sure.
+    let e = c.in_err-tables.field-0.0 in
+    err_is (λ r. IfErr r (λ s. s ≢ Unreadable)) c.from_residual.result (error_of e) c.from_residual.ensures (read_surely e (c.in_err-tables.ensures.nothing_else file known sure))
+
+pub returns-in_err-sections-clause-nothing_else : goal.returns-in_err-sections-clause-nothing_else
+returns-in_err-sections-clause-nothing_else g c = λ file known sure.
+    let e = c.in_err-sections.field-0.0 in
+    err_is (λ r. IfErr r (λ s. s ≢ Unreadable)) c.from_residual-in_err-sections.result e c.from_residual-in_err-sections.ensures
+    (opened_surely (sections_of (format_of file) file) e (c.in_err-sections.ensures.opens file (c.in_ok-tables.ensures.reads file known)))
+
+pub returns-clause-nothing_else : goal.returns-clause-nothing_else
+returns-clause-nothing_else g c = λ file known sure.
+    lines_surely (sections_left c.in_ok-sections.sections) (g.S.Sink.taken c.args.out.now) (g.S.Sink.taken c.write_lines.new.out) c.write_lines.result c.write_lines.ensures.takes

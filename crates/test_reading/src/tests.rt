@@ -3,6 +3,7 @@ mod changed;
 mod faults;
 mod files;
 mod parts;
+mod ranges;
 
 use crate::macho::SAID;
 use std::alloc::{AllocError, Global};
@@ -12,13 +13,12 @@ use test_samples::macho::MACHO;
 use test_samples::patched;
 use test_samples::pe::{PE, RECORD};
 
-// A file, how many calls its reading makes, and how many bytes it reads.
+// A file, and how many calls its reading makes.
 #[derive(Drop)]
 struct Sample {
     kind: File,
     bytes: Vec<u8>,
     calls: usize,
-    read: usize,
 }
 
 // What follows the records of a PE file: the string table, whose length is 15, and after that a byte of no name.
@@ -41,11 +41,6 @@ fn samples(alloc: Global) -> Result<Vec<Sample>, AllocError> {
             kind: File::Elf(layout),
             bytes: Vec::from_slice(alloc, layout.bytes())?,
             calls: 7,
-            read: if layout.is_64() {
-                64 + 64 + 33 + 5 * 64 + 18 + 120
-            } else {
-                52 + 40 + 33 + 5 * 40 + 18 + 80
-            },
         })?;
     }
     // The length, the header, the next 32 bytes, the whole file, the strings, the symbols.
@@ -53,21 +48,18 @@ fn samples(alloc: Global) -> Result<Vec<Sample>, AllocError> {
         kind: File::Macho,
         bytes: Vec::from_slice(alloc, &MACHO)?,
         calls: 6,
-        read: 28 + 32 + 281 + 9 + 64,
     })?;
     // The length, the header, the bytes up to the end of the commands, the strings, the symbols.
     all.push(Sample {
         kind: File::Macho,
         bytes: patched(alloc, &MACHO, &[SAID])?,
         calls: 5,
-        read: 28 + 208 + 9 + 64,
     })?;
     // The length, the signature's offset, the file header, the section header, the records, the strings.
     all.push(Sample {
         kind: File::Pe,
         bytes: with_strings(alloc)?,
         calls: 6,
-        read: 4 + 24 + 40 + 5 * 18 + STRINGS.len(),
     })?;
     Ok(all)
 }

@@ -1,24 +1,21 @@
-//! Sources that fail at a call, that end early, and that count what is read of them.
+//! Sources that fail at a call, or end early.
 
-use super::{samples, with_strings};
+use super::samples;
 use crate::fronts::{Given, compared_of};
-use crate::pe::compared;
 use binfarce_bytes::source::Source;
 use std::alloc::Global;
 use std::cell::Cell;
 use std::io::{self, Error, ErrorKind};
 use std::test::Fail;
 use test_samples::files::File;
-use test_samples::pe::{OPTIONAL_HEADER, SECTIONS, SIGNATURE, SYMBOL_TABLE, SYMBOLS};
-use test_samples::{Patch, first_bytes, patched};
+use test_samples::first_bytes;
 
-/// Bytes in memory: how many calls are answered before one fails, with which error, and how many bytes were given.
+/// Bytes in memory: how many calls are answered before one fails, and with which error.
 #[derive(Drop)]
 pub(super) struct Failing<'a> {
     bytes: &'a [u8],
     pub(super) left: Cell<usize>,
     error: ErrorKind,
-    pub(super) given: Cell<usize>,
 }
 
 impl<'a> Failing<'a> {
@@ -27,7 +24,6 @@ impl<'a> Failing<'a> {
             bytes,
             left: Cell::new(left),
             error,
-            given: Cell::new(0),
         }
     }
 
@@ -50,7 +46,6 @@ impl<'a> Source for Failing<'a> {
 
     fn fill_at(&self, offset: u64, buf: &mut [u8]) -> io::Result<()> {
         self.called()?;
-        self.given.set(self.given.get().saturating_add(buf.len()));
         self.bytes.fill_at(offset, buf)
     }
 }
@@ -83,39 +78,13 @@ fn each_call_fails_in_turn(rt: HostRuntime) -> Result<(), Fail> {
 }
 
 #[test]
-fn no_other_byte_is_read(rt: HostRuntime) -> Result<(), Fail> {
+fn no_other_call_is_made(rt: HostRuntime) -> Result<(), Fail> {
     for sample in &samples(rt.alloc())? {
         let file = sample.bytes.as_slice();
         let source = Failing::new(file, sample.calls, ErrorKind::Other);
         let got = compared_of(rt.alloc(), sample.kind, file, &source, ".text");
         assert_eq!(rt; got, Given::Same);
         assert_eq!(rt; source.left.get(), 0, "{:?}", sample.kind);
-        assert_eq!(rt; source.given.get(), sample.read, "{:?}", sample.kind);
-    }
-    Ok(())
-}
-
-// Counts and offsets of the PE file that are too great.
-const GREATEST: [&[Patch<'static>]; 6] = [
-    &[(SIGNATURE, &[0xFF; 4])],
-    &[(SECTIONS, &[0xFF; 2])],
-    &[(SYMBOL_TABLE, &[0xFF; 4])],
-    &[(SYMBOLS, &[0xFF; 4])],
-    &[(SYMBOL_TABLE, &[0xFF; 4]), (SYMBOLS, &[0xFF; 4])],
-    &[(OPTIONAL_HEADER, &[0xFF; 2])],
-];
-
-// Of each part no more is read than the file holds from its offset on: of the section headers 146 bytes, and of the records
-// and the strings 106.
-#[test]
-fn no_byte_is_read_for_a_count(rt: HostRuntime) -> Result<(), Fail> {
-    let sample = with_strings(rt.alloc())?;
-    for patches in GREATEST {
-        let file = patched(rt.alloc(), &sample, patches)?;
-        let source = Failing::new(&file, 6, ErrorKind::Other);
-        assert_eq!(rt; compared(rt.alloc(), &file, &source), Given::Same);
-        let given = source.given.get();
-        assert!(rt; given <= 4 + 24 + 146 + 106, "{patches:?}: {given}");
     }
     Ok(())
 }

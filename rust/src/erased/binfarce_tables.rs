@@ -3,6 +3,7 @@
 //! Files of which only the tables are read: each part once, into memory of its size. Names stay as they are stored.
 
 mod beginning;
+pub mod begun;
 pub mod elf;
 pub mod elf32;
 pub mod elf64;

@@ -42,7 +42,7 @@ impl<'a> Places<'a> {
     /// # Errors
     ///
     /// As `of_file`.
-    pub fn of_tables(alloc: Global, tables: &'a Tables) -> Result<Places<'a>, ListError> {
+    pub fn of_tables(alloc: Global, tables: &'a Tables<'_>) -> Result<Places<'a>, ListError> {
         let (functions, _) = tables.functions(alloc)?;
         let places = places_of(alloc, functions)?;
         Ok(places)
@@ -290,8 +290,7 @@ pub fn at<S: Sink>(
     addresses: &[u64],
     out: &mut S,
 ) -> Result<(), ListError> {
-    let places = Places::of_file(alloc, data, section)?;
-    write_lines(alloc, &places, base, addresses, out)
+    at_tables(alloc, &Tables::whole(data, section), base, addresses, out)
 }
 
 /// As `at`, from the tables of a file: for the section that they were read for.
@@ -301,7 +300,7 @@ pub fn at<S: Sink>(
 /// As `at`.
 pub fn at_tables<S: Sink>(
     alloc: Global,
-    tables: &Tables,
+    tables: &Tables<'_>,
     base: u64,
     addresses: &[u64],
     out: &mut S,

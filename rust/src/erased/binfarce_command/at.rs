@@ -65,7 +65,7 @@ pub fn answer_all<S: Source, K: Sink>(
 // The same of a section, of the tables of the source.
 fn answer_tables<K: Sink>(
     alloc: Global,
-    tables: &Tables,
+    tables: &Tables<'_>,
     base: u64,
     addresses: &[u64],
     out: &mut K,
@@ -123,7 +123,7 @@ pub fn answer_input<S: Source, I: Read, K: Sink>(
 // The same of a section, of the tables of the source.
 fn answer_in_tables<I: Read, K: Sink>(
     alloc: Global,
-    tables: &Tables,
+    tables: &Tables<'_>,
     base: u64,
     input: &mut I,
     out: &mut K,
@@ -148,7 +148,7 @@ fn answer_in_all<I: Read, K: Sink>(
 }
 
 // The places of the function symbols, with their names.
-fn named_places(alloc: Global, tables: &Tables) -> Result<Places<'_>, ListError> {
+fn named_places<'a>(alloc: Global, tables: &'a Tables<'_>) -> Result<Places<'a>, ListError> {
     let mut places = Places::of_tables(alloc, tables)?;
     places.keep_names(alloc)?;
     Ok(places)

@@ -70,7 +70,7 @@ pub fn show<S: Source, K: Sink>(
 fn show_tables<K: Sink>(
     alloc: Global,
     kind: Kind,
-    tables: &Tables,
+    tables: &Tables<'_>,
     out: &mut K,
 ) -> Result<(), Fault> {
     match kind {

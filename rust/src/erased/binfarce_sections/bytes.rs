@@ -45,7 +45,7 @@ fn write_all<S: Sink>(bytes: &[u8], out: &mut S) -> Result<(), SectionError> {
     write_whole(out, bytes).map_err(|_| SectionError::Write)
 }
 
-/// The same for a source, of which only these bytes are read: the first 8 bytes, those that `read_sections` of
+/// The same for a source, of which only these bytes are read: the first 64 bytes, those that `read_sections` of
 /// `binfarce_tables` reads of a file of that format, and the section's bytes, into memory of its size.
 ///
 /// # Errors

@@ -31,7 +31,7 @@ pub fn list_sections<S: Sink>(alloc: Global, data: &[u8], out: &mut S) -> Result
     write_lines(alloc, sections, out)
 }
 
-/// The same for a source, of which only these bytes are read: the first 8 bytes, and those that `read_sections` of
+/// The same for a source, of which only these bytes are read: the first 64 bytes, and those that `read_sections` of
 /// `binfarce_tables` reads of a file of that format.
 ///
 /// # Errors

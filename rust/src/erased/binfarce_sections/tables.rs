@@ -8,10 +8,10 @@ use crate::erased::binfarce_sections::error::SectionError;
 use crate::erased::binfarce_sections::sections::{
     Section, Sections, elf32_sections, elf64_sections, open_macho, open_pe,
 };
-use crate::erased::binfarce::Format;
+use crate::erased::binfarce::{Format, detect_format};
 use crate::erased::binfarce_bytes::source::Source;
+use crate::erased::binfarce_tables::begun::Begun;
 use crate::erased::binfarce_tables::{Beginning, ReadError, elf32, elf64, macho, part, pe};
-use crate::erased::binfarce_tools::tables::read_format;
 use crate::shim::alloc::Global;
 
 // The tables of a file's sections.
@@ -29,8 +29,8 @@ impl Tables {
         match self {
             Tables::Elf32(parts) => Ok(elf32_sections(parts)),
             Tables::Elf64(parts) => Ok(elf64_sections(parts)),
-            Tables::Macho(begun) => Ok(open_macho(begun.bytes())?),
-            Tables::Pe(begun) => Ok(open_pe(begun.bytes())?),
+            Tables::Macho(beginning) => Ok(open_macho(beginning.bytes())?),
+            Tables::Pe(beginning) => Ok(open_pe(beginning.bytes())?),
             Tables::Unknown => Err(SectionError::Unknown),
         }
     }
@@ -40,18 +40,24 @@ impl Tables {
         match self {
             Tables::Elf32(parts) => parts.file_length(),
             Tables::Elf64(parts) => parts.file_length(),
-            Tables::Macho(begun) => begun.file_length(),
-            Tables::Pe(begun) => begun.file_length(),
+            Tables::Macho(beginning) => beginning.file_length(),
+            Tables::Pe(beginning) => beginning.file_length(),
             Tables::Unknown => 0,
         }
     }
 }
 
-// Reads the first bytes of a file, which name its format, and the tables of the sections of a file of that format
-// (`binfarce_tables`). Refused where the file is too short for its header.
+// Asks a source for its length and for the first bytes of a file, which name its format, and reads the tables of the
+// sections of a file of that format (`binfarce_tables`). Refused where the file is too short for its header.
 pub(crate) fn read<S: Source>(alloc: Global, source: &S) -> Result<Tables, ReadError> {
-    let len = source.length()? as usize;
-    match read_format(alloc, source, len)? {
+    let begun = Begun::new(alloc, source)?;
+    let format = detect_format(begun.head());
+    read_as(alloc, &begun, format)
+}
+
+// The tables of the sections of a file of this format.
+fn read_as<S: Source>(alloc: Global, source: &S, format: Format) -> Result<Tables, ReadError> {
+    match format {
         Format::Elf32 { byte_order } => {
             let parts = elf32::read_sections(alloc, source, byte_order)?;
             Ok(Tables::Elf32(parts))
@@ -61,12 +67,12 @@ pub(crate) fn read<S: Source>(alloc: Global, source: &S) -> Result<Tables, ReadE
             Ok(Tables::Elf64(parts))
         }
         Format::Macho => {
-            let begun = macho::read_sections(alloc, source)?;
-            Ok(Tables::Macho(begun))
+            let beginning = macho::read_sections(alloc, source)?;
+            Ok(Tables::Macho(beginning))
         }
         Format::PE => {
-            let begun = pe::read_sections(alloc, source)?;
-            Ok(Tables::Pe(begun))
+            let beginning = pe::read_sections(alloc, source)?;
+            Ok(Tables::Pe(beginning))
         }
         Format::Unknown => Ok(Tables::Unknown),
     }

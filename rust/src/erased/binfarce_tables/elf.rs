@@ -153,12 +153,13 @@ pub(crate) fn read_names<C: Class, S: Source>(
     len: usize,
     place: Place,
 ) -> Result<Option<Vec<u8>>, ReadError> {
-    let whole = len.saturating_sub(place.shoff) / C::SECTION_LENGTH;
+    let size = C::SECTION_LENGTH;
+    let whole = len.saturating_sub(place.shoff) / size;
     if place.shstrndx as usize >= whole {
         return Ok(None);
     }
-    let start = place.shoff + place.shstrndx as usize * C::SECTION_LENGTH;
-    let header = part(alloc, source, start, C::SECTION_LENGTH)?;
+    let start = place.shoff + place.shstrndx as usize * size;
+    let header = part(alloc, source, start, size)?;
     match section_at::<C>(&header, 0, place.byte_order, place.shstrndx) {
         Ok(section) => read_contents::<C, S>(alloc, source, len, section),
         Err(_) => Ok(None),

@@ -10,11 +10,12 @@ use crate::erased::binfarce_tools::map::picture;
 use crate::erased::binfarce_tools::report::{
     CrateSums, ReportError, crate_sums, sums_text, write_made,
 };
-use crate::erased::binfarce_tools::tables::{has_table, read_format};
+use crate::erased::binfarce_tools::tables::has_table;
 use crate::erased::binfarce_tools::writing::write_whole;
-use crate::erased::binfarce::{Format, SectionFunction, SymbolTable};
+use crate::erased::binfarce::{Format, SectionFunction, SymbolTable, detect_format};
 use crate::erased::binfarce_bytes::source::Source;
 use crate::erased::binfarce_names::demangle::Demangler;
+use crate::erased::binfarce_tables::begun::Begun;
 use crate::erased::binfarce_tables::{ReadError, elf32, elf64, macho, pe};
 use crate::shim::alloc::{AllocError, Global};
 
@@ -123,7 +124,7 @@ impl<'a> AllArranged<'a> {
     }
 }
 
-/// Reads the tables of a file for the function symbols of all sections, by this symbol table: its first 8 bytes, which
+/// Reads the tables of a file for the function symbols of all sections, by this symbol table: its first 64 bytes, which
 /// name its format, and the parts that `binfarce_tables` reads of a file of that format. Of a file of an unknown format
 /// no other byte is read. Each part that is kept takes no more memory than the file has bytes of it.
 ///
@@ -137,8 +138,19 @@ pub fn read_all<S: Source>(
     source: &S,
     which: SymbolTable,
 ) -> Result<AllTables, ReadError> {
-    let len = source.length()? as usize;
-    match read_format(alloc, source, len)? {
+    let begun = Begun::new(alloc, source)?;
+    let format = detect_format(begun.head());
+    read_as(alloc, &begun, format, which)
+}
+
+// The tables of a file of this format.
+fn read_as<S: Source>(
+    alloc: Global,
+    source: &S,
+    format: Format,
+    which: SymbolTable,
+) -> Result<AllTables, ReadError> {
+    match format {
         Format::Elf32 { byte_order } => {
             let parts = elf32::read_all(alloc, source, byte_order, which)?;
             Ok(AllTables::Elf32(parts))

@@ -3,7 +3,7 @@
 //! Lists the function symbols of an executable, a line each.
 
 use crate::shim::String;
-use crate::erased::binfarce_tools::functions::{Functions, functions_of_file};
+use crate::erased::binfarce_tools::functions::Functions;
 use crate::erased::binfarce_tools::head::push_head;
 use crate::erased::binfarce_tools::tables::Tables;
 use crate::erased::binfarce_tools::writing::write_whole;
@@ -123,9 +123,7 @@ pub fn list<S: Sink>(
     section: &str,
     out: &mut S,
 ) -> Result<(), ListError> {
-    let (functions, size) = functions_of_file(alloc, data, section)?;
-    let text = listing(alloc, functions, size)?;
-    write_whole(out, text.as_bytes())
+    list_tables(alloc, &Tables::whole(data, section), out)
 }
 
 /// As `list`, from the tables of a file: for the section that they were read for.
@@ -133,7 +131,11 @@ pub fn list<S: Sink>(
 /// # Errors
 ///
 /// As `list`.
-pub fn list_tables<S: Sink>(alloc: Global, tables: &Tables, out: &mut S) -> Result<(), ListError> {
+pub fn list_tables<S: Sink>(
+    alloc: Global,
+    tables: &Tables<'_>,
+    out: &mut S,
+) -> Result<(), ListError> {
     let (functions, size) = tables.functions(alloc)?;
     let text = listing(alloc, functions, size)?;
     write_whole(out, text.as_bytes())

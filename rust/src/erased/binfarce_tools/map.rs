@@ -4,9 +4,7 @@
 
 use crate::shim::{String, Vec};
 use crate::erased::binfarce_tools::list::Sink;
-use crate::erased::binfarce_tools::report::{
-    CrateSums, ReportError, sums_of_file, sums_of_tables, write_made,
-};
+use crate::erased::binfarce_tools::report::{CrateSums, ReportError, sums_of_tables, write_made};
 use crate::erased::binfarce_tools::tables::Tables;
 use crate::erased::binfarce_chart::bars::Bar;
 use crate::erased::binfarce_chart::svg::chart;
@@ -27,8 +25,7 @@ pub fn map<S: Sink>(
     section: &str,
     out: &mut S,
 ) -> Result<(), ReportError> {
-    let sums = sums_of_file(alloc, data, section)?;
-    write_made(out, picture(alloc, &sums))
+    map_tables(alloc, &Tables::whole(data, section), out)
 }
 
 /// As `map`, from the tables of a file: for the section that they were read for.
@@ -36,7 +33,11 @@ pub fn map<S: Sink>(
 /// # Errors
 ///
 /// As `map`.
-pub fn map_tables<S: Sink>(alloc: Global, tables: &Tables, out: &mut S) -> Result<(), ReportError> {
+pub fn map_tables<S: Sink>(
+    alloc: Global,
+    tables: &Tables<'_>,
+    out: &mut S,
+) -> Result<(), ReportError> {
     let sums = sums_of_tables(alloc, tables)?;
     write_made(out, picture(alloc, &sums))
 }

@@ -3,7 +3,7 @@
 //! Reports how much of an executable's code each crate takes.
 
 use crate::shim::String;
-use crate::erased::binfarce_tools::functions::{Functions, functions_of_file};
+use crate::erased::binfarce_tools::functions::Functions;
 use crate::erased::binfarce_tools::list::{ListError, Sink};
 use crate::erased::binfarce_tools::tables::Tables;
 use crate::erased::binfarce_tools::writing::write_whole;
@@ -83,8 +83,7 @@ pub fn report<S: Sink>(
     section: &str,
     out: &mut S,
 ) -> Result<(), ReportError> {
-    let sums = sums_of_file(alloc, data, section)?;
-    write_made(out, report_text(alloc, &sums))
+    report_tables(alloc, &Tables::whole(data, section), out)
 }
 
 /// As `report`, from the tables of a file: for the section that they were read for.
@@ -94,7 +93,7 @@ pub fn report<S: Sink>(
 /// As `report`.
 pub fn report_tables<S: Sink>(
     alloc: Global,
-    tables: &Tables,
+    tables: &Tables<'_>,
     out: &mut S,
 ) -> Result<(), ReportError> {
     let sums = sums_of_tables(alloc, tables)?;
@@ -117,8 +116,7 @@ pub struct CrateSums {
 ///
 /// As `report`, but for `Write`.
 pub fn sums_of_file(alloc: Global, data: &[u8], section: &str) -> Result<CrateSums, ReportError> {
-    let (functions, size) = functions_of_file(alloc, data, section)?;
-    crate_sums(alloc, functions, size)
+    sums_of_tables(alloc, &Tables::whole(data, section))
 }
 
 /// The sums that `report_tables` shows.
@@ -126,7 +124,7 @@ pub fn sums_of_file(alloc: Global, data: &[u8], section: &str) -> Result<CrateSu
 /// # Errors
 ///
 /// As `report_tables`, but for `Write`.
-pub fn sums_of_tables(alloc: Global, tables: &Tables) -> Result<CrateSums, ReportError> {
+pub fn sums_of_tables(alloc: Global, tables: &Tables<'_>) -> Result<CrateSums, ReportError> {
     let (functions, size) = tables.functions(alloc)?;
     crate_sums(alloc, functions, size)
 }

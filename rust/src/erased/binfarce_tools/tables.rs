@@ -2,19 +2,16 @@
 
 //! The tables of a file's function symbols, read from a source.
 
-use crate::shim::Vec;
-use crate::erased::binfarce_tools::functions::{Functions, all_of};
+use crate::erased::binfarce_tools::functions::{Functions, all_of, functions_of_file};
 use crate::erased::binfarce_tools::list::ListError;
 use crate::erased::binfarce::{Format, ParseError, SymbolTable, detect_format};
-use crate::erased::binfarce_bytes::source::{Source, read_part};
+use crate::erased::binfarce_bytes::source::Source;
+use crate::erased::binfarce_tables::begun::Begun;
 use crate::erased::binfarce_tables::{ReadError, elf32, elf64, macho, pe};
 use crate::shim::alloc::Global;
 
-// How many of a file's first bytes name its format.
-const MAGIC_LENGTH: usize = 8;
-
-/// The tables that were read of a file for the function symbols of a section.
-pub enum Tables {
+/// The tables of a file for the function symbols of a section: those that were read, or a whole file in memory.
+pub enum Tables<'a> {
     /// The parts of an ELF file of 32 bits.
     Elf32(elf32::Parts),
     /// The parts of an ELF file of 64 bits.
@@ -25,9 +22,16 @@ pub enum Tables {
     Pe(pe::Parts),
     /// Nothing: the file's first bytes name no supported format.
     Unknown,
+    /// All bytes of a file, and the section.
+    Whole { data: &'a [u8], section: &'a str },
 }
 
-impl Tables {
+impl<'a> Tables<'a> {
+    /// The tables of a file in memory for a section, by the symbol table. Nothing is read yet.
+    pub fn whole(data: &'a [u8], section: &'a str) -> Tables<'a> {
+        Self::Whole { data, section }
+    }
+
     /// The function symbols of the section and the symbol table that the tables were read for, and the section's size.
     /// For the symbol table these are the answer of `functions_of_file`.
     ///
@@ -53,11 +57,12 @@ impl Tables {
                 Ok(all_of(listed))
             }
             Tables::Unknown => Err(ListError::Unknown),
+            Tables::Whole { data, section } => functions_of_file(alloc, data, section),
         }
     }
 }
 
-/// Reads the tables of a file for the function symbols of a section: its first 8 bytes, which name its format, and the
+/// Reads the tables of a file for the function symbols of a section: its first 64 bytes, which name its format, and the
 /// parts that `binfarce_tables` reads of a file of that format. Of a file of an unknown format no other byte is read.
 /// Each part that is kept takes no more memory than the file has bytes of it.
 ///
@@ -66,7 +71,11 @@ impl Tables {
 /// `Refused` with the error of the format's reader; `Unreadable` where the source can't be read at offsets, or a read
 /// of it fails, and never for a source that can't fail, such as bytes in memory; `OutOfMemory` where an allocation
 /// fails.
-pub fn read<S: Source>(alloc: Global, source: &S, section: &str) -> Result<Tables, ReadError> {
+pub fn read<S: Source>(
+    alloc: Global,
+    source: &S,
+    section: &str,
+) -> Result<Tables<'static>, ReadError> {
     read_by(alloc, source, SymbolTable::Symtab, section)
 }
 
@@ -81,9 +90,21 @@ pub fn read_by<S: Source>(
     source: &S,
     which: SymbolTable,
     section: &str,
-) -> Result<Tables, ReadError> {
-    let len = source.length()? as usize;
-    match read_format(alloc, source, len)? {
+) -> Result<Tables<'static>, ReadError> {
+    let begun = Begun::new(alloc, source)?;
+    let format = detect_format(begun.head());
+    read_as(alloc, &begun, format, which, section)
+}
+
+// The tables of a file of this format.
+fn read_as<S: Source>(
+    alloc: Global,
+    source: &S,
+    format: Format,
+    which: SymbolTable,
+    section: &str,
+) -> Result<Tables<'static>, ReadError> {
+    match format {
         Format::Elf32 { byte_order } => {
             let parts = elf32::read_by(alloc, source, byte_order, which, section)?;
             Ok(Tables::Elf32(parts))
@@ -112,19 +133,4 @@ pub(crate) fn has_table(which: SymbolTable) -> Result<(), ParseError> {
         SymbolTable::Symtab => Ok(()),
         SymbolTable::Dynsym => Err(ParseError::SectionIsMissing(which.name())),
     }
-}
-
-/// The format that the first 8 bytes of a source of this length name. Of a shorter one all bytes are read.
-///
-/// # Errors
-///
-/// `Unreadable` where a read fails, and `OutOfMemory` where an allocation fails.
-pub fn read_format<S: Source>(alloc: Global, source: &S, len: usize) -> Result<Format, ReadError> {
-    let magic = read_magic(alloc, source, len)?;
-    Ok(detect_format(&magic))
-}
-
-// The file's first bytes, which name its format.
-fn read_magic<S: Source>(alloc: Global, source: &S, len: usize) -> Result<Vec<u8>, ReadError> {
-    Ok(read_part(alloc, source, 0, len.min(MAGIC_LENGTH))?)
 }

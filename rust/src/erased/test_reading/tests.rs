@@ -5,6 +5,7 @@ mod changed;
 mod faults;
 mod files;
 mod parts;
+mod ranges;
 
 use crate::shim::Vec;
 use crate::erased::test_reading::macho::SAID;
@@ -15,12 +16,11 @@ use crate::erased::test_samples::macho::MACHO;
 use crate::erased::test_samples::patched;
 use crate::erased::test_samples::pe::{PE, RECORD};
 
-// A file, how many calls its reading makes, and how many bytes it reads.
+// A file, and how many calls its reading makes.
 struct Sample {
     kind: File,
     bytes: Vec<u8>,
     calls: usize,
-    read: usize,
 }
 
 // What follows the records of a PE file: the string table, whose length is 15, and after that a byte of no name.
@@ -43,11 +43,6 @@ fn samples(alloc: Global) -> Result<Vec<Sample>, AllocError> {
             kind: File::Elf(layout),
             bytes: Vec::from_slice(alloc, layout.bytes())?,
             calls: 7,
-            read: if layout.is_64() {
-                64 + 64 + 33 + 5 * 64 + 18 + 120
-            } else {
-                52 + 40 + 33 + 5 * 40 + 18 + 80
-            },
         })?;
     }
     // The length, the header, the next 32 bytes, the whole file, the strings, the symbols.
@@ -55,21 +50,18 @@ fn samples(alloc: Global) -> Result<Vec<Sample>, AllocError> {
         kind: File::Macho,
         bytes: Vec::from_slice(alloc, &MACHO)?,
         calls: 6,
-        read: 28 + 32 + 281 + 9 + 64,
     })?;
     // The length, the header, the bytes up to the end of the commands, the strings, the symbols.
     all.push(Sample {
         kind: File::Macho,
         bytes: patched(alloc, &MACHO, &[SAID])?,
         calls: 5,
-        read: 28 + 208 + 9 + 64,
     })?;
     // The length, the signature's offset, the file header, the section header, the records, the strings.
     all.push(Sample {
         kind: File::Pe,
         bytes: with_strings(alloc)?,
         calls: 6,
-        read: 4 + 24 + 40 + 5 * 18 + STRINGS.len(),
     })?;
     Ok(all)
 }

@@ -175,6 +175,13 @@ impl Write for Target {
 
 const ELF: &[u8] = b"\x7FELF\x02\x01\x00\x00";
 
+/// The file header of an ELF file whose one section header comes right after it.
+const ELF_HEADER: [u8; 64] = [
+    0x7F, 0x45, 0x4C, 0x46, 2, 1, 0, 0, 0, 0, 0, 0, 0, 0, 0, 0, 0, 0, 0, 0, 0, 0, 0, 0, 0, 0, 0, 0,
+    0, 0, 0, 0, 0, 0, 0, 0, 0, 0, 0, 0, 64, 0, 0, 0, 0, 0, 0, 0, 0, 0, 0, 0, 0, 0, 0, 0, 0, 0, 0,
+    0, 1, 0, 0, 0,
+];
+
 /// The bytes of a file's reader, how it ends, and the message of a program that reads the file's symbols, after the
 /// program's name.
 pub const READERS: [(&str, &[u8], Option<ErrorKind>, &str); 5] = [
@@ -204,12 +211,12 @@ pub const READERS: [(&str, &[u8], Option<ErrorKind>, &str); 5] = [
 pub const HELD: [(&str, &[u8], u64, Option<ErrorKind>, &str); 7] = [
     ("one byte", b"\x7F", 1, None, "unknown file format"),
     ("truncated", ELF, 8, None, "unexpected end of file"),
-    ("shrank", ELF, 9, None, "unexpected end of file"),
+    ("shrank", ELF, 9, None, "cannot read file"),
     ("shrank to nothing", &[], 8, None, "cannot read file"),
     (
         "shrank behind its header",
-        ELF,
-        64,
+        &ELF_HEADER,
+        128,
         None,
         "cannot read file",
     ),

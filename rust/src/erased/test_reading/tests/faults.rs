@@ -1,26 +1,23 @@
 // From crates/test_reading/src/tests/faults.rt, by tools/erase.
 
-//! Sources that fail at a call, that end early, and that count what is read of them.
+//! Sources that fail at a call, or end early.
 
 use crate::shim::HostRuntime;
-use super::{samples, with_strings};
+use super::samples;
 use crate::erased::test_reading::fronts::{Given, compared_of};
-use crate::erased::test_reading::pe::compared;
 use crate::erased::binfarce_bytes::source::Source;
 use crate::shim::alloc::Global;
 use std::cell::Cell;
 use crate::shim::io::{self, Error, ErrorKind};
 use crate::shim::test::Fail;
 use crate::erased::test_samples::files::File;
-use crate::erased::test_samples::pe::{OPTIONAL_HEADER, SECTIONS, SIGNATURE, SYMBOL_TABLE, SYMBOLS};
-use crate::erased::test_samples::{Patch, first_bytes, patched};
+use crate::erased::test_samples::first_bytes;
 
-/// Bytes in memory: how many calls are answered before one fails, with which error, and how many bytes were given.
+/// Bytes in memory: how many calls are answered before one fails, and with which error.
 pub(super) struct Failing<'a> {
     bytes: &'a [u8],
     pub(super) left: Cell<usize>,
     error: ErrorKind,
-    pub(super) given: Cell<usize>,
 }
 
 impl<'a> Failing<'a> {
@@ -29,7 +26,6 @@ impl<'a> Failing<'a> {
             bytes,
             left: Cell::new(left),
             error,
-            given: Cell::new(0),
         }
     }
 
@@ -52,7 +48,6 @@ impl<'a> Source for Failing<'a> {
 
     fn fill_at(&self, offset: u64, buf: &mut [u8]) -> io::Result<()> {
         self.called()?;
-        self.given.set(self.given.get().saturating_add(buf.len()));
         self.bytes.fill_at(offset, buf)
     }
 }
@@ -86,7 +81,7 @@ fn each_call_fails_in_turn() -> Result<(), Fail> {
 }
 
 #[test]
-fn no_other_byte_is_read() -> Result<(), Fail> {
+fn no_other_call_is_made() -> Result<(), Fail> {
     let rt = HostRuntime::new();
     for sample in &samples(rt.alloc())? {
         let file = sample.bytes.as_slice();
@@ -94,33 +89,6 @@ fn no_other_byte_is_read() -> Result<(), Fail> {
         let got = compared_of(rt.alloc(), sample.kind, file, &source, ".text");
         assert_eq!(got, Given::Same);
         assert_eq!(source.left.get(), 0, "{:?}", sample.kind);
-        assert_eq!(source.given.get(), sample.read, "{:?}", sample.kind);
-    }
-    Ok(())
-}
-
-// Counts and offsets of the PE file that are too great.
-const GREATEST: [&[Patch<'static>]; 6] = [
-    &[(SIGNATURE, &[0xFF; 4])],
-    &[(SECTIONS, &[0xFF; 2])],
-    &[(SYMBOL_TABLE, &[0xFF; 4])],
-    &[(SYMBOLS, &[0xFF; 4])],
-    &[(SYMBOL_TABLE, &[0xFF; 4]), (SYMBOLS, &[0xFF; 4])],
-    &[(OPTIONAL_HEADER, &[0xFF; 2])],
-];
-
-// Of each part no more is read than the file holds from its offset on: of the section headers 146 bytes, and of the records
-// and the strings 106.
-#[test]
-fn no_byte_is_read_for_a_count() -> Result<(), Fail> {
-    let rt = HostRuntime::new();
-    let sample = with_strings(rt.alloc())?;
-    for patches in GREATEST {
-        let file = patched(rt.alloc(), &sample, patches)?;
-        let source = Failing::new(&file, 6, ErrorKind::Other);
-        assert_eq!(compared(rt.alloc(), &file, &source), Given::Same);
-        let given = source.given.get();
-        assert!(given <= 4 + 24 + 146 + 106, "{patches:?}: {given}");
     }
     Ok(())
 }

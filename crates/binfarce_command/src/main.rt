@@ -58,7 +58,7 @@ fn run(rt: &HostRuntime, call: &Call<'_>) -> u8 {
 fn run_with(rt: &HostRuntime, call: &Call<'_>, addresses: &[u64]) -> u8 {
     let mut out = Headed::new(rt.alloc(), io::writer(rt));
     let done = answer(rt, call, addresses, &mut out);
-    ended(rt, done, out.into_reason())
+    ended(rt, done, out.into_parts().1)
 }
 
 // The addresses of a call.

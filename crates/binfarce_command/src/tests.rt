@@ -1,5 +1,4 @@
-// The loop over files, and addresses, over files, readers and writers that are literals. bench/refuse-memory.sh lets each of the
-// program's allocations fail in turn.
+// The loop over files, and addresses, over literals. bench/refuse-memory.sh lets each of the program's allocations fail in turn.
 
 use crate::at::{answer_all, answer_input};
 use crate::fault::Fault;
@@ -10,18 +9,16 @@ use binfarce_tools::SymbolTable;
 use std::alloc::Global;
 use std::fmt::Write;
 use std::io::{self, Error, ErrorKind};
-use test_samples::elf::ELF64_LITTLE;
+use test_samples::elf::{ELF64_LITTLE, LISTING};
 use test_samples::streams::{Held, Opened, Source, Target};
-
-// A file's path, its bytes, and how it ends.
-type Row<'a> = (&'a str, &'a [u8], Option<ErrorKind>);
 
 const TABLES: Symbols<'static> = Symbols {
     which: SymbolTable::Symtab,
     section: Some(".text"),
 };
 
-const FILES: [Row<'static>; 5] = [
+// The path of each file, its bytes, and how it ends.
+const FILES: [(&str, &[u8], Option<ErrorKind>); 5] = [
     ("good", &ELF64_LITTLE, None),
     ("empty", &[], None),
     ("cut", b"\x7FELF\x02\x01\x00\x00", None),
@@ -31,9 +28,7 @@ const FILES: [Row<'static>; 5] = [
 
 // The reports on files that are read to their end.
 #[derive(Drop)]
-struct Folder {
-    reported: String,
-}
+struct Folder(String);
 
 impl System<Opened<'static>> for Folder {
     fn open(&self, path: &str) -> io::Result<Opened<'static>> {
@@ -55,7 +50,7 @@ impl System<Opened<'static>> for Folder {
     }
 
     fn report(&mut self, path: &str, fault: Fault, _reason: Option<Error>) {
-        let _ = writeln!(self.reported, "{path}: {fault}");
+        let _ = writeln!(self.0, "{path}: {fault}");
     }
 }
 
@@ -64,9 +59,7 @@ type Ended = (Result<bool, Fault>, Vec<u8>, String);
 
 // Shows the files with a writer that takes so many bytes, at most 7 in a call.
 fn shown(alloc: Global, kind: Kind, paths: &[&str], left: usize, end: Option<ErrorKind>) -> Ended {
-    let mut folder = Folder {
-        reported: String::new(alloc),
-    };
+    let mut folder = Folder(String::new(alloc));
     let target = Target {
         left,
         end,
@@ -78,19 +71,13 @@ fn shown(alloc: Global, kind: Kind, paths: &[&str], left: usize, end: Option<Err
         symbols: TABLES,
     };
     let ended = show_files(alloc, &mut folder, &asked, paths, &mut out);
-    (ended, out.into_parts().0.taken, folder.reported)
+    (ended, out.into_parts().0.taken, folder.0)
 }
 
 // Files, what is written of them, what is reported, and whether all are shown.
 const LISTED: [(Kind, &[&str], &str, &str, bool); 7] = [
     (Kind::Listing, &[], "", "", true),
-    (
-        Kind::Listing,
-        &["good"],
-        "0000000000001000         16 foo\ntext 32\n",
-        "",
-        true,
-    ),
+    (Kind::Listing, &["good"], LISTING, "", true),
     (
         Kind::Sums,
         &["good", "good"],
@@ -151,8 +138,8 @@ const ANSWERS: &str = "0000000000401000 foo+0x0\n0000000000401010 ??\n";
 fn answers_addresses(rt: HostRuntime) {
     let mut out = Headed::new(rt.alloc(), Vec::new(rt.alloc()));
     let file: &[u8] = &ELF64_LITTLE;
-    let addresses = [0x401000, 0x401010];
-    let ended = answer_all(rt.alloc(), &file, &TABLES, 0x400000, &addresses, &mut out);
+    let given = [0x401000, 0x401010];
+    let ended = answer_all(rt.alloc(), &file, &TABLES, 0x400000, &given, &mut out);
     assert!(&rt; ended == Ok(()));
     assert!(&rt; out.into_parts().0.as_slice() == ANSWERS.as_bytes());
 }

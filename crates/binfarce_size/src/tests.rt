@@ -1,4 +1,4 @@
-// bench/refuse-memory.sh lets each of the program's allocations fail in turn: it prints `out of memory` or the whole report.
+// bench/refuse-memory.sh lets each allocation fail in turn: the program prints its usage, `out of memory` or the whole report.
 
 use crate::program::{Fault, run, run_at, status, words};
 use binfarce_bytes::source::Source as AtOffsets;
@@ -55,14 +55,9 @@ fn needs_a_file(rt: HostRuntime) -> Result<(), AllocError> {
 }
 
 #[test]
-fn writes_the_report(rt: HostRuntime) -> Result<(), AllocError> {
+fn writes_the_report_or_why_it_does_not(rt: HostRuntime) -> Result<(), AllocError> {
     let wrong = wrong_text(rt.alloc(), &Size)?;
     assert!(&rt; wrong.is_none(), "{wrong:?}");
-    Ok(())
-}
-
-#[test]
-fn reports_why_nothing_is_written(rt: HostRuntime) -> Result<(), AllocError> {
     let wrong = wrong_fault(rt.alloc(), &Size, "binfarce-size")?;
     assert!(&rt; wrong.is_none(), "{wrong:?}");
     Ok(())

@@ -85,8 +85,8 @@ pub fn is_read_at_offsets<S: Source>(file: &S) -> bool
     }
 }
 
-/// The failure for a reader's error: `OutOfMemory` where an allocation failed, and `File` for any other.
-pub fn read_failure(e: io::Error) -> Failure
+// The failure for a reader's error: `OutOfMemory` where an allocation failed, and `File` for any other.
+fn read_failure(e: io::Error) -> Failure
     ensures { result ≡ failure_of (error_kind e) }
 {
     match e.kind() {

@@ -1,4 +1,4 @@
-// Texts that are filtered as they come, by readers and writers that are short or fail.
+//! Texts that are filtered as they come, by readers and writers that are short or fail.
 
 use binfarce_filtering::filter::MAX_RUN;
 use binfarce_filtering::stream::{StreamError, filter_stream};
@@ -12,35 +12,35 @@ const TEXT: &[u8] = b"in _RNvC1a1b. at x_1 <_ZN3foo17h0123456789abcdefE+0x1f> _R
 
 const SHOWN: &[u8] = b"in a::b. at x_1 <foo+0x1f> c::d";
 
-// What was written where reads give and writes take at most so many bytes, the reader ends so, and the writer takes so many
-// bytes in all and then ends so.
-fn written(
+// Whether what the reader gives is filtered into these bytes of the writer, and ends so.
+fn is_filtered(
     alloc: Global,
     source: Source<'_>,
     target: Target,
-) -> (Result<(), StreamError>, Vec<u8>) {
+    ended: Result<(), StreamError>,
+    taken: &[u8],
+) -> bool {
     let (mut source, mut target) = (source, target);
-    let ended = filter_stream(alloc, false, &mut source, &mut target);
-    (ended, target.taken)
+    filter_stream(alloc, false, &mut source, &mut target) == ended
+        && target.taken.as_slice() == taken
 }
 
 #[test]
-fn short_reads_and_writes(rt: HostRuntime) -> Result<(), AllocError> {
+fn short_reads_and_writes(rt: HostRuntime) {
     for most in 1..TEXT.len() + 1 {
-        let source = Source {
-            most,
-            ..Source::of(TEXT)
-        };
-        let (ended, taken) = written(rt.alloc(), source, Target::taking(rt.alloc(), most));
-        assert!(&rt; ended == Ok(()), "{most}");
-        assert!(&rt; taken.as_slice() == SHOWN, "{most}");
+        let mut source = Source::of(TEXT);
+        source.most = most;
+        let target = Target::taking(rt.alloc(), most);
+        assert!(&rt;
+            is_filtered(rt.alloc(), source, target, Ok(()), SHOWN),
+            "{most}"
+        );
     }
-    Ok(())
 }
 
 // Where the reader fails, what came before is filtered as if it ended there.
 #[test]
-fn failed_reads(rt: HostRuntime) -> Result<(), AllocError> {
+fn failed_reads(rt: HostRuntime) {
     let rows: [(usize, &[u8]); 4] = [
         (0, b""),
         (8, b"in _RNvC"),
@@ -48,38 +48,37 @@ fn failed_reads(rt: HostRuntime) -> Result<(), AllocError> {
         (TEXT.len(), SHOWN),
     ];
     for (came, want) in &rows {
-        let source = Source {
-            end: Some(ErrorKind::Other),
-            ..Source::of(&TEXT[..*came])
-        };
-        let (ended, taken) = written(rt.alloc(), source, Target::taking(rt.alloc(), usize::MAX));
-        assert!(&rt; ended == Err(StreamError::Read), "{came}");
-        assert!(&rt; taken.as_slice() == *want, "{came}");
+        let mut source = Source::of(&TEXT[..*came]);
+        source.end = Some(ErrorKind::Other);
+        let target = Target::taking(rt.alloc(), usize::MAX);
+        let ended = Err(StreamError::Read);
+        assert!(&rt;
+            is_filtered(rt.alloc(), source, target, ended, want),
+            "{came}"
+        );
     }
-    Ok(())
 }
 
 // A writer that takes so many bytes and then 0, or fails.
 #[test]
-fn failed_writes(rt: HostRuntime) -> Result<(), AllocError> {
+fn failed_writes(rt: HostRuntime) {
     for left in 0..SHOWN.len() {
         for end in [None, Some(ErrorKind::BrokenPipe)] {
-            let target = Target {
-                left,
-                end,
-                ..Target::taking(rt.alloc(), usize::MAX)
-            };
-            let (ended, taken) = written(rt.alloc(), Source::of(TEXT), target);
-            assert!(&rt; ended == Err(StreamError::Write), "{left}");
-            assert!(&rt; taken.as_slice() == &SHOWN[..left], "{left}");
+            let mut target = Target::taking(rt.alloc(), usize::MAX);
+            target.left = left;
+            target.end = end;
+            let ended = Err(StreamError::Write);
+            assert!(&rt;
+                is_filtered(rt.alloc(), Source::of(TEXT), target, ended, &SHOWN[..left]),
+                "{left}"
+            );
         }
     }
-    Ok(())
 }
 
 // Interrupted reads and writes are tried again, and the output is flushed before each read and at the end.
 #[test]
-fn interrupted_reads_and_writes(rt: HostRuntime) -> Result<(), AllocError> {
+fn interrupted_reads_and_writes(rt: HostRuntime) {
     let unflushed = Cell::new(0);
     let mut source = InterruptedSource::of(TEXT, &unflushed);
     let mut target = InterruptedTarget {
@@ -93,12 +92,11 @@ fn interrupted_reads_and_writes(rt: HostRuntime) -> Result<(), AllocError> {
     assert!(&rt; target.target.taken.as_slice() == SHOWN);
     assert!(&rt; !source.came_early);
     assert!(&rt; unflushed.get() == 0);
-    Ok(())
 }
 
 // A failed flush is a failed write, also where nothing is written.
 #[test]
-fn failed_flushes(rt: HostRuntime) -> Result<(), AllocError> {
+fn failed_flushes(rt: HostRuntime) {
     for text in [TEXT, b"".as_slice()] {
         let unflushed = Cell::new(0);
         let mut source = Source::of(text);
@@ -111,7 +109,6 @@ fn failed_flushes(rt: HostRuntime) -> Result<(), AllocError> {
         let ended = filter_stream(rt.alloc(), false, &mut source, &mut target);
         assert!(&rt; ended == Err(StreamError::Write));
     }
-    Ok(())
 }
 
 // Names of the limit, and of one byte more: in a legacy name, a number with as many zeros in front.
@@ -121,19 +118,10 @@ fn longest_names(rt: HostRuntime) -> Result<(), AllocError> {
     text.resize(MAX_RUN - 8, b'0')?;
     text.extend_from_slice(b"3foo1bE.")?;
     text.extend_from_slice(b"+1")?;
-    let (ended, taken) = written(
-        rt.alloc(),
-        Source::of(&text),
-        Target::taking(rt.alloc(), usize::MAX),
-    );
-    assert!(&rt; ended == Ok(()));
-    assert!(&rt; taken.as_slice() == b"foo.+1".as_slice());
+    let target = Target::taking(rt.alloc(), usize::MAX);
+    assert!(&rt; is_filtered(rt.alloc(), Source::of(&text), target, Ok(()), b"foo.+1"));
     text.insert(3, b'0')?;
-    let (_, taken) = written(
-        rt.alloc(),
-        Source::of(&text),
-        Target::taking(rt.alloc(), usize::MAX),
-    );
-    assert!(&rt; taken.as_slice() == text.as_slice());
+    let target = Target::taking(rt.alloc(), usize::MAX);
+    assert!(&rt; is_filtered(rt.alloc(), Source::of(&text), target, Ok(()), &text));
     Ok(())
 }

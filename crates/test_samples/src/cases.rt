@@ -153,7 +153,13 @@ fn change_number(sample: File, file: &mut Vec<u8>, word: &str) -> Result<bool, A
 }
 
 // Writes as many low bytes of a number as the field has, in the sample's order.
-fn put_number(sample: File, file: &mut Vec<u8>, offset: usize, width: usize, number: u64) {
+pub(crate) fn put_number(
+    sample: File,
+    file: &mut Vec<u8>,
+    offset: usize,
+    width: usize,
+    number: u64,
+) {
     let (little, big) = (number.to_le_bytes(), number.to_be_bytes());
     let bytes = match sample {
         File::Elf(Layout::Elf32Big | Layout::Elf64Big) => big.get(8usize.saturating_sub(width)..),
@@ -192,8 +198,8 @@ fn number_of(word: &str) -> Option<u64> {
     }
 }
 
-// The bytes of a text after `"`, or those that pairs of hexadecimal digits write.
-fn bytes_of(alloc: Global, word: &str) -> Result<Option<Vec<u8>>, AllocError> {
+/// The bytes of a text after `"`, or those that pairs of hexadecimal digits write; `None` where there are others.
+pub fn bytes_of(alloc: Global, word: &str) -> Result<Option<Vec<u8>>, AllocError> {
     if let Some(text) = word.strip_prefix('"') {
         return Ok(Some(Vec::from_slice(alloc, text.as_bytes())?));
     }

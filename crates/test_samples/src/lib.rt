@@ -13,7 +13,6 @@ pub mod interruptions;
 pub mod macho;
 pub mod pe;
 pub mod programs;
-pub mod question;
 pub mod streams;
 
 use std::alloc::{AllocError, Global};

@@ -11,7 +11,7 @@
 //!
 //! ```
 //! # fn main() -> Result<(), Box<dyn std::error::Error>> {
-//! # let path = concat!(env!("CARGO_MANIFEST_DIR"), "/../crates/binfarce_list/data/e-elf64-little.bin");
+//! # let path = concat!(env!("CARGO_MANIFEST_DIR"), "/samples/elf64-little.bin");
 //! let file = std::fs::read(path)?;
 //! let (functions, text_size) = binfarce::functions(&file, ".text")?;
 //! for function in functions {
@@ -46,6 +46,7 @@ pub mod elf32;
 pub mod elf64;
 #[doc(hidden)]
 #[allow(clippy::all, rustdoc::private_intra_doc_links)]
+#[rustfmt::skip]
 pub mod erased;
 mod error;
 mod filter;
@@ -58,17 +59,19 @@ mod tests;
 
 pub use any::{Functions, Sections, functions, list, report, section_bytes, sections};
 pub use erased::binfarce_bytes::ByteOrder;
-pub use erased::binfarce_elf::symbol_table::SymbolTable;
 pub use erased::binfarce_bytes::format::{Format, detect_format};
-pub use erased::binfarce_sections::sections::Section;
 pub use erased::binfarce_bytes::functions::{FunctionSymbol, SectionFunction, symbol_at};
+pub use erased::binfarce_elf::symbol_table::SymbolTable;
+pub use erased::binfarce_sections::sections::Section;
 pub use error::{Error, OutOfMemory, ParseError, UnexpectedEof};
 pub use filter::{Form, filter, filter_stream};
 
 use demangle::SymbolData;
 
 /// The answer of an erased reader, with std's types.
-fn symbols_of((symbols, size): (shim::Vec<erased::binfarce_names::demangle::SymbolData>, u64)) -> (Vec<SymbolData>, u64) {
+fn symbols_of(
+    (symbols, size): (shim::Vec<erased::binfarce_names::demangle::SymbolData>, u64),
+) -> (Vec<SymbolData>, u64) {
     (symbols.into_iter().map(SymbolData::from).collect(), size)
 }
 

@@ -1,27 +1,43 @@
 //! Tests of the public items: the signatures and the `Debug` output of the original, errors, and failed allocations. The
-//! files are those of the repository's tests, and the `Debug` output is what the original prints of them.
+//! `Debug` output is what the original prints of the samples.
 
 use crate::demangle::{Demangler, SymbolData, SymbolName, trimmed};
-use crate::erased::test_samples::{elf, macho as macho_file, pe as pe_file};
 use crate::shim::test::refusing;
 use crate::*;
 use std::io::{self, ErrorKind, Read, Write};
 
-fn with_magic(file: &[u8], magic: &[u8]) -> Vec<u8> {
-    [magic, &file[magic.len()..]].concat()
-}
+const ELF32_LITTLE: &[u8] = include_bytes!("../samples/elf32-little.bin");
+const ELF32_BIG: &[u8] = include_bytes!("../samples/elf32-big.bin");
+const ELF64_LITTLE: &[u8] = include_bytes!("../samples/elf64-little.bin");
+const ELF64_BIG: &[u8] = include_bytes!("../samples/elf64-big.bin");
+const MACHO: &[u8] = include_bytes!("../samples/macho.bin");
+const PE: &[u8] = include_bytes!("../samples/pe.bin");
+
+const OF_ELF: &str = "0000000000001000         16 foo\ntext 32\n";
+const OF_MACHO: &str = "\
+0000000000001000         64 a
+0000000000001000         64 b
+0000000000001040        192 c
+text 256
+";
+const OF_PE: &str = "\
+0000000000000000         64 b
+0000000000000000         64 d
+0000000000000040        192 c
+0000000000000100        128 e
+0000000000000180          0 a
+text 256
+";
 
 /// A file of each format, and its listing.
-fn files() -> [(Vec<u8>, &'static str); 6] {
-    [
-        (elf::ELF32_LITTLE.to_vec(), elf::LISTING),
-        (elf::ELF32_BIG.to_vec(), elf::LISTING),
-        (elf::ELF64_LITTLE.to_vec(), elf::LISTING),
-        (elf::ELF64_BIG.to_vec(), elf::LISTING),
-        (with_magic(&macho_file::MACHO, macho_file::MAGIC.1), macho_file::LISTING),
-        (with_magic(&pe_file::PE, pe_file::MAGIC.1), pe_file::LISTING),
-    ]
-}
+const FILES: [(&[u8], &str); 6] = [
+    (ELF32_LITTLE, OF_ELF),
+    (ELF32_BIG, OF_ELF),
+    (ELF64_LITTLE, OF_ELF),
+    (ELF64_BIG, OF_ELF),
+    (MACHO, OF_MACHO),
+    (PE, OF_PE),
+];
 
 /// A file's symbols as code written for the original asks for them.
 fn symbols(file: &[u8]) -> Result<(Vec<SymbolData>, u64), ParseError> {
@@ -41,11 +57,11 @@ fn lines(symbols: &[SymbolData], size: u64) -> String {
 
 #[test]
 fn symbols_of_each_format() {
-    for (file, listing) in files() {
-        let (found, size) = symbols(&file).unwrap();
+    for (file, listing) in FILES {
+        let (found, size) = symbols(file).unwrap();
         assert_eq!(lines(&found, size), listing);
-        assert_eq!(list(&file, ".text").unwrap(), listing);
-        let (stored, size) = functions(&file, ".text").unwrap();
+        assert_eq!(list(file, ".text").unwrap(), listing);
+        let (stored, size) = functions(file, ".text").unwrap();
         let named =
             |f: FunctionSymbol<'_>| SymbolData { name: SymbolName::demangle(f.name), address: f.address, size: f.size };
         assert_eq!(lines(&stored.map(named).collect::<Vec<_>>(), size), listing);
@@ -54,15 +70,15 @@ fn symbols_of_each_format() {
 
 #[test]
 fn sections_of_each_format() {
-    for (file, _) in files() {
-        let text = sections(&file).unwrap().map(Result::unwrap).find(|s| matches!(s.name, Some(".text" | "__text")));
+    for (file, _) in FILES {
+        let text = sections(file).unwrap().map(Result::unwrap).find(|s| matches!(s.name, Some(".text" | "__text")));
         assert!(text.is_some_and(|s| s.size == 32 || s.size == 256));
     }
 }
 
 #[test]
 fn debug_output_is_that_of_the_original() {
-    let file = elf64::parse(&elf::ELF64_LITTLE, ByteOrder::LittleEndian).unwrap();
+    let file = elf64::parse(ELF64_LITTLE, ByteOrder::LittleEndian).unwrap();
     assert_eq!(
         format!("{:?}", file.header()),
         "Elf64Header { elf_type: 1, machine: 0, version: 1, entry: 0, phoff: 0, shoff: 267, flags: 0, ehsize: 64, \
@@ -72,12 +88,12 @@ fn debug_output_is_that_of_the_original() {
         format!("{:?}", file.section_with_name(".symtab").unwrap().unwrap()),
         "Section { index: 2, name_offset: 7, kind: 2, link: 3, offset: 96, size: 120, entry_size: 24 }"
     );
-    let file = elf32::parse(&elf::ELF32_BIG, ByteOrder::BigEndian).unwrap();
+    let file = elf32::parse(ELF32_BIG, ByteOrder::BigEndian).unwrap();
     assert_eq!(
         format!("{:?}", file.section_with_name(".symtab").unwrap().unwrap()),
         "Section { index: 2, name_offset: 7, kind: 2, link: 3, offset: 84, size: 80, entry_size: 16 }"
     );
-    let file = macho::parse(&macho_file::MACHO).unwrap();
+    let file = macho::parse(MACHO).unwrap();
     assert_eq!(
         format!("{:?}", file.header()),
         "MachoHeader { cputype: 0, cpusubtype: 0, filetype: 0, ncmds: 2, sizeofcmds: 0, flags: 0 }"
@@ -86,7 +102,7 @@ fn debug_output_is_that_of_the_original() {
         format!("{:?}", file.section_with_name("__TEXT", "__text").unwrap().unwrap()),
         "Section { segment_name: \"__TEXT\", section_name: \"__text\", address: 4096, offset: 0, size: 256 }"
     );
-    let file = pe::parse(&pe_file::PE).unwrap();
+    let file = pe::parse(PE).unwrap();
     assert_eq!(
         format!("{:?}", file.header()),
         "PeHeader { machine: 0, number_of_sections: 1, time_date_stamp: 0, pointer_to_symbol_table: 128, \
@@ -108,7 +124,7 @@ fn errors_are_those_of_the_original() {
         ParseError::MalformedInput => "malformed".into(),
         ParseError::UnexpectedEof => "eof".into(),
     };
-    let mut file = elf::ELF64_LITTLE;
+    let mut file = ELF64_LITTLE.to_vec();
     assert_eq!(words(elf64::parse(&file, ByteOrder::LittleEndian).unwrap().symbols(".bss").err().unwrap()), "none");
     // The type of `.symtab`, in the third section header.
     file[267 + 2 * 64 + 4] = 1;
@@ -137,15 +153,15 @@ fn a_failed_allocation_is_an_error() {
     refuses_each(|| Ok(Demangler::new().crate_of(NAME)?));
     refuses_each(|| Ok(trimmed(NAME)?));
     refuses_each(|| Ok(filter(NAME, Form::Trimmed)?));
-    for (file, _) in files() {
-        refuses_each(|| list(&file, ".text"));
-        refuses_each(|| report(&file, ".text"));
+    for (file, _) in FILES {
+        refuses_each(|| list(file, ".text"));
+        refuses_each(|| report(file, ".text"));
     }
-    refuses_each(|| elf64::parse(&elf::ELF64_LITTLE, ByteOrder::LittleEndian)?.try_symbols(".text"));
-    refuses_each(|| macho::parse(&macho_file::MACHO)?.functions());
-    refuses_each(|| macho::parse(&macho_file::MACHO)?.try_symbols());
-    refuses_each(|| pe::parse(&pe_file::PE)?.functions());
-    refuses_each(|| pe::parse(&pe_file::PE)?.try_symbols());
+    refuses_each(|| elf64::parse(ELF64_LITTLE, ByteOrder::LittleEndian)?.try_symbols(".text"));
+    refuses_each(|| macho::parse(MACHO)?.functions());
+    refuses_each(|| macho::parse(MACHO)?.try_symbols());
+    refuses_each(|| pe::parse(PE)?.functions());
+    refuses_each(|| pe::parse(PE)?.try_symbols());
 }
 
 #[test]

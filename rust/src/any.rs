@@ -57,7 +57,7 @@ impl<'a> Iterator for Sections<'a> {
     }
 }
 
-debug_by_name!(Functions, Sections);
+of_iterators!(Functions, Sections);
 
 /// Returns the bytes of the first section with this name, a part of the file.
 ///

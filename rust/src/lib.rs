@@ -28,9 +28,12 @@
 #[cfg(not(target_pointer_width = "64"))]
 compile_error!("binfarce reads files on 64-bit machines only");
 
-/// Implements `Debug` for iterators over parts of a file, by their names alone.
-macro_rules! debug_by_name {
+/// Implements what the iterators over parts of a file have beside `next`: after the end they stay there, and `Debug` prints their
+/// names alone.
+macro_rules! of_iterators {
     ($($Iterator:ident),*) => {$(
+        impl std::iter::FusedIterator for $Iterator<'_> {}
+
         impl std::fmt::Debug for $Iterator<'_> {
             fn fmt(&self, f: &mut std::fmt::Formatter<'_>) -> std::fmt::Result {
                 f.debug_struct(stringify!($Iterator)).finish_non_exhaustive()
@@ -38,6 +41,41 @@ macro_rules! debug_by_name {
         }
     )*};
 }
+
+/// Implements the traits of values that are compared field by field.
+macro_rules! of_values {
+    ($($Value:ident: $($field:ident)*;)*) => {$(
+        impl PartialEq for $Value<'_> {
+            fn eq(&self, other: &Self) -> bool {
+                $(self.$field == other.$field)&&*
+            }
+        }
+
+        impl Eq for $Value<'_> {}
+
+        impl std::hash::Hash for $Value<'_> {
+            fn hash<H: std::hash::Hasher>(&self, state: &mut H) {
+                $(self.$field.hash(state);)*
+            }
+        }
+    )*};
+}
+
+of_values! {
+    FunctionSymbol: name address size;
+    SectionFunction: section function;
+    Section: segment name address offset size has_bytes;
+}
+
+impl Clone for Format {
+    fn clone(&self) -> Self {
+        *self
+    }
+}
+
+impl Copy for Format {}
+
+impl Eq for SymbolTable {}
 
 mod any;
 pub mod demangle;
@@ -71,8 +109,10 @@ use demangle::SymbolData;
 /// The answer of an erased reader, with std's types.
 fn symbols_of(
     (symbols, size): (shim::Vec<erased::binfarce_names::demangle::SymbolData>, u64),
-) -> (Vec<SymbolData>, u64) {
-    (symbols.into_iter().map(SymbolData::from).collect(), size)
+) -> Result<(Vec<SymbolData>, u64), OutOfMemory> {
+    let mut with_std = shim::Vec::with_capacity(shim::alloc::Global, symbols.len())?;
+    symbols.into_iter().for_each(|symbol| with_std.push_reserved(SymbolData::from(symbol)));
+    Ok((with_std.into_std(), size))
 }
 
 /// A text that is UTF-8, since it is made of UTF-8 texts.

@@ -4,7 +4,9 @@
 use crate::demangle::{Demangler, SymbolData, SymbolName, trimmed};
 use crate::shim::test::refusing;
 use crate::*;
+use std::collections::HashSet;
 use std::io::{self, ErrorKind, Read, Write};
+use std::iter::FusedIterator;
 
 const ELF32_LITTLE: &[u8] = include_bytes!("../samples/elf32-little.bin");
 const ELF32_BIG: &[u8] = include_bytes!("../samples/elf32-big.bin");
@@ -77,6 +79,53 @@ fn sections_of_each_format() {
 }
 
 #[test]
+fn iterators_stay_at_their_end() {
+    fn stays<T>(mut items: impl FusedIterator<Item = T>) {
+        while items.next().is_some() {}
+        assert!((0..9).all(|_| items.next().is_none()));
+    }
+    for (file, _) in FILES {
+        stays(functions(file, ".text").unwrap().0);
+        // The last item of a truncated table is an error.
+        for len in [100, file.len() - 30, file.len()] {
+            stays(sections(&file[..len]).unwrap());
+        }
+    }
+    let file = elf64::parse(ELF64_LITTLE, ByteOrder::LittleEndian).unwrap();
+    stays(file.functions(".text").unwrap().0);
+    stays(file.all_functions(SymbolTable::Symtab).unwrap());
+}
+
+#[test]
+fn values_are_compared_by_their_fields() {
+    let function = FunctionSymbol { name: "a", address: 1, size: 2 };
+    let other = [
+        FunctionSymbol { name: "b", ..function },
+        FunctionSymbol { address: 2, ..function },
+        FunctionSymbol { size: 1, ..function },
+    ];
+    let all: HashSet<_> = other.into_iter().chain([function, function]).collect();
+    assert_eq!(all.len(), 4);
+    let of = |section| SectionFunction { section, function };
+    assert_eq!(HashSet::from([of(1), of(2), of(1)]).len(), 2);
+    let read = |file| sections(file).unwrap().map(Result::unwrap).collect::<HashSet<_>>();
+    assert_eq!(read(ELF64_LITTLE), read(ELF64_BIG));
+    assert_ne!(read(ELF64_LITTLE), read(ELF32_LITTLE));
+    let format = detect_format(ELF64_BIG);
+    let same = format;
+    assert_eq!(HashSet::from([format, same]), HashSet::from([Format::Elf64 { byte_order: ByteOrder::BigEndian }]));
+}
+
+// As rustc-demangle prints its `Demangle`.
+#[test]
+fn a_recognized_name_is_printed() {
+    let legacy = demangle::demangle("_ZN3foo3bar17h05af221e174051e9E");
+    assert_eq!(legacy.to_string(), "foo::bar::h05af221e174051e9");
+    assert_eq!(format!("{legacy:#}|{legacy:#10}|{:<6}|", demangle::demangle("main")), "foo::bar|foo::bar  |main  |");
+    assert_eq!(format!("{0} {0:#}", demangle::demangle("_RNvC6_123foo3bar")), "123foo[0]::bar 123foo::bar");
+}
+
+#[test]
 fn debug_output_is_that_of_the_original() {
     let file = elf64::parse(ELF64_LITTLE, ByteOrder::LittleEndian).unwrap();
     assert_eq!(
@@ -132,6 +181,9 @@ fn errors_are_those_of_the_original() {
     assert_eq!(functions(&file, ".text").unwrap_err(), Error::Parse(ParseError::SectionIsMissing(".symtab")));
     assert_eq!(functions(b"#!/bin/sh", ".text").unwrap_err(), Error::UnknownFormat);
     assert_eq!(ParseError::from(UnexpectedEof {}).to_string(), "unexpected end of file");
+    let e = io::Error::from(Error::UnknownFormat);
+    assert_eq!((e.kind(), e.to_string().as_str()), (ErrorKind::InvalidData, "unknown file format"));
+    assert_eq!(io::Error::from(Error::OutOfMemory).kind(), ErrorKind::OutOfMemory);
 }
 
 /// Asks with each allocation refused in turn, until none is. Whether one is refused, that is what the call says.
@@ -202,6 +254,33 @@ impl Write for Broken {
     fn flush(&mut self) -> io::Result<()> {
         Ok(())
     }
+}
+
+/// A stream that counts a byte too many.
+struct Counting;
+
+impl Read for Counting {
+    fn read(&mut self, buffer: &mut [u8]) -> io::Result<usize> {
+        Ok(buffer.len() + 1)
+    }
+}
+
+impl Write for Counting {
+    fn write(&mut self, bytes: &[u8]) -> io::Result<usize> {
+        Ok(bytes.len() + 1)
+    }
+
+    fn flush(&mut self) -> io::Result<()> {
+        Ok(())
+    }
+}
+
+#[test]
+fn a_count_past_the_buffer_is_an_error() {
+    let read = filter_stream(Counting, io::sink(), Form::Trimmed);
+    assert_eq!(read.unwrap_err().kind(), ErrorKind::InvalidData);
+    let written = filter_stream(&b"two bytes"[..], Counting, Form::Trimmed);
+    assert_eq!(written.unwrap_err().kind(), ErrorKind::InvalidData);
 }
 
 #[test]

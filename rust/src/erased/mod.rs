@@ -44,3 +44,8 @@ pub mod test_names;
 pub mod test_formats;
 #[cfg(test)]
 pub mod test_tools;
+
+#[cfg(test)]
+pub const TEST_PROGRAMS: &[(&str, crate::shim::test::Main)] = &[
+    ("test_memory", test_memory::main),
+];

@@ -1,6 +1,6 @@
-// From crates/test_names/src/filtering/streams.rt, by tools/erase.
+// From crates/test_names/src/streams.rt, by tools/erase.
 
-// Texts that are filtered as they come, by readers and writers that are short or fail.
+//! Texts that are filtered as they come, by readers and writers that are short or fail.
 
 use crate::shim::{HostRuntime, Vec};
 use crate::erased::binfarce_filtering::filter::MAX_RUN;
@@ -15,36 +15,36 @@ const TEXT: &[u8] = b"in _RNvC1a1b. at x_1 <_ZN3foo17h0123456789abcdefE+0x1f> _R
 
 const SHOWN: &[u8] = b"in a::b. at x_1 <foo+0x1f> c::d";
 
-// What was written where reads give and writes take at most so many bytes, the reader ends so, and the writer takes so many
-// bytes in all and then ends so.
-fn written(
+// Whether what the reader gives is filtered into these bytes of the writer, and ends so.
+fn is_filtered(
     alloc: Global,
     source: Source<'_>,
     target: Target,
-) -> (Result<(), StreamError>, Vec<u8>) {
+    ended: Result<(), StreamError>,
+    taken: &[u8],
+) -> bool {
     let (mut source, mut target) = (source, target);
-    let ended = filter_stream(alloc, false, &mut source, &mut target);
-    (ended, target.taken)
+    filter_stream(alloc, false, &mut source, &mut target) == ended
+        && target.taken.as_slice() == taken
 }
 
 #[test]
-fn short_reads_and_writes() -> Result<(), AllocError> {
+fn short_reads_and_writes() {
     let rt = HostRuntime::new();
     for most in 1..TEXT.len() + 1 {
-        let source = Source {
-            most,
-            ..Source::of(TEXT)
-        };
-        let (ended, taken) = written(rt.alloc(), source, Target::taking(rt.alloc(), most));
-        assert!(ended == Ok(()), "{most}");
-        assert!(taken.as_slice() == SHOWN, "{most}");
+        let mut source = Source::of(TEXT);
+        source.most = most;
+        let target = Target::taking(rt.alloc(), most);
+        assert!(
+            is_filtered(rt.alloc(), source, target, Ok(()), SHOWN),
+            "{most}"
+        );
     }
-    Ok(())
 }
 
 // Where the reader fails, what came before is filtered as if it ended there.
 #[test]
-fn failed_reads() -> Result<(), AllocError> {
+fn failed_reads() {
     let rt = HostRuntime::new();
     let rows: [(usize, &[u8]); 4] = [
         (0, b""),
@@ -53,39 +53,38 @@ fn failed_reads() -> Result<(), AllocError> {
         (TEXT.len(), SHOWN),
     ];
     for (came, want) in &rows {
-        let source = Source {
-            end: Some(ErrorKind::Other),
-            ..Source::of(&TEXT[..*came])
-        };
-        let (ended, taken) = written(rt.alloc(), source, Target::taking(rt.alloc(), usize::MAX));
-        assert!(ended == Err(StreamError::Read), "{came}");
-        assert!(taken.as_slice() == *want, "{came}");
+        let mut source = Source::of(&TEXT[..*came]);
+        source.end = Some(ErrorKind::Other);
+        let target = Target::taking(rt.alloc(), usize::MAX);
+        let ended = Err(StreamError::Read);
+        assert!(
+            is_filtered(rt.alloc(), source, target, ended, want),
+            "{came}"
+        );
     }
-    Ok(())
 }
 
 // A writer that takes so many bytes and then 0, or fails.
 #[test]
-fn failed_writes() -> Result<(), AllocError> {
+fn failed_writes() {
     let rt = HostRuntime::new();
     for left in 0..SHOWN.len() {
         for end in [None, Some(ErrorKind::BrokenPipe)] {
-            let target = Target {
-                left,
-                end,
-                ..Target::taking(rt.alloc(), usize::MAX)
-            };
-            let (ended, taken) = written(rt.alloc(), Source::of(TEXT), target);
-            assert!(ended == Err(StreamError::Write), "{left}");
-            assert!(taken.as_slice() == &SHOWN[..left], "{left}");
+            let mut target = Target::taking(rt.alloc(), usize::MAX);
+            target.left = left;
+            target.end = end;
+            let ended = Err(StreamError::Write);
+            assert!(
+                is_filtered(rt.alloc(), Source::of(TEXT), target, ended, &SHOWN[..left]),
+                "{left}"
+            );
         }
     }
-    Ok(())
 }
 
 // Interrupted reads and writes are tried again, and the output is flushed before each read and at the end.
 #[test]
-fn interrupted_reads_and_writes() -> Result<(), AllocError> {
+fn interrupted_reads_and_writes() {
     let rt = HostRuntime::new();
     let unflushed = Cell::new(0);
     let mut source = InterruptedSource::of(TEXT, &unflushed);
@@ -100,12 +99,11 @@ fn interrupted_reads_and_writes() -> Result<(), AllocError> {
     assert!(target.target.taken.as_slice() == SHOWN);
     assert!(!source.came_early);
     assert!(unflushed.get() == 0);
-    Ok(())
 }
 
 // A failed flush is a failed write, also where nothing is written.
 #[test]
-fn failed_flushes() -> Result<(), AllocError> {
+fn failed_flushes() {
     let rt = HostRuntime::new();
     for text in [TEXT, b"".as_slice()] {
         let unflushed = Cell::new(0);
@@ -119,7 +117,6 @@ fn failed_flushes() -> Result<(), AllocError> {
         let ended = filter_stream(rt.alloc(), false, &mut source, &mut target);
         assert!(ended == Err(StreamError::Write));
     }
-    Ok(())
 }
 
 // Names of the limit, and of one byte more: in a legacy name, a number with as many zeros in front.
@@ -130,19 +127,10 @@ fn longest_names() -> Result<(), AllocError> {
     text.resize(MAX_RUN - 8, b'0')?;
     text.extend_from_slice(b"3foo1bE.")?;
     text.extend_from_slice(b"+1")?;
-    let (ended, taken) = written(
-        rt.alloc(),
-        Source::of(&text),
-        Target::taking(rt.alloc(), usize::MAX),
-    );
-    assert!(ended == Ok(()));
-    assert!(taken.as_slice() == b"foo.+1".as_slice());
+    let target = Target::taking(rt.alloc(), usize::MAX);
+    assert!(is_filtered(rt.alloc(), Source::of(&text), target, Ok(()), b"foo.+1"));
     text.insert(3, b'0')?;
-    let (_, taken) = written(
-        rt.alloc(),
-        Source::of(&text),
-        Target::taking(rt.alloc(), usize::MAX),
-    );
-    assert!(taken.as_slice() == text.as_slice());
+    let target = Target::taking(rt.alloc(), usize::MAX);
+    assert!(is_filtered(rt.alloc(), Source::of(&text), target, Ok(()), &text));
     Ok(())
 }

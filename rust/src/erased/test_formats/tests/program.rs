@@ -1,4 +1,6 @@
-// From crates/test_formats/src/parts/program.rt, by tools/erase.
+// From crates/test_formats/src/tests/program.rt, by tools/erase.
+
+//! What the programs share.
 
 use crate::shim::{HostRuntime, String, Vec};
 use crate::erased::binfarce_tools::program::{Failure, file_and_section, finish, read_whole};
@@ -6,22 +8,25 @@ use crate::shim::alloc::{AllocError, Global};
 use crate::shim::io::{self, ErrorKind, Write};
 use crate::erased::test_samples::streams::Source;
 
-fn texts(alloc: Global, words: &[&str]) -> Result<Vec<String>, AllocError> {
-    let mut texts = Vec::new(alloc);
-    for word in words {
-        texts.push(String::from_str(alloc, word)?)?;
-    }
-    Ok(texts)
-}
-
 // The arguments, and the result.
-const ARGUMENTS: [(&[&str], Option<(&str, &str)>); 5] = [
-    (&[], None),
-    (&["a"], Some(("a", ".text"))),
-    (&["a", ".init"], Some(("a", ".init"))),
-    (&["", ""], Some(("", ""))),
-    (&["a", "b", "c"], None),
+const ARGUMENTS: [(&str, Option<(&str, &str)>); 5] = [
+    ("", None),
+    ("a", Some(("a", ".text"))),
+    ("a .init", Some(("a", ".init"))),
+    (" ", Some(("", ""))),
+    ("a b c", None),
 ];
+
+// The words of a text; none of an empty one.
+fn words_of(alloc: Global, text: &str) -> Result<Vec<String>, AllocError> {
+    let mut words = Vec::new(alloc);
+    for word in text.split(' ') {
+        if !text.is_empty() {
+            words.push(String::from_str(alloc, word)?)?;
+        }
+    }
+    Ok(words)
+}
 
 // Whether these are the words, or the usage where there are none.
 fn is_given(given: Result<(&str, &str), Failure>, want: Option<(&str, &str)>) -> bool {
@@ -34,12 +39,10 @@ fn is_given(given: Result<(&str, &str), Failure>, want: Option<(&str, &str)>) ->
 #[test]
 fn takes_one_argument_or_two() -> Result<(), AllocError> {
     let rt = HostRuntime::new();
-    for (given, want) in &ARGUMENTS {
-        let arguments = texts(rt.alloc(), given)?;
-        assert!(
-            is_given(file_and_section(arguments.as_slice()), *want),
-            "{given:?}"
-        );
+    for (text, want) in &ARGUMENTS {
+        let words = words_of(rt.alloc(), text)?;
+        let given = file_and_section(words.as_slice());
+        assert!(is_given(given, *want), "{text}");
     }
     Ok(())
 }
@@ -53,25 +56,10 @@ const READERS: [(usize, usize, Option<ErrorKind>, Option<Failure>); 10] = [
     (3_000_000, 3_000_000, None, None),
     (0, 1, Some(ErrorKind::Other), Some(Failure::File)),
     (7, 1, Some(ErrorKind::Other), Some(Failure::File)),
-    (
-        3_000_000,
-        1 << 12,
-        Some(ErrorKind::PermissionDenied),
-        Some(Failure::File),
-    ),
+    (3_000_000, 1 << 12, Some(ErrorKind::PermissionDenied), Some(Failure::File)),
     (7, 1, Some(ErrorKind::UnexpectedEof), Some(Failure::File)),
-    (
-        0,
-        1,
-        Some(ErrorKind::OutOfMemory),
-        Some(Failure::OutOfMemory),
-    ),
-    (
-        7,
-        1,
-        Some(ErrorKind::OutOfMemory),
-        Some(Failure::OutOfMemory),
-    ),
+    (0, 1, Some(ErrorKind::OutOfMemory), Some(Failure::OutOfMemory)),
+    (7, 1, Some(ErrorKind::OutOfMemory), Some(Failure::OutOfMemory)),
 ];
 
 // As many bytes, from 0 on.
@@ -134,7 +122,7 @@ const ENDS: [(Result<(), Failure>, bool, Result<(), Failure>); 4] = [
 ];
 
 #[test]
-fn tells_the_first_fault() {
+fn reports_the_first_fault() {
     let rt = HostRuntime::new();
     for (ended, fails, want) in ENDS {
         let finished = finish(Flushed { fails }, ended);

@@ -7,6 +7,7 @@
 //! | `name NAME` | how the name is mangled, its complete text, its trimmed text and its crate (`-` for none) |
 //! | `before NAME` | none: from here on each name is also asked of one demangler, after this one |
 //! | `crate NAME` | the crate alone |
+//! | `kept NAME` | how the name is mangled, its limits aside, and the part of it that is kept |
 //! | `text TEXT` | the text with complete and with trimmed names |
 //! | `punycode ASCII\|CODE` | the text of an ASCII part and a code, or `none` |
 //! | `limits PART` | the levels and steps of a v0 name without its prefix |
@@ -23,7 +24,7 @@ mod streams;
 mod texts;
 
 use crate::shim::{HostRuntime, String, Vec};
-use crate::erased::test_names::names::{Names, push_crate};
+use crate::erased::test_names::names::{Names, push_crate, push_kept};
 use crate::erased::test_names::parts::{push_limits, push_visits};
 use crate::erased::test_names::texts::{push_decoded, push_filtered, unescaped};
 use crate::shim::alloc::Global;
@@ -91,6 +92,7 @@ fn push_answer(
             "name" => names.push_answer(line, asked)?,
             "before" => return Ok(names.ask_after(asked)?),
             "crate" => push_crate(alloc, line, asked)?,
+            "kept" => push_kept(line, asked)?,
             "punycode" => push_decoded(line, asked)?,
             "limits" => push_limits(alloc, line, asked)?,
             "visits" => push_visits(alloc, line, asked)?,

@@ -3,7 +3,9 @@
 //! Names and their crates.
 
 use crate::shim::{String, Vec};
-use crate::erased::binfarce_names::demangle::{Demangler, Kind, SymbolName, crate_of, push_trimmed};
+use crate::erased::binfarce_names::demangle::{
+    Demangler, Kind, SymbolName, crate_of, demangle, push_trimmed,
+};
 use crate::shim::alloc::{AllocError, Global};
 
 /// One demangler of all names, and the names after which each is asked for.
@@ -86,13 +88,16 @@ fn is_root(root: &Option<String>, answer: &SymbolName) -> bool {
         || root.as_ref().map(String::as_str) == answer.crate_name.as_ref().map(String::as_str)
 }
 
-fn push_fields(line: &mut String, answer: &SymbolName) -> Result<(), AllocError> {
-    let kind = match answer.kind {
+fn push_kind(line: &mut String, kind: Kind) -> Result<(), AllocError> {
+    line.push_str(match kind {
         Kind::Unknown => "Unknown|",
         Kind::Legacy => "Legacy|",
         Kind::V0 => "V0|",
-    };
-    line.push_str(kind)?;
+    })
+}
+
+fn push_fields(line: &mut String, answer: &SymbolName) -> Result<(), AllocError> {
+    push_kind(line, answer.kind)?;
     line.push_str(answer.complete.as_str())?;
     line.push('|')?;
     line.push_str(answer.trimmed.as_str())?;
@@ -111,4 +116,11 @@ fn push_root(line: &mut String, root: &Option<String>) -> Result<(), AllocError>
 /// Appends the crate of a name, or `-` for none.
 pub fn push_crate(alloc: Global, line: &mut String, name: &str) -> Result<(), AllocError> {
     push_root(line, &crate_of(alloc, name)?)
+}
+
+/// Appends how a name is mangled, by its mangling alone, and the part of it that is kept.
+pub fn push_kept(line: &mut String, name: &str) -> Result<(), AllocError> {
+    let mangling = demangle(name);
+    push_kind(line, mangling.kind())?;
+    line.push_str(mangling.part())
 }

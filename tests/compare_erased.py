@@ -16,7 +16,7 @@ TOKEN = re.compile(r"""//[^\n]*|[bc]?r(\#*)".*?"\1|[bc]?"(?:\\.|[^"\\])*"|b?'(?:
 HIDDEN = str.maketrans(" \n(){}[]<>;,", "\ue000\ue001\ue002\ue003\ue004\ue005\ue006\ue007\ue008\ue009\ue00a\ue00b")
 SHOWN = {value: key for key, value in HIDDEN.items()}  # A literal is one word, without brackets.
 # Imports of what Rattle has without one, and imports that the prover or a derive needs alone.
-PRELUDE = {f"std::{name}" for name in ("HostRuntime", "String", "Vec", "CollectIn", "ToSigned")}
+PRELUDE = {f"std::{name}" for name in ("HostRuntime", "String", "Vec", "CollectIn", "ToSigned", "TrimAscii")}
 GHOSTS = {"std::marker::Model", "std::io::Input", "std::os::unix::fs::FileExt", "std::fmt::Write", "thiserror::Error"}
 VALUE = r"(?:& )?\w+(?: \. \w+ \( \))?"
 ITEMS = r"(?:[^()]|\((?:[^()]|\([^()]*\))*\))*"

@@ -224,7 +224,7 @@ const _: () = {
 /// # Safety
 ///
 /// The caller keeps the rules of `binfarce.h`.
-#[unsafe(no_mangle)]
+#[no_mangle]
 pub unsafe extern "C" fn binfarce_status_text(status: u32, out: *mut u8, out_length: usize) -> usize {
     // SAFETY: the rules of binfarce.h say so; nothing is kept after the call.
     unsafe { exports::binfarce_status_text(status, values_mut(out, out_length)) }
@@ -233,7 +233,7 @@ pub unsafe extern "C" fn binfarce_status_text(status: u32, out: *mut u8, out_len
 /// # Safety
 ///
 /// The caller keeps the rules of `binfarce.h`.
-#[unsafe(no_mangle)]
+#[no_mangle]
 pub unsafe extern "C" fn binfarce_demangle(name: *const u8, name_length: usize, complete: *mut u8, complete_length: usize, trimmed: *mut u8, trimmed_length: usize, crate_name: *mut u8, crate_length: usize) -> SymbolName {
     // SAFETY: the rules of binfarce.h say so; nothing is kept after the call.
     unsafe { exports::binfarce_demangle(Global, values(name, name_length), values_mut(complete, complete_length), values_mut(trimmed, trimmed_length), values_mut(crate_name, crate_length)) }
@@ -242,7 +242,7 @@ pub unsafe extern "C" fn binfarce_demangle(name: *const u8, name_length: usize, 
 /// # Safety
 ///
 /// The caller keeps the rules of `binfarce.h`.
-#[unsafe(no_mangle)]
+#[no_mangle]
 pub unsafe extern "C" fn binfarce_trimmed(name: *const u8, name_length: usize, out: *mut u8, out_length: usize) -> Text {
     // SAFETY: the rules of binfarce.h say so; nothing is kept after the call.
     unsafe { exports::binfarce_trimmed(Global, values(name, name_length), values_mut(out, out_length)) }
@@ -251,7 +251,7 @@ pub unsafe extern "C" fn binfarce_trimmed(name: *const u8, name_length: usize, o
 /// # Safety
 ///
 /// The caller keeps the rules of `binfarce.h`.
-#[unsafe(no_mangle)]
+#[no_mangle]
 pub unsafe extern "C" fn binfarce_crate_of(name: *const u8, name_length: usize, out: *mut u8, out_length: usize) -> Text {
     // SAFETY: the rules of binfarce.h say so; nothing is kept after the call.
     unsafe { exports::binfarce_crate_of(Global, values(name, name_length), values_mut(out, out_length)) }
@@ -260,7 +260,7 @@ pub unsafe extern "C" fn binfarce_crate_of(name: *const u8, name_length: usize, 
 /// # Safety
 ///
 /// The caller keeps the rules of `binfarce.h`.
-#[unsafe(no_mangle)]
+#[no_mangle]
 pub unsafe extern "C" fn binfarce_mangling(name: *const u8, name_length: usize, out: *mut Mangling) -> u32 {
     // SAFETY: the rules of binfarce.h say so; nothing is kept after the call.
     unsafe { exports::binfarce_mangling(values(name, name_length), &mut *out) }
@@ -269,7 +269,7 @@ pub unsafe extern "C" fn binfarce_mangling(name: *const u8, name_length: usize, 
 /// # Safety
 ///
 /// The caller keeps the rules of `binfarce.h`.
-#[unsafe(no_mangle)]
+#[no_mangle]
 pub unsafe extern "C" fn binfarce_list(file: *const u8, file_length: usize, section: *const u8, section_length: usize, out: *mut u8, out_length: usize) -> Text {
     // SAFETY: the rules of binfarce.h say so; nothing is kept after the call.
     unsafe { exports::binfarce_list(Global, values(file, file_length), values(section, section_length), values_mut(out, out_length)) }
@@ -278,7 +278,7 @@ pub unsafe extern "C" fn binfarce_list(file: *const u8, file_length: usize, sect
 /// # Safety
 ///
 /// The caller keeps the rules of `binfarce.h`.
-#[unsafe(no_mangle)]
+#[no_mangle]
 pub unsafe extern "C" fn binfarce_report(file: *const u8, file_length: usize, section: *const u8, section_length: usize, out: *mut u8, out_length: usize) -> Text {
     // SAFETY: the rules of binfarce.h say so; nothing is kept after the call.
     unsafe { exports::binfarce_report(Global, values(file, file_length), values(section, section_length), values_mut(out, out_length)) }
@@ -287,7 +287,7 @@ pub unsafe extern "C" fn binfarce_report(file: *const u8, file_length: usize, se
 /// # Safety
 ///
 /// The caller keeps the rules of `binfarce.h`.
-#[unsafe(no_mangle)]
+#[no_mangle]
 pub unsafe extern "C" fn binfarce_detect_format(file: *const u8, file_length: usize) -> u32 {
     // SAFETY: the rules of binfarce.h say so; nothing is kept after the call.
     unsafe { exports::binfarce_detect_format(values(file, file_length)) }
@@ -296,7 +296,7 @@ pub unsafe extern "C" fn binfarce_detect_format(file: *const u8, file_length: us
 /// # Safety
 ///
 /// The caller keeps the rules of `binfarce.h`.
-#[unsafe(no_mangle)]
+#[no_mangle]
 pub unsafe extern "C" fn binfarce_elf32_header(file: *const u8, file_length: usize, big_endian: bool, out: *mut ElfHeader) -> u32 {
     // SAFETY: the rules of binfarce.h say so; nothing is kept after the call.
     unsafe { exports::binfarce_elf32_header(values(file, file_length), big_endian, &mut *out) }
@@ -305,7 +305,7 @@ pub unsafe extern "C" fn binfarce_elf32_header(file: *const u8, file_length: usi
 /// # Safety
 ///
 /// The caller keeps the rules of `binfarce.h`.
-#[unsafe(no_mangle)]
+#[no_mangle]
 pub unsafe extern "C" fn binfarce_elf64_header(file: *const u8, file_length: usize, big_endian: bool, out: *mut ElfHeader) -> u32 {
     // SAFETY: the rules of binfarce.h say so; nothing is kept after the call.
     unsafe { exports::binfarce_elf64_header(values(file, file_length), big_endian, &mut *out) }
@@ -314,7 +314,7 @@ pub unsafe extern "C" fn binfarce_elf64_header(file: *const u8, file_length: usi
 /// # Safety
 ///
 /// The caller keeps the rules of `binfarce.h`.
-#[unsafe(no_mangle)]
+#[no_mangle]
 pub unsafe extern "C" fn binfarce_macho_header(file: *const u8, file_length: usize) -> u32 {
     // SAFETY: the rules of binfarce.h say so; nothing is kept after the call.
     unsafe { exports::binfarce_macho_header(values(file, file_length)) }
@@ -323,7 +323,7 @@ pub unsafe extern "C" fn binfarce_macho_header(file: *const u8, file_length: usi
 /// # Safety
 ///
 /// The caller keeps the rules of `binfarce.h`.
-#[unsafe(no_mangle)]
+#[no_mangle]
 pub unsafe extern "C" fn binfarce_pe_header(file: *const u8, file_length: usize) -> u32 {
     // SAFETY: the rules of binfarce.h say so; nothing is kept after the call.
     unsafe { exports::binfarce_pe_header(values(file, file_length)) }
@@ -332,7 +332,7 @@ pub unsafe extern "C" fn binfarce_pe_header(file: *const u8, file_length: usize)
 /// # Safety
 ///
 /// The caller keeps the rules of `binfarce.h`.
-#[unsafe(no_mangle)]
+#[no_mangle]
 pub unsafe extern "C" fn binfarce_elf32_functions(file: *const u8, file_length: usize, big_endian: bool, section: *const u8, section_length: usize, out: *mut Function, out_length: usize) -> Functions {
     // SAFETY: the rules of binfarce.h say so; nothing is kept after the call.
     unsafe { exports::binfarce_elf32_functions(Global, values(file, file_length), big_endian, values(section, section_length), values_mut(out, out_length)) }
@@ -341,7 +341,7 @@ pub unsafe extern "C" fn binfarce_elf32_functions(file: *const u8, file_length: 
 /// # Safety
 ///
 /// The caller keeps the rules of `binfarce.h`.
-#[unsafe(no_mangle)]
+#[no_mangle]
 pub unsafe extern "C" fn binfarce_elf64_functions(file: *const u8, file_length: usize, big_endian: bool, section: *const u8, section_length: usize, out: *mut Function, out_length: usize) -> Functions {
     // SAFETY: the rules of binfarce.h say so; nothing is kept after the call.
     unsafe { exports::binfarce_elf64_functions(Global, values(file, file_length), big_endian, values(section, section_length), values_mut(out, out_length)) }
@@ -350,7 +350,7 @@ pub unsafe extern "C" fn binfarce_elf64_functions(file: *const u8, file_length: 
 /// # Safety
 ///
 /// The caller keeps the rules of `binfarce.h`.
-#[unsafe(no_mangle)]
+#[no_mangle]
 pub unsafe extern "C" fn binfarce_macho_functions(file: *const u8, file_length: usize, out: *mut Function, out_length: usize) -> Functions {
     // SAFETY: the rules of binfarce.h say so; nothing is kept after the call.
     unsafe { exports::binfarce_macho_functions(Global, values(file, file_length), values_mut(out, out_length)) }
@@ -359,7 +359,7 @@ pub unsafe extern "C" fn binfarce_macho_functions(file: *const u8, file_length: 
 /// # Safety
 ///
 /// The caller keeps the rules of `binfarce.h`.
-#[unsafe(no_mangle)]
+#[no_mangle]
 pub unsafe extern "C" fn binfarce_pe_functions(file: *const u8, file_length: usize, out: *mut Function, out_length: usize) -> Functions {
     // SAFETY: the rules of binfarce.h say so; nothing is kept after the call.
     unsafe { exports::binfarce_pe_functions(Global, values(file, file_length), values_mut(out, out_length)) }
@@ -368,7 +368,7 @@ pub unsafe extern "C" fn binfarce_pe_functions(file: *const u8, file_length: usi
 /// # Safety
 ///
 /// The caller keeps the rules of `binfarce.h`.
-#[unsafe(no_mangle)]
+#[no_mangle]
 pub unsafe extern "C" fn binfarce_elf32_section(file: *const u8, file_length: usize, big_endian: bool, name: *const u8, name_length: usize, out: *mut Section) -> u32 {
     // SAFETY: the rules of binfarce.h say so; nothing is kept after the call.
     unsafe { exports::binfarce_elf32_section(values(file, file_length), big_endian, values(name, name_length), &mut *out) }
@@ -377,7 +377,7 @@ pub unsafe extern "C" fn binfarce_elf32_section(file: *const u8, file_length: us
 /// # Safety
 ///
 /// The caller keeps the rules of `binfarce.h`.
-#[unsafe(no_mangle)]
+#[no_mangle]
 pub unsafe extern "C" fn binfarce_elf64_section(file: *const u8, file_length: usize, big_endian: bool, name: *const u8, name_length: usize, out: *mut Section) -> u32 {
     // SAFETY: the rules of binfarce.h say so; nothing is kept after the call.
     unsafe { exports::binfarce_elf64_section(values(file, file_length), big_endian, values(name, name_length), &mut *out) }
@@ -386,7 +386,7 @@ pub unsafe extern "C" fn binfarce_elf64_section(file: *const u8, file_length: us
 /// # Safety
 ///
 /// The caller keeps the rules of `binfarce.h`.
-#[unsafe(no_mangle)]
+#[no_mangle]
 pub unsafe extern "C" fn binfarce_macho_section(file: *const u8, file_length: usize, segment: *const u8, segment_length: usize, name: *const u8, name_length: usize, out: *mut Section) -> u32 {
     // SAFETY: the rules of binfarce.h say so; nothing is kept after the call.
     unsafe { exports::binfarce_macho_section(values(file, file_length), values(segment, segment_length), values(name, name_length), &mut *out) }
@@ -395,7 +395,7 @@ pub unsafe extern "C" fn binfarce_macho_section(file: *const u8, file_length: us
 /// # Safety
 ///
 /// The caller keeps the rules of `binfarce.h`.
-#[unsafe(no_mangle)]
+#[no_mangle]
 pub unsafe extern "C" fn binfarce_pe_section(file: *const u8, file_length: usize, name: *const u8, name_length: usize, out: *mut Section) -> u32 {
     // SAFETY: the rules of binfarce.h say so; nothing is kept after the call.
     unsafe { exports::binfarce_pe_section(values(file, file_length), values(name, name_length), &mut *out) }
@@ -404,7 +404,7 @@ pub unsafe extern "C" fn binfarce_pe_section(file: *const u8, file_length: usize
 /// # Safety
 ///
 /// The caller keeps the rules of `binfarce.h`.
-#[unsafe(no_mangle)]
+#[no_mangle]
 pub unsafe extern "C" fn binfarce_elf32_section_at(file: *const u8, file_length: usize, big_endian: bool, index: usize, out: *mut Section) -> u32 {
     // SAFETY: the rules of binfarce.h say so; nothing is kept after the call.
     unsafe { exports::binfarce_elf32_section_at(values(file, file_length), big_endian, index, &mut *out) }
@@ -413,7 +413,7 @@ pub unsafe extern "C" fn binfarce_elf32_section_at(file: *const u8, file_length:
 /// # Safety
 ///
 /// The caller keeps the rules of `binfarce.h`.
-#[unsafe(no_mangle)]
+#[no_mangle]
 pub unsafe extern "C" fn binfarce_elf64_section_at(file: *const u8, file_length: usize, big_endian: bool, index: usize, out: *mut Section) -> u32 {
     // SAFETY: the rules of binfarce.h say so; nothing is kept after the call.
     unsafe { exports::binfarce_elf64_section_at(values(file, file_length), big_endian, index, &mut *out) }
@@ -422,7 +422,7 @@ pub unsafe extern "C" fn binfarce_elf64_section_at(file: *const u8, file_length:
 /// # Safety
 ///
 /// The caller keeps the rules of `binfarce.h`.
-#[unsafe(no_mangle)]
+#[no_mangle]
 pub unsafe extern "C" fn binfarce_macho_section_at(file: *const u8, file_length: usize, index: usize, out: *mut Section) -> u32 {
     // SAFETY: the rules of binfarce.h say so; nothing is kept after the call.
     unsafe { exports::binfarce_macho_section_at(values(file, file_length), index, &mut *out) }
@@ -431,7 +431,7 @@ pub unsafe extern "C" fn binfarce_macho_section_at(file: *const u8, file_length:
 /// # Safety
 ///
 /// The caller keeps the rules of `binfarce.h`.
-#[unsafe(no_mangle)]
+#[no_mangle]
 pub unsafe extern "C" fn binfarce_pe_section_at(file: *const u8, file_length: usize, index: usize, out: *mut Section) -> u32 {
     // SAFETY: the rules of binfarce.h say so; nothing is kept after the call.
     unsafe { exports::binfarce_pe_section_at(values(file, file_length), index, &mut *out) }
@@ -440,7 +440,7 @@ pub unsafe extern "C" fn binfarce_pe_section_at(file: *const u8, file_length: us
 /// # Safety
 ///
 /// The caller keeps the rules of `binfarce.h`.
-#[unsafe(no_mangle)]
+#[no_mangle]
 pub unsafe extern "C" fn binfarce_elf32_sections(file: *const u8, file_length: usize, big_endian: bool, out: *mut Section, out_length: usize) -> Sections {
     // SAFETY: the rules of binfarce.h say so; nothing is kept after the call.
     unsafe { exports::binfarce_elf32_sections(values(file, file_length), big_endian, values_mut(out, out_length)) }
@@ -449,7 +449,7 @@ pub unsafe extern "C" fn binfarce_elf32_sections(file: *const u8, file_length: u
 /// # Safety
 ///
 /// The caller keeps the rules of `binfarce.h`.
-#[unsafe(no_mangle)]
+#[no_mangle]
 pub unsafe extern "C" fn binfarce_elf64_sections(file: *const u8, file_length: usize, big_endian: bool, out: *mut Section, out_length: usize) -> Sections {
     // SAFETY: the rules of binfarce.h say so; nothing is kept after the call.
     unsafe { exports::binfarce_elf64_sections(values(file, file_length), big_endian, values_mut(out, out_length)) }
@@ -458,7 +458,7 @@ pub unsafe extern "C" fn binfarce_elf64_sections(file: *const u8, file_length: u
 /// # Safety
 ///
 /// The caller keeps the rules of `binfarce.h`.
-#[unsafe(no_mangle)]
+#[no_mangle]
 pub unsafe extern "C" fn binfarce_macho_sections(file: *const u8, file_length: usize, out: *mut Section, out_length: usize) -> Sections {
     // SAFETY: the rules of binfarce.h say so; nothing is kept after the call.
     unsafe { exports::binfarce_macho_sections(values(file, file_length), values_mut(out, out_length)) }
@@ -467,7 +467,7 @@ pub unsafe extern "C" fn binfarce_macho_sections(file: *const u8, file_length: u
 /// # Safety
 ///
 /// The caller keeps the rules of `binfarce.h`.
-#[unsafe(no_mangle)]
+#[no_mangle]
 pub unsafe extern "C" fn binfarce_pe_sections(file: *const u8, file_length: usize, out: *mut Section, out_length: usize) -> Sections {
     // SAFETY: the rules of binfarce.h say so; nothing is kept after the call.
     unsafe { exports::binfarce_pe_sections(values(file, file_length), values_mut(out, out_length)) }

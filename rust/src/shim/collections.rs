@@ -69,7 +69,7 @@ impl<K: Ord, V> BTreeMap<K, V> {
             Ok(at) => return Ok(Some(mem::replace(&mut self.leaves[leaf][at].1, value))),
             Err(at) => at,
         };
-        if self.leaves.get(leaf).is_none_or(|entries| entries.len() == LEAF) {
+        if self.leaves.get(leaf).map_or(true, |entries| entries.len() == LEAF) {
             let mut upper = Vec::new();
             reserve(&mut upper, LEAF)?;
             reserve(&mut self.leaves, 1)?;

@@ -67,7 +67,7 @@ impl<W: Write> Write for Unbuffered<W> {
 }
 
 /// Standard output, without a buffer.
-pub fn writer(_: &HostRuntime) -> impl Write + use<> {
+pub fn writer(_: &HostRuntime) -> impl Write {
     #[cfg(test)]
     return Unbuffered(super::test::Output);
     #[cfg(not(test))]

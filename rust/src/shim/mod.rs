@@ -6,7 +6,7 @@ pub mod collections;
 pub mod env;
 pub mod fs;
 pub mod io;
-mod numbers;
+mod later;
 mod runtime;
 pub mod simd;
 mod string;
@@ -16,7 +16,7 @@ pub mod test;
 mod tests;
 mod vec;
 
-pub use numbers::ToSigned;
+pub use later::{ToSigned, TrimAscii, ptr};
 pub use runtime::HostRuntime;
 pub use string::String;
 pub use vec::{CollectIn, Vec};

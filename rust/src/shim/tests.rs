@@ -4,7 +4,7 @@ use super::alloc::{AllocError, Global};
 use super::collections::BTreeMap;
 use super::simd::u8x16;
 use super::test::{printed, refusing};
-use super::{CollectIn, HostRuntime, String, Vec, env, fs, io};
+use super::{CollectIn, HostRuntime, String, TrimAscii, Vec, env, fs, io};
 use std::collections;
 use std::io::{Cursor, ErrorKind, Write};
 use std::path::Path;
@@ -23,13 +23,12 @@ impl Numbers {
 // A call whose allocations are refused one by one: each time it gives `AllocError`, until none is refused.
 fn refused_each<T>(least: usize, call: impl Fn() -> Result<T, AllocError>) -> T {
     for number in 1.. {
-        match refusing(number, &call) {
-            (given, true) => assert!(given.is_err(), "allocation {number}"),
-            (given, false) => {
-                assert!(number > least, "{} allocations", number - 1);
-                return given.unwrap();
-            }
+        let (given, was_refused) = refusing(number, &call);
+        if !was_refused {
+            assert!(number > least, "{} allocations", number - 1);
+            return given.unwrap();
         }
+        assert!(given.is_err(), "allocation {number}");
     }
     unreachable!()
 }
@@ -192,6 +191,19 @@ fn ordered_map_refused() {
         }
         assert!((0..1000).all(|at| map.get(&key_of(at)) == Some(&at)));
         assert!(refusals > 15);
+    }
+}
+
+#[test]
+fn trimmed_bytes() {
+    let mut numbers = Numbers(8);
+    for _ in 0..2000 {
+        let text: std::string::String =
+            (0..numbers.below(9)).map(|_| [' ', '\n', '\x0B', '\x0C', 'a'][numbers.below(5)]).collect();
+        let is_space = |c: char| c.is_ascii_whitespace();
+        assert_eq!(TrimAscii::trim_ascii(text.as_bytes()), text.trim_matches(is_space).as_bytes());
+        assert_eq!(TrimAscii::trim_ascii_start(text.as_bytes()), text.trim_start_matches(is_space).as_bytes());
+        assert_eq!(TrimAscii::trim_ascii_end(text.as_bytes()), text.trim_end_matches(is_space).as_bytes());
     }
 }
 

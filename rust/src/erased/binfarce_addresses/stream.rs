@@ -2,7 +2,7 @@
 
 //! Addresses that come as the lines of a text.
 
-use crate::shim::Vec;
+use crate::shim::{TrimAscii, Vec};
 use crate::erased::binfarce_addresses::address::{hex_line, parse_address};
 use crate::erased::binfarce_addresses::at::Places;
 use crate::erased::binfarce_tools::list::Sink;

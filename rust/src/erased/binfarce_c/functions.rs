@@ -8,7 +8,8 @@ use crate::erased::binfarce_c::headers::order_of;
 use crate::erased::binfarce_c::status::{NOT_UTF8, OK, detail_of, status_of};
 use crate::erased::binfarce::{ByteOrder, FunctionSymbol, ParseError, elf32, elf64, macho, pe};
 use crate::shim::alloc::{AllocError, Global};
-use std::{ptr, str};
+use crate::shim::ptr;
+use std::str;
 
 /// A function symbol in a caller's array: `struct binfarce_function`.
 #[repr(C)]

@@ -66,8 +66,10 @@ def plain(path, own, rules):
     text = " ".join(word.translate(HIDDEN) if word[-1] in "\"'#" and len(word) > 1 else word for word in words)
     for start, ends in LACKS:
         text = without(text, start, ends)
-    value, named = "{0}".translate(HIDDEN), "{e}".translate(HIDDEN)
-    others = {(variant, words.replace(value, named)) for words, variant in re.findall(ERROR, text)}
+    # In `{{0}}` the braces are text.
+    value, named, brace = (it.translate(HIDDEN) for it in ("{0}", "{e}", "{{"))
+    others = {(variant, re.sub(f"{brace}|{value}", lambda it: named if it[0] == value else brace, words))
+              for words, variant in re.findall(ERROR, text)}
     for impl in re.finditer(SHOWS, text):
         others |= set(re.findall(r":: (\w+) [(e) ]*=> write ! \( f , (\S+)", impl[2]))
     for pattern, new in [(SHOWS, ""), *rules, *EITHER]:

@@ -57,7 +57,7 @@ impl<'a> Iterator for Sections<'a> {
     }
 }
 
-debug_by_name!(Functions, Sections);
+of_iterators!(Functions, Sections);
 
 /// Returns the bytes of the first section with this name, a part of the file.
 ///
@@ -74,7 +74,7 @@ debug_by_name!(Functions, Sections);
 /// # Examples
 ///
 /// ```
-/// # let path = concat!(env!("CARGO_MANIFEST_DIR"), "/../crates/binfarce_list/data/e-elf64-little.bin");
+/// # let path = concat!(env!("CARGO_MANIFEST_DIR"), "/samples/elf64-little.bin");
 /// let file = std::fs::read(path)?;
 /// assert_eq!(binfarce::section_bytes(&file, ".text")?.len(), 32);
 /// assert_eq!(binfarce::section_bytes(&file, ".dep-v0"), Err(binfarce::Error::NoSection));
@@ -94,7 +94,7 @@ pub fn section_bytes<'a>(file: &'a [u8], name: &str) -> Result<&'a [u8], Error> 
 /// # Examples
 ///
 /// ```
-/// # let path = concat!(env!("CARGO_MANIFEST_DIR"), "/../crates/binfarce_list/data/e-elf64-little.bin");
+/// # let path = concat!(env!("CARGO_MANIFEST_DIR"), "/samples/elf64-little.bin");
 /// let file = std::fs::read(path)?;
 /// assert_eq!(binfarce::list(&file, ".text")?, "0000000000001000         16 foo\ntext 32\n");
 /// # Ok::<(), Box<dyn std::error::Error>>(())
@@ -116,7 +116,7 @@ pub fn list(file: &[u8], section: &str) -> Result<String, Error> {
 /// # Examples
 ///
 /// ```
-/// # let path = concat!(env!("CARGO_MANIFEST_DIR"), "/../crates/binfarce_list/data/e-elf64-little.bin");
+/// # let path = concat!(env!("CARGO_MANIFEST_DIR"), "/samples/elf64-little.bin");
 /// let file = std::fs::read(path)?;
 /// assert_eq!(binfarce::report(&file, ".text")?, "        16 foo\nsum 16\ntext 32\n");
 /// # Ok::<(), Box<dyn std::error::Error>>(())

@@ -172,16 +172,30 @@ impl fmt::Debug for Demangler {
 /// # Ok::<(), binfarce::OutOfMemory>(())
 /// ```
 pub fn trimmed(name: &str) -> Result<String, OutOfMemory> {
-    let mut text = String::new();
-    Demangler::new().push_trimmed(&mut text, name)?;
-    Ok(text)
+    let mut text = shim::String::with_capacity(Global, name.len())?;
+    erased::Demangler::new(Global).push_trimmed(&mut text, name)?;
+    Ok(text.into_std())
 }
 
 /// A mangled name that was recognized and not yet printed: the answer of [`demangle`].
+///
+/// `{}` prints its [complete](SymbolName::complete) text, and `{:#}` its [trimmed](SymbolName::trimmed) one. Where an allocation
+/// fails, the program ends as it does where a `String` can't grow.
 #[derive(Debug, Clone, Copy)]
 pub struct Demangle<'a> {
+    name: &'a str,
     kind: Kind,
     part: &'a str,
+}
+
+impl fmt::Display for Demangle<'_> {
+    fn fmt(&self, f: &mut fmt::Formatter<'_>) -> fmt::Result {
+        f.pad(&if f.alternate() {
+            trimmed(self.name).unwrap_or_else(|_| out_of_memory())
+        } else {
+            SymbolName::demangle(self.name).complete
+        })
+    }
 }
 
 impl<'a> Demangle<'a> {
@@ -206,8 +220,9 @@ impl<'a> Demangle<'a> {
 ///
 /// let name = demangle("_RNvC1a1b.llvm.9D1C9369");
 /// assert_eq!((name.kind(), name.part()), (Kind::V0, "NvC1a1b"));
+/// assert_eq!(format!("{name} {name:#}"), "a[0]::b a::b");
 /// ```
 pub fn demangle(name: &str) -> Demangle<'_> {
-    let name = erased::demangle(name);
-    Demangle { kind: name.kind(), part: name.part() }
+    let recognized = erased::demangle(name);
+    Demangle { name, kind: recognized.kind(), part: recognized.part() }
 }

@@ -5,7 +5,7 @@ macro_rules! reader {
     ($erased:ident, $Elf:ident, $Header:ident, $Width:ident, $least:literal) => {
         use crate::demangle::SymbolData;
         use crate::erased::binfarce::$erased as erased;
-        use crate::error::{Error, ParseError};
+        use crate::error::{Error, ParseError, out_of_memory};
         use crate::shim::alloc::Global;
         use crate::{ByteOrder, FunctionSymbol, SectionFunction, SymbolTable, symbols_of};
         use std::fmt;
@@ -185,7 +185,7 @@ macro_rules! reader {
             ///
             /// Those of `functions`.
             pub fn symbols(&self, section_name: &str) -> Result<(Vec<SymbolData>, u64), ParseError> {
-                Ok(symbols_of(self.0.symbols(Global, section_name)?))
+                Ok(symbols_of(self.0.symbols(Global, section_name)?).unwrap_or_else(|_| out_of_memory()))
             }
 
             /// Returns what `symbols` does.
@@ -194,7 +194,7 @@ macro_rules! reader {
             ///
             /// Those of `functions`, and [`Error::OutOfMemory`] where an allocation failed.
             pub fn try_symbols(&self, section_name: &str) -> Result<(Vec<SymbolData>, u64), Error> {
-                Ok(symbols_of(self.0.symbols(Global, section_name)?))
+                Ok(symbols_of(self.0.symbols(Global, section_name)?)?)
             }
 
             /// Returns an iterator over the function symbols of `symbols` with their names as the file stores them, and
@@ -218,7 +218,7 @@ macro_rules! reader {
             ///
             /// Those of `dynamic_functions`, and [`Error::OutOfMemory`] where an allocation failed.
             pub fn dynamic_symbols(&self, section_name: &str) -> Result<(Vec<SymbolData>, u64), Error> {
-                Ok(symbols_of(self.0.dynamic_symbols(Global, section_name)?))
+                Ok(symbols_of(self.0.dynamic_symbols(Global, section_name)?)?)
             }
 
             /// Returns what `functions` does, of the dynamic symbol table.
@@ -279,7 +279,7 @@ macro_rules! reader {
             }
         }
 
-        debug_by_name!(Sections, Functions, AllFunctions);
+        of_iterators!(Sections, Functions, AllFunctions);
     };
 }
 

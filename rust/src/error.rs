@@ -155,6 +155,15 @@ impl From<binfarce_bytes::ParseError> for Error {
     }
 }
 
+impl From<Error> for io::Error {
+    fn from(e: Error) -> Self {
+        match e {
+            Error::OutOfMemory => OutOfMemory.into(),
+            _ => io::Error::new(io::ErrorKind::InvalidData, e),
+        }
+    }
+}
+
 /// An allocation failed.
 #[derive(Debug, Clone, Copy, PartialEq, Eq, Hash)]
 pub struct OutOfMemory;

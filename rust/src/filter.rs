@@ -49,7 +49,8 @@ pub fn filter(text: &str, form: Form) -> Result<String, OutOfMemory> {
 ///
 /// That of `input` or `output`, except [`io::ErrorKind::Interrupted`], where the call is repeated. After an error of `input`
 /// everything before it has been filtered and written. [`io::ErrorKind::OutOfMemory`] where an allocation failed, and
-/// [`io::ErrorKind::WriteZero`] where `output` takes no more bytes.
+/// [`io::ErrorKind::WriteZero`] where `output` takes no more bytes. [`io::ErrorKind::InvalidData`] where one of them counts more
+/// bytes than the buffer holds.
 ///
 /// # Examples
 ///
@@ -88,19 +89,29 @@ impl<S> Kept<S> {
             io::Error::from(kind)
         })
     }
+
+    /// The same of a count of bytes, which is at most `most`.
+    fn keep_count(&mut self, result: io::Result<usize>, most: usize) -> io::Result<usize> {
+        self.keep(match result {
+            Ok(count) if count > most => {
+                Err(io::Error::new(io::ErrorKind::InvalidData, "a stream counts more bytes than it was given"))
+            }
+            _ => result,
+        })
+    }
 }
 
 impl<R: Read> Read for Kept<R> {
     fn read(&mut self, buffer: &mut [u8]) -> io::Result<usize> {
         let result = self.stream.read(buffer);
-        self.keep(result)
+        self.keep_count(result, buffer.len())
     }
 }
 
 impl<W: Write> Write for Kept<W> {
     fn write(&mut self, bytes: &[u8]) -> io::Result<usize> {
         let result = self.stream.write(bytes);
-        self.keep(result)
+        self.keep_count(result, bytes.len())
     }
 
     fn flush(&mut self) -> io::Result<()> {

@@ -11,7 +11,7 @@
 //!
 //! ```
 //! # fn main() -> Result<(), Box<dyn std::error::Error>> {
-//! # let path = concat!(env!("CARGO_MANIFEST_DIR"), "/../crates/binfarce_list/data/e-elf64-little.bin");
+//! # let path = concat!(env!("CARGO_MANIFEST_DIR"), "/samples/elf64-little.bin");
 //! let file = std::fs::read(path)?;
 //! let (functions, text_size) = binfarce::functions(&file, ".text")?;
 //! for function in functions {
@@ -28,9 +28,12 @@
 #[cfg(not(target_pointer_width = "64"))]
 compile_error!("binfarce reads files on 64-bit machines only");
 
-/// Implements `Debug` for iterators over parts of a file, by their names alone.
-macro_rules! debug_by_name {
+/// Implements what the iterators over parts of a file have beside `next`: after the end they stay there, and `Debug` prints their
+/// names alone.
+macro_rules! of_iterators {
     ($($Iterator:ident),*) => {$(
+        impl std::iter::FusedIterator for $Iterator<'_> {}
+
         impl std::fmt::Debug for $Iterator<'_> {
             fn fmt(&self, f: &mut std::fmt::Formatter<'_>) -> std::fmt::Result {
                 f.debug_struct(stringify!($Iterator)).finish_non_exhaustive()
@@ -39,6 +42,41 @@ macro_rules! debug_by_name {
     )*};
 }
 
+/// Implements the traits of values that are compared field by field.
+macro_rules! of_values {
+    ($($Value:ident: $($field:ident)*;)*) => {$(
+        impl PartialEq for $Value<'_> {
+            fn eq(&self, other: &Self) -> bool {
+                $(self.$field == other.$field)&&*
+            }
+        }
+
+        impl Eq for $Value<'_> {}
+
+        impl std::hash::Hash for $Value<'_> {
+            fn hash<H: std::hash::Hasher>(&self, state: &mut H) {
+                $(self.$field.hash(state);)*
+            }
+        }
+    )*};
+}
+
+of_values! {
+    FunctionSymbol: name address size;
+    SectionFunction: section function;
+    Section: segment name address offset size has_bytes;
+}
+
+impl Clone for Format {
+    fn clone(&self) -> Self {
+        *self
+    }
+}
+
+impl Copy for Format {}
+
+impl Eq for SymbolTable {}
+
 mod any;
 pub mod demangle;
 mod elf;
@@ -46,6 +84,7 @@ pub mod elf32;
 pub mod elf64;
 #[doc(hidden)]
 #[allow(clippy::all, rustdoc::private_intra_doc_links)]
+#[rustfmt::skip]
 pub mod erased;
 mod error;
 mod filter;
@@ -58,18 +97,22 @@ mod tests;
 
 pub use any::{Functions, Sections, functions, list, report, section_bytes, sections};
 pub use erased::binfarce_bytes::ByteOrder;
-pub use erased::binfarce_elf::symbol_table::SymbolTable;
 pub use erased::binfarce_bytes::format::{Format, detect_format};
-pub use erased::binfarce_sections::sections::Section;
 pub use erased::binfarce_bytes::functions::{FunctionSymbol, SectionFunction, symbol_at};
+pub use erased::binfarce_elf::symbol_table::SymbolTable;
+pub use erased::binfarce_sections::sections::Section;
 pub use error::{Error, OutOfMemory, ParseError, UnexpectedEof};
 pub use filter::{Form, filter, filter_stream};
 
 use demangle::SymbolData;
 
 /// The answer of an erased reader, with std's types.
-fn symbols_of((symbols, size): (shim::Vec<erased::binfarce_names::demangle::SymbolData>, u64)) -> (Vec<SymbolData>, u64) {
-    (symbols.into_iter().map(SymbolData::from).collect(), size)
+fn symbols_of(
+    (symbols, size): (shim::Vec<erased::binfarce_names::demangle::SymbolData>, u64),
+) -> Result<(Vec<SymbolData>, u64), OutOfMemory> {
+    let mut with_std = shim::Vec::with_capacity(shim::alloc::Global, symbols.len())?;
+    symbols.into_iter().for_each(|symbol| with_std.push_reserved(SymbolData::from(symbol)));
+    Ok((with_std.into_std(), size))
 }
 
 /// A text that is UTF-8, since it is made of UTF-8 texts.

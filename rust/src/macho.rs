@@ -15,7 +15,7 @@
 
 use crate::demangle::SymbolData;
 use crate::erased::binfarce::macho as erased;
-use crate::error::{Error, ParseError};
+use crate::error::{Error, ParseError, out_of_memory};
 use crate::shim::alloc::Global;
 use crate::{FunctionSymbol, SectionFunction, symbols_of};
 use std::fmt;
@@ -130,7 +130,7 @@ impl<'a> Macho<'a> {
     /// [`ParseError::MalformedInput`] where that is empty, or its end passes 64 bits or lies before a symbol;
     /// [`ParseError::UnexpectedEof`] where the symbol table is truncated.
     pub fn symbols(&self) -> Result<(Vec<SymbolData>, u64), ParseError> {
-        Ok(symbols_of(self.0.symbols(Global)?))
+        Ok(symbols_of(self.0.symbols(Global)?).unwrap_or_else(|_| out_of_memory()))
     }
 
     /// Returns what [`Macho::symbols`] does.
@@ -139,7 +139,7 @@ impl<'a> Macho<'a> {
     ///
     /// Those of [`Macho::symbols`], and [`Error::OutOfMemory`] where an allocation failed.
     pub fn try_symbols(&self) -> Result<(Vec<SymbolData>, u64), Error> {
-        Ok(symbols_of(self.0.symbols(Global)?))
+        Ok(symbols_of(self.0.symbols(Global)?)?)
     }
 
     /// Returns the function symbols of [`Macho::symbols`] with their names as the file stores them.
@@ -178,4 +178,4 @@ impl<'a> Iterator for Sections<'a> {
     }
 }
 
-debug_by_name!(Sections);
+of_iterators!(Sections);

@@ -14,7 +14,7 @@
 
 use crate::demangle::SymbolData;
 use crate::erased::binfarce::pe as erased;
-use crate::error::{Error, ParseError};
+use crate::error::{Error, ParseError, out_of_memory};
 use crate::shim::alloc::Global;
 use crate::{FunctionSymbol, SectionFunction, symbols_of};
 use std::fmt;
@@ -136,7 +136,7 @@ impl<'a> Pe<'a> {
     /// Those of [`Pe::find_section`]; [`ParseError::SymbolsSectionIsMissing`] without a section `.text`;
     /// [`ParseError::UnexpectedEof`] where the symbol table doesn't begin in the file or passes its end.
     pub fn symbols(&self) -> Result<(Vec<SymbolData>, u64), ParseError> {
-        Ok(symbols_of(self.0.symbols(Global)?))
+        Ok(symbols_of(self.0.symbols(Global)?).unwrap_or_else(|_| out_of_memory()))
     }
 
     /// Returns what [`Pe::symbols`] does.
@@ -145,7 +145,7 @@ impl<'a> Pe<'a> {
     ///
     /// Those of [`Pe::symbols`], and [`Error::OutOfMemory`] where an allocation failed.
     pub fn try_symbols(&self) -> Result<(Vec<SymbolData>, u64), Error> {
-        Ok(symbols_of(self.0.symbols(Global)?))
+        Ok(symbols_of(self.0.symbols(Global)?)?)
     }
 
     /// Returns the function symbols of [`Pe::symbols`] with their names as the file stores them.
@@ -183,4 +183,4 @@ impl<'a> Iterator for Sections<'a> {
     }
 }
 
-debug_by_name!(Sections);
+of_iterators!(Sections);

@@ -3,6 +3,7 @@
 //!
 //! All of this repository's unsafe code is here: it borrows a pointer and a length from C as a slice. A panic doesn't unwind
 //! into C: it ends the program.
+#![cfg_attr(rustfmt, rustfmt::skip)]
 
 use exports::*;
 use std::{mem, slice};

@@ -2,9 +2,9 @@
 
 use super::HostRuntime;
 use std::fs::Metadata;
+use std::io::{self, Read};
 #[cfg(any(not(unix), binfarce_seeks))]
 use std::io::{Seek, SeekFrom};
-use std::io::{self, Read};
 
 /// An opened file.
 #[derive(Debug)]

@@ -68,5 +68,8 @@ impl<W: Write> Write for Unbuffered<W> {
 
 /// Standard output, without a buffer.
 pub fn writer(_: &HostRuntime) -> impl Write + use<> {
+    #[cfg(test)]
+    return Unbuffered(super::test::Output);
+    #[cfg(not(test))]
     Unbuffered(std::io::stdout())
 }

@@ -31,12 +31,7 @@ impl HostRuntime {
 
     /// Prints a line to standard output.
     pub fn println(&self, line: fmt::Arguments<'_>) -> io::Result<()> {
-        #[cfg(test)]
-        super::test::print(&format!("{line}\n"));
-        #[cfg(test)]
-        return Ok(());
-        #[cfg(not(test))]
-        super::io::Unbuffered(io::stdout()).write_all(format!("{line}\n").as_bytes())
+        super::io::writer(self).write_all(format!("{line}\n").as_bytes())
     }
 
     /// Prints a line to standard error.

@@ -6,7 +6,7 @@ use std::fmt::{self, Write};
 use std::ops::{Deref, DerefMut};
 use std::string;
 
-/// A text in memory of its own. What doesn't grow is as in std's `String`.
+/// A text in memory of its own. Beside its own methods it has those of `str` alone.
 #[derive(PartialEq, Eq, PartialOrd, Ord, Hash)]
 pub struct String(string::String);
 
@@ -74,6 +74,24 @@ impl String {
         Ok(())
     }
 
+    /// How many bytes there is room for.
+    #[inline]
+    pub fn capacity(&self) -> usize {
+        self.0.capacity()
+    }
+
+    /// Removes the bytes behind the first `len`, which end a character.
+    #[inline]
+    pub fn truncate(&mut self, len: usize) {
+        self.0.truncate(len);
+    }
+
+    /// Removes all.
+    #[inline]
+    pub fn clear(&mut self) {
+        self.0.clear();
+    }
+
     #[inline]
     pub fn as_str(&self) -> &str {
         &self.0
@@ -102,17 +120,17 @@ impl From<string::String> for String {
 }
 
 impl Deref for String {
-    type Target = string::String;
+    type Target = str;
 
     #[inline]
-    fn deref(&self) -> &string::String {
+    fn deref(&self) -> &str {
         &self.0
     }
 }
 
 impl DerefMut for String {
     #[inline]
-    fn deref_mut(&mut self) -> &mut string::String {
+    fn deref_mut(&mut self) -> &mut str {
         &mut self.0
     }
 }

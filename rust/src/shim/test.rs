@@ -4,10 +4,14 @@ use super::HostRuntime;
 use super::alloc::AllocError;
 use std::cell::{Cell, RefCell};
 use std::error::Error;
-use std::io::{Read, Result};
+use std::io::{Read, Result, Write};
+use std::process::ExitCode;
 
 /// Why a test failed.
 pub type Fail = Box<dyn Error>;
+
+/// A program among the tests.
+pub type Main = fn(HostRuntime) -> ExitCode;
 
 /// Who may end a test.
 pub trait Abort {}
@@ -18,7 +22,7 @@ thread_local! {
     // How many allocations are made until one is refused; 0 where none will be.
     static LEFT: Cell<usize> = const { Cell::new(0) };
     static INPUT: RefCell<Vec<u8>> = const { RefCell::new(Vec::new()) };
-    static OUTPUT: RefCell<String> = const { RefCell::new(String::new()) };
+    static OUTPUT: RefCell<Vec<u8>> = const { RefCell::new(Vec::new()) };
 }
 
 /// Refuses the allocation whose turn it is.
@@ -40,12 +44,21 @@ pub fn refusing<T>(number: usize, run: impl FnOnce() -> T) -> (T, bool) {
 pub fn printed<T>(input: &str, main: impl FnOnce(HostRuntime) -> T) -> (T, String) {
     INPUT.set(input.as_bytes().to_vec());
     OUTPUT.take();
-    (main(HostRuntime::new()), OUTPUT.take())
+    let ended = main(HostRuntime::new());
+    (ended, String::from_utf8(OUTPUT.take()).expect("UTF-8"))
 }
 
-/// Takes a line in place of standard output.
-pub fn print(line: &str) {
-    OUTPUT.with_borrow_mut(|output| output.push_str(line));
+/// Standard output in a test.
+pub struct Output;
+
+impl Write for Output {
+    fn write(&mut self, bytes: &[u8]) -> Result<usize> {
+        OUTPUT.with_borrow_mut(|output| output.write(bytes))
+    }
+
+    fn flush(&mut self) -> Result<()> {
+        Ok(())
+    }
 }
 
 /// Standard input in a test.

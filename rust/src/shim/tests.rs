@@ -7,6 +7,7 @@ use super::test::{printed, refusing};
 use super::{CollectIn, HostRuntime, String, Vec, env, fs, io};
 use std::collections;
 use std::io::{Cursor, ErrorKind, Write};
+use std::path::Path;
 use std::process::ExitCode;
 
 // Numbers that look random, the same in every run.
@@ -42,8 +43,7 @@ fn vec() {
         match numbers.below(10) {
             0..=2 => (items.push(step).unwrap(), want.push(step)).0,
             3 => (items.insert(at, step).unwrap(), want.insert(at, step)).0,
-            4 => assert_eq!(items.pop(), want.pop()),
-            5 => (items.truncate(at), want.truncate(at)).0,
+            4..=5 => (items.truncate(at), want.truncate(at)).0,
             6 => (items.resize(at + 3, step).unwrap(), want.resize(at + 3, step)).0,
             7 => (items.extend_from_slice(&[step; 5]).unwrap(), want.extend([step; 5])).0,
             8 => (items.reserve(1).unwrap(), items.push_reserved(step), want.push(step)).0,
@@ -161,7 +161,11 @@ fn ordered_map() {
             }
             assert_eq!(map.is_empty(), want.is_empty());
         }
-        assert!(map.iter().map(|(key, value)| (key.as_str(), value)).eq(want.iter().map(|(key, value)| (key.as_str(), value))));
+        assert!(
+            map.iter()
+                .map(|(key, value)| (key.as_str(), value))
+                .eq(want.iter().map(|(key, value)| (key.as_str(), value)))
+        );
         map.clear();
         assert!(map.is_empty() && map.iter().next().is_none() && map.get("1").is_none());
     }
@@ -195,7 +199,8 @@ fn ordered_map_refused() {
 fn sixteen_bytes() {
     let mut numbers = Numbers(6);
     for _ in 0..20_000 {
-        let mut row = || -> [u8; 17] { std::array::from_fn(|_| [numbers.below(256), numbers.below(4)][numbers.below(2)] as u8) };
+        let mut row =
+            || -> [u8; 17] { std::array::from_fn(|_| [numbers.below(256), numbers.below(4)][numbers.below(2)] as u8) };
         let (a, b) = (row(), row());
         let (va, vb) = (u8x16::from_slice(&a), u8x16::from_slice(&b));
         let bits = |f: &dyn Fn(u8, u8) -> bool| (0..16).map(|at| u64::from(f(a[at], b[at])) << at).sum::<u64>();
@@ -241,7 +246,7 @@ fn reading_to_the_end() {
         assert_eq!(*read, bytes);
         let mut read = Vec::new(Global);
         let failed = io::Read::read_to_end(&mut Slow(bytes.clone(), false, Some(ErrorKind::Other)), &mut read);
-        assert_eq!((failed.unwrap_err().kind(), &**read), (ErrorKind::Other, &*bytes));
+        assert_eq!((failed.unwrap_err().kind(), &*read), (ErrorKind::Other, &*bytes));
         let (failed, _) = refusing(1, || io::Read::read_to_end(&mut Cursor::new(&bytes), &mut Vec::new(Global)));
         assert_eq!(failed.unwrap_err().kind(), ErrorKind::OutOfMemory);
     }
@@ -310,26 +315,33 @@ fn deep_names_in_a_thread() {
     assert_eq!(read.unwrap().join().unwrap(), text);
 }
 
-// The program among the erased tests: its stored run, and runs in which one allocation is refused.
+// The programs among the erased tests: their stored runs, where the crate is in its repository; and of the one that has a line for
+// each group of calls and the number of an allocation, runs in which that one is refused.
 #[test]
-fn each_allocation_refused() {
-    use crate::erased::test_memory::main;
-    let folder = format!("{}/../crates/test_memory", env!("CARGO_MANIFEST_DIR"));
-    std::env::set_current_dir(format!("{folder}/data")).unwrap();
+fn stored_runs() {
     let is = |code: ExitCode, want: u8| format!("{code:?}") == format!("{:?}", ExitCode::from(want));
-    let stored = |file| std::fs::read_to_string(format!("{folder}/{file}")).unwrap();
-    let (code, output) = printed(&stored("stdin"), main);
-    assert_eq!(output, stored("stdout"));
-    assert!(is(code, 0));
-    for group in stored("stdout").lines().filter_map(|line| line.split_once(':')) {
-        for number in 1..=2000 {
-            let input = format!("{} {number}\n", group.0);
-            let ((code, output), was_refused) = refusing(2000, || printed(&input, main));
-            assert!(was_refused, "{input}");
-            if is(code, 3) {
-                break;
+    for &(name, main) in crate::erased::TEST_PROGRAMS {
+        let folder = format!("{}/../crates/{name}", env!("CARGO_MANIFEST_DIR"));
+        let stored = |file| std::fs::read_to_string(format!("{folder}/{file}"));
+        let Ok(want) = stored("stdout") else { continue };
+        let data = [format!("{folder}/data"), folder.clone()].into_iter().find(|path| Path::new(path).is_dir());
+        std::env::set_current_dir(data.unwrap()).unwrap();
+        let (code, output) = printed(&stored("stdin").unwrap_or_default(), main);
+        assert_eq!(output, want, "{name}");
+        assert!(is(code, 0), "{name}");
+        if name != "test_memory" {
+            continue;
+        }
+        for group in want.lines().filter_map(|line| line.split_once(':')) {
+            for number in 1..=2000 {
+                let input = format!("{} {number}\n", group.0);
+                let ((code, output), was_refused) = refusing(2000, || printed(&input, main));
+                assert!(was_refused, "{input}");
+                if is(code, 3) {
+                    break;
+                }
+                assert!(is(code, 0), "{input}: {code:?} {output}");
             }
-            assert!(is(code, 0), "{input}: {code:?} {output}");
         }
     }
 }

@@ -5,7 +5,7 @@ use std::io::{self, Write};
 use std::ops::{Deref, DerefMut};
 use std::{fmt, mem, slice, vec};
 
-/// Items in memory of their own. What doesn't grow is as in std's `Vec`.
+/// Items in memory of their own. Beside its own methods it has those of slices alone, so nothing else can allocate.
 #[derive(PartialEq, Eq, PartialOrd, Ord, Hash)]
 pub struct Vec<T>(vec::Vec<T>);
 
@@ -72,6 +72,34 @@ impl<T> Vec<T> {
         Ok(())
     }
 
+    /// How many items there is room for.
+    #[inline]
+    pub fn capacity(&self) -> usize {
+        self.0.capacity()
+    }
+
+    #[inline]
+    pub fn as_slice(&self) -> &[T] {
+        &self.0
+    }
+
+    #[inline]
+    pub fn as_mut_slice(&mut self) -> &mut [T] {
+        &mut self.0
+    }
+
+    /// Removes the items behind the first `len`.
+    #[inline]
+    pub fn truncate(&mut self, len: usize) {
+        self.0.truncate(len);
+    }
+
+    /// Removes all items.
+    #[inline]
+    pub fn clear(&mut self) {
+        self.0.clear();
+    }
+
     /// The items as std has them.
     #[inline]
     pub fn into_std(self) -> vec::Vec<T> {
@@ -120,17 +148,17 @@ impl<T> From<vec::Vec<T>> for Vec<T> {
 }
 
 impl<T> Deref for Vec<T> {
-    type Target = vec::Vec<T>;
+    type Target = [T];
 
     #[inline]
-    fn deref(&self) -> &vec::Vec<T> {
+    fn deref(&self) -> &[T] {
         &self.0
     }
 }
 
 impl<T> DerefMut for Vec<T> {
     #[inline]
-    fn deref_mut(&mut self) -> &mut vec::Vec<T> {
+    fn deref_mut(&mut self) -> &mut [T] {
         &mut self.0
     }
 }

@@ -78,14 +78,20 @@ fn is_same(other: &SymbolName, answer: &SymbolName) -> bool {
     other.kind == answer.kind
         && other.complete.as_str() == answer.complete.as_str()
         && other.trimmed.as_str() == answer.trimmed.as_str()
-        && other.crate_name.as_ref().map(String::as_str)
-            == answer.crate_name.as_ref().map(String::as_str)
+        && root_text(&other.crate_name) == root_text(&answer.crate_name)
 }
 
 // Whether the crate alone is that of an answer. A legacy name has one, but its answer has none.
 fn is_root(root: &Option<String>, answer: &SymbolName) -> bool {
-    answer.kind == Kind::Legacy
-        || root.as_ref().map(String::as_str) == answer.crate_name.as_ref().map(String::as_str)
+    answer.kind == Kind::Legacy || root_text(root) == root_text(&answer.crate_name)
+}
+
+// A crate, or `-` for none.
+fn root_text(root: &Option<String>) -> &str {
+    match root {
+        Some(root) => root.as_str(),
+        None => "-",
+    }
 }
 
 fn push_kind(line: &mut String, kind: Kind) -> Result<(), AllocError> {
@@ -102,20 +108,12 @@ fn push_fields(line: &mut String, answer: &SymbolName) -> Result<(), AllocError>
     line.push('|')?;
     line.push_str(answer.trimmed.as_str())?;
     line.push('|')?;
-    push_root(line, &answer.crate_name)
-}
-
-// Appends a crate, or `-` for none.
-fn push_root(line: &mut String, root: &Option<String>) -> Result<(), AllocError> {
-    match root {
-        Some(root) => line.push_str(root.as_str()),
-        None => line.push('-'),
-    }
+    line.push_str(root_text(&answer.crate_name))
 }
 
 /// Appends the crate of a name, or `-` for none.
 pub fn push_crate(alloc: Global, line: &mut String, name: &str) -> Result<(), AllocError> {
-    push_root(line, &crate_of(alloc, name)?)
+    line.push_str(root_text(&crate_of(alloc, name)?))
 }
 
 /// Appends how a name is mangled, by its mangling alone, and the part of it that is kept.

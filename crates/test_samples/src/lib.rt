@@ -4,6 +4,7 @@
 ghost use Rattle.std.specs.Prelude.{◌≡◌, map, set, take, IfOk};
 ghost use Rattle.test_samples.specs.Patched.{patched, patched_at};
 
+pub mod cases;
 pub mod elf;
 pub mod expected;
 pub mod fields;

@@ -10,6 +10,8 @@ mod ranges;
 mod readings;
 mod sections;
 mod sources;
+#[cfg(test)]
+mod tests;
 mod words;
 
 use crate::words::{end_line, known, words_of};

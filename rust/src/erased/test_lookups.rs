@@ -11,6 +11,8 @@ mod ranges;
 mod readings;
 mod sections;
 mod sources;
+#[cfg(test)]
+mod tests;
 mod words;
 
 use crate::shim::{HostRuntime, Vec};

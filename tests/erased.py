@@ -48,8 +48,7 @@ def changed(rng, data, parts, most):
 def names(rng):
     """Mangled names of the tests and random ones, most of them changed."""
     real = subprocess.run([TOP / "bench/random-names.py", "2000", "7"], capture_output=True, check=True).stdout.split()
-    for path in ("v0_real", "legacy_real"):
-        real += re.findall(rb"^(_(?:R|ZN)[^|\n]*)\|", (TOP / f"crates/test_names/src/names/{path}.rt").read_bytes(), re.M)
+    real += re.findall(rb"^name (_(?:R|ZN)[^ \\\n]+)$", (TOP / "crates/test_names/stdin").read_bytes(), re.M)
     assert len(real) > 2300
     letters = [it.encode() for it in "_RNCIMXYBTFGKSEDLQZ0123456789abcdefhijlmnopstuvxyzsu$.,{}<>éñ-\x7f"]
     found = [changed(rng, rng.choice(real), [b"", *letters], 4) for _ in range(NAMES)]

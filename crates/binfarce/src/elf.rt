@@ -45,14 +45,14 @@ impl<'a, C: Class> Model for Elf<'a, C> {
 }
 
 /// Reads the file header in the given order. The magic number isn't checked.
-pub fn parse<C: Class>(data: &[u8], byte_order: ByteOrder) -> Result<Elf<'_, C>, ParseError>
+pub fn parse<C: Class>(file: &[u8], byte_order: ByteOrder) -> Result<Elf<'_, C>, ParseError>
     ensures { MatchResult result
-        (λ e. (C.table.header_length ≤ length data.now) × (e ≡ record { order = byte_order; bytes = data.now }))
-        (λ e. (length data.now < C.table.header_length) × (refusal_of e ≡ unexpected_eof)) }
+        (λ e. (C.table.header_length ≤ length file.now) × (e ≡ record { order = byte_order; bytes = file.now }))
+        (λ e. (length file.now < C.table.header_length) × (refusal_of e ≡ unexpected_eof)) }
 {
-    let header = parse_header(data, byte_order)?;
+    let header = parse_header(file, byte_order)?;
     Ok(Elf {
-        data,
+        data: file,
         byte_order,
         header,
     })

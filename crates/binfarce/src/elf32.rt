@@ -37,10 +37,10 @@ pub type AllFunctions<'a> = all::AllFunctions<'a, Address>;
 ///
 /// `UnexpectedEof` for fewer than 52 bytes.
 #[tactic(auto, unfolding(binfarce_elf::specs::Elf::elf32))]
-pub fn parse(data: &[u8], byte_order: ByteOrder) -> Result<Elf32<'_>, ParseError>
+pub fn parse(file: &[u8], byte_order: ByteOrder) -> Result<Elf32<'_>, ParseError>
     ensures { MatchResult result
-        (λ e. (52 ≤ length data.now) × (e ≡ record { order = byte_order; bytes = data.now }))
-        (λ e. (length data.now < 52) × (refusal_of e ≡ unexpected_eof)) }
+        (λ e. (52 ≤ length file.now) × (e ≡ record { order = byte_order; bytes = file.now }))
+        (λ e. (length file.now < 52) × (refusal_of e ≡ unexpected_eof)) }
 {
-    elf::parse(data, byte_order)
+    elf::parse(file, byte_order)
 }

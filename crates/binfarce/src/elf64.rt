@@ -37,10 +37,10 @@ pub type AllFunctions<'a> = all::AllFunctions<'a, Address>;
 ///
 /// `UnexpectedEof` for fewer than 64 bytes.
 #[tactic(auto, unfolding(binfarce_elf::specs::Elf::elf64))]
-pub fn parse(data: &[u8], byte_order: ByteOrder) -> Result<Elf64<'_>, ParseError>
+pub fn parse(file: &[u8], byte_order: ByteOrder) -> Result<Elf64<'_>, ParseError>
     ensures { MatchResult result
-        (λ e. (64 ≤ length data.now) × (e ≡ record { order = byte_order; bytes = data.now }))
-        (λ e. (length data.now < 64) × (refusal_of e ≡ unexpected_eof)) }
+        (λ e. (64 ≤ length file.now) × (e ≡ record { order = byte_order; bytes = file.now }))
+        (λ e. (length file.now < 64) × (refusal_of e ≡ unexpected_eof)) }
 {
-    elf::parse(data, byte_order)
+    elf::parse(file, byte_order)
 }

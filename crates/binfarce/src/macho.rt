@@ -50,13 +50,13 @@ impl<'a> Model for Macho<'a> {
 /// # Errors
 ///
 /// `UnexpectedEof` for fewer than 28 bytes.
-pub fn parse(data: &[u8]) -> Result<Macho<'_>, ParseError>
+pub fn parse(file: &[u8]) -> Result<Macho<'_>, ParseError>
     ensures { MatchResult result
-        (λ m. (least_length ≤ length data.now) × (m ≡ data.now))
-        (λ e. (length data.now < least_length) × (refusal_of e ≡ unexpected_eof)) }
+        (λ m. (least_length ≤ length file.now) × (m ≡ file.now))
+        (λ e. (length file.now < least_length) × (refusal_of e ≡ unexpected_eof)) }
 {
-    let header = parse_header(data)?;
-    Ok(Macho { data, header })
+    let header = parse_header(file)?;
+    Ok(Macho { data: file, header })
 }
 
 impl<'a> Macho<'a> {

@@ -55,14 +55,14 @@ impl<'a> Model for Pe<'a> {
 /// # Errors
 ///
 /// `UnexpectedEof` for fewer than 64 bytes, and where the file header that they point to is truncated.
-pub fn parse(data: &[u8]) -> Result<Pe<'_>, ParseError>
+pub fn parse(file: &[u8]) -> Result<Pe<'_>, ParseError>
     ensures { MatchResult result
-        (λ pe. (least_length data.now ≤ length data.now) × (pe ≡ data.now))
-        (λ e. (length data.now < least_length data.now) × (refusal_of e ≡ unexpected_eof)) }
+        (λ pe. (least_length file.now ≤ length file.now) × (pe ≡ file.now))
+        (λ e. (length file.now < least_length file.now) × (refusal_of e ≡ unexpected_eof)) }
 {
-    let (pe_pointer, header) = parse_header(data)?;
+    let (pe_pointer, header) = parse_header(file)?;
     Ok(Pe {
-        data,
+        data: file,
         pe_pointer,
         header,
     })

@@ -16,9 +16,9 @@ pub fn parse_address(word: &[u8]) -> Option<u64>
     }
 }
 
-/// The address in the first line of the bytes, and the line's length in bytes, if it has 1 to 16 digits and nothing
-/// else. `None` doesn't mean that the line has no address: it may have `0x` before its digits.
-pub fn hex_line(bytes: &[u8]) -> Option<(u64, usize)>
+// The address in the first line of the bytes, and the line's length in bytes, if it has 1 to 16 digits and nothing
+// else. `None` doesn't mean that the line has no address: it may have `0x` before its digits.
+pub(crate) fn hex_line(bytes: &[u8]) -> Option<(u64, usize)>
     ensures { IfSome result
         (λ r. (r.1 < length bytes.now) × (slice_index_or bytes.now r.1 0 ≡ 10)
         × (address_of (take r.1 bytes.now) ≡ Some r.0)) }

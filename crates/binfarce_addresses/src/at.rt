@@ -59,11 +59,11 @@ impl<'a> Places<'a> {
     /// # Errors
     ///
     /// Those of `list`, except `Write`.
-    pub fn of_file(alloc: Global, data: &'a [u8], section: &str) -> Result<Places<'a>, ListError>
-        ensures { IsMadeOf (FileNeedsMemory data.entry.now)
-            (file_answer data.entry.now section.now) result }
+    pub fn of_file(alloc: Global, file: &'a [u8], section: &str) -> Result<Places<'a>, ListError>
+        ensures { IsMadeOf (FileNeedsMemory file.entry.now)
+            (file_answer file.entry.now section.now) result }
     {
-        let (functions, _) = functions_of_file(alloc, data, section)?;
+        let (functions, _) = functions_of_file(alloc, file, section)?;
         let places = places_of(alloc, functions)?;
         Ok(places)
     }
@@ -365,20 +365,20 @@ fn places_of(alloc: Global, functions: Functions<'_>) -> Result<Places<'_>, Allo
 /// Those of `list`. Only after `Write` a beginning of the lines may be written.
 pub fn at<S: Sink>(
     alloc: Global,
-    data: &[u8],
+    file: &[u8],
     section: &str,
     base: u64,
     addresses: &[u64],
     out: &mut S,
 ) -> Result<(), ListError>
-    ensures outcome { EndsAs ListingFits (FileNeedsMemory data.now)
-        (file_answer data.now section.now) (outcome_of result) }
-    ensures takes { Takes (AreLinesAt base addresses.now) (file_answer data.now section.now)
+    ensures outcome { EndsAs ListingFits (FileNeedsMemory file.now)
+        (file_answer file.now section.now) (outcome_of result) }
+    ensures takes { Takes (AreLinesAt base addresses.now) (file_answer file.now section.now)
         (S.taken out.old) (S.taken out.new) (outcome_of result) }
     ensures fails { Fails (S.has_failed out.old) (S.has_failed out.new) (outcome_of result) }
     ensures leaves { Leaves out.old out.new (outcome_of result) }
 {
-    at_tables(alloc, &Tables::whole(data, section), base, addresses, out)
+    at_tables(alloc, &Tables::whole(file, section), base, addresses, out)
 }
 
 /// As `at`, from the tables of a file: for the section that they were read for.

@@ -34,32 +34,32 @@ pub enum Format {
 ///
 /// The readers themselves don't check magic numbers.
 #[tactic(auto, unfolding(crate::specs::Format::format_of))]
-pub fn detect_format(data: &[u8]) -> Format
-    ensures { result ≡ format_of data.now }
+pub fn detect_format(file: &[u8]) -> Format
+    ensures { result ≡ format_of file.now }
 {
-    if data.len() < 8 {
+    if file.len() < 8 {
         return Format::Unknown;
     }
-    if data.starts_with(b"\x7FELF") {
-        return elf_format(data[4], data[5]);
+    if file.starts_with(b"\x7FELF") {
+        return elf_format(file[4], file[5]);
     }
-    if data.starts_with(b"MZ") {
+    if file.starts_with(b"MZ") {
         return Format::PE;
     }
-    if begins_macho(data) {
+    if begins_macho(file) {
         return Format::Macho;
     }
     Format::Unknown
 }
 
-fn begins_macho(data: &[u8]) -> bool
-    ensures { result ≡ begins_macho data.now }
+fn begins_macho(file: &[u8]) -> bool
+    ensures { result ≡ begins_macho file.now }
 {
-    data.starts_with(b"\xCA\xFE\xBA\xBE")
-        || data.starts_with(b"\xFE\xED\xFA\xCE")
-        || data.starts_with(b"\xFE\xED\xFA\xCF")
-        || data.starts_with(b"\xCE\xFA\xED\xFE")
-        || data.starts_with(b"\xCF\xFA\xED\xFE")
+    file.starts_with(b"\xCA\xFE\xBA\xBE")
+        || file.starts_with(b"\xFE\xED\xFA\xCE")
+        || file.starts_with(b"\xFE\xED\xFA\xCF")
+        || file.starts_with(b"\xCE\xFA\xED\xFE")
+        || file.starts_with(b"\xCF\xFA\xED\xFE")
 }
 
 // By the bytes `EI_CLASS` and `EI_DATA`.

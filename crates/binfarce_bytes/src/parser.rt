@@ -1,6 +1,7 @@
 //! Numbers and bytes at an offset, and the texts of `text`.
 
 ghost use Rattle.std.specs.Prelude.{◌≡◌, ℕ, ◌+◌, ◌-◌, ◌<◌, ◌≤◌, ◌^◌, ◌↔◌, List, length, IsTrue, MatchOption, MatchResult};
+ghost use Rattle.std.proofs.Common.{lit<};
 ghost use Rattle.binfarce_bytes.specs.declared.ByteOrder.{ByteOrder};
 ghost use Rattle.binfarce_bytes.specs.Number.{number, signed, bytes_at};
 ghost use Rattle.binfarce_bytes.specs.Refusal.{refusal_of, malformed_input};
@@ -43,6 +44,8 @@ pub trait RawNumber: Sized {
             (length s.old.bytes.now < s.old.offset + SIZE)
             (λ v. (s.old.offset + SIZE ≤ length s.old.bytes.now)
             × (v ≡ value s.old.byte_order (bytes_at s.old.bytes.now s.old.offset SIZE))) };
+
+    ghost some_byte: { 0 < SIZE };
 }
 
 impl RawNumber for u8 {
@@ -57,6 +60,8 @@ impl RawNumber for u8 {
     fn parse(s: &mut Stream) -> Option<u8> {
         s.bytes.get(s.offset).copied()
     }
+
+    ghost some_byte = { lit< tt };
 }
 
 impl RawNumber for i8 {
@@ -74,6 +79,8 @@ impl RawNumber for i8 {
             Some(number) => Some(number.cast_signed()),
         }
     }
+
+    ghost some_byte = { lit< tt };
 }
 
 impl RawNumber for u16 {
@@ -94,6 +101,8 @@ impl RawNumber for u16 {
             ByteOrder::BigEndian => Some(u16::from_be_bytes(bytes)),
         }
     }
+
+    ghost some_byte = { lit< tt };
 }
 
 impl RawNumber for i16 {
@@ -111,6 +120,8 @@ impl RawNumber for i16 {
             Some(number) => Some(number.cast_signed()),
         }
     }
+
+    ghost some_byte = { lit< tt };
 }
 
 impl RawNumber for u32 {
@@ -131,6 +142,8 @@ impl RawNumber for u32 {
             ByteOrder::BigEndian => Some(u32::from_be_bytes(bytes)),
         }
     }
+
+    ghost some_byte = { lit< tt };
 }
 
 impl RawNumber for u64 {
@@ -153,6 +166,8 @@ impl RawNumber for u64 {
             ByteOrder::BigEndian => Some(u64::from_be_bytes(bytes)),
         }
     }
+
+    ghost some_byte = { lit< tt };
 }
 
 /// Bytes, an offset and a byte order. A call that fails leaves it unchanged.
@@ -293,7 +308,6 @@ pub fn number_at<T: RawNumber>(
     place: usize,
     byte_order: ByteOrder,
 ) -> Result<T, UnexpectedEof>
-    requires { 0 < T.SIZE }
     ensures { MatchResult result
         (λ v. (place + T.SIZE ≤ length bytes.now) × (v ≡ T.value byte_order (bytes_at bytes.now place T.SIZE)))
         (λ _. length bytes.now < place + T.SIZE) }

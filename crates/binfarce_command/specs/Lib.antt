@@ -1,5 +1,6 @@
 pub mod Input
 pub mod Faults
+pub mod FaultWords
 pub mod Show
 pub mod Files
 pub mod Headed

@@ -11,6 +11,7 @@ use binfarce_tables::ReadError;
 use binfarce_tools::list::ListError;
 use binfarce_tools::report::ReportError;
 use std::alloc::AllocError;
+use std::error::Error;
 use std::fmt;
 use std::io::{self, ErrorKind};
 
@@ -44,6 +45,11 @@ pub enum Fault {
 }
 
 impl fmt::Display for Fault {
+    ghost use Rattle.std.specs.Prelude.{Some};
+    ghost use Rattle.binfarce_command.specs.FaultWords.{fault_words};
+
+    ghost output = { λ e. Some (fault_words e) };
+
     fn fmt<W: fmt::Write>(&self, f: &mut fmt::Formatter<W>) -> fmt::Result {
         match self {
             Fault::Unreadable => write!(f, "cannot read file"),
@@ -73,6 +79,8 @@ impl fmt::Display for Fault {
         }
     }
 }
+
+impl Error for Fault {}
 
 impl From<AllocError> for Fault {
     ghost use Rattle.binfarce_command.specs.declared.fault.Fault.TheVariants.{OutOfMemory};

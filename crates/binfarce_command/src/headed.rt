@@ -83,12 +83,12 @@ impl<W: Write> Headed<W> {
         }
         Some(())
     }
-}
 
-impl<W: Write + Drop> Headed<W> {
-    /// The reason of the last failed write, if any.
-    pub fn into_reason(self) -> Option<Error> {
-        self.reason
+    /// The writer, and the reason of the last failed write, if any.
+    pub fn into_parts(self) -> (W, Option<Error>)
+        ensures { result.0 ≡ writer_of self }
+    {
+        (self.writer, self.reason)
     }
 }
 

@@ -46,12 +46,12 @@ impl<F: Read + Source> Held<F> {
     ///
     /// `Unreadable` where a read fails, and `OutOfMemory` where an allocation fails.
     pub fn load(&mut self, alloc: Global) -> Result<(), Fault>
-        requires { held_bytes F.bytes self.old ≡ F.bytes (file_of self.old) }
         ensures { (bytes : List ℕ) → F.bytes (file_of self.old) ≡ Some bytes
             → F.remaining (file_of self.old) ≡ Some bytes
             → Holds (F.may_fail (file_of self.old)) bytes (held_bytes F.bytes self.new)
             (held_may_fail F.may_fail self.new) result }
     {
+        self.bytes = None;
         if !is_read_at_offsets(&self.file) {
             let bytes = read_judged(alloc, &mut self.file)?;
             self.bytes = Some(bytes);

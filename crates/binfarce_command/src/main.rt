@@ -28,11 +28,11 @@ use crate::show::{Asked, Kind, Symbols};
 use binfarce_bytes::source::Source;
 use binfarce_filtering::stream::{StreamError, filter_stream};
 use binfarce_tools::SymbolTable;
-use binfarce_tools::program::{Failure, arguments};
 use binfarce_words::words::{Call, Command, Given, Wrong, read_call};
 use std::alloc::Global;
+use std::env;
 use std::fs::File;
-use std::io::{self, Error, Input, Write};
+use std::io::{self, Error, ErrorKind, Input, Write};
 use std::process::ExitCode;
 
 fn main(rt: HostRuntime) -> ExitCode {
@@ -41,10 +41,15 @@ fn main(rt: HostRuntime) -> ExitCode {
             Ok(call) => run(&rt, &call),
             Err(wrong) => refuse(&rt, &wrong),
         },
-        Err(Failure::OutOfMemory) => refuse(&rt, &Wrong::OutOfMemory),
+        Err(e) if e.kind() == ErrorKind::OutOfMemory => refuse(&rt, &Wrong::OutOfMemory),
         Err(_) => refuse(&rt, &Wrong::NotUtf8),
     };
     ExitCode::from(status)
+}
+
+// The arguments after the program's own name.
+fn arguments(rt: &HostRuntime) -> io::Result<Vec<String>> {
+    Ok(env::args(rt)?.skip(1).collect(rt.alloc())?)
 }
 
 // Runs a call, and returns the program's exit status.
@@ -58,7 +63,7 @@ fn run(rt: &HostRuntime, call: &Call<'_>) -> u8 {
 fn run_with(rt: &HostRuntime, call: &Call<'_>, addresses: &[u64]) -> u8 {
     let mut out = Headed::new(rt.alloc(), io::writer(rt));
     let done = answer(rt, call, addresses, &mut out);
-    ended(rt, done, out.into_reason())
+    ended(rt, done, out.into_parts().1)
 }
 
 // The addresses of a call.

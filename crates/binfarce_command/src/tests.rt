@@ -1,5 +1,4 @@
-// The loop over files, and addresses, over files, readers and writers that are literals. bench/refuse-memory.sh lets each of the
-// program's allocations fail in turn.
+// The loop over files, and addresses, over literals. bench/refuse-memory.sh lets each of the program's allocations fail in turn.
 
 use crate::at::{answer_all, answer_input};
 use crate::fault::Fault;
@@ -7,21 +6,19 @@ use crate::files::{System, show_files};
 use crate::headed::Headed;
 use crate::show::{Asked, Kind, Symbols};
 use binfarce_tools::SymbolTable;
-use std::alloc::{AllocError, Global};
+use std::alloc::Global;
 use std::fmt::Write;
 use std::io::{self, Error, ErrorKind};
-use test_samples::elf::ELF64_LITTLE;
+use test_samples::elf::{ELF64_LITTLE, LISTING};
 use test_samples::streams::{Held, Opened, Source, Target};
-
-// A file's path, its bytes, and how it ends.
-type Row<'a> = (&'a str, &'a [u8], Option<ErrorKind>);
 
 const TABLES: Symbols<'static> = Symbols {
     which: SymbolTable::Symtab,
     section: Some(".text"),
 };
 
-const FILES: [Row<'static>; 5] = [
+// The path of each file, its bytes, and how it ends.
+const FILES: [(&str, &[u8], Option<ErrorKind>); 5] = [
     ("good", &ELF64_LITTLE, None),
     ("empty", &[], None),
     ("cut", b"\x7FELF\x02\x01\x00\x00", None),
@@ -29,80 +26,58 @@ const FILES: [Row<'static>; 5] = [
     ("full", b"\x7FELF", Some(ErrorKind::OutOfMemory)),
 ];
 
-// Files that are read to their end, and what was reported of them.
+// The reports on files that are read to their end.
 #[derive(Drop)]
-struct Folder<'a> {
-    files: &'a [Row<'a>],
-    reported: String,
-}
+struct Folder(String);
 
-impl<'a> System<Opened<'a>> for Folder<'a> {
-    fn open(&self, path: &str) -> io::Result<Opened<'a>> {
-        match self.files.iter().find(|file| file.0 == path) {
-            None => Err(Error::from(ErrorKind::NotFound)),
-            Some((_, bytes, end)) => {
+impl System<Opened<'static>> for Folder {
+    fn open(&self, path: &str) -> io::Result<Opened<'static>> {
+        for (name, bytes, end) in &FILES {
+            if *name == path {
+                let left = Source {
+                    end: *end,
+                    ..Source::of(bytes)
+                };
                 let held = Held {
                     bytes: &[],
                     length: None,
                     end: None,
                 };
-                let left = Source {
-                    end: *end,
-                    ..Source::of(bytes)
-                };
-                Ok(Opened { held, left })
+                return Ok(Opened { held, left });
             }
         }
+        Err(Error::from(ErrorKind::NotFound))
     }
 
     fn report(&mut self, path: &str, fault: Fault, _reason: Option<Error>) {
-        let _ = writeln!(self.reported, "{path}: {fault}");
+        let _ = writeln!(self.0, "{path}: {fault}");
     }
 }
 
-// What was shown of files, what was reported, and how it ended.
-#[derive(Drop)]
-struct Ended {
-    text: Vec<u8>,
-    reported: String,
-    ended: Result<bool, Fault>,
-}
+// How the showing of files ended, what was written, and what was reported.
+type Ended = (Result<bool, Fault>, Vec<u8>, String);
 
 // Shows the files with a writer that takes so many bytes, at most 7 in a call.
 fn shown(alloc: Global, kind: Kind, paths: &[&str], left: usize, end: Option<ErrorKind>) -> Ended {
-    let mut folder = Folder {
-        files: &FILES,
-        reported: String::new(alloc),
-    };
-    let mut target = Target {
-        taken: Vec::new(alloc),
+    let mut folder = Folder(String::new(alloc));
+    let target = Target {
         left,
-        most: 7,
         end,
+        ..Target::taking(alloc, 7)
     };
+    let mut out = Headed::new(alloc, target);
     let asked = Asked {
         kind,
         symbols: TABLES,
     };
-    let mut out = Headed::new(alloc, &mut target);
     let ended = show_files(alloc, &mut folder, &asked, paths, &mut out);
-    Ended {
-        text: target.taken,
-        reported: folder.reported,
-        ended,
-    }
+    (ended, out.into_parts().0.taken, folder.0)
 }
 
 // Files, what is written of them, what is reported, and whether all are shown.
 const LISTED: [(Kind, &[&str], &str, &str, bool); 7] = [
     (Kind::Listing, &[], "", "", true),
-    (
-        Kind::Listing,
-        &["good"],
-        "0000000000001000         16 foo\ntext 32\n",
-        "",
-        true,
-    ),
+    (Kind::Listing, &["good"], LISTING, "", true),
     (
         Kind::Sums,
         &["good", "good"],
@@ -137,10 +112,10 @@ const LISTED: [(Kind, &[&str], &str, &str, bool); 7] = [
 #[test]
 fn shows_files_in_order(rt: HostRuntime) {
     for (kind, paths, text, reported, all) in &LISTED {
-        let shown = shown(rt.alloc(), *kind, paths, usize::MAX, None);
-        assert!(&rt; shown.ended == Ok(*all), "{text}");
-        assert!(&rt; shown.text.as_slice() == text.as_bytes(), "{text}");
-        assert!(&rt; shown.reported.as_str() == *reported, "{reported}");
+        let (ended, written, reports) = shown(rt.alloc(), *kind, paths, usize::MAX, None);
+        assert!(&rt; ended == Ok(*all), "{text}");
+        assert!(&rt; written.as_slice() == text.as_bytes(), "{text}");
+        assert!(&rt; reports.as_str() == *reported, "{reported}");
     }
 }
 
@@ -149,10 +124,10 @@ fn a_failed_write_ends_it(rt: HostRuntime) {
     let (kind, paths, text, reported, _) = LISTED[3];
     for left in 0..text.len() {
         for end in [None, Some(ErrorKind::BrokenPipe)] {
-            let shown = shown(rt.alloc(), kind, paths, left, end);
-            assert!(&rt; shown.ended == Err(Fault::Write), "{left}");
-            assert!(&rt; shown.text.as_slice() == &text.as_bytes()[..left], "{left}");
-            assert!(&rt; reported.starts_with(shown.reported.as_str()), "{left}");
+            let (ended, written, reports) = shown(rt.alloc(), kind, paths, left, end);
+            assert!(&rt; ended == Err(Fault::Write), "{left}");
+            assert!(&rt; written.as_slice() == &text.as_bytes()[..left], "{left}");
+            assert!(&rt; reported.starts_with(reports.as_str()), "{left}");
         }
     }
 }
@@ -161,13 +136,12 @@ const ANSWERS: &str = "0000000000401000 foo+0x0\n0000000000401010 ??\n";
 
 #[test]
 fn answers_addresses(rt: HostRuntime) {
-    let mut text = Vec::new(rt.alloc());
-    let mut out = Headed::new(rt.alloc(), &mut text);
+    let mut out = Headed::new(rt.alloc(), Vec::new(rt.alloc()));
     let file: &[u8] = &ELF64_LITTLE;
-    let addresses = [0x401000, 0x401010];
-    let ended = answer_all(rt.alloc(), &file, &TABLES, 0x400000, &addresses, &mut out);
+    let given = [0x401000, 0x401010];
+    let ended = answer_all(rt.alloc(), &file, &TABLES, 0x400000, &given, &mut out);
     assert!(&rt; ended == Ok(()));
-    assert!(&rt; text.as_slice() == ANSWERS.as_bytes());
+    assert!(&rt; out.into_parts().0.as_slice() == ANSWERS.as_bytes());
 }
 
 // Lines, what is written of them, and how many write no address.
@@ -182,16 +156,20 @@ const LINES: [(&str, &str, u64); 4] = [
     ),
 ];
 
+// How lines are answered, and what is written.
+fn answered(alloc: Global, lines: &str) -> (Result<u64, Fault>, Vec<u8>) {
+    let mut out = Headed::new(alloc, Vec::new(alloc));
+    let mut input = Source::of(lines.as_bytes());
+    let file: &[u8] = &ELF64_LITTLE;
+    let ended = answer_input(alloc, &file, &TABLES, 0x400000, &mut input, &mut out);
+    (ended, out.into_parts().0)
+}
+
 #[test]
-fn answers_lines(rt: HostRuntime) -> Result<(), AllocError> {
+fn answers_lines(rt: HostRuntime) {
     for (lines, answers, missing) in &LINES {
-        let mut text = Vec::new(rt.alloc());
-        let mut out = Headed::new(rt.alloc(), &mut text);
-        let mut input = Source::of(lines.as_bytes());
-        let file: &[u8] = &ELF64_LITTLE;
-        let ended = answer_input(rt.alloc(), &file, &TABLES, 0x400000, &mut input, &mut out);
+        let (ended, written) = answered(rt.alloc(), lines);
         assert!(&rt; ended == Ok(*missing), "{lines}");
-        assert!(&rt; text.as_slice() == answers.as_bytes(), "{lines}");
+        assert!(&rt; written.as_slice() == answers.as_bytes(), "{lines}");
     }
-    Ok(())
 }

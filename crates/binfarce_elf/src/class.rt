@@ -69,8 +69,6 @@ pub trait Class: RawNumber + Copy + Drop {
 
     ghost word: { (order : ByteOrder) (bytes : List ℕ) → number_of (Self.value order bytes) ≡ number order bytes };
 
-    ghost some_word: { 0 < Self.SIZE };
-
     ghost narrow_word: { Self.SIZE ≤ 8 };
 
     ghost header: { table.header ≡ fields_of_header Self.SIZE };
@@ -128,8 +126,6 @@ impl Class for u32 {
 
     ghost word = { λ order bytes. refl };
 
-    ghost some_word = { lit< tt };
-
     ghost narrow_word = { lit< tt };
 
     ghost header = { unfold elf32 in refl };
@@ -186,8 +182,6 @@ impl Class for u64 {
     }
 
     ghost word = { λ order bytes. refl };
-
-    ghost some_word = { lit< tt };
 
     ghost narrow_word = { lit< tt };
 

@@ -62,28 +62,28 @@ impl<C: Class + fmt::Debug> fmt::Debug for Header<C> {
 
 /// The file header in this byte order. Refused where it is truncated; its magic number isn't checked.
 pub fn parse_header<C: Class>(
-    data: &[u8],
+    file: &[u8],
     byte_order: ByteOrder,
 ) -> Result<Header<C>, UnexpectedEof>
     ensures { MatchResult result
-        (λ h. (C.table.header_length ≤ length data.now)
-        × (header_view C.number_of h ≡ header_of C.table byte_order data.now))
-        (λ _. length data.now < C.table.header_length) }
+        (λ h. (C.table.header_length ≤ length file.now)
+        × (header_view C.number_of h ≡ header_of C.table byte_order file.now))
+        (λ _. length file.now < C.table.header_length) }
 {
     let word = C::SIZE;
     Ok(Header {
-        elf_type: number_at(data, 16, byte_order)?,
-        machine: number_at(data, 18, byte_order)?,
-        version: number_at(data, 20, byte_order)?,
-        entry: number_at(data, 24, byte_order)?,
-        phoff: number_at(data, 24 + word, byte_order)?,
-        shoff: number_at(data, 24 + 2 * word, byte_order)?,
-        flags: number_at(data, 24 + 3 * word, byte_order)?,
-        ehsize: number_at(data, 28 + 3 * word, byte_order)?,
-        phentsize: number_at(data, 30 + 3 * word, byte_order)?,
-        phnum: number_at(data, 32 + 3 * word, byte_order)?,
-        shentsize: number_at(data, 34 + 3 * word, byte_order)?,
-        shnum: number_at(data, 36 + 3 * word, byte_order)?,
-        shstrndx: number_at(data, 38 + 3 * word, byte_order)?,
+        elf_type: number_at(file, 16, byte_order)?,
+        machine: number_at(file, 18, byte_order)?,
+        version: number_at(file, 20, byte_order)?,
+        entry: number_at(file, 24, byte_order)?,
+        phoff: number_at(file, 24 + word, byte_order)?,
+        shoff: number_at(file, 24 + 2 * word, byte_order)?,
+        flags: number_at(file, 24 + 3 * word, byte_order)?,
+        ehsize: number_at(file, 28 + 3 * word, byte_order)?,
+        phentsize: number_at(file, 30 + 3 * word, byte_order)?,
+        phnum: number_at(file, 32 + 3 * word, byte_order)?,
+        shentsize: number_at(file, 34 + 3 * word, byte_order)?,
+        shnum: number_at(file, 36 + 3 * word, byte_order)?,
+        shstrndx: number_at(file, 38 + 3 * word, byte_order)?,
     })
 }

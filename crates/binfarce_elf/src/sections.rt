@@ -92,15 +92,15 @@ pub trait HasSections<'a, C: Class> {
 /// Where the section headers of a file with this header begin.
 #[tactic(auto, unfolding(crate::specs::Elf::section_table))]
 pub fn section_table<'a, C: Class>(
-    data: &'a [u8],
+    file: &'a [u8],
     byte_order: ByteOrder,
     header: &Header<C>,
 ) -> Table<'a>
-    requires { header_view C.number_of header.now ≡ header_of C.table byte_order data.now }
-    ensures { table_view result ≡ section_table C.table (record { order = byte_order; bytes = data.entry.now }) }
+    requires { header_view C.number_of header.now ≡ header_of C.table byte_order file.now }
+    ensures { table_view result ≡ section_table C.table (record { order = byte_order; bytes = file.entry.now }) }
 {
     Table {
-        data,
+        data: file,
         byte_order,
         shoff: header.shoff.widened() as usize,
         shnum: header.shnum,
@@ -331,8 +331,8 @@ fn names_section<C: Class>(table: Table<'_>) -> Option<Section<C>>
 /// The section's bytes, a slice of the file. `MalformedInput` where their end exceeds `usize`, `UnexpectedEof` where it
 /// lies past the file.
 #[tactic(auto, unfolding(crate::specs::ElfSymbols::section_data, binfarce_bytes::specs::Refusal::bytes_in_file))]
-pub fn section_data<C: Class>(data: &[u8], section: Section<C>) -> Result<&[u8], ParseError>
-    ensures { Gives refusal_of (λ b. b.now) (section_data data.now (section_view C.number_of section)) result }
+pub fn section_data<C: Class>(file: &[u8], section: Section<C>) -> Result<&[u8], ParseError>
+    ensures { Gives refusal_of (λ b. b.now) (section_data file.now (section_view C.number_of section)) result }
 {
-    data.get(section.range()?).ok_or(ParseError::UnexpectedEof)
+    file.get(section.range()?).ok_or(ParseError::UnexpectedEof)
 }

@@ -113,13 +113,13 @@ pub(crate) fn table_sections<C: Class>(
 // The rows and the strings of these sections.
 #[tactic(auto, unfolding(crate::specs::ElfSymbols::rows_at))]
 pub(crate) fn rows_at<C: Class>(
-    data: &[u8],
+    file: &[u8],
     sections: TableSections<C>,
 ) -> Result<Rows<'_>, ParseError>
-    ensures { Gives refusal_of rows_view (rows_at C.table data.now (table_sections_view C.number_of sections)) result }
+    ensures { Gives refusal_of rows_view (rows_at C.table file.now (table_sections_view C.number_of sections)) result }
 {
-    let strings = section_data(data, sections.strings)?;
-    let rows = section_data(data, sections.symbols)?;
+    let strings = section_data(file, sections.strings)?;
+    let rows = section_data(file, sections.symbols)?;
     let rows = whole_rows::<C>(rows)?;
     Ok(Rows { strings, rows })
 }

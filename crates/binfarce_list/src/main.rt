@@ -5,7 +5,7 @@ mod program;
 #[cfg(test)]
 mod tests;
 
-use crate::program::{Fault, run_file, words};
+use crate::program::{Fault, run, words};
 use binfarce_tools::list::Out;
 use binfarce_tools::program::{arguments, exit, finish, open};
 use std::io;
@@ -20,6 +20,6 @@ fn list_file(rt: &HostRuntime) -> Result<(), Fault> {
     let (path, section) = words(arguments.as_slice())?;
     let mut file = open(rt, path)?;
     let mut out = Out::new(io::writer(rt));
-    let listed = run_file(rt.alloc(), &mut file, section, &mut out);
+    let listed = run(rt.alloc(), &mut file, section, &mut out);
     finish(out.into_inner(), listed)
 }

@@ -71,30 +71,33 @@ pub fn words(arguments: &[String]) -> Result<(&str, &str), Fault>
     Ok(file_and_section(arguments)?)
 }
 
-/// Reads the file to its end, and lists the function symbols of its section.
+/// Lists the function symbols of a file's section: as `run_at` if the file can be read at offsets, and else once it is read
+/// to its end.
 ///
-/// `File` where the reader fails; `List` where an allocation fails while it is read, and as `list` refuses.
-pub fn run<R: Read, W: Write>(
+/// `File` where it can't be read; `List` where an allocation fails while it is read, and as `list` refuses.
+pub fn run<F: Read + Source, W: Write>(
     alloc: Global,
-    file: &mut R,
+    file: &mut F,
     section: &str,
     out: &mut Out<W>,
 ) -> Result<(), Fault>
-    ensures outcome { IfSome
-        (R.remaining file.old)
-        (λ bytes. ProgramEndsAs (Unit {0}) ListingFits (FileNeedsMemory bytes)
-        (file_answer bytes section.now) (outcome_of result)) }
-    ensures takes { IfSome
-        (R.remaining file.old) (λ bytes. Takes IsListingOf (file_answer bytes section.now)
-        (W.contents (writer_of out.old)) (W.contents (writer_of out.new)) (outcome_of result)) }
+    ensures outcome { (bytes : List ℕ) → F.bytes file.old ≡ Some bytes → F.remaining file.old ≡ Some bytes
+        → ProgramEndsAs ((F.may_fail file.old ≡ true) ⊎ (bytes ≡ [])) ListingFits (FileNeedsMemory bytes)
+        (file_answer bytes section.now) (outcome_of result) }
+    ensures takes { (bytes : List ℕ) → F.bytes file.old ≡ Some bytes → F.remaining file.old ≡ Some bytes
+        → Takes IsListingOf (file_answer bytes section.now)
+        (W.contents (writer_of out.old)) (W.contents (writer_of out.new)) (outcome_of result) }
     ensures fails { Fails (has_failed out.old) (has_failed out.new) (outcome_of result) }
     ensures leaves { Leaves out.old out.new (outcome_of result) }
 {
+    if is_read_at_offsets(file) {
+        return run_at(alloc, file, section, out);
+    }
     let bytes = read_whole(alloc, file)?;
     list(alloc, bytes.as_slice(), section, out).map_err(Fault::List)
 }
 
-/// The same for a source, of which only the headers, the symbol table and the names are read.
+/// The same of a source that is read at offsets: only its headers, its symbol table and the names are read.
 ///
 /// `File` where the source can't be read at offsets, or a read of it fails; `List` as in `run`.
 pub fn run_at<S: Source, W: Write>(
@@ -119,29 +122,6 @@ pub fn run_at<S: Source, W: Write>(
     match list_tables(alloc, &tables, out) {
         Ok(()) => Ok(()),
         Err(e) => Err(Fault::List(e)),
-    }
-}
-
-/// As `run_at` if the file can be read at offsets, and else as `run`.
-pub fn run_file<F: Read + Source, W: Write>(
-    alloc: Global,
-    file: &mut F,
-    section: &str,
-    out: &mut Out<W>,
-) -> Result<(), Fault>
-    ensures outcome { (bytes : List ℕ) → F.bytes file.old ≡ Some bytes → F.remaining file.old ≡ Some bytes
-        → ProgramEndsAs ((F.may_fail file.old ≡ true) ⊎ (bytes ≡ [])) ListingFits (FileNeedsMemory bytes)
-        (file_answer bytes section.now) (outcome_of result) }
-    ensures takes { (bytes : List ℕ) → F.bytes file.old ≡ Some bytes → F.remaining file.old ≡ Some bytes
-        → Takes IsListingOf (file_answer bytes section.now)
-        (W.contents (writer_of out.old)) (W.contents (writer_of out.new)) (outcome_of result) }
-    ensures fails { Fails (has_failed out.old) (has_failed out.new) (outcome_of result) }
-    ensures leaves { Leaves out.old out.new (outcome_of result) }
-{
-    if is_read_at_offsets(file) {
-        run_at(alloc, file, section, out)
-    } else {
-        run(alloc, file, section, out)
     }
 }
 

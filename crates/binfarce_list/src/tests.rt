@@ -1,8 +1,9 @@
-// bench/refuse-memory.sh lets each of the program's allocations fail in turn: it prints `out of memory` or the whole listing.
+// bench/refuse-memory.sh lets each allocation fail in turn: the program prints its usage, `out of memory` or the whole listing.
 
-use crate::program::{Fault, run, run_at, run_file, status, words};
+use crate::program::{Fault, run, run_at, status, words};
 use binfarce_bytes::source::Source as AtOffsets;
 use binfarce_tools::list::Out;
+use binfarce_tools::program::read_whole;
 use std::alloc::{AllocError, Global};
 use std::io::Read;
 use test_samples::programs::{Program, text_of, wrong_fault, wrong_text};
@@ -17,9 +18,10 @@ impl Program for List {
     }
 
     fn read<R: Read>(&self, alloc: Global, file: &mut R) -> Result<String, AllocError> {
-        let mut out = Out::new(Vec::new(alloc));
-        let ended = run(alloc, file, ".text", &mut out);
-        text_of(alloc, ended, out.into_inner())
+        match read_whole(alloc, file) {
+            Ok(bytes) => self.read_at(alloc, &bytes.as_slice()),
+            Err(e) => text_of(alloc, Err(Fault::from(e)), Vec::new(alloc)),
+        }
     }
 
     fn read_at<S: AtOffsets>(&self, alloc: Global, file: &S) -> Result<String, AllocError> {
@@ -34,7 +36,7 @@ impl Program for List {
         file: &mut F,
     ) -> Result<String, AllocError> {
         let mut out = Out::new(Vec::new(alloc));
-        let ended = run_file(alloc, file, ".text", &mut out);
+        let ended = run(alloc, file, ".text", &mut out);
         text_of(alloc, ended, out.into_inner())
     }
 }
@@ -50,14 +52,9 @@ fn needs_a_file(rt: HostRuntime) -> Result<(), AllocError> {
 }
 
 #[test]
-fn writes_the_listing(rt: HostRuntime) -> Result<(), AllocError> {
+fn writes_the_listing_or_why_it_does_not(rt: HostRuntime) -> Result<(), AllocError> {
     let wrong = wrong_text(rt.alloc(), &List)?;
     assert!(&rt; wrong.is_none(), "{wrong:?}");
-    Ok(())
-}
-
-#[test]
-fn reports_why_nothing_is_written(rt: HostRuntime) -> Result<(), AllocError> {
     let wrong = wrong_fault(rt.alloc(), &List, "binfarce-list")?;
     assert!(&rt; wrong.is_none(), "{wrong:?}");
     Ok(())

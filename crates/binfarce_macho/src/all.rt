@@ -44,14 +44,14 @@ pub struct SymbolBytes<'a> {
 /// refusals. `OutOfMemory` only where the file has a section.
 pub fn functions_of_sections<'a>(
     alloc: Global,
-    data: &'a [u8],
+    file: &'a [u8],
     header: MachoHeader,
 ) -> Result<Vec<SectionFunction<'a>>, ParseError>
-    requires { header_view header ≡ header_of data.now }
-    ensures { AnswersAll HoldsSectionFunctions (HasSection data.now) (all_answer data.now) result }
+    requires { header_view header ≡ header_of file.now }
+    ensures { AnswersAll HoldsSectionFunctions (HasSection file.now) (all_answer file.now) result }
 {
-    let sections = extents(alloc, data, header)?;
-    match symbol_bytes(data, header)? {
+    let sections = extents(alloc, file, header)?;
+    match symbol_bytes(file, header)? {
         None => Ok(Vec::new(alloc)),
         Some(symbols) => functions_of_extents(alloc, &sections, symbols),
     }

@@ -26,18 +26,18 @@ pub struct MachoHeader {
 
 /// The header of a file; refused for fewer than 28 bytes. Its magic number isn't checked.
 #[tactic(auto, unfolding(crate::specs::Macho::header_of, crate::specs::Macho::header_fields))]
-pub fn parse_header(data: &[u8]) -> Result<MachoHeader, UnexpectedEof>
+pub fn parse_header(file: &[u8]) -> Result<MachoHeader, UnexpectedEof>
     ensures { MatchResult result
-        (λ h. (28 ≤ length data.now) × (header_view h ≡ header_of data.now))
-        (λ _. length data.now < 28) }
+        (λ h. (28 ≤ length file.now) × (header_view h ≡ header_of file.now))
+        (λ _. length file.now < 28) }
 {
     let order = ByteOrder::LittleEndian;
     Ok(MachoHeader {
-        cputype: number_at(data, 4, order)?,
-        cpusubtype: number_at(data, 8, order)?,
-        filetype: number_at(data, 12, order)?,
-        ncmds: number_at(data, 16, order)?,
-        sizeofcmds: number_at(data, 20, order)?,
-        flags: number_at(data, 24, order)?,
+        cputype: number_at(file, 4, order)?,
+        cpusubtype: number_at(file, 8, order)?,
+        filetype: number_at(file, 12, order)?,
+        ncmds: number_at(file, 16, order)?,
+        sizeofcmds: number_at(file, 20, order)?,
+        flags: number_at(file, 24, order)?,
     })
 }

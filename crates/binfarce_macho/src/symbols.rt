@@ -40,13 +40,13 @@ pub struct Located<'a> {
 /// text's size in bytes: the answer of `functions` of a reader.
 pub fn functions_of_file<'a>(
     alloc: Global,
-    data: &'a [u8],
+    file: &'a [u8],
     header: MachoHeader,
 ) -> Result<(Vec<FunctionSymbol<'a>>, u64), ParseError>
-    requires { header_view header ≡ header_of data.now }
-    ensures { Answers HoldsFunctions (λ _. HasAddress data.now) (macho_answer data.now) result }
+    requires { header_view header ≡ header_of file.now }
+    ensures { Answers HoldsFunctions (λ _. HasAddress file.now) (macho_answer file.now) result }
 {
-    match locate(data, header)? {
+    match locate(file, header)? {
         None => Ok((Vec::new(alloc), 0)),
         Some(found) => functions_of(alloc, found),
     }

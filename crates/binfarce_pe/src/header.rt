@@ -21,25 +21,25 @@ pub struct PeHeader {
 }
 
 /// The signature's offset, and the file header.
-pub fn parse_header(data: &[u8]) -> Result<(u32, PeHeader), UnexpectedEof>
+pub fn parse_header(file: &[u8]) -> Result<(u32, PeHeader), UnexpectedEof>
     ensures { MatchResult result
-        (λ p. (least_length data.now ≤ length data.now) × (p.0 ≡ signature_offset data.now)
-        × (header_view p.1 ≡ header_of data.now))
-        (λ _. length data.now < least_length data.now) }
+        (λ p. (least_length file.now ≤ length file.now) × (p.0 ≡ signature_offset file.now)
+        × (header_view p.1 ≡ header_of file.now))
+        (λ _. length file.now < least_length file.now) }
 {
-    let pe_pointer: u32 = number_at(data, SIGNATURE_POINTER, ByteOrder::LittleEndian)?;
-    let header = header_after(data, pe_pointer as usize)?;
+    let pe_pointer: u32 = number_at(file, SIGNATURE_POINTER, ByteOrder::LittleEndian)?;
+    let header = header_after(file, pe_pointer as usize)?;
     Ok((pe_pointer, header))
 }
 
 // The file header after the signature at this offset.
 #[tactic(auto, unfolding(crate::specs::Pe::header_fields, crate::specs::Pe::header_after))]
-pub(crate) fn header_after(data: &[u8], signature: usize) -> Result<PeHeader, UnexpectedEof>
+pub(crate) fn header_after(file: &[u8], signature: usize) -> Result<PeHeader, UnexpectedEof>
     ensures { MatchResult result
-        (λ h. (signature + 24 ≤ length data.now) × (header_view h ≡ header_after data.now signature))
-        (λ _. length data.now < signature + 24) }
+        (λ h. (signature + 24 ≤ length file.now) × (header_view h ≡ header_after file.now signature))
+        (λ _. length file.now < signature + 24) }
 {
-    let mut s = Stream::new_at(data, signature, ByteOrder::LittleEndian)?;
+    let mut s = Stream::new_at(file, signature, ByteOrder::LittleEndian)?;
     s.skip::<u32>()?; // signature
     Ok(PeHeader {
         machine: s.read()?,

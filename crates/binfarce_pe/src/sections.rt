@@ -237,15 +237,15 @@ fn is_accepted<'a, F: Fn(Section<'a>) -> bool>(callback: &F, section: Section<'a
 // The section whose header begins at `start`, where its name is UTF-8; refused where a field is truncated.
 #[tactic(auto, unfolding(crate::specs::Pe::section_fields, crate::specs::Pe::section_at))]
 pub(crate) fn section_at(
-    data: &[u8],
+    bytes: &[u8],
     start: usize,
     index: u16,
 ) -> Result<Option<Section<'_>>, UnexpectedEof>
     ensures { MatchResult result
-        (λ o. (start + 24 ≤ length data.now) × (option_map section_view o ≡ section_at data.now start index))
-        (λ _. length data.now < start + 24) }
+        (λ o. (start + 24 ≤ length bytes.now) × (option_map section_view o ≡ section_at bytes.now start index))
+        (λ _. length bytes.now < start + 24) }
 {
-    let mut s = Stream::new_at(data, start, ByteOrder::LittleEndian)?;
+    let mut s = Stream::new_at(bytes, start, ByteOrder::LittleEndian)?;
     let name = s.read_bytes(8)?;
     let virtual_size = s.read()?;
     let virtual_address = s.read()?;

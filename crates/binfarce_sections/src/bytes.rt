@@ -36,12 +36,12 @@ use std::alloc::Global;
 /// found; `NoSection` where no section has the name; `NoBytes` where the section has no bytes in the file (`SHT_NOBITS`,
 /// in Mach-O an offset of 0, in PE no raw data); `PastEnd` where its bytes end past the file.
 #[tactic(auto, unfolding(crate::specs::Named::bytes_named))]
-pub fn section_bytes<'a>(data: &'a [u8], name: &str) -> Result<&'a [u8], SectionError>
-    ensures { Hands (λ b. b.now) (bytes_named (sections_of (format_of data.entry.now) data.entry.now) data.entry.now
+pub fn section_bytes<'a>(file: &'a [u8], name: &str) -> Result<&'a [u8], SectionError>
+    ensures { Hands (λ b. b.now) (bytes_named (sections_of (format_of file.entry.now) file.entry.now) file.entry.now
         name.now) result }
 {
-    match first_section(data, name)? {
-        Some(section) => bytes_of(data, section),
+    match first_section(file, name)? {
+        Some(section) => bytes_of(file, section),
         None => Err(SectionError::NoSection),
     }
 }
@@ -52,12 +52,12 @@ pub fn section_bytes<'a>(data: &'a [u8], name: &str) -> Result<&'a [u8], Section
 ///
 /// Those of `section_bytes`, before anything is written; `Write` where a write failed: a beginning of the bytes may
 /// then be written.
-pub fn write_section<S: Sink>(data: &[u8], name: &str, out: &mut S) -> Result<(), SectionError>
-    ensures takes { TakesBytes (bytes_named (sections_of (format_of data.now) data.now) data.now name.now)
+pub fn write_section<S: Sink>(file: &[u8], name: &str, out: &mut S) -> Result<(), SectionError>
+    ensures takes { TakesBytes (bytes_named (sections_of (format_of file.now) file.now) file.now name.now)
         (S.taken out.old) (S.taken out.new) result }
     ensures fails { Fails (S.has_failed out.old) (S.has_failed out.new) result }
 {
-    let bytes = section_bytes(data, name)?;
+    let bytes = section_bytes(file, name)?;
     write_all(bytes, out)
 }
 
@@ -94,10 +94,10 @@ pub fn write_section_of<F: Source, S: Sink>(
 }
 
 // The first section of this name.
-fn first_section<'a>(data: &'a [u8], name: &str) -> Result<Option<Section<'a>>, SectionError>
-    ensures { Finds (sections_of (format_of data.entry.now) data.entry.now) name.now result }
+fn first_section<'a>(file: &'a [u8], name: &str) -> Result<Option<Section<'a>>, SectionError>
+    ensures { Finds (sections_of (format_of file.entry.now) file.entry.now) name.now result }
 {
-    let sections = sections_of(data)?;
+    let sections = sections_of(file)?;
     Ok(first_in(sections, name)?)
 }
 
@@ -120,8 +120,8 @@ pub(crate) fn first_in<'a>(
 
 // The bytes of a section, a slice of the file.
 #[tactic(auto, unfolding(crate::specs::Named::bytes_of))]
-fn bytes_of<'a>(data: &'a [u8], section: Section<'_>) -> Result<&'a [u8], SectionError>
-    ensures { Hands (λ b. b.now) (bytes_of data.entry.now (section_view section.entry)) result }
+fn bytes_of<'a>(file: &'a [u8], section: Section<'_>) -> Result<&'a [u8], SectionError>
+    ensures { Hands (λ b. b.now) (bytes_of file.entry.now (section_view section.entry)) result }
 {
     if !section.has_bytes {
         return Err(SectionError::NoBytes);
@@ -130,7 +130,7 @@ fn bytes_of<'a>(data: &'a [u8], section: Section<'_>) -> Result<&'a [u8], Sectio
     let end = start
         .checked_add(section.size as usize)
         .ok_or(SectionError::PastEnd)?;
-    data.get(start..end).ok_or(SectionError::PastEnd)
+    file.get(start..end).ok_or(SectionError::PastEnd)
 }
 
 // Whether the word names the section.

@@ -34,11 +34,11 @@ use std::fmt::Write;
 /// `Unknown` where the format isn't supported, and `OutOfMemory` where an allocation failed: nothing is written then.
 /// `Parse` where the reader refuses the next section: the lines of those before are written. `Write` where a write
 /// failed: a beginning of the lines may then be written.
-pub fn list_sections<S: Sink>(alloc: Global, data: &[u8], out: &mut S) -> Result<(), SectionError>
-    ensures takes { TakesLines (sections_of (format_of data.now) data.now) (S.taken out.old) (S.taken out.new) result }
+pub fn list_sections<S: Sink>(alloc: Global, file: &[u8], out: &mut S) -> Result<(), SectionError>
+    ensures takes { TakesLines (sections_of (format_of file.now) file.now) (S.taken out.old) (S.taken out.new) result }
     ensures fails { Fails (S.has_failed out.old) (S.has_failed out.new) result }
 {
-    let sections = match sections_of(data) {
+    let sections = match sections_of(file) {
         Ok(sections) => sections,
         Err(e) => return Err(e),
     };

@@ -107,29 +107,29 @@ impl<'a> Iterator for Sections<'a> {
 ///
 /// `Unknown` where the format isn't supported; `Parse` where the file is too short for its header.
 #[tactic(auto, unfolding(crate::specs::Section::sections_of))]
-pub fn sections_of(data: &[u8]) -> Result<Sections<'_>, SectionError>
-    ensures opens { Opens (sections_of (format_of data.entry.now) data.entry.now) result }
-    ensures header { let least = least_length (format_of data.entry.now) data.entry.now in MatchResult result
-        (λ _. least ≤ length data.entry.now)
-        (λ e. (e ≡ Unknown) ⊎ (length data.entry.now < least)) }
+pub fn sections_of(file: &[u8]) -> Result<Sections<'_>, SectionError>
+    ensures opens { Opens (sections_of (format_of file.entry.now) file.entry.now) result }
+    ensures header { let least = least_length (format_of file.entry.now) file.entry.now in MatchResult result
+        (λ _. least ≤ length file.entry.now)
+        (λ e. (e ≡ Unknown) ⊎ (length file.entry.now < least)) }
 {
-    match detect_format(data) {
-        Format::Elf32 { byte_order } => Ok(open_elf32(data, byte_order)?),
-        Format::Elf64 { byte_order } => Ok(open_elf64(data, byte_order)?),
-        Format::Macho => Ok(open_macho(data)?),
-        Format::PE => Ok(open_pe(data)?),
+    match detect_format(file) {
+        Format::Elf32 { byte_order } => Ok(open_elf32(file, byte_order)?),
+        Format::Elf64 { byte_order } => Ok(open_elf64(file, byte_order)?),
+        Format::Macho => Ok(open_macho(file)?),
+        Format::PE => Ok(open_pe(file)?),
         Format::Unknown => Err(SectionError::Unknown),
     }
 }
 
 #[tactic(auto, using(crate::proofs::Opening::of_32_bits))]
-fn open_elf32(data: &[u8], byte_order: ByteOrder) -> Result<Sections<'_>, ParseError>
-    ensures opens { OpensWalk (elf_sections elf.elf32 byte_order data.entry.now) result }
+fn open_elf32(bytes: &[u8], byte_order: ByteOrder) -> Result<Sections<'_>, ParseError>
+    ensures opens { OpensWalk (elf_sections elf.elf32 byte_order bytes.entry.now) result }
     ensures header { let least = elf.elf32.header_length in MatchResult result
-        (λ _. least ≤ length data.entry.now)
-        (λ _. length data.entry.now < least) }
+        (λ _. least ≤ length bytes.entry.now)
+        (λ _. length bytes.entry.now < least) }
 {
-    let file = elf32::parse(data, byte_order)?;
+    let file = elf32::parse(bytes, byte_order)?;
     let left = file.sections();
     let names = Elf32Names::File(file);
     Ok(Sections::Elf32(Elf32Sections { names, left }))
@@ -146,13 +146,13 @@ pub(crate) fn elf32_sections(parts: &binfarce_tables::elf32::SectionParts) -> Se
 }
 
 #[tactic(auto, using(crate::proofs::Opening::of_64_bits))]
-fn open_elf64(data: &[u8], byte_order: ByteOrder) -> Result<Sections<'_>, ParseError>
-    ensures opens { OpensWalk (elf_sections elf.elf64 byte_order data.entry.now) result }
+fn open_elf64(bytes: &[u8], byte_order: ByteOrder) -> Result<Sections<'_>, ParseError>
+    ensures opens { OpensWalk (elf_sections elf.elf64 byte_order bytes.entry.now) result }
     ensures header { let least = elf.elf64.header_length in MatchResult result
-        (λ _. least ≤ length data.entry.now)
-        (λ _. length data.entry.now < least) }
+        (λ _. least ≤ length bytes.entry.now)
+        (λ _. length bytes.entry.now < least) }
 {
-    let file = elf64::parse(data, byte_order)?;
+    let file = elf64::parse(bytes, byte_order)?;
     let left = file.sections();
     let names = Elf64Names::File(file);
     Ok(Sections::Elf64(Elf64Sections { names, left }))
@@ -168,23 +168,23 @@ pub(crate) fn elf64_sections(parts: &binfarce_tables::elf64::SectionParts) -> Se
     Sections::Elf64(Elf64Sections { names, left })
 }
 
-pub(crate) fn open_macho(data: &[u8]) -> Result<Sections<'_>, ParseError>
-    ensures opens { OpensWalk (macho_sections data.entry.now) result }
-    ensures header { let least = least_length Macho data.entry.now in MatchResult result
-        (λ _. least ≤ length data.entry.now)
-        (λ _. length data.entry.now < least) }
+pub(crate) fn open_macho(bytes: &[u8]) -> Result<Sections<'_>, ParseError>
+    ensures opens { OpensWalk (macho_sections bytes.entry.now) result }
+    ensures header { let least = least_length Macho bytes.entry.now in MatchResult result
+        (λ _. least ≤ length bytes.entry.now)
+        (λ _. length bytes.entry.now < least) }
 {
-    let file = macho::parse(data)?;
+    let file = macho::parse(bytes)?;
     Ok(Sections::Macho(file.sections()))
 }
 
-pub(crate) fn open_pe(data: &[u8]) -> Result<Sections<'_>, ParseError>
-    ensures opens { OpensWalk (pe_sections data.entry.now) result }
-    ensures header { let least = least_length PE data.entry.now in MatchResult result
-        (λ _. least ≤ length data.entry.now)
-        (λ _. length data.entry.now < least) }
+pub(crate) fn open_pe(bytes: &[u8]) -> Result<Sections<'_>, ParseError>
+    ensures opens { OpensWalk (pe_sections bytes.entry.now) result }
+    ensures header { let least = least_length PE bytes.entry.now in MatchResult result
+        (λ _. least ≤ length bytes.entry.now)
+        (λ _. length bytes.entry.now < least) }
 {
-    let file = pe::parse(data)?;
+    let file = pe::parse(bytes)?;
     Ok(Sections::Pe(file.sections()))
 }
 

@@ -5,9 +5,9 @@ use Rattle.std.specs.declared.io.ErrorKind.TheVariants as kinds
 use Rattle.binfarce_tables.specs.declared.error.ReadError.{ReadError}
 use Rattle.binfarce_tables.specs.declared.error.ReadError.TheVariants as reading
 use Rattle.binfarce_tools.specs.declared.program.Failure.{Failure}
-use Rattle.binfarce_tools.specs.declared.program.Failure.TheVariants.{Usage, File, Refused, OutOfMemory}
+use Rattle.binfarce_tools.specs.declared.program.Failure.TheVariants.{File, Refused, OutOfMemory}
 
--- the file and the section of one or two arguments; an argument that isn't UTF-8 is refused before, as a wrong call
+-- the file and the section of one or two arguments; arguments that can't be taken are refused before, as a wrong call
 abbrev pub words_of : List (List ℕ) → Option (List ℕ × List ℕ)
 words_of [] = None
 words_of (file ∷ []) = Some (file, codes ".text")
@@ -18,11 +18,6 @@ words_of (file ∷ section ∷ more ∷ others) = None
 abbrev pub failure_of : ErrorKind → Failure
 failure_of kinds.OutOfMemory = OutOfMemory
 failure_of kind = File
-
--- why the arguments can't be taken, where an error of this kind came: a failed allocation is reported as such, and else one isn't UTF-8
-abbrev pub arguments_failure_of : ErrorKind → Failure
-arguments_failure_of kinds.OutOfMemory = OutOfMemory
-arguments_failure_of kind = Usage
 
 -- the failure of an error of reading a file's tables
 abbrev pub tables_failure_of : ReadError → Failure

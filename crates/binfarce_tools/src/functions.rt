@@ -75,55 +75,55 @@ impl<'a> Arranged<'a> {
 #[tactic(auto, unfolding(crate::specs::Answer::symbols_answer, crate::specs::Answer::NeedsMemory))]
 pub fn functions_of_file<'a>(
     alloc: Global,
-    data: &'a [u8],
+    file: &'a [u8],
     section: &str,
 ) -> Result<(Functions<'a>, u64), ListError>
-    ensures { Gets (FileNeedsMemory data.entry.now) (file_answer data.entry.now section.now) result }
+    ensures { Gets (FileNeedsMemory file.entry.now) (file_answer file.entry.now section.now) result }
 {
-    match detect_format(data) {
-        Format::Elf32 { byte_order } => Ok(read_elf32(data, byte_order, section)?),
-        Format::Elf64 { byte_order } => Ok(read_elf64(data, byte_order, section)?),
-        Format::Macho => Ok(read_macho(alloc, data)?),
-        Format::PE => Ok(read_pe(alloc, data)?),
+    match detect_format(file) {
+        Format::Elf32 { byte_order } => Ok(read_elf32(file, byte_order, section)?),
+        Format::Elf64 { byte_order } => Ok(read_elf64(file, byte_order, section)?),
+        Format::Macho => Ok(read_macho(alloc, file)?),
+        Format::PE => Ok(read_pe(alloc, file)?),
         Format::Unknown => Err(ListError::Unknown),
     }
 }
 
 #[tactic(auto, using(crate::proofs::HeaderLengths::of_32_bits))]
 fn read_elf32<'a>(
-    data: &'a [u8],
+    file: &'a [u8],
     byte_order: ByteOrder,
     section: &str,
 ) -> Result<(Functions<'a>, u64), ParseError>
-    ensures { Answers HoldsLeft ListsSome (elf_file_answer Symtab elf32 byte_order data.entry.now section.now) result }
+    ensures { Answers HoldsLeft ListsSome (elf_file_answer Symtab elf32 byte_order file.entry.now section.now) result }
 {
-    let (functions, size) = elf32::parse(data, byte_order)?.functions(section)?;
+    let (functions, size) = elf32::parse(file, byte_order)?.functions(section)?;
     Ok((Functions::Elf32(functions), size))
 }
 
 #[tactic(auto, using(crate::proofs::HeaderLengths::of_64_bits))]
 fn read_elf64<'a>(
-    data: &'a [u8],
+    file: &'a [u8],
     byte_order: ByteOrder,
     section: &str,
 ) -> Result<(Functions<'a>, u64), ParseError>
-    ensures { Answers HoldsLeft ListsSome (elf_file_answer Symtab elf64 byte_order data.entry.now section.now) result }
+    ensures { Answers HoldsLeft ListsSome (elf_file_answer Symtab elf64 byte_order file.entry.now section.now) result }
 {
-    let (functions, size) = elf64::parse(data, byte_order)?.functions(section)?;
+    let (functions, size) = elf64::parse(file, byte_order)?.functions(section)?;
     Ok((Functions::Elf64(functions), size))
 }
 
-fn read_macho(alloc: Global, data: &[u8]) -> Result<(Functions<'_>, u64), ParseError>
-    ensures { Answers HoldsLeft (λ _. HasAddress data.now) (macho_file_answer data.now) result }
+fn read_macho(alloc: Global, file: &[u8]) -> Result<(Functions<'_>, u64), ParseError>
+    ensures { Answers HoldsLeft (λ _. HasAddress file.now) (macho_file_answer file.now) result }
 {
-    let listed = macho::parse(data)?.functions(alloc)?;
+    let listed = macho::parse(file)?.functions(alloc)?;
     Ok(all_of(listed))
 }
 
-fn read_pe(alloc: Global, data: &[u8]) -> Result<(Functions<'_>, u64), ParseError>
-    ensures { Answers HoldsLeft ListsSome (pe_file_answer data.now) result }
+fn read_pe(alloc: Global, file: &[u8]) -> Result<(Functions<'_>, u64), ParseError>
+    ensures { Answers HoldsLeft ListsSome (pe_file_answer file.now) result }
 {
-    let listed = pe::parse(data)?.functions(alloc)?;
+    let listed = pe::parse(file)?.functions(alloc)?;
     Ok(all_of(listed))
 }
 

@@ -168,18 +168,18 @@ impl From<ParseError> for ListError {
 /// written.
 pub fn list<S: Sink>(
     alloc: Global,
-    data: &[u8],
+    file: &[u8],
     section: &str,
     out: &mut S,
 ) -> Result<(), ListError>
-    ensures outcome { EndsAs ListingFits (FileNeedsMemory data.now)
-        (file_answer data.now section.now) (outcome_of result) }
-    ensures takes { Takes IsListingOf (file_answer data.now section.now) (S.taken out.old)
+    ensures outcome { EndsAs ListingFits (FileNeedsMemory file.now)
+        (file_answer file.now section.now) (outcome_of result) }
+    ensures takes { Takes IsListingOf (file_answer file.now section.now) (S.taken out.old)
         (S.taken out.new) (outcome_of result) }
     ensures fails { Fails (S.has_failed out.old) (S.has_failed out.new) (outcome_of result) }
     ensures leaves { Leaves out.old out.new (outcome_of result) }
 {
-    list_tables(alloc, &Tables::whole(data, section), out)
+    list_tables(alloc, &Tables::whole(file, section), out)
 }
 
 /// As `list`, from the tables of a file: for the section that they were read for.

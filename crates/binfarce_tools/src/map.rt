@@ -30,18 +30,18 @@ use std::alloc::{AllocError, Global};
 /// Those of `report`. Only after `Write` a beginning of the picture may be written.
 pub fn map<S: Sink>(
     alloc: Global,
-    data: &[u8],
+    file: &[u8],
     section: &str,
     out: &mut S,
 ) -> Result<(), ReportError>
-    ensures outcome { EndsAs ReportFits (FileNeedsMemory data.now)
-        (file_answer data.now section.now) (outcome_of result) }
-    ensures takes { Takes IsMapOf (file_answer data.now section.now) (S.taken out.old)
+    ensures outcome { EndsAs ReportFits (FileNeedsMemory file.now)
+        (file_answer file.now section.now) (outcome_of result) }
+    ensures takes { Takes IsMapOf (file_answer file.now section.now) (S.taken out.old)
         (S.taken out.new) (outcome_of result) }
     ensures fails { Fails (S.has_failed out.old) (S.has_failed out.new) (outcome_of result) }
     ensures leaves { Leaves out.old out.new (outcome_of result) }
 {
-    map_tables(alloc, &Tables::whole(data, section), out)
+    map_tables(alloc, &Tables::whole(file, section), out)
 }
 
 /// As `map`, from the tables of a file: for the section that they were read for.

@@ -4,7 +4,7 @@ ghost use Rattle.std.specs.Prelude.{◌≡◌, ◌≢◌, ◌⊎◌, [], Bool, t
 ghost use Rattle.std.specs.IoError.{error_kind};
 ghost use Rattle.std.specs.Process.{exit_status};
 ghost use Rattle.std.specs.String.{string_bytes};
-ghost use Rattle.binfarce_tools.specs.Given.{words_of, failure_of, arguments_failure_of, tables_failure_of};
+ghost use Rattle.binfarce_tools.specs.Given.{words_of, failure_of, tables_failure_of};
 ghost use Rattle.binfarce_tools.specs.Status.{status_of};
 ghost use Rattle.binfarce_tools.specs.declared.program.Failure.TheVariants.{Usage, File as Unreadable, OutOfMemory, Write as Unwritten};
 
@@ -42,22 +42,12 @@ pub trait Fault: fmt::Display + From<Failure> {
         ensures { result ≡ status_of (is_usage self.now) };
 }
 
-/// The arguments after the program's own name. `Usage` where one isn't UTF-8, and `OutOfMemory` where an allocation fails.
+/// The arguments after the program's own name. `Usage` where they can't be taken, as where one isn't UTF-8.
 pub fn arguments(rt: &HostRuntime) -> Result<Vec<String>, Failure>
-    ensures { IfErr result (λ e. (e ≡ Usage) ⊎ (e ≡ OutOfMemory)) }
+    ensures { IfErr result (λ e. e ≡ Usage) }
 {
-    let words = env::args(rt).map_err(arguments_failure)?.skip(1);
-    words.collect(rt.alloc()).map_err(|_| Failure::OutOfMemory)
-}
-
-/// The failure that an error of the arguments is: `OutOfMemory` where an allocation failed, and `Usage` for any other.
-pub fn arguments_failure(e: io::Error) -> Failure
-    ensures { result ≡ arguments_failure_of (error_kind e) }
-{
-    match e.kind() {
-        ErrorKind::OutOfMemory => Failure::OutOfMemory,
-        _ => Failure::Usage,
-    }
+    let words = env::args(rt).map_err(|_| Failure::Usage)?.skip(1);
+    words.collect(rt.alloc()).map_err(|_| Failure::Usage)
 }
 
 /// The file and the section in the arguments after the program's own name. The section is by default `.text`.
@@ -95,8 +85,8 @@ pub fn is_read_at_offsets<S: Source>(file: &S) -> bool
     }
 }
 
-/// The failure for a reader's error: `OutOfMemory` where an allocation failed, and `File` for any other.
-pub fn read_failure(e: io::Error) -> Failure
+// The failure for a reader's error: `OutOfMemory` where an allocation failed, and `File` for any other.
+fn read_failure(e: io::Error) -> Failure
     ensures { result ≡ failure_of (error_kind e) }
 {
     match e.kind() {

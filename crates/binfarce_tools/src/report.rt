@@ -105,18 +105,18 @@ impl From<ListError> for ReportError {
 /// may be written.
 pub fn report<S: Sink>(
     alloc: Global,
-    data: &[u8],
+    file: &[u8],
     section: &str,
     out: &mut S,
 ) -> Result<(), ReportError>
-    ensures outcome { EndsAs ReportFits (FileNeedsMemory data.now)
-        (file_answer data.now section.now) (outcome_of result) }
-    ensures takes { Takes IsReportOf (file_answer data.now section.now) (S.taken out.old)
+    ensures outcome { EndsAs ReportFits (FileNeedsMemory file.now)
+        (file_answer file.now section.now) (outcome_of result) }
+    ensures takes { Takes IsReportOf (file_answer file.now section.now) (S.taken out.old)
         (S.taken out.new) (outcome_of result) }
     ensures fails { Fails (S.has_failed out.old) (S.has_failed out.new) (outcome_of result) }
     ensures leaves { Leaves out.old out.new (outcome_of result) }
 {
-    report_tables(alloc, &Tables::whole(data, section), out)
+    report_tables(alloc, &Tables::whole(file, section), out)
 }
 
 /// As `report`, from the tables of a file: for the section that they were read for.
@@ -156,11 +156,11 @@ pub struct CrateSums {
 /// # Errors
 ///
 /// As `report`, but for `Write`.
-pub fn sums_of_file(alloc: Global, data: &[u8], section: &str) -> Result<CrateSums, ReportError>
-    ensures { GetsSums (FileNeedsMemory data.now)
-        (file_answer data.now section.now) result }
+pub fn sums_of_file(alloc: Global, file: &[u8], section: &str) -> Result<CrateSums, ReportError>
+    ensures { GetsSums (FileNeedsMemory file.now)
+        (file_answer file.now section.now) result }
 {
-    sums_of_tables(alloc, &Tables::whole(data, section))
+    sums_of_tables(alloc, &Tables::whole(file, section))
 }
 
 /// The sums that `report_tables` shows.

@@ -35,16 +35,16 @@ pub enum Tables<'a> {
     /// Nothing: the file's first bytes name no supported format.
     Unknown,
     /// All bytes of a file, and the section.
-    Whole { data: &'a [u8], section: &'a str },
+    Whole { file: &'a [u8], section: &'a str },
 }
 
 impl<'a> Tables<'a> {
     /// The tables of a file in memory for a section, by the symbol table. Nothing is read yet.
     #[tactic(auto, unfolding(crate::specs::Tables::AreTablesOf))]
-    pub fn whole(data: &'a [u8], section: &'a str) -> Tables<'a>
-        ensures { AreTablesOf Symtab data.entry.now section.entry.now result }
+    pub fn whole(file: &'a [u8], section: &'a str) -> Tables<'a>
+        ensures { AreTablesOf Symtab file.entry.now section.entry.now result }
     {
-        Self::Whole { data, section }
+        Self::Whole { file, section }
     }
 
     /// The function symbols of the section and the symbol table that the tables were read for, and the section's size.
@@ -77,7 +77,7 @@ impl<'a> Tables<'a> {
                 Ok(all_of(listed))
             }
             Tables::Unknown => Err(ListError::Unknown),
-            Tables::Whole { data, section } => functions_of_file(alloc, data, section),
+            Tables::Whole { file, section } => functions_of_file(alloc, file, section),
         }
     }
 }

@@ -1,10 +1,157 @@
-//! What the ELF readers find in a file, worked out by hand from the format's description.
+//! What the readers of ELF find in a file.
 
-mod headers;
-mod sections;
-mod symbols;
-mod truncated;
+use crate::symbols::{address_of, functions_text, push_found, symbols_text};
+use binfarce::{FunctionSymbol, ParseError, elf32, elf64};
+use std::alloc::{AllocError, Global};
+use std::ops::Range;
+use test_samples::elf::Layout;
 
-const TRUNCATED: &str = "unexpected end of file";
+/// The answer of the reader of 32 bits.
+pub fn answer_32(
+    alloc: Global,
+    layout: Layout,
+    what: &str,
+    rest: &str,
+    file: &[u8],
+) -> Result<String, ParseError> {
+    let elf = elf32::parse(file, layout.order())?;
+    let mut text = String::new(alloc);
+    match what {
+        "header" => write!(text, "{:?}", elf.header())?,
+        "names" | "symbols" => {
+            let (symbols, size) = elf.symbols(alloc, rest)?;
+            return Ok(symbols_text(alloc, what, &symbols, size)?);
+        }
+        "functions" => {
+            let (name, addresses) = rest.split_once(' ').unwrap_or((rest, ""));
+            let (functions, size) = elf.functions(name)?;
+            let functions: Vec<FunctionSymbol<'_>> = functions.collect(alloc)?;
+            text = functions_text(alloc, &functions, size)?;
+            for address in addresses.split(' ') {
+                let (functions, _) = elf.functions(name)?;
+                push_found(&mut text, functions.symbol_at(address_of(address)))?;
+            }
+        }
+        "sections" => {
+            for section in elf.sections() {
+                match section {
+                    Ok(section) => push_32(&mut text, &elf, section)?,
+                    Err(error) => writeln!(text, "{error}")?,
+                }
+            }
+        }
+        _ => match found_32(&elf, rest)? {
+            Some(section) if what == "bytes" => write!(
+                text,
+                "{:?} {}",
+                elf.section_bytes(&section),
+                elf.data() == file
+            )?,
+            Some(section) => push_32(&mut text, &elf, section)?,
+            None => text.push_str("none")?,
+        },
+    }
+    Ok(text)
+}
 
-const NO_SECTION: &str = "symbols section is missing";
+fn push_32(
+    text: &mut String,
+    elf: &elf32::Elf32<'_>,
+    section: elf32::Section,
+) -> Result<(), AllocError> {
+    let (kind, address) = (section.section_type(), section.address());
+    let bytes = elf.section_bytes(&section).map(|bytes| bytes.len());
+    writeln!(
+        text,
+        "{:?} {:?} {}, type {kind} at {address:x}, {bytes:?}",
+        section.name(elf),
+        section.range(),
+        section.entries()
+    )
+}
+
+fn found_32(elf: &elf32::Elf32<'_>, which: &str) -> Result<Option<elf32::Section>, ParseError> {
+    match (which, which.parse::<usize>()) {
+        ("first", _) => elf.find_section(|_| true),
+        ("past", _) => elf.find_section(|_| false),
+        (_, Ok(offset)) => elf.find_section(|section| begins_at(section.range(), offset)),
+        (name, _) => elf.section_with_name(name.trim_matches('"')),
+    }
+}
+
+/// The answer of the reader of 64 bits.
+pub fn answer_64(
+    alloc: Global,
+    layout: Layout,
+    what: &str,
+    rest: &str,
+    file: &[u8],
+) -> Result<String, ParseError> {
+    let elf = elf64::parse(file, layout.order())?;
+    let mut text = String::new(alloc);
+    match what {
+        "header" => write!(text, "{:?}", elf.header())?,
+        "names" | "symbols" => {
+            let (symbols, size) = elf.symbols(alloc, rest)?;
+            return Ok(symbols_text(alloc, what, &symbols, size)?);
+        }
+        "functions" => {
+            let (name, addresses) = rest.split_once(' ').unwrap_or((rest, ""));
+            let (functions, size) = elf.functions(name)?;
+            let functions: Vec<FunctionSymbol<'_>> = functions.collect(alloc)?;
+            text = functions_text(alloc, &functions, size)?;
+            for address in addresses.split(' ') {
+                let (functions, _) = elf.functions(name)?;
+                push_found(&mut text, functions.symbol_at(address_of(address)))?;
+            }
+        }
+        "sections" => {
+            for section in elf.sections() {
+                match section {
+                    Ok(section) => push_64(&mut text, &elf, section)?,
+                    Err(error) => writeln!(text, "{error}")?,
+                }
+            }
+        }
+        _ => match found_64(&elf, rest)? {
+            Some(section) if what == "bytes" => write!(
+                text,
+                "{:?} {}",
+                elf.section_bytes(&section),
+                elf.data() == file
+            )?,
+            Some(section) => push_64(&mut text, &elf, section)?,
+            None => text.push_str("none")?,
+        },
+    }
+    Ok(text)
+}
+
+fn push_64(
+    text: &mut String,
+    elf: &elf64::Elf64<'_>,
+    section: elf64::Section,
+) -> Result<(), AllocError> {
+    let (kind, address) = (section.section_type(), section.address());
+    let bytes = elf.section_bytes(&section).map(|bytes| bytes.len());
+    writeln!(
+        text,
+        "{:?} {:?} {}, type {kind} at {address:x}, {bytes:?}",
+        section.name(elf),
+        section.range(),
+        section.entries()
+    )
+}
+
+fn found_64(elf: &elf64::Elf64<'_>, which: &str) -> Result<Option<elf64::Section>, ParseError> {
+    match (which, which.parse::<usize>()) {
+        ("first", _) => elf.find_section(|_| true),
+        ("past", _) => elf.find_section(|_| false),
+        (_, Ok(offset)) => elf.find_section(|section| begins_at(section.range(), offset)),
+        (name, _) => elf.section_with_name(name.trim_matches('"')),
+    }
+}
+
+fn begins_at(range: Result<Range<usize>, ParseError>, offset: usize) -> bool {
+    range.is_ok_and(|range| range.start == offset)
+}

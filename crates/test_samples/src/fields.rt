@@ -1,8 +1,8 @@
 //! Where the fields of the ELF samples are, in each layout.
 
+use crate::cases::put_number;
 use crate::elf::Layout;
-use crate::{Patch, patched};
-use binfarce_bytes::ByteOrder;
+use crate::files::File;
 use std::alloc::{AllocError, Global};
 
 /// A field, by its name in the gABI without its first letter: one of the file header, of the section header of this number,
@@ -35,23 +35,6 @@ pub enum Field {
     StInfo(u8),
     StShNdx(u8),
 }
-
-/// The fields of the file header in their order.
-pub const HEADER: [Field; 13] = [
-    Field::Type,
-    Field::Machine,
-    Field::Version,
-    Field::Entry,
-    Field::PhOff,
-    Field::ShOff,
-    Field::Flags,
-    Field::EhSize,
-    Field::PhEntSize,
-    Field::PhNum,
-    Field::ShEntSize,
-    Field::ShNum,
-    Field::ShStrNdx,
-];
 
 // A header or row of the samples.
 #[derive(Clone, Copy)]
@@ -117,50 +100,16 @@ impl Field {
     }
 }
 
-/// Bytes for a file, and the offset of the first.
-#[derive(Drop)]
-pub struct Number {
-    offset: usize,
-    bytes: Vec<u8>,
-}
-
-/// The low bytes of each number, as many as its field has, in the layout's order.
-pub fn written(
-    alloc: Global,
-    layout: Layout,
-    numbers: &[(Field, u64)],
-) -> Result<Vec<Number>, AllocError> {
-    let mut all = Vec::new(alloc);
-    for (field, number) in numbers {
-        let (offset, width) = field.place(layout);
-        let (little, big) = (number.to_le_bytes(), number.to_be_bytes());
-        let bytes = match layout.order() {
-            ByteOrder::LittleEndian => little.get(..width),
-            ByteOrder::BigEndian => big.get(8usize.saturating_sub(width)..),
-        };
-        all.push(Number {
-            offset,
-            bytes: Vec::from_slice(alloc, bytes.unwrap_or(&[]))?,
-        })?;
-    }
-    Ok(all)
-}
-
-/// The same as patches.
-pub fn patches_of<'a>(alloc: Global, written: &'a [Number]) -> Result<Vec<Patch<'a>>, AllocError> {
-    let mut patches = Vec::new(alloc);
-    for it in written {
-        patches.push((it.offset, it.bytes.as_slice()))?;
-    }
-    Ok(patches)
-}
-
-/// The sample in this layout with these numbers in its fields.
+/// The sample in this layout with the low bytes of these numbers in its fields.
 pub fn sample_with(
     alloc: Global,
     layout: Layout,
     numbers: &[(Field, u64)],
 ) -> Result<Vec<u8>, AllocError> {
-    let written = written(alloc, layout, numbers)?;
-    patched(alloc, layout.bytes(), &patches_of(alloc, &written)?)
+    let mut file = Vec::from_slice(alloc, layout.bytes())?;
+    for (field, number) in numbers {
+        let (offset, width) = field.place(layout);
+        put_number(File::Elf(layout), &mut file, offset, width, *number);
+    }
+    Ok(file)
 }

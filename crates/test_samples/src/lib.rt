@@ -4,6 +4,7 @@
 ghost use Rattle.std.specs.Prelude.{◌≡◌, map, set, take, IfOk};
 ghost use Rattle.test_samples.specs.Patched.{patched, patched_at};
 
+pub mod cases;
 pub mod elf;
 pub mod expected;
 pub mod fields;
@@ -12,7 +13,6 @@ pub mod interruptions;
 pub mod macho;
 pub mod pe;
 pub mod programs;
-pub mod question;
 pub mod streams;
 
 use std::alloc::{AllocError, Global};

@@ -16,7 +16,7 @@ mod show;
 #[cfg(test)]
 mod tests;
 
-use crate::shim::{HostRuntime, Vec};
+use crate::shim::{CollectIn, HostRuntime, String, Vec};
 use crate::erased::binfarce_command::at::{answer_all, answer_input, read_addresses};
 use crate::erased::binfarce_command::fault::Fault;
 use crate::erased::binfarce_command::files::{System, open_held, reported, show_files};
@@ -30,11 +30,11 @@ use crate::erased::binfarce_command::show::{Asked, Kind, Symbols};
 use crate::erased::binfarce_bytes::source::Source;
 use crate::erased::binfarce_filtering::stream::{StreamError, filter_stream};
 use crate::erased::binfarce_tools::SymbolTable;
-use crate::erased::binfarce_tools::program::{Failure, arguments};
 use crate::erased::binfarce_words::words::{Call, Command, Given, Wrong, read_call};
 use crate::shim::alloc::Global;
+use crate::shim::env;
 use crate::shim::fs::File;
-use crate::shim::io::{self, Error, Write};
+use crate::shim::io::{self, Error, ErrorKind, Write};
 use std::process::ExitCode;
 
 pub fn main(rt: HostRuntime) -> ExitCode {
@@ -43,10 +43,15 @@ pub fn main(rt: HostRuntime) -> ExitCode {
             Ok(call) => run(&rt, &call),
             Err(wrong) => refuse(&rt, &wrong),
         },
-        Err(Failure::OutOfMemory) => refuse(&rt, &Wrong::OutOfMemory),
+        Err(e) if e.kind() == ErrorKind::OutOfMemory => refuse(&rt, &Wrong::OutOfMemory),
         Err(_) => refuse(&rt, &Wrong::NotUtf8),
     };
     ExitCode::from(status)
+}
+
+// The arguments after the program's own name.
+fn arguments(rt: &HostRuntime) -> io::Result<Vec<String>> {
+    Ok(env::args(rt)?.skip(1).collect_in(rt.alloc())?)
 }
 
 // Runs a call, and returns the program's exit status.
@@ -60,7 +65,7 @@ fn run(rt: &HostRuntime, call: &Call<'_>) -> u8 {
 fn run_with(rt: &HostRuntime, call: &Call<'_>, addresses: &[u64]) -> u8 {
     let mut out = Headed::new(rt.alloc(), io::writer(rt));
     let done = answer(rt, call, addresses, &mut out);
-    ended(rt, done, out.into_reason())
+    ended(rt, done, out.into_parts().1)
 }
 
 // The addresses of a call.

@@ -7,7 +7,7 @@ mod program;
 mod tests;
 
 use crate::shim::HostRuntime;
-use crate::erased::binfarce_size::program::{Fault, run_file, words};
+use crate::erased::binfarce_size::program::{Fault, run, words};
 use crate::erased::binfarce_tools::list::Out;
 use crate::erased::binfarce_tools::program::{arguments, exit, finish, open};
 use crate::shim::io;
@@ -22,6 +22,6 @@ fn report_file(rt: &HostRuntime) -> Result<(), Fault> {
     let (path, section) = words(arguments.as_slice())?;
     let mut file = open(rt, path)?;
     let mut out = Out::new(io::writer(rt));
-    let reported = run_file(rt.alloc(), &mut file, section, &mut out);
+    let reported = run(rt.alloc(), &mut file, section, &mut out);
     finish(out.into_inner(), reported)
 }

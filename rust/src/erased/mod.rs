@@ -42,10 +42,10 @@ pub mod test_memory;
 pub mod test_names;
 #[cfg(test)]
 pub mod test_formats;
-#[cfg(test)]
-pub mod test_tools;
 
 #[cfg(test)]
 pub const TEST_PROGRAMS: &[(&str, crate::shim::test::Main)] = &[
     ("test_memory", test_memory::main),
+    ("test_names", test_names::main),
+    ("test_formats", test_formats::main),
 ];

@@ -2,6 +2,7 @@
 
 //! Small executables, byte by byte, for tests of readers.
 
+pub mod cases;
 pub mod elf;
 pub mod expected;
 pub mod fields;
@@ -10,7 +11,6 @@ pub mod interruptions;
 pub mod macho;
 pub mod pe;
 pub mod programs;
-pub mod question;
 pub mod streams;
 
 use crate::shim::Vec;

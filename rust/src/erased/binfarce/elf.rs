@@ -22,10 +22,10 @@ pub struct Elf<'a, C: Class> {
 }
 
 /// Reads the file header in the given order. The magic number isn't checked.
-pub fn parse<C: Class>(data: &[u8], byte_order: ByteOrder) -> Result<Elf<'_, C>, ParseError> {
-    let header = parse_header(data, byte_order)?;
+pub fn parse<C: Class>(file: &[u8], byte_order: ByteOrder) -> Result<Elf<'_, C>, ParseError> {
+    let header = parse_header(file, byte_order)?;
     Ok(Elf {
-        data,
+        data: file,
         byte_order,
         header,
     })

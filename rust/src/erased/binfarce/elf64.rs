@@ -35,6 +35,6 @@ pub type AllFunctions<'a> = all::AllFunctions<'a, Address>;
 /// # Errors
 ///
 /// `UnexpectedEof` for fewer than 64 bytes.
-pub fn parse(data: &[u8], byte_order: ByteOrder) -> Result<Elf64<'_>, ParseError> {
-    elf::parse(data, byte_order)
+pub fn parse(file: &[u8], byte_order: ByteOrder) -> Result<Elf64<'_>, ParseError> {
+    elf::parse(file, byte_order)
 }

@@ -27,9 +27,9 @@ pub struct Macho<'a> {
 /// # Errors
 ///
 /// `UnexpectedEof` for fewer than 28 bytes.
-pub fn parse(data: &[u8]) -> Result<Macho<'_>, ParseError> {
-    let header = parse_header(data)?;
-    Ok(Macho { data, header })
+pub fn parse(file: &[u8]) -> Result<Macho<'_>, ParseError> {
+    let header = parse_header(file)?;
+    Ok(Macho { data: file, header })
 }
 
 impl<'a> Macho<'a> {

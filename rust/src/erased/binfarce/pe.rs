@@ -29,10 +29,10 @@ pub struct Pe<'a> {
 /// # Errors
 ///
 /// `UnexpectedEof` for fewer than 64 bytes, and where the file header that they point to is truncated.
-pub fn parse(data: &[u8]) -> Result<Pe<'_>, ParseError> {
-    let (pe_pointer, header) = parse_header(data)?;
+pub fn parse(file: &[u8]) -> Result<Pe<'_>, ParseError> {
+    let (pe_pointer, header) = parse_header(file)?;
     Ok(Pe {
-        data,
+        data: file,
         pe_pointer,
         header,
     })

@@ -12,9 +12,9 @@ pub fn parse_address(word: &[u8]) -> Option<u64> {
     }
 }
 
-/// The address in the first line of the bytes, and the line's length in bytes, if it has 1 to 16 digits and nothing
-/// else. `None` doesn't mean that the line has no address: it may have `0x` before its digits.
-pub fn hex_line(bytes: &[u8]) -> Option<(u64, usize)> {
+// The address in the first line of the bytes, and the line's length in bytes, if it has 1 to 16 digits and nothing
+// else. `None` doesn't mean that the line has no address: it may have `0x` before its digits.
+pub(crate) fn hex_line(bytes: &[u8]) -> Option<(u64, usize)> {
     let mut number = 0;
     for (len, byte) in bytes.iter().enumerate() {
         match hex_digit(*byte) {

@@ -31,8 +31,8 @@ impl<'a> Places<'a> {
     /// # Errors
     ///
     /// Those of `list`, except `Write`.
-    pub fn of_file(alloc: Global, data: &'a [u8], section: &str) -> Result<Places<'a>, ListError> {
-        let (functions, _) = functions_of_file(alloc, data, section)?;
+    pub fn of_file(alloc: Global, file: &'a [u8], section: &str) -> Result<Places<'a>, ListError> {
+        let (functions, _) = functions_of_file(alloc, file, section)?;
         let places = places_of(alloc, functions)?;
         Ok(places)
     }
@@ -284,13 +284,13 @@ fn places_of(alloc: Global, functions: Functions<'_>) -> Result<Places<'_>, Allo
 /// Those of `list`. Only after `Write` a beginning of the lines may be written.
 pub fn at<S: Sink>(
     alloc: Global,
-    data: &[u8],
+    file: &[u8],
     section: &str,
     base: u64,
     addresses: &[u64],
     out: &mut S,
 ) -> Result<(), ListError> {
-    at_tables(alloc, &Tables::whole(data, section), base, addresses, out)
+    at_tables(alloc, &Tables::whole(file, section), base, addresses, out)
 }
 
 /// As `at`, from the tables of a file: for the section that they were read for.

@@ -30,28 +30,28 @@ pub enum Format {
 /// is an ELF file of another class or order. Nothing is allocated.
 ///
 /// The readers themselves don't check magic numbers.
-pub fn detect_format(data: &[u8]) -> Format {
-    if data.len() < 8 {
+pub fn detect_format(file: &[u8]) -> Format {
+    if file.len() < 8 {
         return Format::Unknown;
     }
-    if data.starts_with(b"\x7FELF") {
-        return elf_format(data[4], data[5]);
+    if file.starts_with(b"\x7FELF") {
+        return elf_format(file[4], file[5]);
     }
-    if data.starts_with(b"MZ") {
+    if file.starts_with(b"MZ") {
         return Format::PE;
     }
-    if begins_macho(data) {
+    if begins_macho(file) {
         return Format::Macho;
     }
     Format::Unknown
 }
 
-fn begins_macho(data: &[u8]) -> bool {
-    data.starts_with(b"\xCA\xFE\xBA\xBE")
-        || data.starts_with(b"\xFE\xED\xFA\xCE")
-        || data.starts_with(b"\xFE\xED\xFA\xCF")
-        || data.starts_with(b"\xCE\xFA\xED\xFE")
-        || data.starts_with(b"\xCF\xFA\xED\xFE")
+fn begins_macho(file: &[u8]) -> bool {
+    file.starts_with(b"\xCA\xFE\xBA\xBE")
+        || file.starts_with(b"\xFE\xED\xFA\xCE")
+        || file.starts_with(b"\xFE\xED\xFA\xCF")
+        || file.starts_with(b"\xCE\xFA\xED\xFE")
+        || file.starts_with(b"\xCF\xFA\xED\xFE")
 }
 
 // By the bytes `EI_CLASS` and `EI_DATA`.

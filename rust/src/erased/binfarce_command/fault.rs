@@ -10,6 +10,7 @@ use crate::erased::binfarce_tables::ReadError;
 use crate::erased::binfarce_tools::list::ListError;
 use crate::erased::binfarce_tools::report::ReportError;
 use crate::shim::alloc::AllocError;
+use std::error::Error;
 use std::fmt;
 use crate::shim::io::{self, ErrorKind};
 
@@ -72,6 +73,8 @@ impl fmt::Display for Fault {
         }
     }
 }
+
+impl Error for Fault {}
 
 impl From<AllocError> for Fault {
     fn from(_: AllocError) -> Self {

@@ -64,12 +64,10 @@ impl<W: Write> Headed<W> {
         }
         Some(())
     }
-}
 
-impl<W: Write> Headed<W> {
-    /// The reason of the last failed write, if any.
-    pub fn into_reason(self) -> Option<Error> {
-        self.reason
+    /// The writer, and the reason of the last failed write, if any.
+    pub fn into_parts(self) -> (W, Option<Error>) {
+        (self.writer, self.reason)
     }
 }
 

@@ -37,6 +37,7 @@ impl<F: Read + Source> Held<F> {
     ///
     /// `Unreadable` where a read fails, and `OutOfMemory` where an allocation fails.
     pub fn load(&mut self, alloc: Global) -> Result<(), Fault> {
+        self.bytes = None;
         if !is_read_at_offsets(&self.file) {
             let bytes = read_judged(alloc, &mut self.file)?;
             self.bytes = Some(bytes);

@@ -65,12 +65,12 @@ pub trait HasSections<'a, C: Class> {
 
 /// Where the section headers of a file with this header begin.
 pub fn section_table<'a, C: Class>(
-    data: &'a [u8],
+    file: &'a [u8],
     byte_order: ByteOrder,
     header: &Header<C>,
 ) -> Table<'a> {
     Table {
-        data,
+        data: file,
         byte_order,
         shoff: header.shoff.widened() as usize,
         shnum: header.shnum,
@@ -236,6 +236,6 @@ fn names_section<C: Class>(table: Table<'_>) -> Option<Section<C>> {
 
 /// The section's bytes, a slice of the file. `MalformedInput` where their end exceeds `usize`, `UnexpectedEof` where it
 /// lies past the file.
-pub fn section_data<C: Class>(data: &[u8], section: Section<C>) -> Result<&[u8], ParseError> {
-    data.get(section.range()?).ok_or(ParseError::UnexpectedEof)
+pub fn section_data<C: Class>(file: &[u8], section: Section<C>) -> Result<&[u8], ParseError> {
+    file.get(section.range()?).ok_or(ParseError::UnexpectedEof)
 }

@@ -87,11 +87,11 @@ pub(crate) fn table_sections<C: Class>(
 
 // The rows and the strings of these sections.
 pub(crate) fn rows_at<C: Class>(
-    data: &[u8],
+    file: &[u8],
     sections: TableSections<C>,
 ) -> Result<Rows<'_>, ParseError> {
-    let strings = section_data(data, sections.strings)?;
-    let rows = section_data(data, sections.symbols)?;
+    let strings = section_data(file, sections.strings)?;
+    let rows = section_data(file, sections.symbols)?;
     let rows = whole_rows::<C>(rows)?;
     Ok(Rows { strings, rows })
 }

@@ -1,11 +1,12 @@
 // From crates/binfarce_list/src/tests.rt, by tools/erase.
 
-// bench/refuse-memory.sh lets each of the program's allocations fail in turn: it prints `out of memory` or the whole listing.
+// bench/refuse-memory.sh lets each allocation fail in turn: the program prints its usage, `out of memory` or the whole listing.
 
 use crate::shim::{HostRuntime, String, Vec};
-use crate::erased::binfarce_list::program::{Fault, run, run_at, run_file, status, words};
+use crate::erased::binfarce_list::program::{Fault, run, run_at, status, words};
 use crate::erased::binfarce_bytes::source::Source as AtOffsets;
 use crate::erased::binfarce_tools::list::Out;
+use crate::erased::binfarce_tools::program::read_whole;
 use crate::shim::alloc::{AllocError, Global};
 use crate::shim::io::Read;
 use crate::erased::test_samples::programs::{Program, text_of, wrong_fault, wrong_text};
@@ -20,9 +21,10 @@ impl Program for List {
     }
 
     fn read<R: Read>(&self, alloc: Global, file: &mut R) -> Result<String, AllocError> {
-        let mut out = Out::new(Vec::new(alloc));
-        let ended = run(alloc, file, ".text", &mut out);
-        text_of(alloc, ended, out.into_inner())
+        match read_whole(alloc, file) {
+            Ok(bytes) => self.read_at(alloc, &bytes.as_slice()),
+            Err(e) => text_of(alloc, Err(Fault::from(e)), Vec::new(alloc)),
+        }
     }
 
     fn read_at<S: AtOffsets>(&self, alloc: Global, file: &S) -> Result<String, AllocError> {
@@ -37,7 +39,7 @@ impl Program for List {
         file: &mut F,
     ) -> Result<String, AllocError> {
         let mut out = Out::new(Vec::new(alloc));
-        let ended = run_file(alloc, file, ".text", &mut out);
+        let ended = run(alloc, file, ".text", &mut out);
         text_of(alloc, ended, out.into_inner())
     }
 }
@@ -54,16 +56,10 @@ fn needs_a_file() -> Result<(), AllocError> {
 }
 
 #[test]
-fn writes_the_listing() -> Result<(), AllocError> {
+fn writes_the_listing_or_why_it_does_not() -> Result<(), AllocError> {
     let rt = HostRuntime::new();
     let wrong = wrong_text(rt.alloc(), &List)?;
     assert!(wrong.is_none(), "{wrong:?}");
-    Ok(())
-}
-
-#[test]
-fn reports_why_nothing_is_written() -> Result<(), AllocError> {
-    let rt = HostRuntime::new();
     let wrong = wrong_fault(rt.alloc(), &List, "binfarce-list")?;
     assert!(wrong.is_none(), "{wrong:?}");
     Ok(())

@@ -29,10 +29,10 @@ pub struct Located<'a> {
 /// text's size in bytes: the answer of `functions` of a reader.
 pub fn functions_of_file<'a>(
     alloc: Global,
-    data: &'a [u8],
+    file: &'a [u8],
     header: MachoHeader,
 ) -> Result<(Vec<FunctionSymbol<'a>>, u64), ParseError> {
-    match locate(data, header)? {
+    match locate(file, header)? {
         None => Ok((Vec::new(alloc), 0)),
         Some(found) => functions_of(alloc, found),
     }

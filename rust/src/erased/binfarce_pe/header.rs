@@ -19,15 +19,15 @@ pub struct PeHeader {
 }
 
 /// The signature's offset, and the file header.
-pub fn parse_header(data: &[u8]) -> Result<(u32, PeHeader), UnexpectedEof> {
-    let pe_pointer: u32 = number_at(data, SIGNATURE_POINTER, ByteOrder::LittleEndian)?;
-    let header = header_after(data, pe_pointer as usize)?;
+pub fn parse_header(file: &[u8]) -> Result<(u32, PeHeader), UnexpectedEof> {
+    let pe_pointer: u32 = number_at(file, SIGNATURE_POINTER, ByteOrder::LittleEndian)?;
+    let header = header_after(file, pe_pointer as usize)?;
     Ok((pe_pointer, header))
 }
 
 // The file header after the signature at this offset.
-pub(crate) fn header_after(data: &[u8], signature: usize) -> Result<PeHeader, UnexpectedEof> {
-    let mut s = Stream::new_at(data, signature, ByteOrder::LittleEndian)?;
+pub(crate) fn header_after(file: &[u8], signature: usize) -> Result<PeHeader, UnexpectedEof> {
+    let mut s = Stream::new_at(file, signature, ByteOrder::LittleEndian)?;
     s.skip::<u32>()?; // signature
     Ok(PeHeader {
         machine: s.read()?,

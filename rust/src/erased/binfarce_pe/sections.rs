@@ -168,11 +168,11 @@ fn is_accepted<'a, F: Fn(Section<'a>) -> bool>(callback: &F, section: Section<'a
 
 // The section whose header begins at `start`, where its name is UTF-8; refused where a field is truncated.
 pub(crate) fn section_at(
-    data: &[u8],
+    bytes: &[u8],
     start: usize,
     index: u16,
 ) -> Result<Option<Section<'_>>, UnexpectedEof> {
-    let mut s = Stream::new_at(data, start, ByteOrder::LittleEndian)?;
+    let mut s = Stream::new_at(bytes, start, ByteOrder::LittleEndian)?;
     let name = s.read_bytes(8)?;
     let virtual_size = s.read()?;
     let virtual_address = s.read()?;

@@ -22,9 +22,9 @@ use crate::shim::alloc::Global;
 /// `Unknown` where the format isn't one that is read; `Parse` where the reader refuses the file before the section is
 /// found; `NoSection` where no section has the name; `NoBytes` where the section has no bytes in the file (`SHT_NOBITS`,
 /// in Mach-O an offset of 0, in PE no raw data); `PastEnd` where its bytes end past the file.
-pub fn section_bytes<'a>(data: &'a [u8], name: &str) -> Result<&'a [u8], SectionError> {
-    match first_section(data, name)? {
-        Some(section) => bytes_of(data, section),
+pub fn section_bytes<'a>(file: &'a [u8], name: &str) -> Result<&'a [u8], SectionError> {
+    match first_section(file, name)? {
+        Some(section) => bytes_of(file, section),
         None => Err(SectionError::NoSection),
     }
 }
@@ -35,8 +35,8 @@ pub fn section_bytes<'a>(data: &'a [u8], name: &str) -> Result<&'a [u8], Section
 ///
 /// Those of `section_bytes`, before anything is written; `Write` where a write failed: a beginning of the bytes may
 /// then be written.
-pub fn write_section<S: Sink>(data: &[u8], name: &str, out: &mut S) -> Result<(), SectionError> {
-    let bytes = section_bytes(data, name)?;
+pub fn write_section<S: Sink>(file: &[u8], name: &str, out: &mut S) -> Result<(), SectionError> {
+    let bytes = section_bytes(file, name)?;
     write_all(bytes, out)
 }
 
@@ -63,8 +63,8 @@ pub fn write_section_of<F: Source, S: Sink>(
 }
 
 // The first section of this name.
-fn first_section<'a>(data: &'a [u8], name: &str) -> Result<Option<Section<'a>>, SectionError> {
-    let sections = sections_of(data)?;
+fn first_section<'a>(file: &'a [u8], name: &str) -> Result<Option<Section<'a>>, SectionError> {
+    let sections = sections_of(file)?;
     Ok(first_in(sections, name)?)
 }
 
@@ -83,7 +83,7 @@ pub(crate) fn first_in<'a>(
 }
 
 // The bytes of a section, a slice of the file.
-fn bytes_of<'a>(data: &'a [u8], section: Section<'_>) -> Result<&'a [u8], SectionError> {
+fn bytes_of<'a>(file: &'a [u8], section: Section<'_>) -> Result<&'a [u8], SectionError> {
     if !section.has_bytes {
         return Err(SectionError::NoBytes);
     }
@@ -91,7 +91,7 @@ fn bytes_of<'a>(data: &'a [u8], section: Section<'_>) -> Result<&'a [u8], Sectio
     let end = start
         .checked_add(section.size as usize)
         .ok_or(SectionError::PastEnd)?;
-    data.get(start..end).ok_or(SectionError::PastEnd)
+    file.get(start..end).ok_or(SectionError::PastEnd)
 }
 
 // Whether the word names the section.

@@ -23,8 +23,8 @@ use crate::shim::alloc::{AllocError, Global};
 /// `Unknown` where the format isn't supported, and `OutOfMemory` where an allocation failed: nothing is written then.
 /// `Parse` where the reader refuses the next section: the lines of those before are written. `Write` where a write
 /// failed: a beginning of the lines may then be written.
-pub fn list_sections<S: Sink>(alloc: Global, data: &[u8], out: &mut S) -> Result<(), SectionError> {
-    let sections = match sections_of(data) {
+pub fn list_sections<S: Sink>(alloc: Global, file: &[u8], out: &mut S) -> Result<(), SectionError> {
+    let sections = match sections_of(file) {
         Ok(sections) => sections,
         Err(e) => return Err(e),
     };

@@ -80,18 +80,18 @@ impl<'a> Iterator for Sections<'a> {
 /// # Errors
 ///
 /// `Unknown` where the format isn't supported; `Parse` where the file is too short for its header.
-pub fn sections_of(data: &[u8]) -> Result<Sections<'_>, SectionError> {
-    match detect_format(data) {
-        Format::Elf32 { byte_order } => Ok(open_elf32(data, byte_order)?),
-        Format::Elf64 { byte_order } => Ok(open_elf64(data, byte_order)?),
-        Format::Macho => Ok(open_macho(data)?),
-        Format::PE => Ok(open_pe(data)?),
+pub fn sections_of(file: &[u8]) -> Result<Sections<'_>, SectionError> {
+    match detect_format(file) {
+        Format::Elf32 { byte_order } => Ok(open_elf32(file, byte_order)?),
+        Format::Elf64 { byte_order } => Ok(open_elf64(file, byte_order)?),
+        Format::Macho => Ok(open_macho(file)?),
+        Format::PE => Ok(open_pe(file)?),
         Format::Unknown => Err(SectionError::Unknown),
     }
 }
 
-fn open_elf32(data: &[u8], byte_order: ByteOrder) -> Result<Sections<'_>, ParseError> {
-    let file = elf32::parse(data, byte_order)?;
+fn open_elf32(bytes: &[u8], byte_order: ByteOrder) -> Result<Sections<'_>, ParseError> {
+    let file = elf32::parse(bytes, byte_order)?;
     let left = file.sections();
     let names = Elf32Names::File(file);
     Ok(Sections::Elf32(Elf32Sections { names, left }))
@@ -104,8 +104,8 @@ pub(crate) fn elf32_sections(parts: &crate::erased::binfarce_tables::elf32::Sect
     Sections::Elf32(Elf32Sections { names, left })
 }
 
-fn open_elf64(data: &[u8], byte_order: ByteOrder) -> Result<Sections<'_>, ParseError> {
-    let file = elf64::parse(data, byte_order)?;
+fn open_elf64(bytes: &[u8], byte_order: ByteOrder) -> Result<Sections<'_>, ParseError> {
+    let file = elf64::parse(bytes, byte_order)?;
     let left = file.sections();
     let names = Elf64Names::File(file);
     Ok(Sections::Elf64(Elf64Sections { names, left }))
@@ -118,13 +118,13 @@ pub(crate) fn elf64_sections(parts: &crate::erased::binfarce_tables::elf64::Sect
     Sections::Elf64(Elf64Sections { names, left })
 }
 
-pub(crate) fn open_macho(data: &[u8]) -> Result<Sections<'_>, ParseError> {
-    let file = macho::parse(data)?;
+pub(crate) fn open_macho(bytes: &[u8]) -> Result<Sections<'_>, ParseError> {
+    let file = macho::parse(bytes)?;
     Ok(Sections::Macho(file.sections()))
 }
 
-pub(crate) fn open_pe(data: &[u8]) -> Result<Sections<'_>, ParseError> {
-    let file = pe::parse(data)?;
+pub(crate) fn open_pe(bytes: &[u8]) -> Result<Sections<'_>, ParseError> {
+    let file = pe::parse(bytes)?;
     Ok(Sections::Pe(file.sections()))
 }
 

@@ -54,43 +54,43 @@ impl<'a> Arranged<'a> {
 /// allocation failed.
 pub fn functions_of_file<'a>(
     alloc: Global,
-    data: &'a [u8],
+    file: &'a [u8],
     section: &str,
 ) -> Result<(Functions<'a>, u64), ListError> {
-    match detect_format(data) {
-        Format::Elf32 { byte_order } => Ok(read_elf32(data, byte_order, section)?),
-        Format::Elf64 { byte_order } => Ok(read_elf64(data, byte_order, section)?),
-        Format::Macho => Ok(read_macho(alloc, data)?),
-        Format::PE => Ok(read_pe(alloc, data)?),
+    match detect_format(file) {
+        Format::Elf32 { byte_order } => Ok(read_elf32(file, byte_order, section)?),
+        Format::Elf64 { byte_order } => Ok(read_elf64(file, byte_order, section)?),
+        Format::Macho => Ok(read_macho(alloc, file)?),
+        Format::PE => Ok(read_pe(alloc, file)?),
         Format::Unknown => Err(ListError::Unknown),
     }
 }
 
 fn read_elf32<'a>(
-    data: &'a [u8],
+    file: &'a [u8],
     byte_order: ByteOrder,
     section: &str,
 ) -> Result<(Functions<'a>, u64), ParseError> {
-    let (functions, size) = elf32::parse(data, byte_order)?.functions(section)?;
+    let (functions, size) = elf32::parse(file, byte_order)?.functions(section)?;
     Ok((Functions::Elf32(functions), size))
 }
 
 fn read_elf64<'a>(
-    data: &'a [u8],
+    file: &'a [u8],
     byte_order: ByteOrder,
     section: &str,
 ) -> Result<(Functions<'a>, u64), ParseError> {
-    let (functions, size) = elf64::parse(data, byte_order)?.functions(section)?;
+    let (functions, size) = elf64::parse(file, byte_order)?.functions(section)?;
     Ok((Functions::Elf64(functions), size))
 }
 
-fn read_macho(alloc: Global, data: &[u8]) -> Result<(Functions<'_>, u64), ParseError> {
-    let listed = macho::parse(data)?.functions(alloc)?;
+fn read_macho(alloc: Global, file: &[u8]) -> Result<(Functions<'_>, u64), ParseError> {
+    let listed = macho::parse(file)?.functions(alloc)?;
     Ok(all_of(listed))
 }
 
-fn read_pe(alloc: Global, data: &[u8]) -> Result<(Functions<'_>, u64), ParseError> {
-    let listed = pe::parse(data)?.functions(alloc)?;
+fn read_pe(alloc: Global, file: &[u8]) -> Result<(Functions<'_>, u64), ParseError> {
+    let listed = pe::parse(file)?.functions(alloc)?;
     Ok(all_of(listed))
 }
 

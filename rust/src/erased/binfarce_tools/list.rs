@@ -119,11 +119,11 @@ impl From<ParseError> for ListError {
 /// written.
 pub fn list<S: Sink>(
     alloc: Global,
-    data: &[u8],
+    file: &[u8],
     section: &str,
     out: &mut S,
 ) -> Result<(), ListError> {
-    list_tables(alloc, &Tables::whole(data, section), out)
+    list_tables(alloc, &Tables::whole(file, section), out)
 }
 
 /// As `list`, from the tables of a file: for the section that they were read for.

@@ -21,11 +21,11 @@ use crate::shim::alloc::{AllocError, Global};
 /// Those of `report`. Only after `Write` a beginning of the picture may be written.
 pub fn map<S: Sink>(
     alloc: Global,
-    data: &[u8],
+    file: &[u8],
     section: &str,
     out: &mut S,
 ) -> Result<(), ReportError> {
-    map_tables(alloc, &Tables::whole(data, section), out)
+    map_tables(alloc, &Tables::whole(file, section), out)
 }
 
 /// As `map`, from the tables of a file: for the section that they were read for.

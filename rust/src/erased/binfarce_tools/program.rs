@@ -34,18 +34,10 @@ pub trait Fault: fmt::Display + From<Failure> {
     fn status(&self) -> u8;
 }
 
-/// The arguments after the program's own name. `Usage` where one isn't UTF-8, and `OutOfMemory` where an allocation fails.
+/// The arguments after the program's own name. `Usage` where they can't be taken, as where one isn't UTF-8.
 pub fn arguments(rt: &HostRuntime) -> Result<Vec<String>, Failure> {
-    let words = env::args(rt).map_err(arguments_failure)?.skip(1);
-    words.collect_in(rt.alloc()).map_err(|_| Failure::OutOfMemory)
-}
-
-/// The failure that an error of the arguments is: `OutOfMemory` where an allocation failed, and `Usage` for any other.
-pub fn arguments_failure(e: io::Error) -> Failure {
-    match e.kind() {
-        ErrorKind::OutOfMemory => Failure::OutOfMemory,
-        _ => Failure::Usage,
-    }
+    let words = env::args(rt).map_err(|_| Failure::Usage)?.skip(1);
+    words.collect_in(rt.alloc()).map_err(|_| Failure::Usage)
 }
 
 /// The file and the section in the arguments after the program's own name. The section is by default `.text`.
@@ -75,8 +67,8 @@ pub fn is_read_at_offsets<S: Source>(file: &S) -> bool {
     }
 }
 
-/// The failure for a reader's error: `OutOfMemory` where an allocation failed, and `File` for any other.
-pub fn read_failure(e: io::Error) -> Failure {
+// The failure for a reader's error: `OutOfMemory` where an allocation failed, and `File` for any other.
+fn read_failure(e: io::Error) -> Failure {
     match e.kind() {
         ErrorKind::OutOfMemory => Failure::OutOfMemory,
         _ => Failure::File,

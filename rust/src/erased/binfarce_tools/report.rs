@@ -79,11 +79,11 @@ impl From<ListError> for ReportError {
 /// may be written.
 pub fn report<S: Sink>(
     alloc: Global,
-    data: &[u8],
+    file: &[u8],
     section: &str,
     out: &mut S,
 ) -> Result<(), ReportError> {
-    report_tables(alloc, &Tables::whole(data, section), out)
+    report_tables(alloc, &Tables::whole(file, section), out)
 }
 
 /// As `report`, from the tables of a file: for the section that they were read for.
@@ -115,8 +115,8 @@ pub struct CrateSums {
 /// # Errors
 ///
 /// As `report`, but for `Write`.
-pub fn sums_of_file(alloc: Global, data: &[u8], section: &str) -> Result<CrateSums, ReportError> {
-    sums_of_tables(alloc, &Tables::whole(data, section))
+pub fn sums_of_file(alloc: Global, file: &[u8], section: &str) -> Result<CrateSums, ReportError> {
+    sums_of_tables(alloc, &Tables::whole(file, section))
 }
 
 /// The sums that `report_tables` shows.

@@ -15,7 +15,7 @@ returns g c =
     let is : c.SIZE-word.result ≡ w = c.SIZE-word.ensures in
     let number = g.C.Class.number_of in (
       omega (arith, c.in_ok-number_at-13.ensures.0, g.met.C.Class.header_length, is),
-      header_is g.C.Class.table w order c.args.data.now _ _ _ _ _ _ _ _ _ _ _ _ _ g.met.C.Class.header
+      header_is g.C.Class.table w order c.args.file.now _ _ _ _ _ _ _ _ _ _ _ _ _ g.met.C.Class.header
           c.in_ok-number_at.ensures.1
           c.in_ok-number_at-2.ensures.1
           c.in_ok-number_at-3.ensures.1

@@ -9,7 +9,7 @@ use Rattle.binfarce_macho.proofs.all.functions_of_sections.Goals as goal
 
 pub returns-in_err-sections : goal.returns-in_err-sections
 returns-in_err-sections c =
-    let file = c.args.data.now in
+    let file = c.args.file.now in
     let e = c.in_err-sections.field-0.0 in
     elim c.in_err-sections.ensures [
       | inl refused ↦ refusal_passes HoldsSectionFunctions (HasSection file) (all_answer file) e c.from_residual.result (ends_refused file (refusal_of e) refused) c.from_residual.ensures.1
@@ -18,18 +18,18 @@ returns-in_err-sections c =
 
 pub returns-in_err-symbol_bytes : goal.returns-in_err-symbol_bytes
 returns-in_err-symbol_bytes c =
-    let file = c.args.data.now in
+    let file = c.args.file.now in
     let e = c.in_err-symbol_bytes.field-0.0 in
     refusal_passes HoldsSectionFunctions (HasSection file) (all_answer file) e c.from_residual-in_err-symbol_bytes.result
     (symbols_refused file (map extent_end c.in_ok-sections.sections.items) (refusal_of e) c.in_ok-sections.ensures c.in_err-symbol_bytes.ensures) c.from_residual-in_err-symbol_bytes.ensures.1
 
 pub returns-in-None : goal.returns-in-None
 returns-in-None c =
-    no_table c.args.data.now (HasSection c.args.data.now) (map extent_end c.in_ok-sections.sections.items) c.new.result c.in_ok-sections.ensures (rw c.in-None.is at c.in_ok-symbol_bytes.ensures) c.new.ensures.items
+    no_table c.args.file.now (HasSection c.args.file.now) (map extent_end c.in_ok-sections.sections.items) c.new.result c.in_ok-sections.ensures (rw c.in-None.is at c.in_ok-symbol_bytes.ensures) c.new.ensures.items
 
 pub returns : goal.returns
 returns c =
-    let file = c.args.data.now in
+    let file = c.args.file.now in
     let sections = c.in_ok-sections.sections.items in
     let symbols = symbols_view c.in-Some.symbols in
     let same : all_of (map extent_end c.deref.result.now) (Some symbols) ≡ all_answer file =

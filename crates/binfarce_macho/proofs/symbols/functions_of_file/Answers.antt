@@ -7,14 +7,14 @@ use Rattle.binfarce_macho.proofs.symbols.functions_of_file.Goals as goal
 
 pub returns-in_err-locate : goal.returns-in_err-locate
 returns-in_err-locate c =
-    refusal_answers HoldsFunctions (λ _. HasAddress c.args.data.now) (macho_answer c.args.data.now) c.in_err-locate.field-0.0 c.from_residual.result (refused_answer c.args.data.now c.in_err-locate.field-0.0 c.in_err-locate.ensures) c.from_residual.ensures.1
+    refusal_answers HoldsFunctions (λ _. HasAddress c.args.file.now) (macho_answer c.args.file.now) c.in_err-locate.field-0.0 c.from_residual.result (refused_answer c.args.file.now c.in_err-locate.field-0.0 c.in_err-locate.ensures) c.from_residual.ensures.1
 
 pub returns-in-None : goal.returns-in-None
-returns-in-None c = no_table_answer c.args.data.now (λ _. HasAddress c.args.data.now) c.new.result (rw c.in-None.is at c.in_ok-locate.ensures) c.new.ensures.items
+returns-in-None c = no_table_answer c.args.file.now (λ _. HasAddress c.args.file.now) c.new.result (rw c.in-None.is at c.in_ok-locate.ensures) c.new.ensures.items
 
 pub returns-in-Some : goal.returns-in-Some
 returns-in-Some c =
-    let file = c.args.data.now in
+    let file = c.args.file.now in
     let found = located_view c.in-Some.found in
     let at = rw c.in-Some.is at c.in_ok-locate.ensures in
     same_answer HoldsFunctions (row_addresses found.rows ≢ []) (HasAddress file) (answer_of (Some found)) (macho_answer file) c.functions_of.result (sym (answer_at file (Some found) at))

@@ -5,4 +5,4 @@ use Rattle.binfarce_sections.proofs.list.list_sections.Goals as goal
 
 pub returns-clause-takes : goal.returns-clause-takes
 returns-clause-takes g c =
-    lines_opened (sections_of (format_of c.args.data.now) c.args.data.now) c.in-Ok.sections (g.S.Sink.taken c.args.out.now) (g.S.Sink.taken c.write_lines.new.out) c.write_lines.result c.in-Ok.ensures.opens c.write_lines.ensures.takes
+    lines_opened (sections_of (format_of c.args.file.now) c.args.file.now) c.in-Ok.sections (g.S.Sink.taken c.args.out.now) (g.S.Sink.taken c.write_lines.new.out) c.write_lines.result c.in-Ok.ensures.opens c.write_lines.ensures.takes

@@ -43,8 +43,8 @@ returns-in_err-listed-in-Pe-clause-gets c = λ which file section are.
 pub returns-in-Whole-clause-gets : goal.returns-in-Whole-clause-gets
 unfolding AreTablesOf
 returns-in-Whole-clause-gets c = λ which file section are.
-    of_whole which file section c.in-Whole.data.now c.in-Whole.section.now c.functions_of_file.result (subst (λ (t : Tables). AreTablesOf which file section t) c.in-Whole.is are) c.functions_of_file.ensures
+    of_whole which file section c.in-Whole.file.now c.in-Whole.section.now c.functions_of_file.result (subst (λ (t : Tables). AreTablesOf which file section t) c.in-Whole.is are) c.functions_of_file.ensures
 
 pub returns-in-Whole-clause-unwritten : goal.returns-in-Whole-clause-unwritten
 returns-in-Whole-clause-unwritten c =
-    unwritten (NeedsMemory (format_of c.in-Whole.data.now) c.in-Whole.data.now) (answer_of Symtab c.in-Whole.data.now c.in-Whole.section.now) c.functions_of_file.result c.functions_of_file.ensures
+    unwritten (NeedsMemory (format_of c.in-Whole.file.now) c.in-Whole.file.now) (answer_of Symtab c.in-Whole.file.now c.in-Whole.section.now) c.functions_of_file.result c.functions_of_file.ensures

@@ -1,0 +1,34 @@
+-- The words of a fault.
+use Rattle.std.specs.Prelude.{ℕ, List, ◌++◌, codes, nat_eq, if◌then◌else◌}
+use Rattle.std.specs.Fmt.{decimal}
+use Rattle.std.specs.Str.{bytes_eq}
+use Rattle.binfarce_bytes.specs.Refusal.{Refusal, refusal_of, section_is_missing, words}
+use Rattle.binfarce_command.specs.declared.fault.Fault.{Fault}
+use Rattle.binfarce_command.specs.declared.fault.Fault.TheVariants.{Unreadable, Input, OutOfMemory, Write, Unknown, Parse, TooLarge, NoSection, NoBytes, PastEnd, SharedAddresses, Missing}
+
+-- of a refusal: an ELF file without a symbol table may have a dynamic one
+abbrev pub refused_words : Refusal → List ℕ
+refused_words (section_is_missing name) =
+    if bytes_eq name (codes ".symtab") then codes "no symbol table (.symtab); --dynamic lists its dynamic symbols"
+    else if bytes_eq name (codes ".dynsym") then codes "no dynamic symbol table (.dynsym)"
+    else words (section_is_missing name)
+refused_words refusal = words refusal
+
+-- of so many lines without an address
+abbrev pub missing_words : ℕ → List ℕ
+missing_words count = if nat_eq count 1 then codes "1 line without an address" else decimal count ++ codes " lines without an address"
+
+-- the printed text
+abbrev pub fault_words : Fault → List ℕ
+fault_words Unreadable = codes "cannot read file"
+fault_words Input = codes "read failed"
+fault_words OutOfMemory = codes "out of memory"
+fault_words Write = codes "write failed"
+fault_words Unknown = codes "unknown file format"
+fault_words (Parse e) = refused_words (refusal_of e)
+fault_words TooLarge = codes "sizes are too large"
+fault_words NoSection = codes "no section of this name"
+fault_words NoBytes = codes "section has no bytes in the file"
+fault_words PastEnd = codes "section reaches past the end of the file"
+fault_words SharedAddresses = codes "its sections share addresses; use --section in place of --all"
+fault_words (Missing count) = missing_words count

@@ -1,4 +1,0 @@
-mod bytes;
-mod formats;
-mod program;
-mod sizes;

@@ -1,0 +1,92 @@
+//! What the calls write that write texts of files: all of it, and behind it the words of a refusal.
+
+use binfarce_tables::ReadError;
+use binfarce_tools::SymbolTable;
+use binfarce_tools::all::{list_all, map_all, read_all, report_all};
+use binfarce_tools::list::{Out, list};
+use binfarce_tools::map::map;
+use binfarce_tools::report::report;
+use std::alloc::{AllocError, Global};
+use test_samples::programs::text_of;
+
+/// The listing of a section, its report or its picture.
+pub fn text_of_section(
+    alloc: Global,
+    what: &str,
+    section: &str,
+    file: &[u8],
+) -> Result<String, AllocError> {
+    let mut out = Out::new(Vec::new(alloc));
+    match what {
+        "list" => {
+            let ended = list(alloc, file, section, &mut out);
+            text_of(alloc, ended, out.into_inner())
+        }
+        "report" => {
+            let ended = report(alloc, file, section, &mut out);
+            text_of(alloc, ended, out.into_inner())
+        }
+        _ => {
+            let ended = map(alloc, file, section, &mut out);
+            text_of(alloc, ended, out.into_inner())
+        }
+    }
+}
+
+/// All three; one that is the same as that before it isn't repeated.
+pub fn all_texts(alloc: Global, section: &str, file: &[u8]) -> Result<String, AllocError> {
+    let mut texts = text_of_section(alloc, "list", section, file)?;
+    let report = text_of_section(alloc, "report", section, file)?;
+    let picture = text_of_section(alloc, "map", section, file)?;
+    if report.as_str() != texts.as_str() {
+        texts.push_str(&report)?;
+    }
+    if picture.as_str() != report.as_str() {
+        texts.push_str(&picture)?;
+    }
+    Ok(texts)
+}
+
+/// The same of all sections: `list`, `report` or `map`, and a symbol table, which is `symtab` or `dynsym`.
+pub fn text_of_all(alloc: Global, words: &str, file: &[u8]) -> Result<String, AllocError> {
+    let (what, table) = words.split_once(' ').unwrap_or((words, ""));
+    let which = match table {
+        "dynsym" => SymbolTable::Dynsym,
+        _ => SymbolTable::Symtab,
+    };
+    let tables = match read_all(alloc, &file, which) {
+        Ok(tables) => tables,
+        Err(ReadError::Refused(error)) => return format!(in alloc; "{error}"),
+        Err(error) => return format!(in alloc; "{error:?}"),
+    };
+    let mut out = Out::new(Vec::new(alloc));
+    match what {
+        "list" => {
+            let ended = list_all(alloc, &tables, &mut out);
+            text_of(alloc, ended, out.into_inner())
+        }
+        "report" => {
+            let ended = report_all(alloc, &tables, &mut out);
+            text_of(alloc, ended, out.into_inner())
+        }
+        _ => {
+            let ended = map_all(alloc, &tables, &mut out);
+            text_of(alloc, ended, out.into_inner())
+        }
+    }
+}
+
+/// Whether the sections share their addresses, and which of some numbers no section has.
+pub fn shares_addresses(alloc: Global, file: &[u8]) -> Result<String, AllocError> {
+    let tables = match read_all(alloc, &file, SymbolTable::Symtab) {
+        Ok(tables) => tables,
+        Err(error) => return format!(in alloc; "{error:?}"),
+    };
+    let mut text = format!(in alloc; "{}, without", tables.shares_addresses())?;
+    for number in [0, 5, 65_536, u32::MAX] {
+        if tables.section_name(number).is_none() {
+            write!(text, " {number}")?;
+        }
+    }
+    Ok(text)
+}

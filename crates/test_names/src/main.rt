@@ -1,0 +1,102 @@
+//! Answers questions on names: `stdin` has them, a line each, and `stdout` their answers.
+//!
+//! | question | answer |
+//! |---|---|
+//! | `name NAME` | how the name is mangled, its complete text, its trimmed text and its crate (`-` for none) |
+//! | `before NAME` | none: from here on each name is also asked of one demangler, after this one |
+//! | `crate NAME` | the crate alone |
+//! | `kept NAME` | how the name is mangled, its limits aside, and the part of it that is kept |
+//! | `text TEXT` | the text with complete and with trimmed names |
+//! | `punycode ASCII\|CODE` | the text of an ASCII part and a code, or `none` |
+//! | `limits PART` | the levels and steps of a v0 name without its prefix |
+//! | `visits PART` | how many of its parts are read for the complete text, for the trimmed text, and for none |
+//!
+//! In a question `\0A` is the byte 0x0A, and `\{3*ab}` is `ababab`. A remark begins with ` # `, and a line of its own with `#`.
+#![tactic(auto)]
+
+#[cfg(test)]
+mod long_texts;
+mod names;
+mod parts;
+#[cfg(test)]
+mod streams;
+mod texts;
+
+use crate::names::{Names, push_crate, push_kept};
+use crate::parts::{push_limits, push_visits};
+use crate::texts::{push_decoded, push_filtered, unescaped};
+use std::alloc::Global;
+use std::io::{self, Error, ErrorKind, Read, Write};
+use std::process::ExitCode;
+use std::str::from_utf8;
+
+fn main(rt: HostRuntime) -> ExitCode {
+    match run(rt.alloc(), &mut rt.stdin(), &mut io::writer(&rt)) {
+        Ok(()) => ExitCode::SUCCESS,
+        Err(e) => {
+            let _ = println!(rt; "{e}");
+            ExitCode::FAILURE
+        }
+    }
+}
+
+/// Writes the answers of all questions that the reader gives.
+///
+/// # Errors
+///
+/// `InvalidData` where a line is no question; the answers of those before were written. The other errors are those of the
+/// reader, of the writer, and of a failed allocation.
+pub fn run<R: Read, W: Write>(alloc: Global, input: &mut R, output: &mut W) -> io::Result<()> {
+    let mut bytes = Vec::new(alloc);
+    input.read_to_end(&mut bytes)?;
+    let lines = text_of(bytes.as_slice())?;
+    let mut names = Names::new(alloc);
+    let mut line = String::new(alloc);
+    for question in lines.lines() {
+        if !question.is_empty() && !question.starts_with('#') {
+            line.clear();
+            push_answer(alloc, &mut names, &mut line, question)?;
+            output.write_all(line.as_str().as_bytes())?;
+        }
+    }
+    Ok(())
+}
+
+fn text_of(bytes: &[u8]) -> io::Result<&str> {
+    match from_utf8(bytes) {
+        Ok(text) => Ok(text),
+        Err(_) => Err(Error::from(ErrorKind::InvalidData)),
+    }
+}
+
+// Appends the line that answers a question.
+fn push_answer(
+    alloc: Global,
+    names: &mut Names,
+    line: &mut String,
+    question: &str,
+) -> io::Result<()> {
+    let question = match question.split_once(" # ") {
+        Some((question, _)) => question,
+        None => question,
+    };
+    let (kind, asked) = question.split_once(' ').unwrap_or((question, ""));
+    let bytes = unescaped(alloc, asked)?;
+    if kind == "text" {
+        push_filtered(alloc, line, bytes.as_slice())?;
+    } else {
+        let asked = text_of(bytes.as_slice())?;
+        match kind {
+            "name" => names.push_answer(line, asked)?,
+            "before" => return Ok(names.ask_after(asked)?),
+            "crate" => push_crate(alloc, line, asked)?,
+            "kept" => push_kept(line, asked)?,
+            "punycode" => push_decoded(line, asked)?,
+            "limits" => push_limits(alloc, line, asked)?,
+            "visits" => push_visits(alloc, line, asked)?,
+            _ => return Err(Error::from(ErrorKind::InvalidData)),
+        }
+    }
+    line.push('\n')?;
+    Ok(())
+}

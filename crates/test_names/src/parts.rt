@@ -1,0 +1,42 @@
+//! What a printing of a v0 name takes.
+
+use binfarce_v0::mangling::print;
+use binfarce_v0::paths::print_path;
+use binfarce_v0_grammar::limits::{MAX_LEVELS, MAX_STEPS};
+use binfarce_v0_state::position::Position;
+use binfarce_v0_state::state::{Buffers, Printer};
+use std::alloc::Global;
+use std::io::{self, Error, ErrorKind};
+
+/// Appends the levels and steps of the part after a prefix.
+pub fn push_limits(alloc: Global, line: &mut String, part: &str) -> io::Result<()> {
+    if !part.is_ascii() {
+        return Err(Error::from(ErrorKind::InvalidData));
+    }
+    let mut printer = Printer::new(Buffers::empty(alloc), part, true, false);
+    if !print(&mut printer)? {
+        return Ok(line.push_str("beyond the limits")?);
+    }
+    let levels = MAX_LEVELS.saturating_sub(printer.least_levels_left);
+    let steps = MAX_STEPS.saturating_sub(printer.steps_left);
+    Ok(write!(line, "{levels} levels, {steps} steps")?)
+}
+
+/// Appends how many paths, types, consts and lifetimes of the part after a prefix are read for both texts, for the trimmed
+/// one, and for none.
+pub fn push_visits(alloc: Global, line: &mut String, part: &str) -> io::Result<()> {
+    let both = visits(alloc, part, true, false)?;
+    let trimmed = visits(alloc, part, false, false)?;
+    let none = visits(alloc, part, false, true)?;
+    Ok(write!(line, "{both}, {trimmed}, {none}")?)
+}
+
+fn visits(alloc: Global, part: &str, full: bool, muted: bool) -> io::Result<usize> {
+    if !part.is_ascii() {
+        return Err(Error::from(ErrorKind::InvalidData));
+    }
+    let mut printer = Printer::new(Buffers::empty(alloc), part, full, muted);
+    printer.prepare()?;
+    print_path(&mut printer, MAX_LEVELS, 0, Position::InValue)?;
+    Ok(printer.visits)
+}

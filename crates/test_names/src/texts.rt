@@ -1,0 +1,120 @@
+//! Texts with names, the characters of codes, and the bytes of questions.
+
+use binfarce_filtering::filter::{TextFilter, filter};
+use binfarce_v0_grammar::punycode::decode;
+use std::alloc::{AllocError, Global};
+use std::io::{self, Error, ErrorKind};
+
+/// Appends a text with complete and with trimmed names.
+pub fn push_filtered(alloc: Global, line: &mut String, text: &[u8]) -> Result<(), AllocError> {
+    push_text(alloc, line, true, text)?;
+    line.push('|')?;
+    push_text(alloc, line, false, text)
+}
+
+// Appends what is shown of a text. In front of it is the length of parts that give another text.
+fn push_text(alloc: Global, line: &mut String, full: bool, text: &[u8]) -> Result<(), AllocError> {
+    let shown = filter(alloc, full, text)?;
+    for n in 0..text.len() + 2 {
+        let cut = in_parts(alloc, full, text, n, usize::MAX)?;
+        let many = in_parts(alloc, full, text, n, n)?;
+        if cut.as_slice() != shown.as_slice() || many.as_slice() != shown.as_slice() {
+            write!(line, "otherwise in parts of {n}: ")?;
+        }
+    }
+    push_bytes(line, shown.as_slice())
+}
+
+// What is shown of the text in parts of so many bytes, where the first has another length.
+fn in_parts(
+    alloc: Global,
+    full: bool,
+    text: &[u8],
+    first: usize,
+    len: usize,
+) -> Result<Vec<u8>, AllocError> {
+    let mut filter = TextFilter::new(alloc, full);
+    let mut out = Vec::new(alloc);
+    let (front, back) = text.split_at(first.min(text.len()));
+    filter.push(alloc, front, &mut out)?;
+    for part in back.chunks(len.max(1)) {
+        filter.push(alloc, part, &mut out)?;
+    }
+    filter.finish(alloc, &mut out)?;
+    Ok(out)
+}
+
+// Appends bytes as a question has them.
+fn push_bytes(line: &mut String, bytes: &[u8]) -> Result<(), AllocError> {
+    for &byte in bytes {
+        if matches!(byte, b' '..=b'~') && byte != b'\\' {
+            line.push(char::from(byte))?;
+        } else {
+            write!(line, "\\{byte:02X}")?;
+        }
+    }
+    Ok(())
+}
+
+/// Appends the text of an ASCII part, a bar and a code, or `none`.
+pub fn push_decoded(line: &mut String, asked: &str) -> Result<(), AllocError> {
+    let (ascii, code) = asked.split_once('|').unwrap_or((asked, ""));
+    match decode(ascii.as_bytes(), code.as_bytes()) {
+        None => line.push_str("none")?,
+        Some(decoded) => {
+            for &character in decoded.characters() {
+                line.push(character)?;
+            }
+        }
+    }
+    Ok(())
+}
+
+/// The bytes of what is asked.
+pub fn unescaped(alloc: Global, asked: &str) -> io::Result<Vec<u8>> {
+    let mut bytes = Vec::new(alloc);
+    let mut parts = asked.split('\\');
+    if let Some(plain) = parts.next() {
+        bytes.extend_from_slice(plain.as_bytes())?;
+    }
+    for part in parts {
+        let rest = match part.strip_prefix('{') {
+            Some(repeated) => push_repeated(&mut bytes, repeated)?,
+            None => push_byte(&mut bytes, part)?,
+        };
+        bytes.extend_from_slice(rest.ok_or(Error::from(ErrorKind::InvalidData))?.as_bytes())?;
+    }
+    Ok(bytes)
+}
+
+// Appends what is repeated, and returns the rest.
+fn push_repeated<'a>(
+    bytes: &mut Vec<u8>,
+    repeated: &'a str,
+) -> Result<Option<&'a str>, AllocError> {
+    let Some((times, rest)) = repeated.split_once('*') else {
+        return Ok(None)
+    };
+    let Some((part, rest)) = rest.split_once('}') else {
+        return Ok(None)
+    };
+    let Ok(times) = times.parse::<u16>() else {
+        return Ok(None)
+    };
+    for _ in 0..times {
+        bytes.extend_from_slice(part.as_bytes())?;
+    }
+    Ok(Some(rest))
+}
+
+// Appends the byte of two digits, and returns the rest.
+fn push_byte<'a>(bytes: &mut Vec<u8>, digits: &'a str) -> Result<Option<&'a str>, AllocError> {
+    let Some((digits, rest)) = digits.split_at_checked(2) else {
+        return Ok(None)
+    };
+    let Ok(byte) = u8::from_str_radix(digits, 16) else {
+        return Ok(None)
+    };
+    bytes.push(byte)?;
+    Ok(Some(rest))
+}

@@ -1,9 +1,0 @@
-//! Tests of listings, reports, pictures and images.
-#![tactic(auto)]
-
-#[cfg(test)]
-mod all;
-#[cfg(test)]
-mod image;
-#[cfg(test)]
-mod tools;

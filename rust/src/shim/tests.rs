@@ -42,7 +42,8 @@ fn vec() {
         match numbers.below(10) {
             0..=2 => (items.push(step).unwrap(), want.push(step)).0,
             3 => (items.insert(at, step).unwrap(), want.insert(at, step)).0,
-            4..=5 => (items.truncate(at), want.truncate(at)).0,
+            4 => assert_eq!(items.pop(), want.pop()),
+            5 => (items.truncate(at), want.truncate(at)).0,
             6 => (items.resize(at + 3, step).unwrap(), want.resize(at + 3, step)).0,
             7 => (items.extend_from_slice(&[step; 5]).unwrap(), want.extend([step; 5])).0,
             8 => (items.reserve(1).unwrap(), items.push_reserved(step), want.push(step)).0,

@@ -88,6 +88,12 @@ impl<T> Vec<T> {
         &mut self.0
     }
 
+    /// Removes the last item, and gives it.
+    #[inline]
+    pub fn pop(&mut self) -> Option<T> {
+        self.0.pop()
+    }
+
     /// Removes the items behind the first `len`.
     #[inline]
     pub fn truncate(&mut self, len: usize) {

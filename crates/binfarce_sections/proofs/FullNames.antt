@@ -1,7 +1,10 @@
--- A word that is a segment's name, a comma and a section's name.
-use Rattle.std.proofs.Common.{◌≡◌, ℕ, List, [], ◌∷◌, ◌++◌, Bool, true, false, ◌&&◌, length, take, drop, nat_eq, refl, sym, ap, ◌∙◌, true≢false}
+-- Words that name a section: its name, or a segment's name, a comma and its name.
+use Rattle.std.proofs.Common.{◌≡◌, ℕ, List, [], ◌∷◌, ◌++◌, Bool, true, false, ◌&&◌, Option, Some, None, length, take, drop, nat_eq, refl, sym, ap, ◌∙◌, true≢false}
 use Rattle.std.specs.Str.{bytes_eq}
-use Rattle.binfarce_sections.specs.Named.{full_name}
+use Rattle.std.proofs.lemmas.Bool.Decides.{same_from_decides}
+use Rattle.std.proofs.lemmas.Slice.Eq.{bytes_eq-Decides}
+use Rattle.binfarce.specs.ElfSymbols as elf
+use Rattle.binfarce_sections.specs.Named.{full_name, names}
 
 equal_step : (b c d e : Bool) → (c ≡ true → d ≡ e) → (b && c) ≡ true → d ≡ (b && e)
 equal_step true c d e f is = f is
@@ -36,3 +39,10 @@ pub other_front : (word segment name word' segment' : List ℕ) → word' ≡ wo
     → bytes_eq (take (length segment') word') segment' ≡ false → false ≡ bytes_eq word (full_name segment name)
 other_front word segment name word' segment' w s is =
     after_other segment' word' (44 ∷ name) is ∙ ap (λ (xs : List ℕ). bytes_eq xs (full_name segment' name)) w ∙ ap (λ (xs : List ℕ). bytes_eq word (full_name xs name)) s
+
+-- the readers compare a name with a word, and not the word with the name
+pub elf_names : (word : List ℕ) (name : Option (List ℕ)) → elf.is_named word name ≡ names word None name
+elf_names word None = refl
+elf_names word (Some name) =
+    let d = bytes_eq-Decides name word in
+    same_from_decides (bytes_eq name word) (bytes_eq word name) (λ e. sym (d.0 e), λ e. d.1 (sym e)) (bytes_eq-Decides word name)

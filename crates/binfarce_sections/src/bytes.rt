@@ -109,6 +109,18 @@ pub(crate) fn first_in<'a>(
     ensures { Gives refusal_of (option_map section_view)
         (first (is_named name.now) (sections_left sections.entry)) result }
 {
+    match sections {
+        Sections::Elf32(sections) => sections.first_named(name),
+        Sections::Elf64(sections) => sections.first_named(name),
+        sections => first_of(sections, name),
+    }
+}
+
+// The same by the sections' names as they are read.
+fn first_of<'a>(sections: Sections<'a>, name: &str) -> Result<Option<Section<'a>>, ParseError>
+    ensures { Gives refusal_of (option_map section_view)
+        (first (is_named name.now) (sections_left sections.entry)) result }
+{
     for section in sections {
         let section = section?;
         if is_named(&section, name) {

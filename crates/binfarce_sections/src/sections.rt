@@ -8,9 +8,10 @@ ghost use Rattle.binfarce.specs.Format.{format_of};
 ghost use Rattle.binfarce.specs.declared.Format.TheVariants.{Macho, PE};
 ghost use Rattle.binfarce.specs.MachoViews as macho_views;
 ghost use Rattle.binfarce.specs.PeViews as pe_views;
-ghost use Rattle.binfarce.specs.Refusal.{refusal_of};
-ghost use Rattle.binfarce.specs.Walk.{YieldsNext};
+ghost use Rattle.binfarce.specs.Refusal.{Gives, refusal_of};
+ghost use Rattle.binfarce.specs.Walk.{YieldsNext, first};
 ghost use Rattle.binfarce_tables.specs.SectionReading.{sections_view};
+ghost use Rattle.binfarce_sections.specs.Named.{is_named};
 ghost use Rattle.binfarce_sections.specs.Section.{elf_named, macho_section, pe_section, pe_size, mapped, least_length, sections_of, elf_sections, macho_sections, pe_sections};
 ghost use Rattle.binfarce_sections.specs.Views.{section_view, sections_left, elf32_left, elf64_left, elf32_name, elf64_name, Opens};
 ghost use Rattle.binfarce_sections.specs.declared.error.SectionError.TheVariants.{Unknown};
@@ -199,6 +200,22 @@ impl<'a> Elf32Sections<'a> {
             None => None,
         }
     }
+
+    // The first section with this name, of those that are left. Names are compared and not read whole, since many long
+    // ones can share their bytes.
+    pub(crate) fn first_named(self, name: &str) -> Result<Option<Section<'a>>, ParseError>
+        ensures { Gives refusal_of (option_map section_view)
+            (first (is_named name.now) (elf32_left self.entry)) result }
+    {
+        let Elf32Sections { names, left } = self;
+        for section in left {
+            let section = section?;
+            if is_elf32_named(&names, &section, name) {
+                return Ok(Some(elf32_section(&names, section)));
+            }
+        }
+        Ok(None)
+    }
 }
 
 impl<'a> Elf64Sections<'a> {
@@ -211,6 +228,22 @@ impl<'a> Elf64Sections<'a> {
             Some(Err(e)) => Some(Err(e)),
             None => None,
         }
+    }
+
+    // The first section with this name, of those that are left. Names are compared and not read whole, since many long
+    // ones can share their bytes.
+    pub(crate) fn first_named(self, name: &str) -> Result<Option<Section<'a>>, ParseError>
+        ensures { Gives refusal_of (option_map section_view)
+            (first (is_named name.now) (elf64_left self.entry)) result }
+    {
+        let Elf64Sections { names, left } = self;
+        for section in left {
+            let section = section?;
+            if is_elf64_named(&names, &section, name) {
+                return Ok(Some(elf64_section(&names, section)));
+            }
+        }
+        Ok(None)
     }
 }
 
@@ -257,6 +290,17 @@ fn elf32_name<'a>(names: &Elf32Names<'a>, section: &elf32::Section) -> Option<&'
     }
 }
 
+#[tactic(auto, using(crate::proofs::FullNames::elf_names))]
+fn is_elf32_named(names: &Elf32Names<'_>, section: &elf32::Section, name: &str) -> bool
+    ensures { result ≡ is_named name.now
+        (elf_named (elf32_name names.now) (elf_views.section_view (λ n. n) section.now)) }
+{
+    match names {
+        Elf32Names::File(file) => section.is_named(file, name),
+        Elf32Names::Parts(parts) => parts.is_named(section, name),
+    }
+}
+
 fn elf64_section<'a>(names: &Elf64Names<'a>, section: elf64::Section) -> Section<'a>
     ensures { section_view result ≡ elf_named (elf64_name names.now) (elf_views.section_view (λ n. n) section) }
 {
@@ -276,6 +320,17 @@ fn elf64_name<'a>(names: &Elf64Names<'a>, section: &elf64::Section) -> Option<&'
     match names {
         Elf64Names::File(file) => section.name(file),
         Elf64Names::Parts(parts) => parts.name(section),
+    }
+}
+
+#[tactic(auto, using(crate::proofs::FullNames::elf_names))]
+fn is_elf64_named(names: &Elf64Names<'_>, section: &elf64::Section, name: &str) -> bool
+    ensures { result ≡ is_named name.now
+        (elf_named (elf64_name names.now) (elf_views.section_view (λ n. n) section.now)) }
+{
+    match names {
+        Elf64Names::File(file) => section.is_named(file, name),
+        Elf64Names::Parts(parts) => parts.is_named(section, name),
     }
 }
 

@@ -6,13 +6,13 @@ ghost use Rattle.binfarce_bytes.specs.Refusal.{Gives, refusal_of};
 ghost use Rattle.binfarce_elf.specs.Elf.{walk, name_among};
 ghost use Rattle.binfarce_elf.specs.ElfAll.{all_left, section_entries_from, name_of_index, needed_of_all};
 ghost use Rattle.binfarce_elf.specs.ElfParts.{headers_alone, needed_view, table_sections_view};
-ghost use Rattle.binfarce_elf.specs.ElfSymbols.{needed};
+ghost use Rattle.binfarce_elf.specs.ElfSymbols.{is_named, needed};
 ghost use Rattle.binfarce_elf.specs.ElfViews.{section_view};
 ghost use Rattle.binfarce_elf.specs.machine.RawElf.{table_view};
 
 use crate::all::{AllFunctions, needed_of_all};
 use crate::class::{Class, Half, Word};
-use crate::sections::{Section, Sections, Table, name_at, section_at, sections_of};
+use crate::sections::{Section, Sections, Table, is_named, name_at, section_at, sections_of};
 use crate::symbol_table::SymbolTable;
 use crate::symbols::{Needed, TableSections, needed_of};
 use binfarce_bytes::{ByteOrder, ParseError};
@@ -69,6 +69,14 @@ pub fn name_in<'a, C: Class>(names: Option<&'a [u8]>, section: &Section<C>) -> O
         (section_view C.number_of section.now).name_offset }
 {
     name_at(names, section.name_offset)
+}
+
+/// Whether this is the section's name in these section names.
+pub fn is_named_in<C: Class>(names: Option<&[u8]>, section: &Section<C>, name: &str) -> bool
+    ensures { result ≡ is_named name.now (name_among (option_map (λ b. b.now) names.entry)
+        (section_view C.number_of section.now).name_offset) }
+{
+    is_named(names, section.name_offset, name)
 }
 
 /// The name among these section names of the section of this index, one of `count` section headers.

@@ -1,8 +1,9 @@
 //! The sections of a file of either class: their headers, the walk over these, and the names (gABI, "Sections").
 
-ghost use Rattle.std.specs.Prelude.{◌≡◌, ◌+◌, ◌<◌, ◌≤◌, ◌^◌, length, All, Some, None, MatchOption, MatchResult, IfSome};
+ghost use Rattle.std.specs.Prelude.{◌≡◌, ◌+◌, ◌<◌, ◌≤◌, ◌^◌, length, All, Some, None, Decides, MatchOption, MatchResult, IfSome};
 ghost use Rattle.std.specs.Option.{option_map};
 ghost use Rattle.binfarce_bytes.specs.Refusal.{Gives, refusal_of, malformed_input, unexpected_eof};
+ghost use Rattle.binfarce_bytes.specs.Text.{IsTextAt};
 ghost use Rattle.binfarce_bytes.specs.Walk.{MayBeAsked, FirstAccepted, first, ended, ahead_of};
 ghost use Rattle.binfarce_elf.specs.Elf.{ElfFile, header_of, section_table, walk, name_of, entry_count, NameIsInFile, section_at, names_section, names_bytes, name_among};
 ghost use Rattle.binfarce_elf.specs.ElfSymbols.{is_named, section_data};
@@ -64,6 +65,20 @@ impl<C: Class> Section<C> {
             (NameIsInFile C.table (section_table C.table (P.file parent.now)) (section_view C.number_of self.now)) }
     {
         section_name::<C>(parent.section_table(), *self)
+    }
+
+    /// Whether this is the section's name, as `name` gives it. Of the section names only as many bytes as this one has
+    /// are compared, and the one after them.
+    #[tactic(auto, unfolding(crate::specs::Elf::name_of))]
+    pub fn is_named<'a, P: HasSections<'a, C>>(&self, parent: &P, name: &str) -> bool
+        ensures { result ≡ is_named name.now (name_of C.table (section_table C.table (P.file parent.now))
+            (section_view C.number_of self.now)) }
+    {
+        is_named(
+            names_bytes::<C>(parent.section_table()),
+            self.name_offset,
+            name,
+        )
     }
 }
 
@@ -282,17 +297,33 @@ pub(crate) fn section_named<C: Class>(
         (first (λ s. is_named name.now (name_among (option_map (λ b. b.now) names.entry) s.name_offset))
         (walk C.table (table_view table.entry))) result }
 {
-    first_section::<C, _>(table, |section| {
-        is_named(name_at(names, section.name_offset), name)
-    })
+    first_section::<C, _>(table, |section| is_named(names, section.name_offset, name))
 }
 
-fn is_named(found: Option<&str>, name: &str) -> bool
-    ensures { result ≡ is_named name.now (option_map (λ t. t.now) found.entry) }
+// Whether the name among the section names at this offset is this one.
+pub(crate) fn is_named(names: Option<&[u8]>, offset: Word, name: &str) -> bool
+    ensures { result ≡ is_named name.now (name_among (option_map (λ b. b.now) names.entry) offset) }
 {
-    match found {
+    match names {
         None => false,
-        Some(found) => found == name,
+        Some(names) => is_text_at(names, offset as usize, name),
+    }
+}
+
+// Whether this text is at an offset. Only as many bytes as it has are compared, and the one after them.
+fn is_text_at(bytes: &[u8], start: usize, text: &str) -> bool
+    ensures { Decides result (IsTextAt bytes.now start text.now) }
+{
+    let text = text.as_bytes();
+    if text.is_empty() {
+        return false;
+    }
+    match bytes.get(start..) {
+        None => false,
+        Some(rest) => match rest.strip_prefix(text) {
+            None => false,
+            Some(after) => after.starts_with(b"\0") && !text.contains(&0),
+        },
     }
 }
 

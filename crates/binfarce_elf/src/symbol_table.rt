@@ -5,6 +5,13 @@ ghost use Rattle.binfarce_elf.specs.SymbolTables.{section_type, table_name, stri
 
 use crate::class::Word;
 
+// The types of sections (gABI, "Sections"): `SHT_SYMTAB`, `SHT_STRTAB` and `SHT_DYNSYM`.
+const SYMBOL_TABLE: Word = 2;
+
+pub(crate) const STRING_TABLE: Word = 3;
+
+const DYNAMIC_SYMBOL_TABLE: Word = 11;
+
 /// A symbol table of a file.
 #[derive(Debug, Clone, Copy, PartialEq)]
 pub enum SymbolTable {
@@ -20,8 +27,8 @@ impl SymbolTable {
         ensures { result ≡ section_type self }
     {
         match self {
-            SymbolTable::Symtab => 2,
-            SymbolTable::Dynsym => 11,
+            SymbolTable::Symtab => SYMBOL_TABLE,
+            SymbolTable::Dynsym => DYNAMIC_SYMBOL_TABLE,
         }
     }
 

@@ -15,14 +15,11 @@ ghost use Rattle.binfarce_elf.specs.machine.RawElf.{symbol_view, table_view, row
 
 use crate::class::{Class, Half, SymbolRow, Word};
 use crate::sections::{Section, Table, first_section, names_bytes, section_data, section_named};
-use crate::symbol_table::SymbolTable;
+use crate::symbol_table::{STRING_TABLE, SymbolTable};
 use binfarce_bytes::functions::{FunctionSymbol, found_with};
 use binfarce_bytes::parser::{UnexpectedEof, parse_null_string};
 use binfarce_bytes::{ByteOrder, ParseError};
 use std::marker::PhantomData;
-
-/// `SHT_STRTAB`.
-const STRING_TABLE: Word = 3;
 
 /// A symbol table's section, and that of its strings.
 #[derive(Clone, Copy)]

@@ -5,6 +5,7 @@ ghost use Rattle.std.specs.Option.{option_map};
 ghost use Rattle.binfarce_bytes.specs.Part.{AreSure};
 ghost use Rattle.binfarce_elf.specs.Elf.{walk};
 ghost use Rattle.binfarce_elf.specs.ElfParts.{headers_alone};
+ghost use Rattle.binfarce_elf.specs.ElfSymbols.{is_named};
 ghost use Rattle.binfarce_elf.specs.ElfViews.{section_view};
 ghost use Rattle.binfarce_tables.specs.ElfReads.{elf_section_parts, headers_parts};
 ghost use Rattle.binfarce_tables.specs.Reading.{Reads, Known};
@@ -17,7 +18,7 @@ use crate::error::ReadError;
 use binfarce_bytes::ByteOrder;
 use binfarce_bytes::source::Source;
 use binfarce_elf::class::{Class, Half};
-use binfarce_elf::parts::{name_in, sections_in};
+use binfarce_elf::parts::{is_named_in, name_in, sections_in};
 use binfarce_elf::sections::{Section, Sections};
 use std::alloc::Global;
 use std::marker::PhantomData;
@@ -48,6 +49,14 @@ impl<C: Class> SectionParts<C> {
             (λ t. t.now) result ≡ (sections_view C.table self.entry.now).name (section_view C.number_of section.now) }
     {
         name_in(slice_of(&self.names), section)
+    }
+
+    /// Whether this is the name of one of them, as `is_named` of a section says.
+    pub fn is_named(&self, section: &Section<C>, name: &str) -> bool
+        ensures { result ≡ is_named name.now
+            ((sections_view C.table self.now).name (section_view C.number_of section.now)) }
+    {
+        is_named_in(slice_of(&self.names), section, name)
     }
 
     /// How many bytes the file had when its parts were read.

@@ -1,4 +1,195 @@
-mod addresses;
-mod lines;
-mod ranges;
-mod streams;
+//! Addresses as words, and the lines of the functions at addresses.
+
+use crate::Asking;
+use crate::words::{known, number, push_hex, push_number, push_words};
+use binfarce_addresses::at::{Places, at, at_tables};
+use binfarce_addresses::parse_address;
+use binfarce_addresses::stream::{LinesError, answer_lines, push_lines as push_lines_of};
+use binfarce_tools::list::Out;
+use binfarce_tools::tables::read;
+use std::alloc::Global;
+use std::cell::Cell;
+use std::io::{self, ErrorKind, Read, Write};
+use test_samples::elf::ELF64_LITTLE;
+use test_samples::first_bytes;
+use test_samples::interruptions::InterruptedSource;
+use test_samples::streams::{Source, Target};
+
+// The text between quotes.
+fn quoted(words: &str) -> io::Result<&str> {
+    let words = known(words.strip_prefix('"'))?;
+    known(words.strip_suffix('"'))
+}
+
+/// Adds the address that a word writes.
+pub(crate) fn push_address(words: &str, text: &mut Vec<u8>) -> io::Result<()> {
+    match parse_address(quoted(words)?.as_bytes()) {
+        Some(address) => push_hex(text, address),
+        None => push_words(text, "none"),
+    }
+}
+
+/// Adds the lines of addresses after a base is subtracted, from a file's bytes, and from the tables that are read of it.
+pub(crate) fn push_lines(of: &Asking<'_>, text: &mut Vec<u8>) -> io::Result<()> {
+    let (base, words) = of.words.split_once(' ').unwrap_or((of.words, ""));
+    let base = number(base, true)?;
+    let mut addresses = Vec::new(of.alloc);
+    for word in words.split_whitespace() {
+        addresses.push(number(word, true)?)?;
+    }
+    let mut out = Out::new(Vec::new(of.alloc));
+    let ended = at(of.alloc, of.file, ".text", base, &addresses, &mut out);
+    let written = out.into_inner();
+    text.extend_from_slice(&written)?;
+    if let Err(e) = ended {
+        return write!(text, "{e}");
+    }
+    let mut out = Out::new(Vec::new(of.alloc));
+    if let Ok(tables) = read(of.alloc, &of.file, ".text") {
+        let _ = at_tables(of.alloc, &tables, base, &addresses, &mut out);
+    }
+    if out.into_inner() != written {
+        push_words(text, "otherwise from tables")?;
+    }
+    Ok(())
+}
+
+// The text of a question, in which `/` is a line feed, `^` a carriage return and `~` a tab.
+fn typed(alloc: Global, words: &str) -> io::Result<Vec<u8>> {
+    let mut text = Vec::new(alloc);
+    for byte in words.bytes() {
+        text.push(match byte {
+            b'/' => b'\n',
+            b'^' => b'\r',
+            b'~' => b'\t',
+            _ => byte,
+        })?;
+    }
+    Ok(text)
+}
+
+// Lines of addresses, the base that is subtracted from them, and where they are looked up.
+#[derive(Clone, Copy)]
+struct Input<'a> {
+    alloc: Global,
+    places: &'a Places<'static>,
+    base: u64,
+    text: &'a [u8],
+}
+
+/// Adds the answers to a text of addresses by the 64-bit sample, how many lines have none, and which way of reading or writing
+/// gives others.
+pub(crate) fn push_answers(alloc: Global, words: &str, text: &mut Vec<u8>) -> io::Result<()> {
+    let (base, words) = known(words.split_once(' '))?;
+    let lines = typed(alloc, quoted(words)?)?;
+    let Ok(mut places) = Places::of_file(alloc, &ELF64_LITTLE, ".text") else {
+        return known(None);
+    };
+    places.keep_names(alloc)?;
+    let input = Input {
+        alloc,
+        places: &places,
+        base: number(base, true)?,
+        text: &lines,
+    };
+    let target = Target::taking(alloc, usize::MAX);
+    let (ended, answers) = answered(&input, Source::of(&lines), target);
+    let missing = ended.unwrap_or(u64::MAX);
+    text.extend_from_slice(&answers)?;
+    push_number(text, missing)?;
+    push_words(text, "missing")?;
+    if !are_short_calls_answered(&input, &answers, missing) {
+        push_words(text, ", but not by short calls")?;
+    }
+    if !are_failed_calls_reported(&input, &answers) {
+        push_words(text, ", but not where calls fail")?;
+    }
+    if !are_parts_answered(&input, &answers, missing)? {
+        push_words(text, ", but not in parts")?;
+    }
+    Ok(())
+}
+
+// The result for what a reader gives, and the output that a writer takes.
+fn answered<R: Read + Drop>(
+    input: &Input<'_>,
+    reader: R,
+    target: Target,
+) -> (Result<u64, LinesError>, Vec<u8>) {
+    let mut reader = reader;
+    let mut out = Out::new(target);
+    let ended = answer_lines(input.alloc, input.places, input.base, &mut reader, &mut out);
+    (ended, out.into_inner().taken)
+}
+
+// Reads and writes of every length, of which most end within a line, and interrupted reads, which are tried again.
+fn are_short_calls_answered(input: &Input<'_>, answers: &[u8], missing: u64) -> bool {
+    for most in 1..=input.text.len() {
+        let source = Source {
+            most,
+            ..Source::of(input.text)
+        };
+        let (ended, taken) = answered(input, source, Target::taking(input.alloc, most));
+        if ended != Ok(missing) || taken.as_slice() != answers {
+            return false;
+        }
+    }
+    let unflushed = Cell::new(0);
+    let source = InterruptedSource::of(input.text, &unflushed);
+    let (ended, taken) = answered(input, source, Target::taking(input.alloc, usize::MAX));
+    ended == Ok(missing) && taken.as_slice() == answers
+}
+
+fn whole_lines(text: &[u8]) -> usize {
+    text.iter().filter(|byte| **byte == b'\n').count()
+}
+
+// If the reader fails, the whole lines before are answered, and no part of one. If the writer takes no more bytes or fails, those
+// before were written.
+fn are_failed_calls_reported(input: &Input<'_>, answers: &[u8]) -> bool {
+    for came in 0..=input.text.len() {
+        let source = Source {
+            end: Some(ErrorKind::Other),
+            ..Source::of(first_bytes(input.text, came))
+        };
+        let (ended, taken) = answered(input, source, Target::taking(input.alloc, usize::MAX));
+        let lines = whole_lines(first_bytes(input.text, came));
+        let is_first = answers.starts_with(&taken) && whole_lines(&taken) == lines;
+        if ended != Err(LinesError::Read) || !is_first {
+            return false;
+        }
+    }
+    for left in 0..answers.len() {
+        for end in [None, Some(ErrorKind::BrokenPipe)] {
+            let target = Target {
+                left,
+                end,
+                ..Target::taking(input.alloc, usize::MAX)
+            };
+            let (ended, taken) = answered(input, Source::of(input.text), target);
+            if ended != Err(LinesError::Write) || taken.as_slice() != first_bytes(answers, left) {
+                return false;
+            }
+        }
+    }
+    true
+}
+
+// A text in two parts is answered as in one, whatever the parts are. A last line without a line feed waits for it.
+fn are_parts_answered(input: &Input<'_>, answers: &[u8], missing: u64) -> io::Result<bool> {
+    if input.text.last() != Some(&b'\n') {
+        return Ok(true);
+    }
+    for at in 0..=input.text.len() {
+        let mut text = Vec::new(input.alloc);
+        let part = first_bytes(input.text, at);
+        let first = push_lines_of(input.alloc, input.places, input.base, part, &mut text)?;
+        let rest = input.text.get(first.len..).unwrap_or(&[]);
+        let second = push_lines_of(input.alloc, input.places, input.base, rest, &mut text)?;
+        let is_missing = first.missing.checked_add(second.missing) == Some(missing);
+        if second.len != rest.len() || !is_missing || text.as_slice() != answers {
+            return Ok(false);
+        }
+    }
+    Ok(true)
+}

@@ -3,8 +3,8 @@
 use binfarce::{ParseError, elf32, elf64, macho, pe};
 use std::alloc::Global;
 use test_image_samples::tally::{Row, Tally};
+use test_samples::cases::sample_with;
 use test_samples::elf::{LAYOUTS, Layout};
-use test_samples::fields::{Field, sample_with};
 use test_samples::files::File;
 use test_samples::macho::{NCMDS, NSECTS};
 use test_samples::pe::SECTIONS;
@@ -56,7 +56,7 @@ fn is_searched(alloc: Global, file: File, count: Patch<'_>, found: &Searched) ->
 }
 
 fn is_searched_in_elf(alloc: Global, layout: Layout) -> Row {
-    let bytes = sample_with(alloc, layout, &[(Field::ShNum, 0xFFFF)])?;
+    let bytes = sample_with(alloc, layout, "shnum=65535")?;
     Ok(past_the_last(File::Elf(layout), &bytes) == TRUNCATED)
 }
 

@@ -102,16 +102,11 @@ const PICTURE: &str =
 
 // The name of a function before `foo::bar`, and the report of both or its picture; `TooLarge` where the first
 // function's size is 2^64 - 1.
+#[rattlefmt::skip]
 const REPORTS: [(&str, Reported); 4] = [
     ("_RNvC6_123foo3bar", Reported::Picture(PICTURE)),
-    (
-        "_RNvC6_123foo3bar",
-        Reported::Text("        16 123foo\n        16 foo\nsum 32\ntext 32\n"),
-    ),
-    (
-        "_ZN11_$LT$a$GT$bE",
-        Reported::Text("        16 [unknown]\n        16 foo\nsum 32\ntext 32\n"),
-    ),
+    ("_RNvC6_123foo3bar", Reported::Text("        16 123foo\n        16 foo\nsum 32\ntext 32\n")),
+    ("_ZN11_$LT$a$GT$bE", Reported::Text("        16 [unknown]\n        16 foo\nsum 32\ntext 32\n")),
     ("a", Reported::TooLarge),
 ];
 

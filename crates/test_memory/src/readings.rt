@@ -1,52 +1,62 @@
 //! Readings of files' parts, beside the bytes of the whole files.
 
 use std::alloc::{AllocError, Global};
-use std::fs::File;
+use std::fs;
 use test_image_samples::tally::{Row, Tally};
-use test_reading::fronts::{Given, compared};
-use test_reading::{all, macho, pe};
+use test_reading::{Asked, parts, whole};
 use test_samples::elf::{LAYOUTS, Layout};
-use test_samples::macho::MACHO;
+use test_samples::files::File;
+use test_samples::macho::{MACHO, SIZEOFCMDS};
+use test_samples::patched;
 use test_samples::pe::PE;
 
 // A file that has the bytes of a sample.
 const SAMPLE: &str = "e-elf64-little.bin";
 
-fn row_of(given: Given) -> Row {
-    match given {
-        Given::Same => Ok(true),
-        Given::OutOfMemory => Err(AllocError),
-        Given::Other | Given::Unreadable => Ok(false),
+const TEXT: Asked<'static> = Asked::Functions(Some(".text"));
+
+const ALL: Asked<'static> = Asked::Functions(None);
+
+fn is_same(alloc: Global, kind: File, file: &[u8], asked: Asked<'_>) -> Row {
+    let wanted = whole(alloc, kind, file, asked);
+    let answer = parts(alloc, kind, &file, asked);
+    if wanted.is_out_of_memory() || answer.is_out_of_memory() {
+        Err(AllocError)
+    } else {
+        Ok(answer == wanted)
     }
+}
+
+// The sample with the size of its load commands in its header, which has none, so that the parts alone are read.
+fn is_same_with_size(alloc: Global) -> Row {
+    let file = patched(alloc, &MACHO, &[(SIZEOFCMDS, &[0xB0])])?;
+    is_same(alloc, File::Macho, &file, TEXT)
 }
 
 pub(crate) fn add_readings(alloc: Global, tally: &mut Tally) {
     for layout in LAYOUTS {
-        let file = layout.bytes();
-        let given = compared(alloc, layout, file, &file, ".text");
-        tally.add("parts of ELF", row_of(given));
+        let row = is_same(alloc, File::Elf(layout), layout.bytes(), TEXT);
+        tally.add("parts of ELF", row);
     }
-    let file = PE.as_slice();
-    tally.add("parts of PE", row_of(pe::compared(alloc, file, &file)));
-    // The whole of a file whose header doesn't say how long its load commands are, and the parts of one that does.
-    let file = MACHO.as_slice();
-    tally.add("all of Mach-O", row_of(macho::compared(alloc, file, &file)));
-    tally.add("parts of Mach-O", row_of(macho::compared_with_parts(alloc)));
+    tally.add("parts of PE", is_same(alloc, File::Pe, &PE, TEXT));
+    tally.add("all of Mach-O", is_same(alloc, File::Macho, &MACHO, TEXT));
+    tally.add("parts of Mach-O", is_same_with_size(alloc));
     tally.add(
         "all sections of Mach-O",
-        row_of(all::macho(alloc, file, &file)),
+        is_same(alloc, File::Macho, &MACHO, ALL),
     );
-    let file = PE.as_slice();
-    tally.add("all sections of PE", row_of(all::pe(alloc, file, &file)));
+    tally.add("all sections of PE", is_same(alloc, File::Pe, &PE, ALL));
 }
 
 /// Whether the file gives the sample's bytes. No clause says what an opened file gives, so this run alone refuses a
 /// `fill_at` of `File` that reads at another offset (`read_exact_at(buf, 0)`, or `offset + 1`), and a `length` below
 /// the file's.
 pub(crate) fn is_read(rt: &HostRuntime) -> bool {
-    let layout = Layout::Elf64Little;
-    match File::open(rt, SAMPLE) {
-        Ok(file) => compared(rt.alloc(), layout, layout.bytes(), &file, ".text") == Given::Same,
+    let kind = File::Elf(Layout::Elf64Little);
+    match fs::File::open(rt, SAMPLE) {
+        Ok(file) => {
+            parts(rt.alloc(), kind, &file, TEXT) == whole(rt.alloc(), kind, kind.bytes(), TEXT)
+        }
         Err(_) => false,
     }
 }

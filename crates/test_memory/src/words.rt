@@ -14,52 +14,38 @@ const UNEXPECTED_TYPE: ParseError = ParseError::UnexpectedSectionType {
     actual: 1,
 };
 
+#[rattlefmt::skip]
 const PARSE: [(ParseError, &str); 6] = [
-    (
-        ParseError::SymbolsSectionIsMissing,
-        "symbols section is missing",
-    ),
-    (
-        ParseError::SectionIsMissing(".symtab"),
-        "section .symtab is missing",
-    ),
+    (ParseError::SymbolsSectionIsMissing, "symbols section is missing"),
+    (ParseError::SectionIsMissing(".symtab"), "section .symtab is missing"),
     (UNEXPECTED_TYPE, "expected section type 3 but found 1"),
     (ParseError::MalformedInput, "malformed input file"),
     (ParseError::UnexpectedEof, "unexpected end of file"),
     (ParseError::OutOfMemory, "out of memory"),
 ];
 
+#[rattlefmt::skip]
 const LIST: [(ListError, &str); 4] = [
     (ListError::Unknown, "unknown file format"),
-    (
-        ListError::Parse(UNEXPECTED_TYPE),
-        "expected section type 3 but found 1",
-    ),
+    (ListError::Parse(UNEXPECTED_TYPE), "expected section type 3 but found 1"),
     (ListError::OutOfMemory, "out of memory"),
     (ListError::Write, "write failed"),
 ];
 
+#[rattlefmt::skip]
 const REPORT: [(ReportError, &str); 5] = [
     (ReportError::Unknown, "unknown file format"),
-    (
-        ReportError::Parse(UNEXPECTED_TYPE),
-        "expected section type 3 but found 1",
-    ),
+    (ReportError::Parse(UNEXPECTED_TYPE), "expected section type 3 but found 1"),
     (ReportError::OutOfMemory, "out of memory"),
     (ReportError::TooLarge, "sizes are too large"),
     (ReportError::Write, "write failed"),
 ];
 
+#[rattlefmt::skip]
 const IMAGE: [(ImageError, &str); 5] = [
     (ImageError::TooManySections, "too many sections"),
-    (
-        ImageError::TableCount,
-        "image needs exactly one symbol table",
-    ),
-    (
-        ImageError::NamesPlace,
-        "section names are not in a byte section",
-    ),
+    (ImageError::TableCount, "image needs exactly one symbol table"),
+    (ImageError::NamesPlace, "section names are not in a byte section"),
     (ImageError::TooLarge, "image is too large"),
     (ImageError::OutOfMemory, "out of memory"),
 ];

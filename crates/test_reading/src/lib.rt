@@ -1,9 +1,207 @@
-//! Tests of files read at offsets, and what `test_memory` too asks of them while one allocation fails.
+//! The same question to both fronts: to the bytes of a whole file, and to a source that holds them.
 #![tactic(auto)]
 
-pub mod all;
-pub mod fronts;
-pub mod macho;
-pub mod pe;
-#[cfg(test)]
-mod tests;
+ghost use Rattle.std.specs.Iterator.{IsFinite};
+
+use binfarce::{FunctionSymbol, SectionFunction, SymbolTable, elf32, elf64, macho, pe};
+use binfarce_bytes::ParseError;
+use binfarce_bytes::source::Source;
+use binfarce_sections::bytes::{write_section, write_section_of};
+use binfarce_sections::error::SectionError;
+use binfarce_sections::list::{list_sections, list_source};
+use binfarce_tables::ReadError;
+use binfarce_tools::list::Out;
+use std::alloc::{AllocError, Global};
+use test_samples::files::File;
+
+/// What is asked of a file.
+#[derive(Clone, Copy)]
+pub enum Asked<'a> {
+    /// The function symbols of this section, of a Mach-O or PE file those of the text, and its size; or those of all sections.
+    Functions(Option<&'a str>),
+    /// The lines of the sections.
+    Lines,
+    /// The bytes of the section of this name.
+    Bytes(&'a str),
+}
+
+/// What a call writes, and how it ends. Function symbols are written as the bytes of their numbers and names.
+#[derive(Debug, PartialEq, Drop)]
+pub struct Answer {
+    pub text: Vec<u8>,
+    pub ended: Result<(), SectionError>,
+}
+
+impl Answer {
+    /// Whether an allocation failed.
+    pub fn is_out_of_memory(&self) -> bool {
+        match &self.ended {
+            Err(SectionError::OutOfMemory | SectionError::Parse(ParseError::OutOfMemory)) => true,
+            _ => false,
+        }
+    }
+}
+
+/// The answer of the reader of this sample's format to the bytes of a whole file.
+pub fn whole(alloc: Global, kind: File, file: &[u8], asked: Asked<'_>) -> Answer {
+    let mut out = Out::new(Vec::new(alloc));
+    let ended = match asked {
+        Asked::Functions(name) => return answer_of(alloc, functions(alloc, kind, file, name)),
+        Asked::Lines => list_sections(alloc, file, &mut out),
+        Asked::Bytes(name) => write_section(file, name, &mut out),
+    };
+    Answer {
+        text: out.into_inner(),
+        ended,
+    }
+}
+
+/// The answer to a source.
+pub fn parts<S: Source>(alloc: Global, kind: File, source: &S, asked: Asked<'_>) -> Answer {
+    let mut out = Out::new(Vec::new(alloc));
+    let ended = match asked {
+        Asked::Functions(name) => return answer_of(alloc, functions_of(alloc, kind, source, name)),
+        Asked::Lines => list_source(alloc, source, &mut out),
+        Asked::Bytes(name) => write_section_of(alloc, source, name, &mut out),
+    };
+    Answer {
+        text: out.into_inner(),
+        ended,
+    }
+}
+
+fn answer_of(alloc: Global, functions: Result<Vec<u8>, ReadError>) -> Answer {
+    let (text, ended) = match functions {
+        Ok(text) => (text, Ok(())),
+        Err(e) => (Vec::new(alloc), Err(SectionError::from(e))),
+    };
+    Answer { text, ended }
+}
+
+type Text = Result<Vec<u8>, ReadError>;
+
+const SYMTAB: SymbolTable = SymbolTable::Symtab;
+
+fn functions(alloc: Global, kind: File, file: &[u8], name: Option<&str>) -> Text {
+    match kind {
+        File::Elf(layout) if layout.is_64() => {
+            let elf = elf64::parse(file, layout.order())?;
+            let Some(name) = name else {
+                return Ok(text_of_all(alloc, elf.all_functions(SYMTAB)?)?);
+            };
+            let (functions, size) = elf.functions(name)?;
+            Ok(text_of(alloc, functions, size)?)
+        }
+        File::Elf(layout) => {
+            let elf = elf32::parse(file, layout.order())?;
+            let Some(name) = name else {
+                return Ok(text_of_all(alloc, elf.all_functions(SYMTAB)?)?);
+            };
+            let (functions, size) = elf.functions(name)?;
+            Ok(text_of(alloc, functions, size)?)
+        }
+        File::Macho => {
+            let macho = macho::parse(file)?;
+            if name.is_none() {
+                return Ok(text_of_all(alloc, macho.all_functions(alloc)?.into_iter())?);
+            }
+            let (functions, size) = macho.functions(alloc)?;
+            Ok(text_of(alloc, functions.into_iter(), size)?)
+        }
+        File::Pe => {
+            let pe = pe::parse(file)?;
+            if name.is_none() {
+                return Ok(text_of_all(alloc, pe.all_functions(alloc)?.into_iter())?);
+            }
+            let (functions, size) = pe.functions(alloc)?;
+            Ok(text_of(alloc, functions.into_iter(), size)?)
+        }
+    }
+}
+
+fn functions_of<S: Source>(alloc: Global, kind: File, source: &S, name: Option<&str>) -> Text {
+    match kind {
+        File::Elf(layout) if layout.is_64() => {
+            let order = layout.order();
+            let Some(name) = name else {
+                let parts = binfarce_tables::elf64::read_all(alloc, source, order, SYMTAB)?;
+                return Ok(text_of_all(alloc, parts.functions())?);
+            };
+            let parts = binfarce_tables::elf64::read(alloc, source, order, name)?;
+            let (functions, size) = parts.functions();
+            Ok(text_of(alloc, functions, size)?)
+        }
+        File::Elf(layout) => {
+            let order = layout.order();
+            let Some(name) = name else {
+                let parts = binfarce_tables::elf32::read_all(alloc, source, order, SYMTAB)?;
+                return Ok(text_of_all(alloc, parts.functions())?);
+            };
+            let parts = binfarce_tables::elf32::read(alloc, source, order, name)?;
+            let (functions, size) = parts.functions();
+            Ok(text_of(alloc, functions, size)?)
+        }
+        File::Macho => {
+            if name.is_none() {
+                let parts = binfarce_tables::macho::read_all(alloc, source)?;
+                return Ok(text_of_all(alloc, parts.functions(alloc)?.into_iter())?);
+            }
+            let parts = binfarce_tables::macho::read(alloc, source)?;
+            let (functions, size) = parts.functions(alloc)?;
+            Ok(text_of(alloc, functions.into_iter(), size)?)
+        }
+        File::Pe => {
+            if name.is_none() {
+                let parts = binfarce_tables::pe::read_all(alloc, source)?;
+                return Ok(text_of_all(alloc, parts.functions(alloc)?.into_iter())?);
+            }
+            let parts = binfarce_tables::pe::read(alloc, source)?;
+            let (functions, size) = parts.functions(alloc)?;
+            Ok(text_of(alloc, functions.into_iter(), size)?)
+        }
+    }
+}
+
+// The samples' functions take no more bytes, so that a text is one allocation.
+const CAPACITY: usize = 512;
+
+// The size of a section, and its function symbols.
+fn text_of<'a, I: Iterator<Item = FunctionSymbol<'a>> + Drop>(
+    alloc: Global,
+    functions: I,
+    size: u64,
+) -> Result<Vec<u8>, AllocError>
+    requires can { I.can_next functions }
+    requires ends { IsFinite (I.remaining functions) }
+{
+    let mut text = Vec::with_capacity(alloc, CAPACITY)?;
+    text.extend_from_slice(&size.to_be_bytes())?;
+    for function in functions {
+        push(&mut text, function)?;
+    }
+    Ok(text)
+}
+
+// Function symbols, each after the number of its section.
+fn text_of_all<'a, I: Iterator<Item = SectionFunction<'a>> + Drop>(
+    alloc: Global,
+    functions: I,
+) -> Result<Vec<u8>, AllocError>
+    requires can { I.can_next functions }
+    requires ends { IsFinite (I.remaining functions) }
+{
+    let mut text = Vec::with_capacity(alloc, CAPACITY)?;
+    for function in functions {
+        text.extend_from_slice(&function.section.to_be_bytes())?;
+        push(&mut text, function.function)?;
+    }
+    Ok(text)
+}
+
+fn push(text: &mut Vec<u8>, function: FunctionSymbol<'_>) -> Result<(), AllocError> {
+    text.extend_from_slice(&function.address.to_be_bytes())?;
+    text.extend_from_slice(&function.size.to_be_bytes())?;
+    text.extend_from_slice(function.name.as_bytes())?;
+    text.push(0)?;
+    Ok(())
+}

@@ -11,7 +11,6 @@
 //! - 182 and 234: section 4, `.shstrtab`
 //! - 215 and 267: the section headers of 40 and 64 bytes, the first of no section
 
-use crate::fields::Field;
 use binfarce_bytes::ByteOrder;
 
 /// What is listed of the file.
@@ -33,10 +32,6 @@ pub const LAYOUTS: [Layout; 4] = [
     Layout::Elf64Little,
     Layout::Elf64Big,
 ];
-
-const LAYOUTS_32: &[Layout] = &[Layout::Elf32Little, Layout::Elf32Big];
-
-const LAYOUTS_64: &[Layout] = &[Layout::Elf64Little, Layout::Elf64Big];
 
 impl Layout {
     /// The file.
@@ -65,36 +60,6 @@ impl Layout {
         }
     }
 }
-
-/// A file whose `.text` has no symbols to list: what is wrong, in which layouts, the fields that are changed, and the words
-/// of the refusal.
-pub type Refused = (
-    &'static str,
-    &'static [Layout],
-    &'static [(Field, u64)],
-    &'static str,
-);
-
-const END: &str = "unexpected end of file";
-
-const MALFORMED: &str = "malformed input file";
-
-/// Files that are refused, the refusals in their order, and then the greatest size that a header can hold.
-#[rattlefmt::skip]
-pub const REFUSED: [Refused; 12] = [
-    ("section names in section 5 of 5", &LAYOUTS, &[(Field::ShStrNdx, 5)], "symbols section is missing"),
-    ("no symbol table", &LAYOUTS, &[(Field::ShType(2), 1)], "section .symtab is missing"),
-    ("no linked section", &LAYOUTS, &[(Field::ShLink(2), 9)], "section .strtab is missing"),
-    ("a linked section of another type", &LAYOUTS, &[(Field::ShLink(2), 1)], "expected section type 3 but found 1"),
-    ("strings past all addresses", LAYOUTS_64, &[(Field::ShOffset(3), u64::MAX)], MALFORMED),
-    ("strings past the end", &LAYOUTS, &[(Field::ShSize(3), 0x1_0000)], END),
-    ("rows past all addresses", LAYOUTS_64, &[(Field::ShOffset(2), u64::MAX)], MALFORMED),
-    ("rows past the end", &LAYOUTS, &[(Field::ShSize(2), 0x1_0000)], END),
-    ("a truncated first row", &LAYOUTS, &[(Field::ShSize(2), 15)], END),
-    ("a truncated second row", LAYOUTS_64, &[(Field::ShSize(2), 47)], END),
-    ("the greatest size of the table", LAYOUTS_32, &[(Field::ShSize(2), u64::MAX)], END),
-    ("the greatest size of the table", LAYOUTS_64, &[(Field::ShSize(2), u64::MAX)], MALFORMED),
-];
 
 /// The file in 32-bit form, little endian.
 pub static ELF32_LITTLE: [u8; 415] = *b"\

@@ -7,7 +7,6 @@ ghost use Rattle.test_samples.specs.Patched.{patched, patched_at};
 pub mod cases;
 pub mod elf;
 pub mod expected;
-pub mod fields;
 pub mod files;
 pub mod interruptions;
 pub mod macho;

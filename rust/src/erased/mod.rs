@@ -45,6 +45,7 @@ pub mod test_formats;
 
 #[cfg(test)]
 pub const TEST_PROGRAMS: &[(&str, crate::shim::test::Main)] = &[
+    ("test_lookups", test_lookups::main),
     ("test_memory", test_memory::main),
     ("test_names", test_names::main),
     ("test_formats", test_formats::main),

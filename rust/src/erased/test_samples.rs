@@ -5,7 +5,6 @@
 pub mod cases;
 pub mod elf;
 pub mod expected;
-pub mod fields;
 pub mod files;
 pub mod interruptions;
 pub mod macho;

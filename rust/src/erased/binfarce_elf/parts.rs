@@ -5,7 +5,7 @@
 use crate::erased::binfarce_elf::all::{AllFunctions, needed_of_all};
 use crate::erased::binfarce_elf::class::{Class, Half, Word};
 use crate::erased::binfarce_elf::sections::{
-    Section, Sections, Table, name_at, section_at, sections_of,
+    Section, Sections, Table, is_named, name_at, section_at, sections_of,
 };
 use crate::erased::binfarce_elf::symbol_table::SymbolTable;
 use crate::erased::binfarce_elf::symbols::{Needed, TableSections, needed_of};
@@ -50,6 +50,11 @@ pub fn sections_in<C: Class>(headers: &[u8], byte_order: ByteOrder, count: Half)
 /// The section's name in these section names.
 pub fn name_in<'a, C: Class>(names: Option<&'a [u8]>, section: &Section<C>) -> Option<&'a str> {
     name_at(names, section.name_offset)
+}
+
+/// Whether this is the section's name in these section names.
+pub fn is_named_in<C: Class>(names: Option<&[u8]>, section: &Section<C>, name: &str) -> bool {
+    is_named(names, section.name_offset, name)
 }
 
 /// The name among these section names of the section of this index, one of `count` section headers.

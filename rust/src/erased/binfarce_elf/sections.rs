@@ -45,6 +45,16 @@ impl<C: Class> Section<C> {
     pub fn name<'a, P: HasSections<'a, C>>(&self, parent: &P) -> Option<&'a str> {
         section_name::<C>(parent.section_table(), *self)
     }
+
+    /// Whether this is the section's name, as `name` gives it. Of the section names only as many bytes as this one has
+    /// are compared, and the one after them.
+    pub fn is_named<'a, P: HasSections<'a, C>>(&self, parent: &P, name: &str) -> bool {
+        is_named(
+            names_bytes::<C>(parent.section_table()),
+            self.name_offset,
+            name,
+        )
+    }
 }
 
 /// Where a file's section headers begin, as its header states.
@@ -201,15 +211,29 @@ pub(crate) fn section_named<C: Class>(
     names: Option<&[u8]>,
     name: &str,
 ) -> Result<Option<Section<C>>, UnexpectedEof> {
-    first_section::<C, _>(table, |section| {
-        is_named(name_at(names, section.name_offset), name)
-    })
+    first_section::<C, _>(table, |section| is_named(names, section.name_offset, name))
 }
 
-fn is_named(found: Option<&str>, name: &str) -> bool {
-    match found {
+// Whether the name among the section names at this offset is this one.
+pub(crate) fn is_named(names: Option<&[u8]>, offset: Word, name: &str) -> bool {
+    match names {
         None => false,
-        Some(found) => found == name,
+        Some(names) => is_text_at(names, offset as usize, name),
+    }
+}
+
+// Whether this text is at an offset. Only as many bytes as it has are compared, and the one after them.
+fn is_text_at(bytes: &[u8], start: usize, text: &str) -> bool {
+    let text = text.as_bytes();
+    if text.is_empty() {
+        return false;
+    }
+    match bytes.get(start..) {
+        None => false,
+        Some(rest) => match rest.strip_prefix(text) {
+            None => false,
+            Some(after) => after.starts_with(b"\0") && !text.contains(&0),
+        },
     }
 }
 

@@ -4,6 +4,13 @@
 
 use crate::erased::binfarce_elf::class::Word;
 
+// The types of sections (gABI, "Sections"): `SHT_SYMTAB`, `SHT_STRTAB` and `SHT_DYNSYM`.
+const SYMBOL_TABLE: Word = 2;
+
+pub(crate) const STRING_TABLE: Word = 3;
+
+const DYNAMIC_SYMBOL_TABLE: Word = 11;
+
 /// A symbol table of a file.
 #[derive(Debug, Clone, Copy, PartialEq)]
 pub enum SymbolTable {
@@ -17,8 +24,8 @@ impl SymbolTable {
     /// The type of the table's section (`sh_type`).
     pub fn section_type(self) -> Word {
         match self {
-            SymbolTable::Symtab => 2,
-            SymbolTable::Dynsym => 11,
+            SymbolTable::Symtab => SYMBOL_TABLE,
+            SymbolTable::Dynsym => DYNAMIC_SYMBOL_TABLE,
         }
     }
 

@@ -6,14 +6,11 @@ use crate::erased::binfarce_elf::class::{Class, Half, SymbolRow, Word};
 use crate::erased::binfarce_elf::sections::{
     Section, Table, first_section, names_bytes, section_data, section_named,
 };
-use crate::erased::binfarce_elf::symbol_table::SymbolTable;
+use crate::erased::binfarce_elf::symbol_table::{STRING_TABLE, SymbolTable};
 use crate::erased::binfarce_bytes::functions::{FunctionSymbol, found_with};
 use crate::erased::binfarce_bytes::parser::{UnexpectedEof, parse_null_string};
 use crate::erased::binfarce_bytes::{ByteOrder, ParseError};
 use std::marker::PhantomData;
-
-/// `SHT_STRTAB`.
-const STRING_TABLE: Word = 3;
 
 /// A symbol table's section, and that of its strings.
 #[derive(Clone, Copy)]

@@ -10,7 +10,7 @@ use crate::erased::binfarce_tables::error::ReadError;
 use crate::erased::binfarce_bytes::ByteOrder;
 use crate::erased::binfarce_bytes::source::Source;
 use crate::erased::binfarce_elf::class::{Class, Half};
-use crate::erased::binfarce_elf::parts::{name_in, sections_in};
+use crate::erased::binfarce_elf::parts::{is_named_in, name_in, sections_in};
 use crate::erased::binfarce_elf::sections::{Section, Sections};
 use crate::shim::alloc::Global;
 use std::marker::PhantomData;
@@ -35,6 +35,11 @@ impl<C: Class> SectionParts<C> {
     /// is copied.
     pub fn name(&self, section: &Section<C>) -> Option<&str> {
         name_in(slice_of(&self.names), section)
+    }
+
+    /// Whether this is the name of one of them, as `is_named` of a section says.
+    pub fn is_named(&self, section: &Section<C>, name: &str) -> bool {
+        is_named_in(slice_of(&self.names), section, name)
     }
 
     /// How many bytes the file had when its parts were read.

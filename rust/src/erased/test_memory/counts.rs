@@ -5,8 +5,8 @@
 use crate::erased::binfarce::{ParseError, elf32, elf64, macho, pe};
 use crate::shim::alloc::Global;
 use crate::erased::test_image_samples::tally::{Row, Tally};
+use crate::erased::test_samples::cases::sample_with;
 use crate::erased::test_samples::elf::{LAYOUTS, Layout};
-use crate::erased::test_samples::fields::{Field, sample_with};
 use crate::erased::test_samples::files::File;
 use crate::erased::test_samples::macho::{NCMDS, NSECTS};
 use crate::erased::test_samples::pe::SECTIONS;
@@ -57,7 +57,7 @@ fn is_searched(alloc: Global, file: File, count: Patch<'_>, found: &Searched) ->
 }
 
 fn is_searched_in_elf(alloc: Global, layout: Layout) -> Row {
-    let bytes = sample_with(alloc, layout, &[(Field::ShNum, 0xFFFF)])?;
+    let bytes = sample_with(alloc, layout, "shnum=65535")?;
     Ok(past_the_last(File::Elf(layout), &bytes) == TRUNCATED)
 }
 

@@ -106,14 +106,8 @@ const PICTURE: &str =
 // function's size is 2^64 - 1.
 const REPORTS: [(&str, Reported); 4] = [
     ("_RNvC6_123foo3bar", Reported::Picture(PICTURE)),
-    (
-        "_RNvC6_123foo3bar",
-        Reported::Text("        16 123foo\n        16 foo\nsum 32\ntext 32\n"),
-    ),
-    (
-        "_ZN11_$LT$a$GT$bE",
-        Reported::Text("        16 [unknown]\n        16 foo\nsum 32\ntext 32\n"),
-    ),
+    ("_RNvC6_123foo3bar", Reported::Text("        16 123foo\n        16 foo\nsum 32\ntext 32\n")),
+    ("_ZN11_$LT$a$GT$bE", Reported::Text("        16 [unknown]\n        16 foo\nsum 32\ntext 32\n")),
     ("a", Reported::TooLarge),
 ];
 

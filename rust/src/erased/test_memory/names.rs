@@ -18,81 +18,39 @@ pub(crate) struct Name {
 }
 
 pub(crate) const NAMES: [Name; 9] = [
-    Name {
+    Name { kind: Kind::Legacy, crate_name: None, crate_of: Some("foo"),
         name: "_ZN3foo3barE",
-        kind: Kind::Legacy,
         complete: "foo::bar",
-        trimmed: "foo",
-        crate_name: None,
-        crate_of: Some("foo"),
-    },
-    Name {
+        trimmed: "foo" },
+    Name { kind: Kind::Legacy, crate_name: None, crate_of: Some("{{closure}}"),
         name: "_ZN28_$u7b$$u7b$closure$u7d$$u7d$E",
-        kind: Kind::Legacy,
         complete: "{{closure}}",
-        trimmed: "{{closure}}",
-        crate_name: None,
-        crate_of: Some("{{closure}}"),
-    },
-    Name {
-        name: "_ZN4testE",
-        kind: Kind::Legacy,
-        complete: "test",
-        trimmed: "test",
-        crate_name: None,
-        crate_of: Some("test"),
-    },
-    Name {
-        name: "foo",
-        kind: Kind::Unknown,
-        complete: "foo",
-        trimmed: "foo",
-        crate_name: None,
-        crate_of: None,
-    },
-    Name {
+        trimmed: "{{closure}}" },
+    Name { name: "_ZN4testE", kind: Kind::Legacy, complete: "test", trimmed: "test", crate_name: None, crate_of: Some("test") },
+    Name { name: "foo", kind: Kind::Unknown, complete: "foo", trimmed: "foo", crate_name: None, crate_of: None },
+    Name { kind: Kind::V0, crate_name: Some("core"), crate_of: Some("core"),
         name: "_RNCINkXs25_NgCsbmNqQUJIY6D_4core5sliceINyB9_4IterhENuNgNoBb_4iter8iterator8Iterator9rpositionNCNgNpB9_6memchr7memrchrs_0E0Bb_",
-        kind: Kind::V0,
         complete: "<core[846817f741e54dfd]::slice::Iter<u8> as core[846817f741e54dfd]::iter::iterator::Iterator>::rposition::<core[846817f741e54dfd]::slice::memchr::memrchr::{closure#1}>::{closure#0}",
-        trimmed: "<core::slice::Iter<u8> as core::iter::iterator::Iterator>::rposition::<core::slice::memchr::memrchr::{closure#1}>::{closure#0}",
-        crate_name: Some("core"),
-        crate_of: Some("core"),
-    },
-    Name {
+        trimmed: "<core::slice::Iter<u8> as core::iter::iterator::Iterator>::rposition::<core::slice::memchr::memrchr::{closure#1}>::{closure#0}" },
+    Name { kind: Kind::V0, crate_name: Some("alloc"), crate_of: Some("alloc"),
         name: "_RINbNbCskIICzLVDPPb_5alloc5alloc8box_freeDINbNiB4_5boxed5FnBoxuEp6OutputuEL_ECs1iopQbuBiw2_3std",
-        kind: Kind::V0,
         complete: "alloc[f15a878b47eb696b]::alloc::box_free::<dyn alloc[f15a878b47eb696b]::boxed::FnBox<(), Output = ()>>",
-        trimmed: "alloc::alloc::box_free::<dyn alloc::boxed::FnBox<(), Output = ()>>",
-        crate_name: Some("alloc"),
-        crate_of: Some("alloc"),
-    },
+        trimmed: "alloc::alloc::box_free::<dyn alloc::boxed::FnBox<(), Output = ()>>" },
     // Twenty targets.
-    Name {
+    Name { kind: Kind::V0, crate_name: Some(""), crate_of: Some(""),
         name: "_RMC0TSaSbScSdSeSfShSiSjSlSmSnSoSpSsStSuSxSySzB3_B5_B7_B9_Bb_Bd_Bf_Bh_Bj_Bl_Bn_Bp_Br_Bt_Bv_Bx_Bz_BB_BD_BF_E",
-        kind: Kind::V0,
         complete: "<([i8], [bool], [char], [f64], [str], [f32], [u8], [isize], [usize], [i32], [u32], [i128], [u128], [_], [i16], [u16], [()], [i64], [u64], [!], [i8], [bool], [char], [f64], [str], [f32], [u8], [isize], [usize], [i32], [u32], [i128], [u128], [_], [i16], [u16], [()], [i64], [u64], [!])>",
-        trimmed: "<([i8], [bool], [char], [f64], [str], [f32], [u8], [isize], [usize], [i32], [u32], [i128], [u128], [_], [i16], [u16], [()], [i64], [u64], [!], [i8], [bool], [char], [f64], [str], [f32], [u8], [isize], [usize], [i32], [u32], [i128], [u128], [_], [i16], [u16], [()], [i64], [u64], [!])>",
-        crate_name: Some(""),
-        crate_of: Some(""),
-    },
+        trimmed: "<([i8], [bool], [char], [f64], [str], [f32], [u8], [isize], [usize], [i32], [u32], [i128], [u128], [_], [i16], [u16], [()], [i64], [u64], [!], [i8], [bool], [char], [f64], [str], [f32], [u8], [isize], [usize], [i32], [u32], [i128], [u128], [_], [i16], [u16], [()], [i64], [u64], [!])>" },
     // A target after the first 256 positions.
-    Name {
+    Name { kind: Kind::V0, crate_name: Some(""), crate_of: Some(""),
         name: "_RMC0TNtC1a260xxxxxxxxxxxxxxxxxxxxxxxxxxxxxxxxxxxxxxxxxxxxxxxxxxxxxxxxxxxxxxxxxxxxxxxxxxxxxxxxxxxxxxxxxxxxxxxxxxxxxxxxxxxxxxxxxxxxxxxxxxxxxxxxxxxxxxxxxxxxxxxxxxxxxxxxxxxxxxxxxxxxxxxxxxxxxxxxxxxxxxxxxxxxxxxxxxxxxxxxxxxxxxxxxxxxxxxxxxxxxxxxxxxxxxxxxxxxxxxxxxxxxxxxxxxxxxxxxxxxShB4n_E",
-        kind: Kind::V0,
         complete: "<(a[0]::xxxxxxxxxxxxxxxxxxxxxxxxxxxxxxxxxxxxxxxxxxxxxxxxxxxxxxxxxxxxxxxxxxxxxxxxxxxxxxxxxxxxxxxxxxxxxxxxxxxxxxxxxxxxxxxxxxxxxxxxxxxxxxxxxxxxxxxxxxxxxxxxxxxxxxxxxxxxxxxxxxxxxxxxxxxxxxxxxxxxxxxxxxxxxxxxxxxxxxxxxxxxxxxxxxxxxxxxxxxxxxxxxxxxxxxxxxxxxxxxxxxxxxxxxxxxxxxxxxxx, [u8], [u8])>",
-        trimmed: "<(a::xxxxxxxxxxxxxxxxxxxxxxxxxxxxxxxxxxxxxxxxxxxxxxxxxxxxxxxxxxxxxxxxxxxxxxxxxxxxxxxxxxxxxxxxxxxxxxxxxxxxxxxxxxxxxxxxxxxxxxxxxxxxxxxxxxxxxxxxxxxxxxxxxxxxxxxxxxxxxxxxxxxxxxxxxxxxxxxxxxxxxxxxxxxxxxxxxxxxxxxxxxxxxxxxxxxxxxxxxxxxxxxxxxxxxxxxxxxxxxxxxxxxxxxxxxxxxxxxxxxx, [u8], [u8])>",
-        crate_name: Some(""),
-        crate_of: Some(""),
-    },
+        trimmed: "<(a::xxxxxxxxxxxxxxxxxxxxxxxxxxxxxxxxxxxxxxxxxxxxxxxxxxxxxxxxxxxxxxxxxxxxxxxxxxxxxxxxxxxxxxxxxxxxxxxxxxxxxxxxxxxxxxxxxxxxxxxxxxxxxxxxxxxxxxxxxxxxxxxxxxxxxxxxxxxxxxxxxxxxxxxxxxxxxxxxxxxxxxxxxxxxxxxxxxxxxxxxxxxxxxxxxxxxxxxxxxxxxxxxxxxxxxxxxxxxxxxxxxxxxxxxxxxxxxxxxxxx, [u8], [u8])>" },
     // 98,304 steps.
-    Name {
+    Name { kind: Kind::Unknown, crate_name: None, crate_of: None,
         name: "_RMC0TTTTTTTTTTTTTTTpBh_EBg_EBf_EBe_EBd_EBc_EBb_EBa_EB9_EB8_EB7_EB6_EB5_EB4_EB3_E",
-        kind: Kind::Unknown,
         complete: "_RMC0TTTTTTTTTTTTTTTpBh_EBg_EBf_EBe_EBd_EBc_EBb_EBa_EB9_EB8_EB7_EB6_EB5_EB4_EB3_E",
-        trimmed: "_RMC0TTTTTTTTTTTTTTTpBh_EBg_EBf_EBe_EBd_EBc_EBb_EBa_EB9_EB8_EB7_EB6_EB5_EB4_EB3_E",
-        crate_name: None,
-        crate_of: None,
-    },
+        trimmed: "_RMC0TTTTTTTTTTTTTTTpBh_EBg_EBf_EBe_EBd_EBc_EBb_EBa_EB9_EB8_EB7_EB6_EB5_EB4_EB3_E" },
 ];
 
 fn is_text(text: Option<&String>, expected: Option<&str>) -> bool {

@@ -7,9 +7,9 @@ use crate::erased::binfarce::ParseError;
 use crate::erased::binfarce_tools::list::{ListError, Out, list};
 use crate::shim::alloc::Global;
 use crate::erased::test_image_samples::tally::{Row, Tally};
+use crate::erased::test_samples::cases::sample_with;
 use crate::erased::test_samples::elf::{LAYOUTS, Layout};
 use crate::erased::test_samples::expected::Expected;
-use crate::erased::test_samples::fields::{Field, sample_with};
 use crate::erased::test_samples::files::{FILES, File};
 use crate::erased::test_samples::{Patch, macho, patched, pe};
 
@@ -51,9 +51,9 @@ fn are_answered(alloc: Global, file: File) -> bool {
 }
 
 // What is changed in the ELF sample, the section that is asked for, and what is found in ELF32 and in ELF64.
-const ELF: [(&str, &[(Field, u64)], &str, Counted, Counted); 2] = [
-    ("a table of the greatest size", &[(Field::ShSize(2), u64::MAX)], ".text", Err(TRUNCATED), Err(MALFORMED)),
-    ("an empty list in ELF", &[], ".shstrtab", Ok((0, 33)), Ok((0, 33))),
+const ELF: [(&str, &str, &str, Counted, Counted); 2] = [
+    ("a table of the greatest size", "sh_size[2]=0xffffffffffffffff", ".text", Err(TRUNCATED), Err(MALFORMED)),
+    ("an empty list in ELF", "", ".shstrtab", Ok((0, 33)), Ok((0, 33))),
 ];
 
 // Where the first row has its value in Mach-O, whose rows have 16 bytes, and its class in PE, whose rows have 18.
@@ -80,11 +80,11 @@ const OTHERS: [(&str, File, &[Patch<'static>], Counted); 9] = [
 fn is_answered_of_elf(
     alloc: Global,
     layout: Layout,
-    numbers: &[(Field, u64)],
+    changes: &str,
     section: &str,
     answer: &Counted,
 ) -> Row {
-    let file = sample_with(alloc, layout, numbers)?;
+    let file = sample_with(alloc, layout, changes)?;
     Ok(counted(symbols(alloc, File::Elf(layout), &file, section)) == *answer)
 }
 
@@ -94,10 +94,10 @@ fn is_answered(alloc: Global, file: File, patches: &[Patch<'_>], answer: &Counte
 }
 
 pub(crate) fn add_refusals(alloc: Global, tally: &mut Tally) {
-    for (what, numbers, section, of_32, of_64) in &ELF {
+    for (what, changes, section, of_32, of_64) in &ELF {
         for layout in LAYOUTS {
             let answer = if layout.is_64() { of_64 } else { of_32 };
-            let row = is_answered_of_elf(alloc, layout, numbers, section, answer);
+            let row = is_answered_of_elf(alloc, layout, changes, section, answer);
             tally.add(what, row);
         }
     }

@@ -93,6 +93,12 @@ pub fn file_of(alloc: Global, words: &str) -> Result<Option<Vec<u8>>, AllocError
     }
 }
 
+/// The sample in this layout with these changes; no bytes where a word is not understood.
+pub fn sample_with(alloc: Global, layout: Layout, changes: &str) -> Result<Vec<u8>, AllocError> {
+    let file = Vec::from_slice(alloc, layout.bytes())?;
+    Ok(changed(alloc, File::Elf(layout), file, changes)?.unwrap_or(Vec::new(alloc)))
+}
+
 /// A file with these changes, where its fields are those of a sample; `None` where a word is not understood.
 pub fn changed(
     alloc: Global,
@@ -152,13 +158,7 @@ fn change_number(sample: File, file: &mut Vec<u8>, word: &str) -> Result<bool, A
 }
 
 // Writes as many low bytes of a number as the field has, in the sample's order.
-pub(crate) fn put_number(
-    sample: File,
-    file: &mut Vec<u8>,
-    offset: usize,
-    width: usize,
-    number: u64,
-) {
+fn put_number(sample: File, file: &mut Vec<u8>, offset: usize, width: usize, number: u64) {
     let (little, big) = (number.to_le_bytes(), number.to_be_bytes());
     let bytes = match sample {
         File::Elf(Layout::Elf32Big | Layout::Elf64Big) => big.get(8usize.saturating_sub(width)..),

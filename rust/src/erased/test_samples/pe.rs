@@ -11,41 +11,14 @@
 
 use crate::erased::test_samples::Patch;
 
-/// The offset of the signature's offset in the MS-DOS header.
-pub const SIGNATURE: usize = 60;
-
-/// Offsets of the file header's fields (PE format, "COFF File Header").
+/// Offsets of fields of the file header, of the section header, and of the first row.
 pub const SECTIONS: usize = 70;
-
-pub const SYMBOL_TABLE: usize = 76;
 
 pub const SYMBOLS: usize = 80;
 
-pub const OPTIONAL_HEADER: usize = 84;
-
-/// Offsets of the section header's fields ("Section Table").
-pub const NAME: usize = 88;
-
-pub const VIRTUAL_SIZE: usize = 96;
-
-pub const VIRTUAL_ADDRESS: usize = 100;
-
 pub const RAW_SIZE: usize = 104;
 
-pub const RAW_POINTER: usize = 108;
-
-/// Offsets of the first record's fields ("Symbol Table"), of the last record, and of the count of auxiliary records in one.
-pub const RECORD: usize = 128;
-
-pub const SECTION: usize = 140;
-
-pub const TYPE: usize = 142;
-
 pub const CLASS: usize = 144;
-
-pub const LAST: usize = 200;
-
-pub const AUXILIARY: usize = 17;
 
 /// The magic number.
 pub const MAGIC: Patch<'static> = (0, b"MZ");
@@ -53,19 +26,6 @@ pub const MAGIC: Patch<'static> = (0, b"MZ");
 /// What is listed of the file.
 pub const LISTING: &str =
     "0000000000000000         64 b\n0000000000000000         64 d\n0000000000000040        192 c\n0000000000000100        128 e\n0000000000000180          0 a\ntext 256\n";
-
-/// A file without symbols to list: what is wrong, the bytes that are changed, and the words of the refusal.
-pub type Refused = (&'static str, &'static [Patch<'static>], &'static str);
-
-/// Files that are refused; the last has the greatest count. With a symbol table of no rows whose offset is one byte
-/// less, the file isn't refused.
-pub const REFUSED: [Refused; 5] = [
-    ("no section .text", &[(NAME + 1, b"T")], "symbols section is missing"),
-    ("the section table past the end", &[(OPTIONAL_HEADER, &[130])], "unexpected end of file"),
-    ("no rows at the end", &[(SYMBOL_TABLE, &[218, 0, 0, 0, 0, 0, 0, 0])], "unexpected end of file"),
-    ("6 rows", &[(SYMBOLS, &[6])], "unexpected end of file"),
-    ("2^32 - 1 rows", &[(SYMBOLS, &[0xFF; 4])], "unexpected end of file"),
-];
 
 /// The file.
 pub static PE: [u8; 218] = *b"\

@@ -1,0 +1,212 @@
+//! What each reading asks a source for, how it ends where the source fails, and whether it answers as the bytes do.
+
+use crate::Asking;
+use crate::sections::{push_shown, push_writes};
+use crate::sources::Noted;
+use crate::words::{known, numbers, push_number, push_runs, push_words, words_of};
+use binfarce_bytes::source::Source;
+use binfarce_sections::error::SectionError;
+use binfarce_tables::{elf32, elf64, macho, pe};
+use binfarce_tools::SymbolTable;
+use binfarce_tools::all::read_all;
+use binfarce_tools::tables::read_by;
+use std::io::{self, ErrorKind, Write};
+use test_reading::{Asked, parts, whole};
+use test_samples::files::File;
+use test_samples::{first_bytes, patched};
+
+/// A call that reads a source.
+#[derive(Clone, Copy)]
+pub(crate) enum Reading<'a> {
+    // The sections, by the reader of the format.
+    Sections,
+    // What is asked of whole files too.
+    Asked(Asked<'a>),
+    // The function symbols of a section by a symbol table, of a file of any format.
+    Functions(SymbolTable, &'a str),
+    // Those of all sections.
+    AllFunctions(SymbolTable),
+}
+
+/// The reading that is named.
+pub(crate) fn reading_of(words: &str) -> io::Result<Reading<'_>> {
+    let (verb, name) = words.split_once(' ').unwrap_or((words, ""));
+    known(match verb {
+        "sections" => Some(Reading::Sections),
+        "lines" => Some(Reading::Asked(Asked::Lines)),
+        "bytes" => Some(Reading::Asked(Asked::Bytes(name))),
+        "functions" => Some(Reading::Asked(Asked::Functions(Some(name)))),
+        "all" => Some(Reading::Asked(Asked::Functions(None))),
+        "symtab" => Some(Reading::Functions(SymbolTable::Symtab, name)),
+        "dynsym" => Some(Reading::Functions(SymbolTable::Dynsym, name)),
+        "all-symtab" => Some(Reading::AllFunctions(SymbolTable::Symtab)),
+        "all-dynsym" => Some(Reading::AllFunctions(SymbolTable::Dynsym)),
+        _ => None,
+    })
+}
+
+/// Adds the answer to a question of a reading.
+pub(crate) fn answer(of: &Asking<'_>, verb: &str, text: &mut Vec<u8>) -> io::Result<()> {
+    let reading = reading_of(of.words)?;
+    match (verb, reading) {
+        ("calls", _) => push_calls(of, reading, text),
+        ("withheld", _) => push_withheld(of, reading, text),
+        ("failing", _) => push_failing(of, reading, text),
+        ("shorter", _) => push_shorter(of, reading, text),
+        ("longer", Reading::Asked(asked)) => push_longer(of, asked, text),
+        ("prefixes", Reading::Asked(asked)) => push_prefixes(of, asked, text),
+        ("changed", Reading::Asked(asked)) => push_changed(of, asked, text),
+        ("show", Reading::Asked(asked)) => push_shown(of, asked, false, text),
+        ("hex", Reading::Asked(asked)) => push_shown(of, asked, true, text),
+        ("writes", Reading::Asked(asked)) => push_writes(of, asked, text),
+        _ => known(None),
+    }
+}
+
+fn read<S: Source>(of: &Asking<'_>, source: &S, reading: Reading<'_>) -> Result<(), SectionError> {
+    match reading {
+        Reading::Sections => read_sections(of, source)?,
+        Reading::Asked(asked) => return parts(of.alloc, of.kind, source, asked).ended,
+        Reading::Functions(which, name) => {
+            let _ = read_by(of.alloc, source, which, name)?;
+        }
+        Reading::AllFunctions(which) => {
+            let _ = read_all(of.alloc, source, which)?;
+        }
+    }
+    Ok(())
+}
+
+fn read_sections<S: Source>(of: &Asking<'_>, source: &S) -> Result<(), SectionError> {
+    match of.kind {
+        File::Elf(layout) if layout.is_64() => {
+            let _ = elf64::read_sections(of.alloc, source, layout.order())?;
+        }
+        File::Elf(layout) => {
+            let _ = elf32::read_sections(of.alloc, source, layout.order())?;
+        }
+        File::Macho => {
+            let _ = macho::read_sections(of.alloc, source)?;
+        }
+        File::Pe => {
+            let _ = pe::read_sections(of.alloc, source)?;
+        }
+    }
+    Ok(())
+}
+
+// How the reading of a source ends.
+fn ended(of: &Asking<'_>, source: &Noted<'_>, reading: Reading<'_>) -> io::Result<Vec<u8>> {
+    words_of(of.alloc, &read(of, source, reading), "read")
+}
+
+// How the reading ends, and the calls of the source.
+fn push_calls(of: &Asking<'_>, reading: Reading<'_>, text: &mut Vec<u8>) -> io::Result<()> {
+    let source = Noted::of(of.alloc, of.file);
+    text.extend_from_slice(&ended(of, &source, reading)?)?;
+    for call in &source.calls.into_inner() {
+        match call {
+            None => push_words(text, " length")?,
+            Some((offset, size)) => write!(text, " {offset}+{size}")?,
+        }
+    }
+    Ok(())
+}
+
+// How the reading ends if the source gives the parts of the question alone, and if it gives all of them but one.
+fn push_withheld(of: &Asking<'_>, reading: Reading<'_>, text: &mut Vec<u8>) -> io::Result<()> {
+    let parts = numbers(of.alloc, of.parts, false)?;
+    push_runs(of.alloc, text, parts.len().saturating_add(1), |i| {
+        let source = Noted {
+            given: Some(&parts),
+            withheld: i.checked_sub(1),
+            ..Noted::of(of.alloc, of.file)
+        };
+        ended(of, &source, reading)
+    })
+}
+
+const ERRORS: [ErrorKind; 5] = [
+    ErrorKind::Other,
+    ErrorKind::UnexpectedEof,
+    ErrorKind::Unsupported,
+    ErrorKind::Interrupted,
+    ErrorKind::OutOfMemory,
+];
+
+// How many calls are made, and how the reading ends if the source fails from one of them on, each in turn.
+fn push_failing(of: &Asking<'_>, reading: Reading<'_>, text: &mut Vec<u8>) -> io::Result<()> {
+    let source = Noted::of(of.alloc, of.file);
+    let _ = read(of, &source, reading);
+    let count = source.calls.into_inner().len();
+    push_number(text, count as u64)?;
+    push_words(text, "calls")?;
+    for error in ERRORS {
+        push_words(text, "; ")?;
+        push_runs(of.alloc, text, count, |answered| {
+            let source = Noted {
+                answered,
+                error,
+                ..Noted::of(of.alloc, of.file)
+            };
+            ended(of, &source, reading)
+        })?;
+    }
+    Ok(())
+}
+
+// How the reading ends if the file becomes shorter after its length was given: by how many bytes are left.
+fn push_shorter(of: &Asking<'_>, reading: Reading<'_>, text: &mut Vec<u8>) -> io::Result<()> {
+    push_runs(of.alloc, text, of.file.len(), |count| {
+        let source = Noted {
+            bytes: first_bytes(of.file, count),
+            ..Noted::of(of.alloc, of.file)
+        };
+        ended(of, &source, reading)
+    })
+}
+
+// Whether a source gives the answer that the bytes of a file give.
+fn compared<S: Source>(
+    of: &Asking<'_>,
+    file: &[u8],
+    source: &S,
+    asked: Asked<'_>,
+) -> io::Result<Vec<u8>> {
+    let is_same = whole(of.alloc, of.kind, file, asked) == parts(of.alloc, of.kind, source, asked);
+    words_of(of.alloc, &Ok(()), if is_same { "same" } else { "other" })
+}
+
+// The answers where a file becomes longer after its length was given, which must be those of its bytes up to there.
+fn push_longer(of: &Asking<'_>, asked: Asked<'_>, text: &mut Vec<u8>) -> io::Result<()> {
+    push_runs(of.alloc, text, of.file.len(), |count| {
+        let source = Noted {
+            length: count as u64,
+            ..Noted::of(of.alloc, of.file)
+        };
+        compared(of, first_bytes(of.file, count), &source, asked)
+    })
+}
+
+// The answers to each number of the first bytes of a file.
+fn push_prefixes(of: &Asking<'_>, asked: Asked<'_>, text: &mut Vec<u8>) -> io::Result<()> {
+    push_runs(of.alloc, text, of.file.len().saturating_add(1), |count| {
+        let part = first_bytes(of.file, count);
+        compared(of, part, &part, asked)
+    })
+}
+
+// Bytes that are written over others: none, the least, and the greatest of each width.
+const BYTES: [&[u8]; 5] = [&[0], &[1], &[0xFF; 2], &[0xFF; 4], &[0xFF; 8]];
+
+// The answers where these bytes are at an offset, each in turn.
+fn push_changed(of: &Asking<'_>, asked: Asked<'_>, text: &mut Vec<u8>) -> io::Result<()> {
+    for bytes in BYTES {
+        push_runs(of.alloc, text, of.file.len(), |offset| {
+            let file = patched(of.alloc, of.file, &[(offset, bytes)])?;
+            compared(of, &file, &file.as_slice(), asked)
+        })?;
+        push_words(text, "; ")?;
+    }
+    Ok(())
+}

@@ -100,12 +100,6 @@ impl<T> Vec<T> {
         self.0.truncate(len);
     }
 
-    /// The last item, which is removed, if there is one.
-    #[inline]
-    pub fn pop(&mut self) -> Option<T> {
-        self.0.pop()
-    }
-
     /// Removes all items.
     #[inline]
     pub fn clear(&mut self) {

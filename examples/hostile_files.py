@@ -1,37 +1,24 @@
 #!/usr/bin/env python3
-"""Writes hostile files: hostile_files.py FOLDER COUNT. They are the small files of crates/test_samples with their magic
-numbers, each with bytes changed or cut, the same at every run; and one ELF file with ten hostile names for each file."""
+"""Writes hostile files: hostile_files.py FOLDER COUNT. They are those of rust/samples, each with bytes changed or cut, the
+same at every run; and one ELF file with ten hostile names for each file."""
 
 import os
 import random
-import re
 import struct
 import sys
 
 TOP = os.path.dirname(os.path.dirname(os.path.abspath(__file__)))
-MAGIC = {"MACHO": b"\xCF\xFA\xED\xFE", "PE": b"MZ"}
 PARTS = [b"_R", b"_ZN", b"Nv", b"C", b"I", b"T", b"E", b"B_", b"B2_", b"s_", b"u30____7hkackfecea1cbdathfdh9hlq6y", b"Kj7b_", b"F", b"DEL_",
          b"3foo", b"1a", b"17h05af221e174051e9", b"$LT$", b"$u3b1$", b"..", b".llvm.", b"9D1C", b"@@", b":", b"\xC3\xA9", b"\n", b"\xFF", b"9" * 20]
 
 
 def samples():
+    folder = f"{TOP}/rust/samples"
     found = []
-    for name in ("elf", "macho", "pe"):
-        with open(f"{TOP}/crates/test_samples/src/{name}.rt", encoding="utf-8") as file:
-            text = file.read()
-        for it in re.finditer(r"pub static (\w+): \[u8; (\d+)\] = \[(.*?)\];", text, re.S):
-            numbers = re.sub(r"//.*", "", it[3]).replace(",", " ").split()
-            data = bytearray(number(n) for n in numbers)
-            assert len(data) == int(it[2]), it[1]
-            data[: len(MAGIC.get(it[1], b""))] = MAGIC.get(it[1], b"")
-            found.append(bytes(data))
+    for name in sorted(os.listdir(folder)):
+        with open(f"{folder}/{name}", "rb") as file:
+            found.append(file.read())
     return found
-
-
-def number(word):
-    if word.startswith("b'"):
-        return ord(word[2])
-    return int(word, 0)
 
 
 def changed(data, rng):

@@ -73,6 +73,15 @@ pub(crate) fn first_in<'a>(
     sections: Sections<'a>,
     name: &str,
 ) -> Result<Option<Section<'a>>, ParseError> {
+    match sections {
+        Sections::Elf32(sections) => sections.first_named(name),
+        Sections::Elf64(sections) => sections.first_named(name),
+        sections => first_of(sections, name),
+    }
+}
+
+// The same by the sections' names as they are read.
+fn first_of<'a>(sections: Sections<'a>, name: &str) -> Result<Option<Section<'a>>, ParseError> {
     for section in sections {
         let section = section?;
         if is_named(&section, name) {

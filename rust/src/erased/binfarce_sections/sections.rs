@@ -137,6 +137,19 @@ impl<'a> Elf32Sections<'a> {
             None => None,
         }
     }
+
+    // The first section with this name, of those that are left. Names are compared and not read whole, since many long
+    // ones can share their bytes.
+    pub(crate) fn first_named(self, name: &str) -> Result<Option<Section<'a>>, ParseError> {
+        let Elf32Sections { names, left } = self;
+        for section in left {
+            let section = section?;
+            if is_elf32_named(&names, &section, name) {
+                return Ok(Some(elf32_section(&names, section)));
+            }
+        }
+        Ok(None)
+    }
 }
 
 impl<'a> Elf64Sections<'a> {
@@ -147,6 +160,19 @@ impl<'a> Elf64Sections<'a> {
             Some(Err(e)) => Some(Err(e)),
             None => None,
         }
+    }
+
+    // The first section with this name, of those that are left. Names are compared and not read whole, since many long
+    // ones can share their bytes.
+    pub(crate) fn first_named(self, name: &str) -> Result<Option<Section<'a>>, ParseError> {
+        let Elf64Sections { names, left } = self;
+        for section in left {
+            let section = section?;
+            if is_elf64_named(&names, &section, name) {
+                return Ok(Some(elf64_section(&names, section)));
+            }
+        }
+        Ok(None)
     }
 }
 
@@ -184,6 +210,13 @@ fn elf32_name<'a>(names: &Elf32Names<'a>, section: &elf32::Section) -> Option<&'
     }
 }
 
+fn is_elf32_named(names: &Elf32Names<'_>, section: &elf32::Section, name: &str) -> bool {
+    match names {
+        Elf32Names::File(file) => section.is_named(file, name),
+        Elf32Names::Parts(parts) => parts.is_named(section, name),
+    }
+}
+
 fn elf64_section<'a>(names: &Elf64Names<'a>, section: elf64::Section) -> Section<'a> {
     Section {
         segment: None,
@@ -199,6 +232,13 @@ fn elf64_name<'a>(names: &Elf64Names<'a>, section: &elf64::Section) -> Option<&'
     match names {
         Elf64Names::File(file) => section.name(file),
         Elf64Names::Parts(parts) => parts.name(section),
+    }
+}
+
+fn is_elf64_named(names: &Elf64Names<'_>, section: &elf64::Section, name: &str) -> bool {
+    match names {
+        Elf64Names::File(file) => section.is_named(file, name),
+        Elf64Names::Parts(parts) => parts.is_named(section, name),
     }
 }
 

@@ -39,9 +39,9 @@ what="what cargo builds, by a link, from another folder, below a prefix with a s
 prefix="$scratch/an empty prefix"
 ln -s "$PWD/install" "$scratch/link"
 (cd / && "$scratch/link" "$prefix")
-pages="$(for name in $programs; do echo "bin/$name share/man/man1/$name.1"; done) share/bash-completion/completions/binfarce"
 library="include/binfarce.h lib/libbinfarce.a lib/libbinfarce.so lib/libbinfarce.so.0 lib/pkgconfig/binfarce.pc"
-installed=$(printf '%s\n' $pages $library | LC_ALL=C sort)
+pages=$(for name in $programs; do echo "bin/$name share/man/man1/$name.1"; done)
+installed=$(printf '%s\n' $library $pages share/bash-completion/completions/binfarce | LC_ALL=C sort)
 holds "$prefix" "$installed"
 sample=crates/binfarce_list/data/e-elf64-little.bin
 "$prefix/bin/binfarce-list" "$sample" | cmp - crates/binfarce_list/stdout || fail "another listing"
@@ -63,20 +63,17 @@ DESTDIR="$scratch/package" runs 0 "" ./install
 holds "$scratch/package" "$(echo "$installed" | sed 's|^|usr/local/|')"
 grep -qx prefix=/usr/local "$scratch/package/usr/local/lib/pkgconfig/binfarce.pc" || fail "the pkg-config file names another prefix"
 
-what="wrong calls"
+what="wrong calls, and what can't be written or built"
 for script in install uninstall; do
     runs 2 "$script: PREFIX must begin with a slash, and is here" "./$script" here
     runs 2 "usage: $script [PREFIX]" "./$script" /a /b
 done
-what="no folder can be made"
 echo >"$scratch/file"
 runs 1 "install: cannot write to $scratch/file/bin" ./install "$scratch/file"
-what="a folder with a program's name"
 mkdir -p "$scratch/taken/bin/binfarce-list/.keep"
 runs 1 "install: cannot write $scratch/taken/bin/binfarce-list" ./install "$scratch/taken"
 runs 1 "uninstall: cannot remove $scratch/taken/bin/binfarce-list" ./uninstall "$scratch/taken"
 holds "$scratch/taken" ""
-what="a build that fails, and a program that isn't built"
 printf '#!/bin/sh\necho "error: no" >&2\nexit 101\n' >"$scratch/cargo"
 chmod +x "$scratch/cargo"
 export PATH="$scratch:$PATH"

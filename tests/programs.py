@@ -13,9 +13,6 @@ import subprocess
 import sys
 import tempfile
 
-def stored(path):
-    return pathlib.Path(path).read_text()
-
 def printed(*command, given=None):
     return subprocess.run(command, input=given, capture_output=True, check=True).stdout.decode()
 
@@ -51,11 +48,12 @@ def answers(answer, line, *words):
 signal.alarm(300)
 folder, temporary = pathlib.Path(sys.argv[1]).resolve(), tempfile.TemporaryDirectory()
 os.chdir(pathlib.Path(__file__).resolve().parent.parent)
-sample, names, scratch = "crates/binfarce_list/data/e-elf64-little.bin", "tests/runs/filter.stdin", temporary.name
-blanks, large, sparse, truncated, missing = (f"{scratch}/{it}" for it in (" a  file ", "large", "sparse", "truncated", "missing"))
-data = pathlib.Path(sample).read_bytes()
-for path, bytes_of_it in ((blanks, data), (large, data + bytes(1 << 22)), (sparse, data), (truncated, data[:395])):
-    pathlib.Path(path).write_bytes(bytes_of_it)
+sample, scratch = "crates/binfarce_list/data/e-elf64-little.bin", temporary.name
+blanks, large, sparse, truncated, names, missing = (f"{scratch}/{it}" for it in (" a  file ", "large", "sparse", "cut", "names", "none"))
+data, text = pathlib.Path(sample).read_bytes(), pathlib.Path("tests/runs/filter").read_text()
+mangled = text.format("_ZN3foo3bar17h05af221e174051e9E", "_RNvC1a1b", "_RNvNtCsjrHSEGnQ3l9_3std7process5abort").encode()
+for path, content in ((blanks, data), (large, data + bytes(1 << 22)), (sparse, data), (truncated, data[:395]), (names, mangled)):
+    pathlib.Path(path).write_bytes(content)
 os.truncate(sparse, 8 << 30)
 # Files whose length isn't the number of their bytes. One of /proc has length 0 and the sample's bytes: the words of a program that
 # waits, with a zero byte after each. One of /sys has length 4096 and a few digits.
@@ -64,7 +62,7 @@ waiting.stdout.read(1)
 of_proc, of_sys = f"/proc/{waiting.pid}/cmdline", "/sys/kernel/uevent_seqnum"
 same = (sample, large, blanks, of_proc)
 
-outputs = {command: stored(f"crates/binfarce_{command}/stdout") for command in ("list", "size")}
+outputs = {command: pathlib.Path(f"crates/binfarce_{command}/stdout").read_text() for command in ("list", "size")}
 for command, output in outputs.items():
     program = f"binfarce-{command}"
     fails(f"{program}: write failed", 1, f"{program}: write failed", program, sample)
@@ -78,7 +76,9 @@ for command, output in outputs.items():
         ends(2, "", f"usage: {program} FILE [SECTION]", program, *words)
 
 full, lost = "binfarce: standard output: No space left on device", f"binfarce: {missing}: No such file or directory"
-outputs.update((command, stored(f"tests/runs/{command}.stdout")) for command in ("map", "section"))
+sections = ((64, 0, ""), (64, 32, ".text"), (96, 120, ".symtab"), (216, 18, ".strtab"), (234, 33, ".shstrtab"))
+outputs["section"] = "".join(f"{0:016x} {offset:10} {size:10} {name}\n" for offset, size, name in sections)
+outputs["map"] = pathlib.Path("tests/runs/map.stdout").read_text()
 for command, output in outputs.items():
     call, shows = ("binfarce", command), f"binfarce {command} --help shows"
     fails(full, 0, "", *call, sample)
@@ -90,15 +90,15 @@ for command, output in outputs.items():
         ends(1, "", f"binfarce: {path}: unknown file format", *call, path)
     ends(2, "", f"binfarce: no file; {shows} how it is called", *call)
     ends(2, "", f"binfarce: no option --frob of {command}; {shows} them", *call, "--frob", sample)
-    text = printed(folder / "binfarce", command, "--help")
-    ends(0, text, "", "binfarce", "help", command)
-    assert re.search(f"^usage: binfarce {command} ", text, re.M), text
+    usage = printed(folder / "binfarce", command, "--help")
+    ends(0, usage, "", "binfarce", "help", command)
+    assert re.search(f"^usage: binfarce {command} ", usage, re.M), usage
     if command != "section":
         ends(0, output, "", *call, "--section", ".text", sample)
         ends(1, "", f"binfarce: {sample}: symbols section is missing", *call, sample, "--section=.data")
         both = "".join(f"\n{path}:\n{output}" for path in (sample, blanks))
         ends(1, both, lost, *call, sample, missing, blanks)
-version = re.search(r'^version = "(.*)"$', stored("rust/Cargo.toml"), re.M)[1]
+version = re.search(r'^version = "(.*)"$', pathlib.Path("rust/Cargo.toml").read_text(), re.M)[1]
 ends(0, f"binfarce {version}\n", "", "binfarce", "--version")
 ends(0, printed(folder / "binfarce", "--help"), "", "binfarce", "help")
 ends(2, "", "binfarce: no command; binfarce --help shows them", "binfarce")
@@ -117,7 +117,7 @@ ends(2, "", "binfarce: one argument too many: more", "binfarce", "section", samp
 
 # Names on standard input, and as arguments.
 fails(full, 0, "", "binfarce", "filter", given=names)
-ends(0, stored("tests/runs/filter.stdout"), "", "binfarce", "filter", given=names)
+ends(0, text.format("foo::bar", "a::b", "std::process::abort"), "", "binfarce", "filter", given=names)
 ends(1, "", "binfarce: standard input: Is a directory", "binfarce", "filter", given=scratch)
 ends(2, "", "binfarce: no option --half of filter; the nearest is --help", "binfarce", "filter", "--half", given=names)
 words = ("_RNvC1a1b", "--full", "_ZN3foo3bar17h05af221e174051e9E", "--", "-x")
@@ -125,19 +125,18 @@ ends(0, "a[0]::b\nfoo::bar::h05af221e174051e9\n-x\n", "", "binfarce", "filter", 
 answers("in a::b\n", b"in _RNvC1a1b\n", "filter")
 
 # Addresses as arguments, and on standard input.
-output, addresses = stored("tests/runs/at.stdout"), ("1000", "0x1005", "100f", "1010", "0fff")
+found = ((0x1000, "foo+0x0"), (0x1005, "foo+0x5"), (0x100f, "foo+0xf"), (0x1010, "??"), (0xfff, "??"))
+output, moved = ("".join(f"{base + address:016x} {answer}\n" for address, answer in found) for base in (0, 0x400000))
 fails(full, 0, "", "binfarce", "at", sample, "1000")
 for path in (*same, "-"):
-    ends(0, output, "", "binfarce", "at", path, *addresses, given=sample)
+    ends(0, output, "", "binfarce", "at", path, "1000", "0x1005", "100f", "1010", "0fff", given=sample)
 for path in same:
     ends(0, output, "", "binfarce", "at", path, given=b"1000\n0X1005\r\n 100f\n1010\n0fff")
-moved, addresses = output.replace("000000000000", "000000000040"), ("401000", "401005", "40100f", "401010", "400fff")
-ends(0, moved, "", "binfarce", "at", "--base", "400000", sample, *addresses)
-ends(0, moved, "", "binfarce", "at", "--base=400000", sample, given="".join(f"{it}\n" for it in addresses).encode())
-first, second = output.splitlines()[:2]
-lines, some = f"{first}\n??\n{second}\n??\n", b"1000\nno\n1005\n" + bytes(100_000)
-ends(2, lines, "binfarce: 2 lines without an address", "binfarce", "at", sample, given=some)
-answers(f"{first}\n", b"1000\n", "at", sample)
+ends(0, moved, "", "binfarce", "at", "--base", "400000", sample, "401000", "401005", "40100f", "401010", "400fff")
+ends(0, moved, "", "binfarce", "at", "--base=400000", sample, given=b"401000\n401005\n40100f\n401010\n400fff\n")
+lines, bad = f"{0x1000:016x} foo+0x0\n??\n{0x1005:016x} foo+0x5\n??\n", b"1000\nno\n1005\n" + bytes(100_000)
+ends(2, lines, "binfarce: 2 lines without an address", "binfarce", "at", sample, given=bad)
+answers(f"{0x1000:016x} foo+0x0\n", b"1000\n", "at", sample)
 ends(1, "", "binfarce: standard input: Is a directory", "binfarce", "at", sample, given=scratch)
 ends(1, "", lost, "binfarce", "at", missing, "1000")
 ends(2, "", "binfarce: not an address: 10g", "binfarce", "at", sample, "1000", "10g")

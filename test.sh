@@ -1,9 +1,7 @@
 #!/bin/sh
-# Runs all tests; the last line is `N passed, 0 failed`.
-#
-# First what takes seconds. Then the kit's gate, `rt ci`, in this checkout: it proves each crate and its tests, tries each wrong
-# body, and runs the tests and the programs. Beside it runs what needs no proof. Last come the programs, proved and plain, side by
-# side.
+# Runs all tests; the last line is `N passed, 0 failed`. First what takes seconds. Then the kit's gate, `rt ci`: it proves each crate
+# and its tests, tries each wrong body, and runs the tests and the programs. Beside it runs what needs no proof. Last come the
+# programs, proved and plain, side by side.
 set -eu
 cd "$(dirname "$0")"
 [ $# -eq 0 ] || { echo "usage: ./test.sh" >&2; exit 2; }
@@ -13,8 +11,7 @@ missing=$(for tool in $tools; do command -v "$tool" >/dev/null || echo "$tool"; 
 [ -z "$missing" ] || { echo "test.sh: these tools are missing:" $missing; exit 1; }
 
 scratch=$(mktemp -d) beside=
-trap '[ -z "$beside" ] || kill -- "-$beside" 2>/dev/null || true; rm -rf "$scratch"' EXIT
-trap 'exit 130' HUP INT TERM
+trap '[ -z "$beside" ] || kill -- "-$beside" 2>/dev/null || true; rm -rf "$scratch"' EXIT; trap 'exit 130' HUP INT TERM
 fail() { echo "test.sh: failed: $*"; exit 1; }
 
 echo "commit $(git rev-parse HEAD 2>/dev/null)"

@@ -1,10 +1,9 @@
 #!/usr/bin/env python3
-"""Runs each program as it was proved and as cargo builds it side by side: on hostile files and names, and with random arguments
-and streams. Standard output, standard error and status must be the same byte for byte; the status is 1 where they aren't. Not
-compared is what a closed standard input or output does: Rust's runtime opens /dev/null in its place. What is random is the same
-in every run.
+"""tests/erased.py PROVED ERASED: runs the programs of both folders, as they were proved and as cargo builds them.
 
-    tests/erased.py PROVED ERASED     two folders with the programs
+On hostile files and names, and with random arguments and streams, the same in every run, they must have the same standard output,
+standard error and status; else the status is 1. Not compared is what a closed standard input or output does: Rust's runtime opens
+/dev/null in its place.
 """
 import concurrent.futures
 import os
@@ -18,7 +17,7 @@ import tempfile
 
 TOP = pathlib.Path(__file__).resolve().parent.parent
 FILES, NAMES = 2_000, 20_000
-failed, rng, temporary = 0, random.Random(1), tempfile.TemporaryDirectory()
+failed, rng, temporary = [], random.Random(1), tempfile.TemporaryDirectory()
 
 def ended(folder, call, given=b"", streams=""):
     """How a call ends: its status, and what it writes. `streams` is how a shell changes them, as `>/dev/full`."""
@@ -27,16 +26,13 @@ def ended(folder, call, given=b"", streams=""):
     run = subprocess.run(words, capture_output=True, timeout=120, input=given)
     return run.returncode, run.stdout, run.stderr
 
-def differs(row):
-    proved, erased = (ended(folder, *row) for folder in sys.argv[1:3])
-    return "" if proved == erased else f"{row[0]} {row[2:]}: proved {str(proved)[:200]}, erased {str(erased)[:200]}"
-
 def compare(what, rows):
-    """How many calls differ."""
+    both = lambda row: [ended(folder, *row) for folder in sys.argv[1:3]]
     with concurrent.futures.ThreadPoolExecutor(os.cpu_count()) as pool:
-        different = [line for line in pool.map(differs, rows) if line]
+        different = [f"{row[0]} {row[2:]}: proved {str(proved)[:200]}, erased {str(erased)[:200]}"
+                     for row, (proved, erased) in zip(rows, pool.map(both, rows)) if proved != erased]
     print(*different[:10], f"{what}: {len(rows) - len(different)} passed, {len(different)} failed", sep="\n", flush=True)
-    return len(different)
+    failed.extend(different)
 
 def changed(data, parts, most):
     """Bytes of which some are replaced by parts, or left out."""
@@ -62,9 +58,9 @@ numbers += [b"", b"\x80", b"\0\0\0\x80", b"\x80\0\0\0", *(b"\xff" * width for wi
 paths = [scratch / str(at) for at in range(FILES)]
 for path in paths:
     path.write_bytes(changed(path.read_bytes(), numbers, 2))
-failed += compare("hostile files", [row for at in range(FILES) for row in on_files(paths[at : at + 4])])
+compare("hostile files", [row for at in range(FILES) for row in on_files(paths[at : at + 4])])
 own = [f"{folder}/binfarce" for folder in sys.argv[1:3] * 3]
-failed += compare("the programs' own files", [row for path in own for row in on_files([path])])
+compare("the programs' own files", [row for path in own for row in on_files([path])])
 
 # Mangled names of the tests and random ones, most of them changed.
 real = subprocess.run([TOP / "bench/random-names.py", "2000", "7"], capture_output=True, check=True).stdout.split()
@@ -80,7 +76,7 @@ rows = [(["list", hostile],), (["size", hostile],), (["map", hostile],), (["at",
 rows += [(["filter"], text), (["filter", "--full"], text)]
 rows += [(["filter", *rng.choice([[], ["--full"]])], b"\n".join(names[at : at + 50])) for at in range(0, NAMES, 50)]
 rows += [(["filter"], b"in _R" + b"a" * size + b" _RNvC1a1b") for size in (2**16, 2**20 - 2, 2**20 - 1, 2**20)]
-failed += compare(f"texts of {NAMES} hostile names", rows)
+compare(f"texts of {NAMES} hostile names", rows)
 
 sample = TOP / "crates/binfarce_list/data/e-elf64-little.bin"
 words = [sample, sample, sample, "1000", "--section", "--section=.text", ".text", "--all", "--dynamic", "--base", "--base=x",
@@ -91,5 +87,5 @@ streams = ["", "", ">/dev/full", "2>&-", "2>/dev/full", "</dev/null", f"<{scratc
 calls = ["binfarce", "binfarce-list", "binfarce-size", "list", "size", "map", "section", "at", "filter"]
 rows = [([call, *rng.choices(words, k=rng.randrange(5))], rng.choice(inputs), rng.choice(streams)) for call in calls * 100]
 rows += [([call, path], None, "<&-") for call in calls[1:7] for path in (sample, scratch / "missing")]
-failed += compare("random arguments and streams", rows)
+compare("random arguments and streams", rows)
 sys.exit(1 if failed else 0)

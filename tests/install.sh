@@ -4,8 +4,7 @@
 set -eu
 cd "$(dirname "$0")/.."
 scratch=$(mktemp -d)
-trap 'rm -rf "$scratch"' EXIT
-trap 'exit 130' HUP INT TERM
+trap 'rm -rf "$scratch"' EXIT; trap 'exit 130' HUP INT TERM
 
 fail() { echo "install: $what: $*" >&2; exit 1; }
 # holds FOLDER FILES: these are all files below this folder.

@@ -1,14 +1,11 @@
 #!/usr/bin/env python3
-"""Runs the programs where no stored run can: with a full device or a closed pipe for standard output, on large files (one of 8 GiB
-in little memory), on a path with blanks, a pipe, files of /proc and /sys, a folder, a missing file, several files, and with
-wrong calls. The status is 1 where one ends otherwise than it must.
-
-    tests/programs.py FOLDER     a folder with the programs
+"""tests/programs.py FOLDER: runs the programs of this folder where no stored run can; the status is 1 where one ends otherwise than
+it must. Standard output is a full device or a closed pipe. They read large files (one of 8 GiB in little memory), a path with
+blanks, a pipe, files of /proc and /sys, a folder, a missing file and several files, and are called wrongly.
 """
 import os
 import pathlib
 import re
-import signal
 import subprocess
 import sys
 import tempfile
@@ -17,8 +14,7 @@ def printed(*command, given=None):
     return subprocess.run(command, input=given, capture_output=True, check=True).stdout.decode()
 
 def ends(status, output, line, program, *words, given="/dev/null", to=subprocess.PIPE, under=()):
-    """It must end with this status, and write this output and, to standard error, this line or nothing. Given is a file, or bytes
-    in a pipe."""
+    """It must end with this status, this output, and this line or none on standard error. Given is a file, or bytes in a pipe."""
     streams = {"input": given} if isinstance(given, bytes) else {"stdin": os.open(given, os.O_RDONLY)}
     run = subprocess.run([*under, folder / program, *words], stdout=to, stderr=subprocess.PIPE, **streams)
     ended, wanted = (run.returncode, run.stdout or b"", run.stderr), (status, output.encode(), f"{line}\n".lstrip("\n").encode())
@@ -33,7 +29,7 @@ def fails(line, pipe_status, pipe_line, *call, given="/dev/null"):
     ends(pipe_status, "", pipe_line, *call, given=given, to=writer)
 
 def reads(output, *call):
-    """It writes this of each file that holds the sample, which comes after the arguments."""
+    """It writes this of each file with the sample's bytes, which comes last."""
     for path in same:
         ends(0, output, "", *call, path)
     ends(0, output, "", *call, "/dev/stdin", given=large)
@@ -41,11 +37,11 @@ def reads(output, *call):
 
 def answers(answer, line, *words):
     """The answer to a line must be there while its writer still waits."""
-    with subprocess.Popen([folder / "binfarce", *words], stdin=subprocess.PIPE, stdout=subprocess.PIPE, bufsize=0) as run:
+    call = ["timeout", "60", folder / "binfarce", *words]
+    with subprocess.Popen(call, stdin=subprocess.PIPE, stdout=subprocess.PIPE, bufsize=0) as run:
         run.stdin.write(line)
         assert run.stdout.readline() == answer.encode(), f"{words}: another answer to {line}"
 
-signal.alarm(300)
 folder, temporary = pathlib.Path(sys.argv[1]).resolve(), tempfile.TemporaryDirectory()
 os.chdir(pathlib.Path(__file__).resolve().parent.parent)
 sample, scratch = "crates/binfarce_list/data/e-elf64-little.bin", temporary.name
@@ -55,8 +51,7 @@ mangled = text.format("_ZN3foo3bar17h05af221e174051e9E", "_RNvC1a1b", "_RNvNtCsj
 for path, content in ((blanks, data), (large, data + bytes(1 << 22)), (sparse, data), (truncated, data[:395]), (names, mangled)):
     pathlib.Path(path).write_bytes(content)
 os.truncate(sparse, 8 << 30)
-# Files whose length isn't the number of their bytes. One of /proc has length 0 and the sample's bytes: the words of a program that
-# waits, with a zero byte after each. One of /sys has length 4096 and a few digits.
+# Files whose length isn't the number of their bytes: the words of a program that waits, with a zero byte after each; a few digits.
 waiting = subprocess.Popen(data.split(b"\0"), executable="yes", stdout=subprocess.PIPE)
 waiting.stdout.read(1)
 of_proc, of_sys = f"/proc/{waiting.pid}/cmdline", "/sys/kernel/uevent_seqnum"
@@ -68,17 +63,16 @@ for command, output in outputs.items():
     fails(f"{program}: write failed", 1, f"{program}: write failed", program, sample)
     reads(output, program)
     ends(1, "", f"{program}: symbols section is missing", program, large, ".data")
-    for path in (of_sys, "/dev/null"):
-        ends(1, "", f"{program}: unknown file format", program, path)
-    for path in (scratch, missing):
-        ends(1, "", f"{program}: cannot read file", program, path)
+    unknown, unread = "unknown file format", "cannot read file"
+    for path, line in ((of_sys, unknown), ("/dev/null", unknown), (scratch, unread), (missing, unread)):
+        ends(1, "", f"{program}: {line}", program, path)
     for words in ([], [sample, ".text", "more"]):
         ends(2, "", f"usage: {program} FILE [SECTION]", program, *words)
 
 full, lost = "binfarce: standard output: No space left on device", f"binfarce: {missing}: No such file or directory"
 sections = ((64, 0, ""), (64, 32, ".text"), (96, 120, ".symtab"), (216, 18, ".strtab"), (234, 33, ".shstrtab"))
 outputs["section"] = "".join(f"{0:016x} {offset:10} {size:10} {name}\n" for offset, size, name in sections)
-outputs["map"] = pathlib.Path("tests/runs/map.stdout").read_text()
+outputs["map"] = re.search(r"(?s)map \.text of elf\n(.*?\n</svg>\n)", pathlib.Path("crates/test_formats/stdout").read_text())[1]
 for command, output in outputs.items():
     call, shows = ("binfarce", command), f"binfarce {command} --help shows"
     fails(full, 0, "", *call, sample)
@@ -150,8 +144,7 @@ rows = re.findall(r": (\w+) +(?!0 )\w+ FUNC +\w+ +\w+ +(\d+)", printed("readelf"
 for option, starts in (((), [it[0] for it in rows if it[1] == code] + ["text"]), (("--all",), [it[0] for it in rows])):
     lines = printed(folder / "binfarce", "list", "--dynamic", *option, stripped).splitlines()
     assert [it.split()[0] for it in lines] == starts, "other dynamic symbols than those of readelf"
-lacks = f"binfarce: {stripped}: no symbol table (.symtab); --dynamic lists its dynamic symbols"
-ends(1, "", lacks, "binfarce", "list", stripped)
+ends(1, "", f"binfarce: {stripped}: no symbol table (.symtab); --dynamic lists its dynamic symbols", "binfarce", "list", stripped)
 
 # The symbols of all sections, in an object file with a section for each function, as readelf has them.
 file, functions = f"{scratch}/functions.o", "int f(int x) { return x; } int g(int x) { return x * x; } int h(int x) { return f(x) - g(x); }"

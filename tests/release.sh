@@ -28,8 +28,7 @@ runs() {
         [ -s "$scratch/page" ] && cmp "$scratch/log" /dev/null || exit 1
     done
 }
-# builds LIBRARIES [WORD]: a client in C by what `pkg-config [WORD]` says, over the shared library here, and linked statically in
-# the chroot.
+# builds LIBRARIES [WORD]: a client in C as `pkg-config [WORD]` says, over the shared library here, and static in the chroot.
 builds() {
     export PKG_CONFIG_LIBDIR="$1/pkgconfig"
     eval "gcc examples/symbols.c -o '$scratch/client' $(pkg-config ${2:+"$2"} --cflags --libs binfarce)"

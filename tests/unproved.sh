@@ -1,20 +1,14 @@
 #!/bin/sh
 # Tries, in a copy of the repository, what needs no proof: each failed allocation (crates/test_memory/refused.sh), and programs
-# that the borrow checker must refuse.
-#
-# These are crates/NAME/must-not-compile/WHAT_outlives_WHAT.txt, which call the crate NAME. Their twins, WHAT_within_WHAT.txt,
-# are the same code without the mistake. The twins are modules of one crate, which must be built. The others are modules of
-# another one, and each must be refused with the error that its first line `// wants: ERROR` names, and with no other.
+# that the borrow checker must refuse: crates/NAME/must-not-compile/WHAT_outlives_WHAT.txt, which call the crate NAME. They become
+# modules of a crate, and each must be refused with the error that its first line `// wants: ERROR` names, and with no other. Their
+# twins, WHAT_within_WHAT.txt, are the same code without the mistake, and modules of another crate, which must be built.
 set -eu
 cd "$(dirname "$0")/.."
 scratch=$(mktemp -d)
-trap 'rm -rf "$scratch"' EXIT
-trap 'exit 130' HUP INT TERM
+trap 'rm -rf "$scratch"' EXIT; trap 'exit 130' HUP INT TERM
 
-fail() {
-    echo "unproved.sh: $*"
-    exit 1
-}
+fail() { echo "unproved.sh: $*"; exit 1; }
 # put WORD CRATE: makes the programs with this word in their names modules of a new crate of the copy, with one test.
 put() {
     to="$scratch/copy/crates/$2/src"
@@ -26,8 +20,7 @@ put() {
         echo "mod $module;" >>"$to/lib.rt"
         sed -n "1s|^// wants: |$module |p" "$program" >>"$scratch/wanted"
     done
-    called=$(echo crates/*/must-not-compile | sed 's|crates/||g; s|/must-not-compile||g')
-    echo "$2: $called" >>"$scratch/copy/crates.txt"
+    echo "$2: $(echo crates/*/must-not-compile | sed 's|crates/||g; s|/must-not-compile||g')" >>"$scratch/copy/crates.txt"
 }
 
 alone=$(ls crates/*/must-not-compile/* | sed 's/_within_/_outlives_/' | sort | uniq -u)

@@ -33,10 +33,8 @@ cat "$scratch/plain"
 case $last in *" passed, 0 failed") ;; *) fail "rt ci: $last" ;; esac
 
 mkdir "$scratch/proved"
-cp crates/binfarce_command/out/binfarce_command "$scratch/proved/binfarce"
-for name in list size; do
-    cp "crates/binfarce_$name/out/binfarce_$name" "$scratch/proved/binfarce-$name"
-done
+for name in command list size; do cp "crates/binfarce_$name/out/binfarce_$name" "$scratch/proved/binfarce-$name"; done
+mv "$scratch/proved/binfarce-command" "$scratch/proved/binfarce"
 built="${CARGO_TARGET_DIR:-target}/release"
 for folder in "$scratch/proved" "$built"; do
     tests/programs.py "$folder" || fail "tests/programs.py $folder"

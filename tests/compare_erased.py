@@ -1,8 +1,7 @@
 #!/usr/bin/env python3
-"""Compares the plain Rust in rust/src/erased with the sources in crates/*/src, and shares no code with tools/erase.
-
-Only the forms below may be missing or changed; comments, and commas before a closing bracket, aren't compared. Of any other
-difference the words of both files are printed, the first of each file, and the status is 1.
+"""Compares the plain Rust in rust/src/erased with the sources in crates/*/src, and shares no code with tools/erase. Only the forms
+below may be missing or changed; comments, and commas before a closing bracket, aren't compared. Of any other difference the words
+of both files are printed, the first of each file, and the status is 1.
 """
 import itertools
 import pathlib

@@ -1,9 +1,7 @@
 #!/usr/bin/env python3
-"""tests/erased.py PROVED ERASED: runs the programs of both folders, as they were proved and as cargo builds them.
-
-On hostile files and names, and with random arguments and streams, the same in every run, they must have the same standard output,
-standard error and status; else the status is 1. Not compared is what a closed standard input or output does: Rust's runtime opens
-/dev/null in its place.
+"""tests/erased.py PROVED ERASED: runs the programs of both folders, as they were proved and as cargo builds them, on hostile files
+and names, and with random arguments and streams, the same in every run. Standard output, standard error and status must be the same
+byte for byte; else the status is 1. Not compared is a closed standard input or output: Rust's runtime opens /dev/null in its place.
 """
 import concurrent.futures
 import os
@@ -59,8 +57,7 @@ paths = [scratch / str(at) for at in range(FILES)]
 for path in paths:
     path.write_bytes(changed(path.read_bytes(), numbers, 2))
 compare("hostile files", [row for at in range(FILES) for row in on_files(paths[at : at + 4])])
-own = [f"{folder}/binfarce" for folder in sys.argv[1:3] * 3]
-compare("the programs' own files", [row for path in own for row in on_files([path])])
+compare("the programs' own files", [row for folder in sys.argv[1:3] * 3 for row in on_files([f"{folder}/binfarce"])])
 
 # Mangled names of the tests and random ones, most of them changed.
 real = subprocess.run([TOP / "bench/random-names.py", "2000", "7"], capture_output=True, check=True).stdout.split()

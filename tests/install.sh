@@ -12,13 +12,12 @@ holds() {
     there=$(find "$1" ! -type d -printf '%P\n' | LC_ALL=C sort)
     [ "$there" = "$2" ] || fail "other files: $there"
 }
-# runs STATUS LINE COMMAND..: ends with this status, and writes this line to standard error, if any, and nothing else.
+# runs STATUS LINE COMMAND..: ends with this status, and writes this line, if any, and nothing else.
 runs() {
-    wanted="$1: $2" ended=0
+    wanted="$1: $2"
     shift 2
-    "$@" >"$scratch/output" 2>"$scratch/error" || ended=$?
-    given="$ended: $(cat "$scratch/error" "$scratch/output")"
-    [ "$given" = "$wanted" ] || fail "ended with '$given', and must with '$wanted'"
+    written=$("$@" 2>&1) && ended=0 || ended=$?
+    [ "$ended: $written" = "$wanted" ] || fail "ended with '$ended: $written', and must with '$wanted'"
 }
 
 what="a page for each program"
@@ -34,7 +33,7 @@ for name in $programs; do
 done
 [ "$(ls man/*.1 | wc -l)" -eq "$(echo "$programs" | wc -l)" ] || fail "a page is of no program"
 
-what="what cargo builds, by a link, from another folder, below a prefix with a space"
+what="what cargo builds, by a link, from another folder, below a prefix with a space, and removed again"
 prefix="$scratch/an empty prefix"
 ln -s "$PWD/install" "$scratch/link"
 (cd / && "$scratch/link" "$prefix")
@@ -51,7 +50,6 @@ pkg-config --validate binfarce
 eval "gcc examples/symbols.c -o '$scratch/client' $(pkg-config --cflags --libs binfarce)"
 "$scratch/client" "$sample" | cmp - crates/binfarce_list/stdout || fail "another listing by a client"
 readelf -d "$scratch/client" | grep -q 'NEEDED.*\[libbinfarce\.so\.0\]' || fail "the client asks for another library"
-what="removed again, and nothing else"
 echo mine >"$prefix/bin/other"
 for time in first second; do
     runs 0 "" ./uninstall "$prefix"

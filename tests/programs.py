@@ -37,8 +37,8 @@ def reads(output, *call):
 
 def answers(answer, line, *words):
     """The answer to a line must be there while its writer still waits."""
-    call = ["timeout", "60", folder / "binfarce", *words]
-    with subprocess.Popen(call, stdin=subprocess.PIPE, stdout=subprocess.PIPE, bufsize=0) as run:
+    pipe, call = subprocess.PIPE, ["timeout", "60", folder / "binfarce", *words]
+    with subprocess.Popen(call, stdin=pipe, stdout=pipe, bufsize=0) as run:
         run.stdin.write(line)
         assert run.stdout.readline() == answer.encode(), f"{words}: another answer to {line}"
 
@@ -90,8 +90,7 @@ for command, output in outputs.items():
     if command != "section":
         ends(0, output, "", *call, "--section", ".text", sample)
         ends(1, "", f"binfarce: {sample}: symbols section is missing", *call, sample, "--section=.data")
-        both = "".join(f"\n{path}:\n{output}" for path in (sample, blanks))
-        ends(1, both, lost, *call, sample, missing, blanks)
+        ends(1, "".join(f"\n{path}:\n{output}" for path in (sample, blanks)), lost, *call, sample, missing, blanks)
 version = re.search(r'^version = "(.*)"$', pathlib.Path("rust/Cargo.toml").read_text(), re.M)[1]
 ends(0, f"binfarce {version}\n", "", "binfarce", "--version")
 ends(0, printed(folder / "binfarce", "--help"), "", "binfarce", "help")

@@ -1,10 +1,7 @@
 #!/usr/bin/env python3
-"""Compares the plain Rust in rust/src/erased with the sources in crates/*/src, and shares no code with tools/erase.
-
-    tests/compare_erased.py [TOP]
-
-Only the forms below may be missing or changed; comments, and commas before a closing bracket, aren't compared. Of any other
-difference the words of both files are printed, the first of each file, and the status is 1.
+"""Compares the plain Rust in rust/src/erased with the sources in crates/*/src, and shares no code with tools/erase. Only the forms
+below may be missing or changed; comments, and commas before a closing bracket, aren't compared. Of any other difference the words
+of both files are printed, the first of each file, and the status is 1.
 """
 import itertools
 import pathlib
@@ -92,21 +89,18 @@ def difference(source, erased, own):
         if item[0] not in (GHOSTS if item in wanted else PRELUDE):
             return f"{source if item in wanted else erased} alone has {' '.join(item).translate(SHOWN)}"
 
-def main():
-    top = pathlib.Path(sys.argv[1] if sys.argv[1:] else pathlib.Path(__file__).resolve().parent.parent)
-    folder, differences, compared = top / "rust/src/erased", [], 0
-    left = set(folder.rglob("*.rs")) - {folder / "mod.rs"}
-    for source in sorted(top.glob("crates/*/src/**/*.rt")):
-        own, inner = source.relative_to(top).parts[1], pathlib.Path(*source.relative_to(top).with_suffix("").parts[3:])
-        erased = folder / (f"{own}.rs" if str(inner) in ("lib", "main") else f"{own}/{inner}.rs")
-        if erased in left:
-            left.remove(erased)
-            differences.append(difference(source, erased, own))
-            compared += 1
-        elif (folder / f"{own}.rs").exists() and source.stem != "laws":
-            differences.append(f"{source} is missing in {folder}")
-    differences = [*filter(None, differences), *(f"{path} is made of no source" for path in sorted(left))]
-    print(*differences, f"{compared} files compared, {len(differences)} differences", sep="\n")
-    sys.exit(1 if differences or not compared else 0)
-
-main()
+TOP = pathlib.Path(__file__).resolve().parent.parent
+FOLDER, differences, compared = TOP / "rust/src/erased", [], 0
+left = set(FOLDER.rglob("*.rs")) - {FOLDER / "mod.rs"}
+for source in sorted(TOP.glob("crates/*/src/**/*.rt")):
+    own, inner = source.relative_to(TOP).parts[1], pathlib.Path(*source.relative_to(TOP).with_suffix("").parts[3:])
+    erased = FOLDER / (f"{own}.rs" if str(inner) in ("lib", "main") else f"{own}/{inner}.rs")
+    if erased in left:
+        left.remove(erased)
+        differences.append(difference(source, erased, own))
+        compared += 1
+    elif (FOLDER / f"{own}.rs").exists() and source.stem != "laws":
+        differences.append(f"{source} is missing in {FOLDER}")
+differences = [*filter(None, differences), *(f"{path} is made of no source" for path in sorted(left))]
+print(*differences, f"{compared} files compared, {len(differences)} differences", sep="\n")
+sys.exit(1 if differences or not compared else 0)

@@ -136,8 +136,8 @@ pub fn open_held<F: Read + Source + Drop, Y: System<F>>(
 {
     match system.open(path) {
         Ok(file) => {
-            let mut held = Held::new(Noted::new(file));
-            match held.load(alloc) {
+            let (held, loaded) = Held::load(alloc, Noted::new(file));
+            match loaded {
                 Ok(()) => Some(held),
                 Err(fault) => {
                     system.report(path, fault, held.file().take_reason());

@@ -23,13 +23,28 @@ pub struct Held<F> {
 impl<F: Read + Source> Held<F> {
     ghost use Rattle.binfarce_command.specs.Input.{file_of, held_bytes, held_may_fail, Holds};
 
-    /// This file, before anything of it is read.
-    pub fn new(file: F) -> Held<F>
-        ensures file { file_of result ≡ file }
-        ensures bytes { held_bytes F.bytes result ≡ F.bytes file }
-        ensures may_fail { held_may_fail F.may_fail result ≡ F.may_fail file }
+    /// This file, read unless it can be read at offsets: to its end, or only the first 8 bytes where these name no format.
+    ///
+    /// # Errors
+    ///
+    /// `Unreadable` where a read fails, and `OutOfMemory` where an allocation fails.
+    pub fn load(alloc: Global, mut file: F) -> (Held<F>, Result<(), Fault>)
+        ensures { (bytes : List ℕ) → F.bytes file ≡ Some bytes → F.remaining file ≡ Some bytes
+            → Holds (F.may_fail file) bytes (held_bytes F.bytes result.0) (held_may_fail F.may_fail result.0) result.1 }
     {
-        Held { file, bytes: None }
+        if is_read_at_offsets(&file) {
+            return (Held { file, bytes: None }, Ok(()));
+        }
+        match read_judged(alloc, &mut file) {
+            Ok(bytes) => (
+                Held {
+                    file,
+                    bytes: Some(bytes),
+                },
+                Ok(()),
+            ),
+            Err(e) => (Held { file, bytes: None }, Err(e)),
+        }
     }
 
     /// The file.
@@ -37,26 +52,6 @@ impl<F: Read + Source> Held<F> {
         ensures { result.now ≡ file_of self.entry.now }
     {
         &self.file
-    }
-
-    /// Reads the file, unless it can be read at offsets: to its end, or only the first 8 bytes where these name no
-    /// format.
-    ///
-    /// # Errors
-    ///
-    /// `Unreadable` where a read fails, and `OutOfMemory` where an allocation fails.
-    pub fn load(&mut self, alloc: Global) -> Result<(), Fault>
-        ensures { (bytes : List ℕ) → F.bytes (file_of self.old) ≡ Some bytes
-            → F.remaining (file_of self.old) ≡ Some bytes
-            → Holds (F.may_fail (file_of self.old)) bytes (held_bytes F.bytes self.new)
-            (held_may_fail F.may_fail self.new) result }
-    {
-        self.bytes = None;
-        if !is_read_at_offsets(&self.file) {
-            let bytes = read_judged(alloc, &mut self.file)?;
-            self.bytes = Some(bytes);
-        }
-        Ok(())
     }
 }
 

@@ -91,8 +91,8 @@ pub fn open_held<F: Read + Source, Y: System<F>>(
 ) -> Option<Held<Noted<F>>> {
     match system.open(path) {
         Ok(file) => {
-            let mut held = Held::new(Noted::new(file));
-            match held.load(alloc) {
+            let (held, loaded) = Held::load(alloc, Noted::new(file));
+            match loaded {
                 Ok(()) => Some(held),
                 Err(fault) => {
                     system.report(path, fault, held.file().take_reason());

@@ -20,29 +20,30 @@ pub struct Held<F> {
 }
 
 impl<F: Read + Source> Held<F> {
-    /// This file, before anything of it is read.
-    pub fn new(file: F) -> Held<F> {
-        Held { file, bytes: None }
+    /// This file, read unless it can be read at offsets: to its end, or only the first 8 bytes where these name no format.
+    ///
+    /// # Errors
+    ///
+    /// `Unreadable` where a read fails, and `OutOfMemory` where an allocation fails.
+    pub fn load(alloc: Global, mut file: F) -> (Held<F>, Result<(), Fault>) {
+        if is_read_at_offsets(&file) {
+            return (Held { file, bytes: None }, Ok(()));
+        }
+        match read_judged(alloc, &mut file) {
+            Ok(bytes) => (
+                Held {
+                    file,
+                    bytes: Some(bytes),
+                },
+                Ok(()),
+            ),
+            Err(e) => (Held { file, bytes: None }, Err(e)),
+        }
     }
 
     /// The file.
     pub fn file(&self) -> &F {
         &self.file
-    }
-
-    /// Reads the file, unless it can be read at offsets: to its end, or only the first 8 bytes where these name no
-    /// format.
-    ///
-    /// # Errors
-    ///
-    /// `Unreadable` where a read fails, and `OutOfMemory` where an allocation fails.
-    pub fn load(&mut self, alloc: Global) -> Result<(), Fault> {
-        self.bytes = None;
-        if !is_read_at_offsets(&self.file) {
-            let bytes = read_judged(alloc, &mut self.file)?;
-            self.bytes = Some(bytes);
-        }
-        Ok(())
     }
 }
 

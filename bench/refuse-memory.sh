@@ -1,6 +1,6 @@
 #!/bin/sh
-# Lets each of a program's allocations fail in turn and says how it ends: it may print `out of memory`, or all that it prints
-# of the file; anything else is shown as WRONG, and ends with status 1.
+# Lets each of a program's allocations fail in turn and says how it ends: it may print its usage, where the arguments can't be
+# taken, `out of memory`, or all that it prints of the file; anything else is shown as WRONG, and ends with status 1.
 #
 #   PROGRAM  (optional) the program: binfarce_list, binfarce_size, or binfarce_command
 #   COMMAND  (optional) its command, as list
@@ -28,6 +28,7 @@ while [ "$request" -le "${LAST:-30}" ]; do
     ends --fail-alloc "$request" >"$scratch/end"
     case $(cat "$scratch/end") in
         "$shown: out of memory" | "binfarce: out of memory" | "binfarce: listed: out of memory") how="out of memory" ;;
+        "usage: $shown FILE [SECTION]") how="the usage" ;;
         "$(cat "$scratch/whole")") how="the whole" ;;
         *) how="WRONG: $(head -n 1 "$scratch/end")" wrong=1 ;;
     esac

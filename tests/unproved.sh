@@ -26,7 +26,7 @@ put() {
 alone=$(ls crates/*/must-not-compile/* | sed 's/_within_/_outlives_/' | sort | uniq -u)
 [ -z "$alone" ] || fail "without a twin:" $alone
 mkdir "$scratch/copy"
-tar -c --exclude=.git --exclude=out --exclude=target --exclude=must-fail . | tar -x -C "$scratch/copy"
+tar -c --exclude=.git --exclude=out --exclude=target . | tar -x -C "$scratch/copy"
 put within accepted
 put outlives refused
 

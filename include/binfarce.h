@@ -32,6 +32,17 @@
  * and don't block. A call that allocates may not come from a signal handler, nor from a child forked of a process with
  * threads.
  *
+ * Example. It prints `foo::bar`:
+ *
+ *     const char *name = "_ZN3foo3bar17h05af221e174051e9E";
+ *     uint8_t text[256];
+ *     struct binfarce_text made = binfarce_trimmed((const uint8_t *)name, strlen(name), text, sizeof text);
+ *     if (made.status == BINFARCE_OK && made.length <= sizeof text)
+ *         printf("%.*s\n", (int)made.length, (const char *)text);
+ *
+ * Versions. Within libbinfarce.so.0 functions may be added; signatures, structs and the numbers of enums stay. The words of
+ * statuses, stack and memory may change.
+ *
  * Missing: the header fields of Mach-O and PE files, which the readers show only as debug text.
  *
  * Machines. cargo's libraries are for every 64-bit target of Rust; the kit's archive is for x86-64-v2 with the System V
@@ -43,6 +54,9 @@
 #include <stdbool.h>
 #include <stddef.h>
 #include <stdint.h>
+
+/* The version of the library that this header belongs to. */
+#define BINFARCE_VERSION "0.2.1"
 
 #ifdef __cplusplus
 extern "C" {

@@ -63,8 +63,7 @@ fn push(text: &mut String, pe: &Pe<'_>, section: Section<'_>) -> Result<(), Allo
 
 fn found<'a>(pe: &Pe<'a>, which: &str) -> Result<Option<Section<'a>>, ParseError> {
     match which {
-        "first" => pe.find_section(|_| true),
-        "past" => pe.find_section(|_| false),
+        "first" | "past" => pe.find_section(|_| which == "first"),
         name => pe.section_with_name(name.trim_matches('"')),
     }
 }

@@ -51,14 +51,6 @@ def reads(output, *call):
     ends(0, output, "", *call, "/dev/stdin", given=large)
     ends(0, output, "", *call, sparse, under=("sh", "-c", 'ulimit -v 65536; exec "$0" "$@"'))
 
-def stops(output, lines, *call):
-    """Where so many bytes are taken of the output, and then none, it ends with those; of these lines it has written the first."""
-    for left, error in [(left, error) for left in range(len(output) * (not is_static)) for error in (0, errno.EPIPE)]:
-        command = *broken(WRITE=left, MOST=7, ERROR=error), folder / call[0], *call[1:]
-        run = subprocess.run(command, stdin=subprocess.DEVNULL, capture_output=True, text=True)
-        said = re.sub("binfarce: standard output: .*\n", "", run.stderr)
-        assert run.stdout == output[:left] and lines.startswith(said), f"{call}: {left} {error}: {run}"
-
 def answers(answer, line, *words):
     """The answer to a line must be there while its writer still waits."""
     pipe, call = subprocess.PIPE, ["timeout", "60", folder / "binfarce", *words]
@@ -137,8 +129,13 @@ for command, output in outputs.items():
         for error, line in ((errno.EIO, "Input/output error"), (errno.ENOMEM, "out of memory")):
             under = broken(READ=4, PREADS=0, ERROR=error)
             ends(1, "", f"{unknown}\nbinfarce: {sample}: {line}", *call, "/dev/null", sample, under=under)
-call = ("binfarce", "list", missing, sample, begun, sample)
-stops(f"\n{sample}:\n{outputs['list']}" * 2, f"{lost}\nbinfarce: {begun}: unexpected end of file\n", *call)
+# Where so many bytes are taken of the output, and then none, it ends with those; of these lines it has written the first.
+shown, lines = f"\n{sample}:\n{outputs['list']}" * 2, f"{lost}\nbinfarce: {begun}: unexpected end of file\n"
+for left, error in ((left, error) for left in range(len(shown) * (not is_static)) for error in (0, errno.EPIPE)):
+    call = *broken(WRITE=left, MOST=7, ERROR=error), folder / "binfarce", "list", missing, sample, begun, sample
+    run = subprocess.run(call, stdin=subprocess.DEVNULL, capture_output=True, text=True)
+    said = re.sub("binfarce: standard output: .*\n", "", run.stderr)
+    assert run.stdout == shown[:left] and lines.startswith(said) and run.returncode == (error == 0), f"{left} {error}: {run}"
 version = re.search(r'^version = "(.*)"$', pathlib.Path("rust/Cargo.toml").read_text(), re.M)[1]
 ends(0, f"binfarce {version}\n", "", "binfarce", "--version")
 ends(0, printed(folder / "binfarce", "--help"), "", "binfarce", "help")
@@ -175,10 +172,8 @@ for path in same:
     ends(0, output, "", "binfarce", "at", path, given=b"1000\n0X1005\r\n 100f\n1010\n0fff")
 ends(0, moved, "", "binfarce", "at", "--base", "400000", sample, "401000", "401005", "40100f", "401010", "400fff")
 ends(0, moved, "", "binfarce", "at", "--base=400000", sample, given=b"401000\n401005\n40100f\n401010\n400fff\n")
-two, base = f"{0x401000:016x} foo+0x0\n{0x401010:016x} ??\n", ("binfarce", "at", "--base", "400000", sample)
+base = ("binfarce", "at", "--base", "400000", sample)
 ends(0, "", "", *base, given=b"")
-ends(0, two, "", *base, given=b"401000\n401010\n")
-ends(0, two, "", *base, given=b"401000\n401010")
 lines = f"??\n{0x401000:016x} foo+0x0\n??\n{0x400fff:016x} ??\n??\n"
 ends(2, lines, "binfarce: 3 lines without an address", *base, given=b"\n401000\n10g\n0x400fff\nno")
 lines, bad = f"{0x1000:016x} foo+0x0\n??\n{0x1005:016x} foo+0x5\n??\n", b"1000\nno\n1005\n" + bytes(100_000)

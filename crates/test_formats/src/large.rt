@@ -117,6 +117,16 @@ pub fn report_of_crates(alloc: Global) -> Result<String, AllocError> {
 /// Of a Mach-O file of 4,096 rows at 2,048 addresses, 16 bytes apart, in this order or in the opposite one: how many symbols it has,
 /// the size of its text, and the first symbol that isn't as wanted; and how many rows the walk for sizes visits, and of how many.
 pub fn pairs(alloc: Global, order: &str) -> Result<String, ParseError> {
+    let (addresses, rows) = rows_of_pairs(alloc, order)?;
+    let file = macho_file(alloc, 0x1_0000, &addresses)?;
+    let (symbols, size) = macho::parse(&file)?.symbols(alloc)?;
+    let (count, other) = (symbols.len(), other_symbol(&symbols));
+    let arranged = arrange(alloc, rows)?;
+    let (visited, above) = (arranged.visited, arranged.above.len());
+    Ok(format!(in alloc; "{count} in {size}, {other:?}; {visited} of {above}")?)
+}
+
+fn rows_of_pairs(alloc: Global, order: &str) -> Result<(Vec<u64>, Vec<RowAddress>), AllocError> {
     let mut addresses = Vec::new(alloc);
     let mut rows = Vec::new(alloc);
     for index in 0..4096usize {
@@ -129,12 +139,7 @@ pub fn pairs(alloc: Global, order: &str) -> Result<String, ParseError> {
         addresses.push(address)?;
         rows.push(RowAddress { address, index })?;
     }
-    let file = macho_file(alloc, 0x1_0000, &addresses)?;
-    let (symbols, size) = macho::parse(&file)?.symbols(alloc)?;
-    let (count, other) = (symbols.len(), other_symbol(&symbols));
-    let arranged = arrange(alloc, rows)?;
-    let (visited, above) = (arranged.visited, arranged.above.len());
-    Ok(format!(in alloc; "{count} in {size}, {other:?}; {visited} of {above}")?)
+    Ok((addresses, rows))
 }
 
 // The first symbol that isn't as wanted: each is 16 bytes long, and the last two reach to the end of the text.

@@ -1,8 +1,10 @@
 #!/usr/bin/env python3
 """tests/programs.py FOLDER: runs the programs of this folder where no stored run can; the status is 1 where one ends otherwise than
 it must. Standard output is a full device or a closed pipe. They read large files (one of 8 GiB in little memory), a path with
-blanks, a pipe, files of /proc and /sys, a folder, a missing file and several files, and are called wrongly.
+blanks, a pipe, files of /proc and /sys, a folder, a missing file and several files, by calls that are short, are interrupted or
+fail (tests/broken.c), and are called wrongly.
 """
+import errno
 import os
 import pathlib
 import re
@@ -15,6 +17,8 @@ def printed(*command, given=None):
 
 def ends(status, output, line, program, *words, given="/dev/null", to=subprocess.PIPE, under=()):
     """It must end with this status, this output, and this line or none on standard error. Given is a file, or bytes in a pipe."""
+    if is_static and "env" in under:
+        return
     streams = {"input": given} if isinstance(given, bytes) else {"stdin": os.open(given, os.O_RDONLY)}
     run = subprocess.run([*under, folder / program, *words], stdout=to, stderr=subprocess.PIPE, **streams)
     ended, wanted = (run.returncode, run.stdout or b"", run.stderr), (status, output.encode(), f"{line}\n".lstrip("\n").encode())
@@ -28,8 +32,20 @@ def fails(line, pipe_status, pipe_line, *call, given="/dev/null"):
     os.close(reader)
     ends(pipe_status, "", pipe_line, *call, given=given, to=writer)
 
+def broken(**limits):
+    """Under this, reads and writes are short or fail, as tests/broken.c says."""
+    return "env", f"LD_PRELOAD={scratch}/broken.so", *(f"{name}={number}" for name, number in limits.items())
+
+def writes(output, path, *call):
+    """It writes this of a file, also where no byte can be read in order, or at offsets, and by interrupted reads; and of a pipe."""
+    for under in ((), broken(READ=0, ERROR=errno.EIO), broken(PREADS=0, ERROR=0), broken(MOST=1)):
+        ends(0, output, "", *call, path, under=under)
+    for under in ((), broken(MOST=1)):
+        ends(0, output, "", *call, "/dev/stdin", given=pathlib.Path(path).read_bytes(), under=under)
+
 def reads(output, *call):
     """It writes this of each file with the sample's bytes, which comes last."""
+    writes(output, sample, *call)
     for path in same:
         ends(0, output, "", *call, path)
     ends(0, output, "", *call, "/dev/stdin", given=large)
@@ -43,12 +59,17 @@ def answers(answer, line, *words):
         assert run.stdout.readline() == answer.encode(), f"{words}: another answer to {line}"
 
 folder, temporary = pathlib.Path(sys.argv[1]).resolve(), tempfile.TemporaryDirectory()
+# A static program, as a release has it, loads no library.
+is_static = b"ld-linux" not in (folder / "binfarce").read_bytes()
 os.chdir(pathlib.Path(__file__).resolve().parent.parent)
 sample, scratch = "crates/binfarce_list/data/e-elf64-little.bin", temporary.name
-blanks, large, sparse, truncated, names, missing = (f"{scratch}/{it}" for it in (" a  file ", "large", "sparse", "cut", "names", "none"))
+printed("gcc", "-shared", "-fPIC", "-o", f"{scratch}/broken.so", "tests/broken.c")
+files = [f"{scratch}/{it}" for it in (" a  file ", "large", "sparse", "cut", "begun", "byte", "names", "none")]
+blanks, large, sparse, truncated, begun, byte, names, missing = files
 data, text = pathlib.Path(sample).read_bytes(), pathlib.Path("tests/runs/filter").read_text()
 mangled = text.format("_ZN3foo3bar17h05af221e174051e9E", "_RNvC1a1b", "_RNvNtCsjrHSEGnQ3l9_3std7process5abort").encode()
-for path, content in ((blanks, data), (large, data + bytes(1 << 22)), (sparse, data), (truncated, data[:395]), (names, mangled)):
+contents = (data, data + bytes(1 << 22), data, data[:395], data[:8], data[:1], mangled)
+for path, content in zip(files, contents):
     pathlib.Path(path).write_bytes(content)
 os.truncate(sparse, 8 << 30)
 # Files whose length isn't the number of their bytes: the words of a program that waits, with a zero byte after each; a few digits.
@@ -57,22 +78,32 @@ waiting.stdout.read(1)
 of_proc, of_sys = f"/proc/{waiting.pid}/cmdline", "/sys/kernel/uevent_seqnum"
 same = (sample, large, blanks, of_proc)
 
+answered = pathlib.Path("crates/test_formats/stdout").read_text()
 outputs = {command: pathlib.Path(f"crates/binfarce_{command}/stdout").read_text() for command in ("list", "size")}
 for command, output in outputs.items():
     program = f"binfarce-{command}"
     fails(f"{program}: write failed", 1, f"{program}: write failed", program, sample)
     reads(output, program)
     ends(1, "", f"{program}: symbols section is missing", program, large, ".data")
-    unknown, unread = "unknown file format", "cannot read file"
-    for path, line in ((of_sys, unknown), ("/dev/null", unknown), (scratch, unread), (missing, unread)):
+    for sign in ("macho", "pe"):
+        wanted = re.search(f"(?s)\n{command.replace('size', 'report')} .data of {sign} magic\n(.*?text 256\n)", answered)[1]
+        writes(wanted, f"rust/samples/{sign}.bin", program)
+    unknown, ended, unread, full = "unknown file format", "unexpected end of file", "cannot read file", "out of memory"
+    for path, line in ((of_sys, unknown), ("/dev/null", unknown), (byte, unknown), (begun, ended), (scratch, unread), (missing, unread)):
         ends(1, "", f"{program}: {line}", program, path)
+    for given, line in ((b"", unknown), (data[:8], ended), (b"\xcf\xfa\xed\xfe" + bytes(3 << 20), "symbols section is missing")):
+        ends(1, "", f"{program}: {line}", program, "/dev/stdin", given=given)
+    # Bytes that can't be read: all, from the ninth on, and after one, two and three reads at offsets, after which the file may be shorter.
+    for limits in ({"READ": 0, "PREADS": 0}, {"READ": 8, "PREADS": 0}, {"PREADS": 1}, {"PREADS": 2}, {"PREADS": 3}):
+        for error, line in ((errno.EIO, unread), (errno.ENOMEM, full)) + ((0, unread),) * ("READ" not in limits):
+            ends(1, "", f"{program}: {line}", program, sample, under=broken(**limits, ERROR=error))
     for words in ([], [sample, ".text", "more"]):
         ends(2, "", f"usage: {program} FILE [SECTION]", program, *words)
 
 full, lost = "binfarce: standard output: No space left on device", f"binfarce: {missing}: No such file or directory"
 sections = ((64, 0, ""), (64, 32, ".text"), (96, 120, ".symtab"), (216, 18, ".strtab"), (234, 33, ".shstrtab"))
 outputs["section"] = "".join(f"{0:016x} {offset:10} {size:10} {name}\n" for offset, size, name in sections)
-outputs["map"] = re.search(r"(?s)map \.text of elf\n(.*?\n</svg>\n)", pathlib.Path("crates/test_formats/stdout").read_text())[1]
+outputs["map"] = re.search(r"(?s)map \.text of elf\n(.*?\n</svg>\n)", answered)[1]
 for command, output in outputs.items():
     call, shows = ("binfarce", command), f"binfarce {command} --help shows"
     fails(full, 0, "", *call, sample)
@@ -91,6 +122,20 @@ for command, output in outputs.items():
         ends(0, output, "", *call, "--section", ".text", sample)
         ends(1, "", f"binfarce: {sample}: symbols section is missing", *call, sample, "--section=.data")
         ends(1, "".join(f"\n{path}:\n{output}" for path in (sample, blanks)), lost, *call, sample, missing, blanks)
+        shown, unknown = f"\n{sample}:\n{output}", "binfarce: /dev/null: unknown file format"
+        ends(0, shown * 2, "", *call, sample, sample)
+        ends(1, shown * 2, f"{lost}\nbinfarce: {begun}: unexpected end of file", *call, missing, sample, begun, sample)
+        ends(1, shown, f"binfarce: {scratch}: Is a directory", *call, sample, scratch)
+        for error, line in ((errno.EIO, "Input/output error"), (errno.ENOMEM, "out of memory")):
+            under = broken(READ=4, PREADS=0, ERROR=error)
+            ends(1, "", f"{unknown}\nbinfarce: {sample}: {line}", *call, "/dev/null", sample, under=under)
+# Where so many bytes are taken of the output, and then none, it ends with those; of these lines it has written the first.
+shown, lines = f"\n{sample}:\n{outputs['list']}" * 2, f"{lost}\nbinfarce: {begun}: unexpected end of file\n"
+for left, error in ((left, error) for left in range(len(shown) * (not is_static)) for error in (0, errno.EPIPE)):
+    call = *broken(WRITE=left, MOST=7, ERROR=error), folder / "binfarce", "list", missing, sample, begun, sample
+    run = subprocess.run(call, stdin=subprocess.DEVNULL, capture_output=True, text=True)
+    said = re.sub("binfarce: standard output: .*\n", "", run.stderr)
+    assert run.stdout == shown[:left] and lines.startswith(said) and run.returncode == (error == 0), f"{left} {error}: {run}"
 version = re.search(r'^version = "(.*)"$', pathlib.Path("rust/Cargo.toml").read_text(), re.M)[1]
 ends(0, f"binfarce {version}\n", "", "binfarce", "--version")
 ends(0, printed(folder / "binfarce", "--help"), "", "binfarce", "help")
@@ -127,6 +172,10 @@ for path in same:
     ends(0, output, "", "binfarce", "at", path, given=b"1000\n0X1005\r\n 100f\n1010\n0fff")
 ends(0, moved, "", "binfarce", "at", "--base", "400000", sample, "401000", "401005", "40100f", "401010", "400fff")
 ends(0, moved, "", "binfarce", "at", "--base=400000", sample, given=b"401000\n401005\n40100f\n401010\n400fff\n")
+base = ("binfarce", "at", "--base", "400000", sample)
+ends(0, "", "", *base, given=b"")
+lines = f"??\n{0x401000:016x} foo+0x0\n??\n{0x400fff:016x} ??\n??\n"
+ends(2, lines, "binfarce: 3 lines without an address", *base, given=b"\n401000\n10g\n0x400fff\nno")
 lines, bad = f"{0x1000:016x} foo+0x0\n??\n{0x1005:016x} foo+0x5\n??\n", b"1000\nno\n1005\n" + bytes(100_000)
 ends(2, lines, "binfarce: 2 lines without an address", "binfarce", "at", sample, given=bad)
 answers(f"{0x1000:016x} foo+0x0\n", b"1000\n", "at", sample)

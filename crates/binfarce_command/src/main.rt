@@ -12,8 +12,6 @@ mod input;
 mod report;
 mod section;
 mod show;
-#[cfg(test)]
-mod tests;
 
 use crate::at::{answer_all, answer_input, read_addresses};
 use crate::fault::Fault;

@@ -2,8 +2,6 @@
 #![tactic(auto)]
 
 mod program;
-#[cfg(test)]
-mod tests;
 
 use crate::program::{Fault, run, words};
 use binfarce_tools::list::Out;

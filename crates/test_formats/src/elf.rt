@@ -71,11 +71,10 @@ fn push_32(
 }
 
 fn found_32(elf: &elf32::Elf32<'_>, which: &str) -> Result<Option<elf32::Section>, ParseError> {
-    match (which, which.parse::<usize>()) {
-        ("first", _) => elf.find_section(|_| true),
-        ("past", _) => elf.find_section(|_| false),
-        (_, Ok(offset)) => elf.find_section(|section| begins_at(section.range(), offset)),
-        (name, _) => elf.section_with_name(name.trim_matches('"')),
+    if which == "first" || which == "past" || which.parse::<usize>().is_ok() {
+        elf.find_section(|section| is_wanted(which, section.range()))
+    } else {
+        elf.section_with_name(which.trim_matches('"'))
     }
 }
 
@@ -144,14 +143,17 @@ fn push_64(
 }
 
 fn found_64(elf: &elf64::Elf64<'_>, which: &str) -> Result<Option<elf64::Section>, ParseError> {
-    match (which, which.parse::<usize>()) {
-        ("first", _) => elf.find_section(|_| true),
-        ("past", _) => elf.find_section(|_| false),
-        (_, Ok(offset)) => elf.find_section(|section| begins_at(section.range(), offset)),
-        (name, _) => elf.section_with_name(name.trim_matches('"')),
+    if which == "first" || which == "past" || which.parse::<usize>().is_ok() {
+        elf.find_section(|section| is_wanted(which, section.range()))
+    } else {
+        elf.section_with_name(which.trim_matches('"'))
     }
 }
 
-fn begins_at(range: Result<Range<usize>, ParseError>, offset: usize) -> bool {
-    range.is_ok_and(|range| range.start == offset)
+// Whether a section with this range is the `first` one, or the one at this offset. None is `past` the last one.
+fn is_wanted(which: &str, range: Result<Range<usize>, ParseError>) -> bool {
+    match (which.parse::<usize>(), range) {
+        (Ok(offset), Ok(range)) => range.start == offset,
+        _ => which == "first",
+    }
 }

@@ -59,9 +59,9 @@ fn push(text: &mut String, pe: &Pe<'_>, section: Section<'_>) -> Result<(), Allo
 }
 
 fn found<'a>(pe: &Pe<'a>, which: &str) -> Result<Option<Section<'a>>, ParseError> {
+    let is_first = which == "first";
     match which {
-        "first" => pe.find_section(|_| true),
-        "past" => pe.find_section(|_| false),
+        "first" | "past" => pe.find_section(move |_| is_first),
         name => pe.section_with_name(name.trim_matches('"')),
     }
 }

@@ -7,7 +7,23 @@ use binfarce_tools::list::{Out, list};
 use binfarce_tools::map::map;
 use binfarce_tools::report::report;
 use std::alloc::{AllocError, Global};
-use test_samples::programs::text_of;
+use std::fmt::Display;
+
+// What is written, and behind it the text of the fault.
+fn text_of<E: Display + Drop>(
+    alloc: Global,
+    ended: Result<(), E>,
+    written: Vec<u8>,
+) -> Result<String, AllocError> {
+    let mut text = match String::from_utf8(written) {
+        Ok(text) => text,
+        Err(_) => String::from_str(alloc, "no text")?,
+    };
+    if let Err(fault) = ended {
+        write!(text, "{fault}")?;
+    }
+    Ok(text)
+}
 
 /// The listing of a section, its report or its picture.
 pub fn text_of_section(

@@ -10,8 +10,6 @@ mod ranges;
 mod readings;
 mod sections;
 mod sources;
-#[cfg(test)]
-mod tests;
 mod words;
 
 use crate::words::{end_line, known, words_of};
@@ -102,6 +100,7 @@ fn answer_of_files(
             "at" => addresses::push_lines(&asking, text)?,
             "names" => sections::push_names(&asking, text)?,
             "cut" => sections::push_cut(&asking, text)?,
+            "each" => sections::push_each(&asking, text)?,
             _ => readings::answer(&asking, verb, text)?,
         }
         end_line(text, start)?;

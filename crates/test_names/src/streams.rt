@@ -1,127 +1,123 @@
 //! Texts that are filtered as they come, by readers and writers that are short or fail.
 
-use binfarce_filtering::filter::MAX_RUN;
 use binfarce_filtering::stream::{StreamError, filter_stream};
-use std::alloc::{AllocError, Global};
+use std::alloc::Global;
 use std::cell::Cell;
-use std::io::ErrorKind;
+use std::io::{self, Error, ErrorKind};
 use test_samples::interruptions::{InterruptedSource, InterruptedTarget};
 use test_samples::streams::{Source, Target};
 
-const TEXT: &[u8] = b"in _RNvC1a1b. at x_1 <_ZN3foo17h0123456789abcdefE+0x1f> _RNvC1c1d";
-
-const SHOWN: &[u8] = b"in a::b. at x_1 <foo+0x1f> c::d";
-
-// Whether what the reader gives is filtered into these bytes of the writer, and ends so.
-fn is_filtered(
+// How it ends that what the source gives is filtered, and what the writer has taken.
+fn filtered(
     alloc: Global,
     source: Source<'_>,
     target: Target,
-    ended: Result<(), StreamError>,
-    taken: &[u8],
-) -> bool {
+) -> (Result<(), StreamError>, Vec<u8>) {
     let (mut source, mut target) = (source, target);
-    filter_stream(alloc, false, &mut source, &mut target) == ended
-        && target.taken.as_slice() == taken
+    let ended = filter_stream(alloc, false, &mut source, &mut target);
+    (ended, target.taken)
 }
 
-#[test]
-fn short_reads_and_writes(rt: HostRuntime) {
-    for most in 1..TEXT.len() + 1 {
-        let mut source = Source::of(TEXT);
+/// Appends what is shown of a text that comes whole, or `unchanged`; of one of up to 1,000 bytes also where short, interrupted and
+/// failed calls give something else.
+pub fn push_streamed(alloc: Global, line: &mut String, text: &[u8]) -> io::Result<()> {
+    let whole = Target::taking(alloc, usize::MAX);
+    let (ended, shown) = filtered(alloc, Source::of(text), whole);
+    if ended.is_err() || shown.as_slice() == text {
+        line.push_str(if ended.is_ok() {
+            "unchanged"
+        } else {
+            "refused"
+        })?;
+    } else {
+        push_shown(line, &shown)?;
+    }
+    if text.len() > 1000 {
+        return Ok(());
+    }
+    if !are_short_calls_the_same(alloc, text, &shown) {
+        line.push_str(", but not by short calls")?;
+    }
+    if !are_interrupted_calls_the_same(alloc, text, &shown) {
+        line.push_str(", but not by interrupted calls")?;
+    }
+    if !are_failed_writes_reported(alloc, text, &shown)
+        || !are_failed_flushes_reported(alloc, text)
+    {
+        line.push_str(", but not where writes fail")?;
+    }
+    Ok(())
+}
+
+/// Appends what is shown of a text behind which the reader fails: what came is filtered as if it ended there.
+pub fn push_failed(alloc: Global, line: &mut String, text: &[u8]) -> io::Result<()> {
+    let mut source = Source::of(text);
+    source.end = Some(ErrorKind::Other);
+    let (ended, shown) = filtered(alloc, source, Target::taking(alloc, usize::MAX));
+    push_shown(line, &shown)?;
+    Ok(write!(line, ", then {ended:?}")?)
+}
+
+fn push_shown(line: &mut String, shown: &[u8]) -> io::Result<()> {
+    match std::str::from_utf8(shown) {
+        Ok(shown) => Ok(line.push_str(shown)?),
+        Err(_) => Err(Error::from(ErrorKind::InvalidData)),
+    }
+}
+
+// Reads and writes of every length.
+fn are_short_calls_the_same(alloc: Global, text: &[u8], shown: &[u8]) -> bool {
+    for most in 1..text.len() + 1 {
+        let mut source = Source::of(text);
         source.most = most;
-        let target = Target::taking(rt.alloc(), most);
-        assert!(&rt;
-            is_filtered(rt.alloc(), source, target, Ok(()), SHOWN),
-            "{most}"
-        );
+        let (ended, taken) = filtered(alloc, source, Target::taking(alloc, most));
+        if ended != Ok(()) || taken.as_slice() != shown {
+            return false;
+        }
     }
-}
-
-// Where the reader fails, what came before is filtered as if it ended there.
-#[test]
-fn failed_reads(rt: HostRuntime) {
-    let rows: [(usize, &[u8]); 4] = [
-        (0, b""),
-        (8, b"in _RNvC"),
-        (12, b"in a::b"),
-        (TEXT.len(), SHOWN),
-    ];
-    for (came, want) in &rows {
-        let mut source = Source::of(&TEXT[..*came]);
-        source.end = Some(ErrorKind::Other);
-        let target = Target::taking(rt.alloc(), usize::MAX);
-        let ended = Err(StreamError::Read);
-        assert!(&rt;
-            is_filtered(rt.alloc(), source, target, ended, want),
-            "{came}"
-        );
-    }
+    true
 }
 
 // A writer that takes so many bytes and then 0, or fails.
-#[test]
-fn failed_writes(rt: HostRuntime) {
-    for left in 0..SHOWN.len() {
+fn are_failed_writes_reported(alloc: Global, text: &[u8], shown: &[u8]) -> bool {
+    for left in 0..shown.len() {
         for end in [None, Some(ErrorKind::BrokenPipe)] {
-            let mut target = Target::taking(rt.alloc(), usize::MAX);
+            let mut target = Target::taking(alloc, usize::MAX);
             target.left = left;
             target.end = end;
-            let ended = Err(StreamError::Write);
-            assert!(&rt;
-                is_filtered(rt.alloc(), Source::of(TEXT), target, ended, &SHOWN[..left]),
-                "{left}"
-            );
+            let (ended, taken) = filtered(alloc, Source::of(text), target);
+            if ended != Err(StreamError::Write) || taken.as_slice() != &shown[..left] {
+                return false;
+            }
         }
     }
+    true
 }
 
 // Interrupted reads and writes are tried again, and the output is flushed before each read and at the end.
-#[test]
-fn interrupted_reads_and_writes(rt: HostRuntime) {
+fn are_interrupted_calls_the_same(alloc: Global, text: &[u8], shown: &[u8]) -> bool {
     let unflushed = Cell::new(0);
-    let mut source = InterruptedSource::of(TEXT, &unflushed);
+    let mut source = InterruptedSource::of(text, &unflushed);
     let mut target = InterruptedTarget {
-        target: Target::taking(rt.alloc(), 1),
+        target: Target::taking(alloc, 1),
         was_interrupted: false,
         unflushed: &unflushed,
         flush_error: None,
     };
-    let ended = filter_stream(rt.alloc(), false, &mut source, &mut target);
-    assert!(&rt; ended == Ok(()));
-    assert!(&rt; target.target.taken.as_slice() == SHOWN);
-    assert!(&rt; !source.came_early);
-    assert!(&rt; unflushed.get() == 0);
+    let ended = filter_stream(alloc, false, &mut source, &mut target);
+    let is_flushed = !source.came_early && unflushed.get() == 0;
+    ended == Ok(()) && target.target.taken.as_slice() == shown && is_flushed
 }
 
 // A failed flush is a failed write, also where nothing is written.
-#[test]
-fn failed_flushes(rt: HostRuntime) {
-    for text in [TEXT, b"".as_slice()] {
-        let unflushed = Cell::new(0);
-        let mut source = Source::of(text);
-        let mut target = InterruptedTarget {
-            target: Target::taking(rt.alloc(), usize::MAX),
-            was_interrupted: true,
-            unflushed: &unflushed,
-            flush_error: Some(ErrorKind::Other),
-        };
-        let ended = filter_stream(rt.alloc(), false, &mut source, &mut target);
-        assert!(&rt; ended == Err(StreamError::Write));
-    }
-}
-
-// Names of the limit, and of one byte more: in a legacy name, a number with as many zeros in front.
-#[test]
-fn longest_names(rt: HostRuntime) -> Result<(), AllocError> {
-    let mut text = Vec::from_slice(rt.alloc(), b"_ZN")?;
-    text.resize(MAX_RUN - 8, b'0')?;
-    text.extend_from_slice(b"3foo1bE.")?;
-    text.extend_from_slice(b"+1")?;
-    let target = Target::taking(rt.alloc(), usize::MAX);
-    assert!(&rt; is_filtered(rt.alloc(), Source::of(&text), target, Ok(()), b"foo.+1"));
-    text.insert(3, b'0')?;
-    let target = Target::taking(rt.alloc(), usize::MAX);
-    assert!(&rt; is_filtered(rt.alloc(), Source::of(&text), target, Ok(()), &text));
-    Ok(())
+fn are_failed_flushes_reported(alloc: Global, text: &[u8]) -> bool {
+    let unflushed = Cell::new(0);
+    let mut source = Source::of(text);
+    let mut target = InterruptedTarget {
+        target: Target::taking(alloc, usize::MAX),
+        was_interrupted: true,
+        unflushed: &unflushed,
+        flush_error: Some(ErrorKind::Other),
+    };
+    filter_stream(alloc, false, &mut source, &mut target) == Err(StreamError::Write)
 }

@@ -79,7 +79,13 @@ pub fn unescaped(alloc: Global, asked: &str) -> io::Result<Vec<u8>> {
     }
     for part in parts {
         let rest = match part.strip_prefix('{') {
-            Some(repeated) => push_repeated(&mut bytes, repeated)?,
+            Some(text) => match repeated(text) {
+                Some((times, part, rest)) => {
+                    push_repeated(&mut bytes, times, part)?;
+                    Some(rest)
+                }
+                None => None,
+            },
             None => push_byte(&mut bytes, part)?,
         };
         bytes.extend_from_slice(rest.ok_or(Error::from(ErrorKind::InvalidData))?.as_bytes())?;
@@ -87,24 +93,18 @@ pub fn unescaped(alloc: Global, asked: &str) -> io::Result<Vec<u8>> {
     Ok(bytes)
 }
 
-// Appends what is repeated, and returns the rest.
-fn push_repeated<'a>(
-    bytes: &mut Vec<u8>,
-    repeated: &'a str,
-) -> Result<Option<&'a str>, AllocError> {
-    let Some((times, rest)) = repeated.split_once('*') else {
-        return Ok(None)
-    };
-    let Some((part, rest)) = rest.split_once('}') else {
-        return Ok(None)
-    };
-    let Ok(times) = times.parse::<u16>() else {
-        return Ok(None)
-    };
+// How many times a part is repeated, the part, and the rest.
+fn repeated(text: &str) -> Option<(u16, &str, &str)> {
+    let (times, rest) = text.split_once('*')?;
+    let (part, rest) = rest.split_once('}')?;
+    Some((times.parse().ok()?, part, rest))
+}
+
+fn push_repeated(bytes: &mut Vec<u8>, times: u16, part: &str) -> Result<(), AllocError> {
     for _ in 0..times {
         bytes.extend_from_slice(part.as_bytes())?;
     }
-    Ok(Some(rest))
+    Ok(())
 }
 
 // Appends the byte of two digits, and returns the rest.

@@ -11,7 +11,6 @@ pub mod files;
 pub mod interruptions;
 pub mod macho;
 pub mod pe;
-pub mod programs;
 pub mod streams;
 
 use std::alloc::{AllocError, Global};

@@ -1,11 +1,7 @@
-//! What programs are tested with: readers and writers that are short or fail, and how a program's work has to end.
+//! Readers and writers that are short or fail.
 
-use crate::elf::ELF64_LITTLE;
-use crate::macho::{MACHO, MAGIC as MACHO_MAGIC};
-use crate::pe::{MAGIC as PE_MAGIC, PE};
-use crate::{first_bytes, patched};
-use std::alloc::{AllocError, Global};
-use std::io::{self, Error, ErrorKind, Read, Write};
+use std::alloc::Global;
+use std::io::{self, ErrorKind, Read, Write};
 
 /// Gives its bytes, at most `most` in a call, and then ends or fails.
 #[derive(Drop)]
@@ -39,100 +35,6 @@ impl<'a> Read for Source<'a> {
         self.bytes = &self.bytes[n..];
         Ok(n)
     }
-}
-
-/// Reads from its reader, and is interrupted before each read.
-#[derive(Drop)]
-pub struct Interrupted<'a> {
-    pub source: Source<'a>,
-    pub is_next: bool,
-}
-
-impl<'a> Read for Interrupted<'a> {
-    fn read(&mut self, buf: &mut [u8]) -> io::Result<usize> {
-        self.is_next = !self.is_next;
-        if self.is_next {
-            return Err(Error::from(ErrorKind::Interrupted));
-        }
-        self.source.read(buf)
-    }
-}
-
-/// Gives its bytes at offsets, and fails, if it has an error. Its length may be another than the number of its bytes.
-#[derive(Drop)]
-pub struct Held<'a> {
-    pub bytes: &'a [u8],
-    pub length: Option<u64>,
-    pub end: Option<ErrorKind>,
-}
-
-impl<'a> binfarce_bytes::source::Source for Held<'a> {
-    fn length(&self) -> io::Result<u64> {
-        self.length.ok_or(Error::from(ErrorKind::Unsupported))
-    }
-
-    fn fill_at(&self, offset: u64, buf: &mut [u8]) -> io::Result<()> {
-        match self.end {
-            None => self.bytes.fill_at(offset, buf),
-            Some(kind) => Err(Error::from(kind)),
-        }
-    }
-}
-
-/// A file: its bytes at offsets, and its bytes to the end.
-#[derive(Drop)]
-pub struct Opened<'a> {
-    pub held: Held<'a>,
-    pub left: Source<'a>,
-}
-
-impl<'a> Read for Opened<'a> {
-    fn read(&mut self, buf: &mut [u8]) -> io::Result<usize> {
-        self.left.read(buf)
-    }
-}
-
-impl<'a> binfarce_bytes::source::Source for Opened<'a> {
-    fn length(&self) -> io::Result<u64> {
-        self.held.length()
-    }
-
-    fn fill_at(&self, offset: u64, buf: &mut [u8]) -> io::Result<()> {
-        self.held.fill_at(offset, buf)
-    }
-}
-
-/// These bytes as the files that a program opens, each of which is to be read as the bytes are.
-pub fn files_of(bytes: &[u8]) -> [(&'static str, Opened<'_>); 4] {
-    let fails = Source {
-        bytes: &[],
-        most: 0,
-        end: Some(ErrorKind::Other),
-    };
-    [
-        (
-            "a file that gives nothing to its end",
-            opened_as(bytes, Some(bytes.len() as u64), fails),
-        ),
-        ("a pipe", opened_as(&[], None, Source::of(bytes))),
-        (
-            "a file of length 0, as in /proc",
-            opened_as(bytes, Some(0), Source::of(bytes)),
-        ),
-        (
-            "a file of fewer bytes than its length, as in /sys",
-            opened_as(first_bytes(bytes, 40), Some(4096), Source::of(bytes)),
-        ),
-    ]
-}
-
-fn opened_as<'a>(bytes: &'a [u8], length: Option<u64>, left: Source<'a>) -> Opened<'a> {
-    let held = Held {
-        bytes,
-        length,
-        end: None,
-    };
-    Opened { held, left }
 }
 
 /// Takes up to `left` bytes, at most `most` in a call. A call that takes none is answered with 0, or fails.
@@ -173,77 +75,4 @@ impl Write for Target {
     fn flush(&mut self) -> io::Result<()> {
         Ok(())
     }
-}
-
-const ELF: &[u8] = b"\x7FELF\x02\x01\x00\x00";
-
-/// The file header of an ELF file whose one section header comes right after it.
-const ELF_HEADER: [u8; 64] = [
-    0x7F, 0x45, 0x4C, 0x46, 2, 1, 0, 0, 0, 0, 0, 0, 0, 0, 0, 0, 0, 0, 0, 0, 0, 0, 0, 0, 0, 0, 0, 0,
-    0, 0, 0, 0, 0, 0, 0, 0, 0, 0, 0, 0, 64, 0, 0, 0, 0, 0, 0, 0, 0, 0, 0, 0, 0, 0, 0, 0, 0, 0, 0,
-    0, 1, 0, 0, 0,
-];
-
-/// The bytes of a file's reader, how it ends, and the message of a program that reads the file's symbols, after the
-/// program's name.
-pub const READERS: [(&str, &[u8], Option<ErrorKind>, &str); 5] = [
-    ("empty", &[], None, "unknown file format"),
-    ("truncated", ELF, None, "unexpected end of file"),
-    (
-        "fails at once",
-        &[],
-        Some(ErrorKind::Other),
-        "cannot read file",
-    ),
-    (
-        "fails half-way",
-        ELF,
-        Some(ErrorKind::Other),
-        "cannot read file",
-    ),
-    (
-        "no memory",
-        ELF,
-        Some(ErrorKind::OutOfMemory),
-        "out of memory",
-    ),
-];
-
-/// The bytes of a source at offsets, its length, how it ends, and the message of a program as above.
-pub const HELD: [(&str, &[u8], u64, Option<ErrorKind>, &str); 7] = [
-    ("one byte", b"\x7F", 1, None, "unknown file format"),
-    ("truncated", ELF, 8, None, "unexpected end of file"),
-    ("shrank", ELF, 9, None, "cannot read file"),
-    ("shrank to nothing", &[], 8, None, "cannot read file"),
-    (
-        "shrank behind its header",
-        &ELF_HEADER,
-        128,
-        None,
-        "cannot read file",
-    ),
-    ("fails", ELF, 8, Some(ErrorKind::Other), "cannot read file"),
-    (
-        "no memory",
-        ELF,
-        8,
-        Some(ErrorKind::OutOfMemory),
-        "out of memory",
-    ),
-];
-
-/// The sample files: ELF of 64 bits, Mach-O and PE.
-pub fn samples(alloc: Global) -> Result<[Vec<u8>; 3], AllocError> {
-    Ok([
-        Vec::from_slice(alloc, &ELF64_LITTLE)?,
-        patched(alloc, &MACHO, &[MACHO_MAGIC])?,
-        patched(alloc, &PE, &[PE_MAGIC])?,
-    ])
-}
-
-/// A Mach-O file without load commands, of 3 MiB.
-pub fn large_file(alloc: Global) -> Result<Vec<u8>, AllocError> {
-    let mut bytes = Vec::from_slice(alloc, &[0xCF, 0xFA, 0xED, 0xFE])?;
-    bytes.resize(3 << 20, 0)?;
-    Ok(bytes)
 }

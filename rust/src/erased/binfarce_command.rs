@@ -13,8 +13,6 @@ mod input;
 mod report;
 mod section;
 mod show;
-#[cfg(test)]
-mod tests;
 
 use crate::shim::{CollectIn, HostRuntime, String, Vec};
 use crate::erased::binfarce_command::at::{answer_all, answer_input, read_addresses};

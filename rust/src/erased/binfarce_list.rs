@@ -3,8 +3,6 @@
 //! `binfarce-list FILE [SECTION]`: lists the function symbols of an executable.
 
 mod program;
-#[cfg(test)]
-mod tests;
 
 use crate::shim::HostRuntime;
 use crate::erased::binfarce_list::program::{Fault, run, words};

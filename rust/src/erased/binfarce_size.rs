@@ -3,8 +3,6 @@
 //! `binfarce-size FILE [SECTION]`: reports how much of an executable each crate takes.
 
 mod program;
-#[cfg(test)]
-mod tests;
 
 use crate::shim::HostRuntime;
 use crate::erased::binfarce_size::program::{Fault, run, words};

@@ -8,14 +8,17 @@
 //! with these names. `fronts QUESTION of FILE` asks about the first bytes of the file, from none to all: each answer has before
 //! it the least number of bytes that it is given for. A line that begins with `#` is a heading.
 
+mod calls;
 mod charts;
 mod elf;
+mod images;
+mod large;
 mod macho;
 mod pe;
+mod programs;
 mod symbols;
-#[cfg(test)]
-mod tests;
 mod texts;
+mod writers;
 
 use crate::shim::{HostRuntime, String, Vec};
 use crate::erased::binfarce::{ParseError, detect_format};
@@ -45,7 +48,11 @@ pub fn run<R: Read, W: Write>(alloc: Global, input: &mut R, output: &mut W) -> i
         output.write_all(line.as_bytes())?;
         output.write_all(b"\n")?;
         if !line.starts_with('#') {
-            output.write_all(answers(alloc, line)?.as_bytes())?;
+            let mut answers = answers(alloc, line)?;
+            if !answers.is_empty() && !answers.as_str().ends_with('\n') {
+                answers.push('\n')?;
+            }
+            output.write_all(answers.as_bytes())?;
         }
     }
     Ok(())
@@ -58,6 +65,14 @@ fn answers(alloc: Global, line: &str) -> Result<String, AllocError> {
     match what {
         "chart" => charts::chart_of(alloc, rest, words),
         "bars" => charts::bars_of(alloc, words),
+        "image" => images::refusal(alloc, rest),
+        "many" if rest == "crates" => large::report_of_crates(alloc),
+        "many" => large::listed(alloc, rest),
+        "pairs" => in_words(alloc, large::pairs(alloc, rest)),
+        "arguments" => programs::given(alloc, rest),
+        "read" => programs::read(alloc, rest),
+        "finish" => programs::finished(alloc, rest),
+        "call" => calls::answer(alloc, rest),
         _ => answers_of_files(alloc, what, rest, words),
     }
 }
@@ -144,6 +159,10 @@ fn answer(
         "texts" => texts::all_texts(alloc, rest, file),
         "all" => texts::text_of_all(alloc, rest, file),
         "shares" => texts::shares_addresses(alloc, file),
+        "written" => writers::written(alloc, rest, file),
+        "drawn-in-part" => writers::drawn_in_part(alloc, file),
+        "parts" => calls::parts(alloc, file),
+        "sums" => calls::sums(alloc, rest, file),
         _ => in_words(alloc, answer_of_reader(alloc, what, rest, sample, file)),
     }
 }
@@ -163,6 +182,9 @@ fn answer_of_reader(
     file: &[u8],
 ) -> Result<String, ParseError> {
     match sample {
+        File::Elf(layout) if what == "laid-out" => {
+            Ok(images::laid_out(alloc, rest, layout, file)?)
+        }
         File::Elf(layout) if layout.is_64() => elf::answer_64(alloc, layout, what, rest, file),
         File::Elf(layout) => elf::answer_32(alloc, layout, what, rest, file),
         File::Macho => macho::answer(alloc, what, rest, file),

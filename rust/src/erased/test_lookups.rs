@@ -11,8 +11,6 @@ mod ranges;
 mod readings;
 mod sections;
 mod sources;
-#[cfg(test)]
-mod tests;
 mod words;
 
 use crate::shim::{HostRuntime, Vec};
@@ -104,6 +102,7 @@ fn answer_of_files(
             "at" => addresses::push_lines(&asking, text)?,
             "names" => sections::push_names(&asking, text)?,
             "cut" => sections::push_cut(&asking, text)?,
+            "each" => sections::push_each(&asking, text)?,
             _ => readings::answer(&asking, verb, text)?,
         }
         end_line(text, start)?;

@@ -9,23 +9,27 @@
 //! | `crate NAME` | the crate alone |
 //! | `kept NAME` | how the name is mangled, its limits aside, and the part of it that is kept |
 //! | `text TEXT` | the text with complete and with trimmed names |
+//! | `stream TEXT` | the text with trimmed names, whichever way it comes, or `unchanged` |
+//! | `fails TEXT` | the text with trimmed names where the reader then fails, and how that ends |
+//! | `pairs NAME` | how deep the complete text is a tuple of two equal texts, and the innermost one |
+//! | `end NAME` | the last 14 bytes of the complete text |
 //! | `punycode ASCII\|CODE` | the text of an ASCII part and a code, or `none` |
 //! | `limits PART` | the levels and steps of a v0 name without its prefix |
 //! | `visits PART` | how many of its parts are read for the complete text, for the trimmed text, and for none |
 //!
 //! In a question `\0A` is the byte 0x0A, and `\{3*ab}` is `ababab`. A remark begins with ` # `, and a line of its own with `#`.
 
-#[cfg(test)]
 mod long_texts;
 mod names;
 mod parts;
-#[cfg(test)]
 mod streams;
 mod texts;
 
 use crate::shim::{HostRuntime, String, Vec};
+use crate::erased::test_names::long_texts::{push_end, push_pairs};
 use crate::erased::test_names::names::{Names, push_crate, push_kept};
 use crate::erased::test_names::parts::{push_limits, push_visits};
+use crate::erased::test_names::streams::{push_failed, push_streamed};
 use crate::erased::test_names::texts::{push_decoded, push_filtered, unescaped};
 use crate::shim::alloc::Global;
 use crate::shim::io::{self, Error, ErrorKind, Read, Write};
@@ -93,6 +97,10 @@ fn push_answer(
             "before" => return Ok(names.ask_after(asked)?),
             "crate" => push_crate(alloc, line, asked)?,
             "kept" => push_kept(line, asked)?,
+            "stream" => push_streamed(alloc, line, asked.as_bytes())?,
+            "fails" => push_failed(alloc, line, asked.as_bytes())?,
+            "pairs" => push_pairs(alloc, line, asked)?,
+            "end" => push_end(alloc, line, asked)?,
             "punycode" => push_decoded(line, asked)?,
             "limits" => push_limits(alloc, line, asked)?,
             "visits" => push_visits(alloc, line, asked)?,

@@ -9,7 +9,6 @@ pub mod files;
 pub mod interruptions;
 pub mod macho;
 pub mod pe;
-pub mod programs;
 pub mod streams;
 
 use crate::shim::Vec;

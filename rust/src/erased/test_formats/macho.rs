@@ -62,9 +62,9 @@ fn push(text: &mut String, macho: &Macho<'_>, section: Section<'_>) -> Result<()
 }
 
 fn found<'a>(macho: &Macho<'a>, which: &str) -> Result<Option<Section<'a>>, ParseError> {
-    match (which, which.split_once(',')) {
-        ("first", _) => macho.find_section(|_| true),
-        (_, Some((segment, name))) => macho.section_with_name(segment, name),
-        _ => macho.find_section(|_| false),
+    let is_first = which == "first";
+    match which.split_once(',') {
+        Some((segment, name)) => macho.section_with_name(segment, name),
+        None => macho.find_section(move |_| is_first),
     }
 }

@@ -7,6 +7,7 @@ use crate::erased::test_lookups::Asking;
 use crate::erased::test_lookups::words::{end_line, push_number, push_runs, push_words, words_of};
 use crate::erased::binfarce_sections::bytes::{section_bytes, write_section};
 use crate::erased::binfarce_sections::list::list_sections;
+use crate::erased::binfarce_sections::sections::sections_of;
 use crate::erased::binfarce_tools::SymbolTable;
 use crate::erased::binfarce_tools::all::read_all;
 use crate::erased::binfarce_tools::list::{Out, Sink};
@@ -56,6 +57,21 @@ pub(crate) fn push_names(of: &Asking<'_>, text: &mut Vec<u8>) -> io::Result<()> 
             "apart"
         },
     )
+}
+
+/// Adds the name of each section, one by one, and the words of a refusal.
+pub(crate) fn push_each(of: &Asking<'_>, text: &mut Vec<u8>) -> io::Result<()> {
+    let sections = match sections_of(of.file) {
+        Ok(sections) => sections,
+        Err(e) => return write!(text, "{e}"),
+    };
+    for section in sections {
+        match section {
+            Ok(section) => write!(text, "{} ", section.name.unwrap_or("-"))?,
+            Err(e) => write!(text, "{e}")?,
+        }
+    }
+    Ok(())
 }
 
 /// Adds how many bytes each number of the first bytes of a file has of the section of this name, and how many lines.

@@ -2,31 +2,34 @@
 
 //! Names whose texts are long.
 
-use crate::shim::{HostRuntime, String};
+use crate::shim::String;
 use crate::erased::binfarce_names::demangle::SymbolName;
-use crate::shim::test::Fail;
+use crate::shim::alloc::{AllocError, Global};
 
-// The text is that of 14 tuples of two, each of the one before.
-#[test]
-fn fourteen_tuples() -> Result<(), Fail> {
-    let rt = HostRuntime::new();
-    let alloc = rt.alloc();
-    let mut text = String::from_str(alloc, "_")?;
-    for _ in 0..14 {
-        text = String::formatted(alloc, format_args!("({text}, {text})"))?;
-    }
-    let name = "_RMC0TTTTTTTTTTTTTTpBg_EBf_EBe_EBd_EBc_EBb_EBa_EB9_EB8_EB7_EB6_EB5_EB4_EB3_E";
+/// Appends how many times the complete text between `<` and `>` is a tuple of two equal texts, each of which is one of two, and so
+/// on; and the text that is none.
+pub fn push_pairs(alloc: Global, line: &mut String, name: &str) -> Result<(), AllocError> {
     let answer = SymbolName::demangle(alloc, name)?;
-    let want = String::formatted(alloc, format_args!("<{text}>"))?;
-    assert!(answer.complete.as_str() == want.as_str());
-    Ok(())
+    let mut text = answer.complete.as_str().trim_matches(['<', '>']);
+    for depth in 0..32 {
+        match half_of(text) {
+            Some(half) => text = half,
+            None => return write!(line, "{depth} {text}"),
+        }
+    }
+    line.push_str("more than 31")
 }
 
-// A text of 65,533 lifetimes, which takes 65,536 steps.
-#[test]
-fn many_lifetimes() -> Result<(), Fail> {
-    let rt = HostRuntime::new();
-    let answer = SymbolName::demangle(rt.alloc(), "_RMC0FGh2X_Eu")?;
-    assert!(answer.complete.as_str().ends_with("'_65532> fn()>"));
-    Ok(())
+/// Appends the last 14 bytes of the complete text.
+pub fn push_end(alloc: Global, line: &mut String, name: &str) -> Result<(), AllocError> {
+    let answer = SymbolName::demangle(alloc, name)?;
+    let text = answer.complete.as_str();
+    line.push_str(text.get(text.len().saturating_sub(14)..).unwrap_or(text))
+}
+
+// The text that a tuple has twice.
+fn half_of(text: &str) -> Option<&str> {
+    let inner = text.strip_prefix('(')?.strip_suffix(')')?;
+    let (first, second) = inner.split_at_checked(inner.len().saturating_sub(2) / 2)?;
+    (second.strip_prefix(", ")? == first).then_some(first)
 }

@@ -1,20 +1,13 @@
-// From crates/test_formats/src/tests/writers.rt, by tools/erase.
-
 //! Writers that fail: what they took is a beginning of the text, and the call reports it.
 
-use crate::shim::{HostRuntime, Vec};
-use crate::erased::test_formats::texts::text_of_section;
-use crate::erased::binfarce_tools::list::{ListError, Out, Sink, list};
-use crate::erased::binfarce_tools::map::map;
-use crate::erased::binfarce_tools::report::{ReportError, report};
-use crate::shim::alloc::Global;
-use crate::shim::io::ErrorKind;
-use crate::shim::test::Fail;
-use crate::erased::test_image_samples::file_of;
-use crate::erased::test_samples::elf::ELF64_LITTLE;
-use crate::erased::test_samples::files::File;
-use crate::erased::test_samples::first_bytes;
-use crate::erased::test_samples::streams::Target;
+use crate::texts::text_of_section;
+use binfarce_tools::list::{ListError, Out, Sink, list};
+use binfarce_tools::map::map;
+use binfarce_tools::report::{ReportError, report};
+use std::alloc::{AllocError, Global};
+use std::io::ErrorKind;
+use test_samples::streams::Target;
+use test_samples::{first_bytes, patched};
 
 // How many bytes a writer takes in a call, and how a call ends that takes none.
 type Limits = (usize, Option<ErrorKind>);
@@ -80,23 +73,23 @@ fn other_writer(alloc: Global, what: &str, file: &[u8], text: &str) -> Option<(u
     None
 }
 
-#[test]
-fn writes_a_beginning() -> Result<(), Fail> {
-    let rt = HostRuntime::new();
-    let alloc = rt.alloc();
-    let pe = File::Pe.whole(alloc)?;
-    let crates = file_of(alloc, &["_RNvC1b1x", "_RNvC1a1x", "_RNvC1b1y"])?;
-    let rows: [(&str, &[u8], usize); 4] = [
-        ("list", &ELF64_LITTLE, 40),
-        ("report", &ELF64_LITTLE, 30),
-        ("report", &pe, 38),
-        ("map", &crates, 921),
-    ];
-    for (what, file, length) in rows {
-        let text = text_of_section(alloc, what, ".text", file)?;
-        assert_eq!(text.len(), length, "{text}");
-        let other = other_writer(alloc, what, file, text.as_str());
-        assert!(other.is_none(), "{text}: {other:?}");
+/// How many bytes the text has, and the first writer that it isn't so of.
+pub fn written(alloc: Global, what: &str, file: &[u8]) -> Result<String, AllocError> {
+    let text = text_of_section(alloc, what, ".text", file)?;
+    let (length, other) = (text.len(), other_writer(alloc, what, file, text.as_str()));
+    format!(in alloc; "{length} bytes, {other:?}")
+}
+
+/// The first offset at which the greatest number makes a file that is drawn in part: it has to be drawn whole, or refused and
+/// nothing drawn.
+pub fn drawn_in_part(alloc: Global, file: &[u8]) -> Result<String, AllocError> {
+    for at in 8..file.len().saturating_sub(7) {
+        let changed = patched(alloc, file, &[(at, &[0xFF; 8])])?;
+        let text = text_of_section(alloc, "map", ".text", &changed)?;
+        let is_drawn = text.as_str().starts_with("<svg ") && text.as_str().ends_with("</svg>\n");
+        if !is_drawn && text.as_str().contains("<") {
+            return format!(in alloc; "{at}");
+        }
     }
-    Ok(())
+    String::from_str(alloc, "none")
 }

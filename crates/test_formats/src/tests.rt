@@ -1,8 +1,0 @@
-//! What isn't an answer to a question: images, files of many symbols, writers that fail, and parts of the programs.
-
-mod calls;
-mod image;
-mod large;
-mod parts;
-mod program;
-mod writers;

@@ -1,0 +1,98 @@
+// From crates/test_formats/src/calls.rt, by tools/erase.
+
+//! Calls that no other question makes.
+
+use crate::shim::{String, Vec};
+use crate::erased::binfarce_bytes::ByteOrder;
+use crate::erased::binfarce_bytes::functions::{FunctionSymbol, found_with};
+use crate::erased::binfarce_bytes::parser::{Stream, number_at, slice_at};
+use crate::erased::binfarce_tables::begun::Begun;
+use crate::erased::binfarce_tables::part;
+use crate::erased::binfarce_tools::SymbolTable;
+use crate::erased::binfarce_tools::all::{read_all, sums_of_all};
+use crate::erased::binfarce_tools::functions::functions_of_file;
+use crate::erased::binfarce_tools::list::Out;
+use crate::erased::binfarce_tools::report::{CrateSums, sums_of_file, sums_of_tables};
+use crate::erased::binfarce_tools::tables::read;
+use crate::erased::binfarce_tools::writing::write_whole;
+use crate::shim::alloc::{AllocError, Global};
+
+/// What the call gives: of the bytes 1, 2, 3, of a function of 4 bytes at 16, of the bytes 0xFF and 0x80, or of a text.
+pub fn answer(alloc: Global, call: &str) -> Result<String, AllocError> {
+    let order = match call {
+        "read big" => ByteOrder::BigEndian,
+        _ => ByteOrder::LittleEndian,
+    };
+    let function = FunctionSymbol {
+        name: "a",
+        address: 16,
+        size: 4,
+    };
+    match call {
+        "number_at" => {
+            let number = number_at::<u16>(&[1, 2, 3], 1, ByteOrder::BigEndian);
+            String::formatted(alloc, format_args!("{number:?}"))
+        }
+        "slice_at" => {
+            let slice = slice_at(&[1, 2, 3], 1, 2);
+            String::formatted(alloc, format_args!("{slice:?}"))
+        }
+        "found_with" => {
+            let last = found_with(None, function, 19).map(|f| f.address);
+            let next = found_with(None, function, 20).map(|f| f.address);
+            String::formatted(alloc, format_args!("{last:?} {next:?}"))
+        }
+        "write_whole" => {
+            let mut out = Out::new(Vec::new(alloc));
+            let ended = write_whole(&mut out, b"text");
+            let taken = out.into_inner();
+            String::formatted(alloc, format_args!("{ended:?} {:?}", std::str::from_utf8(&taken)))
+        }
+        _ => {
+            let one = Stream::new(&[0xFF, 0x80], order).read::<i8>();
+            let two = Stream::new(&[0xFF, 0x80], order).read::<i16>();
+            String::formatted(alloc, format_args!("{one:?} {two:?}"))
+        }
+    }
+}
+
+/// How many of a file's first bytes are read once and are its own, and the text in the part of it.
+pub fn parts(alloc: Global, file: &[u8]) -> Result<String, AllocError> {
+    let mut text = String::new(alloc);
+    if let Ok(begun) = Begun::new(alloc, &file) {
+        let head = begun.head();
+        write!(text, "{} {} ", head.len(), file.starts_with(head))?;
+    }
+    if let Ok(names) = part(alloc, &file, 216, 18) {
+        write!(text, "{:?}", std::str::from_utf8(&names))?;
+    }
+    Ok(text)
+}
+
+/// The sum of the sizes, and the size of the section: of the file, of the tables that are read of it, and of all sections; and where
+/// the first function is.
+pub fn sums(alloc: Global, section: &str, file: &[u8]) -> Result<String, AllocError> {
+    let mut text = String::new(alloc);
+    if let Ok(sums) = sums_of_file(alloc, file, section) {
+        push_sums(&mut text, &sums)?;
+    }
+    if let Ok(tables) = read(alloc, &file, section) {
+        if let Ok(sums) = sums_of_tables(alloc, &tables) {
+            push_sums(&mut text, &sums)?;
+        }
+    }
+    if let Ok(tables) = read_all(alloc, &file, SymbolTable::Symtab) {
+        if let Ok(sums) = sums_of_all(alloc, &tables) {
+            push_sums(&mut text, &sums)?;
+        }
+    }
+    if let Ok((mut functions, size)) = functions_of_file(alloc, file, section) {
+        let first = functions.next().map(|f| f.address);
+        write!(text, "{first:?} of {size}")?;
+    }
+    Ok(text)
+}
+
+fn push_sums(text: &mut String, sums: &CrateSums) -> Result<(), AllocError> {
+    write!(text, "{} of {}, ", sums.total, sums.section_size)
+}

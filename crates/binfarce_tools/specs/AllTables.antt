@@ -40,5 +40,5 @@ abbrev pub shares_addresses_of : AllTables → Bool
 shares_addresses_of (Elf32 parts) = (all_view elf32 parts).shares_addresses
 shares_addresses_of (Elf64 parts) = (all_view elf64 parts).shares_addresses
 shares_addresses_of (Macho parts) = (macho.all_view parts).shares_addresses
-shares_addresses_of (Pe parts) = true
+shares_addresses_of (Pe parts) = (pe.all_view parts).shares_addresses
 shares_addresses_of Unknown = false

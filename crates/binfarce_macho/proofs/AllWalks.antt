@@ -3,7 +3,7 @@ use Rattle.std.proofs.Common.{◌≡◌, ◌≢◌, ℕ, zero, suc, ◌+◌, ◌
 use Rattle.std.proofs.Math.Nat.{div-mul-le_self}
 use Rattle.std.specs.List.{range_with_len}
 use Rattle.std.proofs.lemmas.Bool.{cases_lt, le-leb, lt-leb, leb-true, eq-eqb, ne_eqb}
-use Rattle.std.proofs.lemmas.List.{append-nil, length-take, length-append, length-map, map-append, take_all}
+use Rattle.std.proofs.lemmas.List.{append-nil, length-take, length-append, length-map, take_all}
 use Rattle.std.proofs.lemmas.List.Elements.{All-nil, All-cons, All-same, All-append}
 use Rattle.std.proofs.lemmas.List.FromFn.{take-map-range_with_len, map-range_with_len_more}
 use Rattle.binfarce_bytes.specs.declared.error.ParseError.{ParseError}
@@ -68,7 +68,7 @@ one_more body i old starts so_far =
     ∙ append_assoc old (first_starts body i) (section_offset body i ∷ [])
     ∙ ap (λ (es : List ℕ). old ++ es) (sym (map-range_with_len_more (λ i. section_offset body i) 0 i i (omega arith)))
 
-each_start : (P : ℕ → Type 0) (body a n : ℕ) → ((i : ℕ) → i < a + n → P (section_offset body i)) → All P (map (λ i. section_offset body i) (range_with_len a n))
+pub each_start : (P : ℕ → Type 0) (body a n : ℕ) → ((i : ℕ) → i < a + n → P (section_offset body i)) → All P (map (λ i. section_offset body i) (range_with_len a n))
 each_start P body a zero holds = All-nil P
 each_start P body a (suc n) holds =
     All-cons P (section_offset body a) (map (λ i. section_offset body i) (range_with_len (a + 1) n)) (holds a (omega arith)) (each_start P body (a + 1) n (λ i lt. holds i (omega arith)))

@@ -7,7 +7,5 @@ pub mod SectionNames
 pub mod SectionsLeft
 pub mod Needs
 pub mod Held
-pub mod BySection
 pub mod AllRows
 pub mod AllWalks
-pub mod AllLaw

@@ -1,17 +1,17 @@
--- The function symbols of all sections of a Mach-O file.
-use Rattle.std.specs.Prelude.{◌≡◌, ◌≢◌, ℕ, ◌+◌, ◌-◌, ◌*◌, ◌^◌, Bool, ◌&&◌, List, [], ◌∷◌, ◌++◌, length, map, filter, take, slice_get, unwrap_or, bit_and, not, nat_eq, nat_lt, Option, Some, None, Result, Ok, Err, if◌then◌else◌}
+-- The function symbols of all sections of a Mach-O file: those of the sections that hold instructions.
+use Rattle.std.specs.Prelude.{◌≢◌, ℕ, ◌+◌, ◌-◌, ◌*◌, ◌/◌, Bool, ◌&&◌, ◌||◌, List, [], ◌∷◌, ◌++◌, length, codes, map, take, slice_get, unwrap_or, bit_and, not, nat_eq, nat_le, nat_lt, Option, Some, None, Result, Ok, if◌then◌else◌}
 use Rattle.std.specs.Option.{option_map}
-use Rattle.std.specs.List.{range_with_len, flat_map}
+use Rattle.std.specs.List.{range_with_len, filter_map, flat_map, starts_with}
 use Rattle.binfarce_bytes.specs.Text.{text_at}
-use Rattle.binfarce_bytes.specs.Refusal.{◌>>=◌, Refusal, malformed_input, if_as_long_as}
-use Rattle.binfarce_bytes.specs.Field.{number_in}
-use Rattle.binfarce_bytes.specs.Entries.{Entry, Listed}
-use Rattle.binfarce_bytes.specs.SectionEntries.{SectionEntry, AllSymbols, of_section, unless}
-use Rattle.binfarce_bytes.specs.Sizes.{RowAddress, arranged, addresses_of}
-use Rattle.binfarce_macho.specs.declared.all.Extent.{Extent}
+use Rattle.binfarce_bytes.specs.Refusal.{◌>>=◌, Refusal, if_as_long_as}
+use Rattle.binfarce_bytes.specs.Field.{field, number_in}
+use Rattle.binfarce_bytes.specs.Entries.{Entry}
+use Rattle.binfarce_bytes.specs.SectionEntries.{SectionEntry, AllSymbols, in_section, unless}
+use Rattle.binfarce_bytes.specs.Sizes.{RowAddress, arranged, addresses_of, least_above}
+use Rattle.binfarce_macho.specs.declared.all.Extent as code_extent
 use Rattle.binfarce_macho.specs.declared.all.SymbolBytes as code
 use Rattle.binfarce_macho.specs.Macho.{Command, header_of, least_length, commands, body_of, is_segment, Section, section_at, section_count, section_offset, section_fields, walk}
-use Rattle.binfarce_macho.specs.MachoSymbols.{SymbolTable, SymbolRow, symbol_of, symbol_length, symbol_command, slice_at, row_addresses, macho_size, sized_entry, kept, Located, located, macho_answer, named_table}
+use Rattle.binfarce_macho.specs.MachoSymbols.{SymbolTable, SymbolRow, symbol_of, symbol_length, symbol_command, slice_at, named_table}
 
 -- MAX_SECT: a row has the number of its section in one byte
 abbrev pub greatest_section : ℕ
@@ -37,13 +37,23 @@ section_starts file = unless (walk file).refusal (take greatest_section (starts_
 abbrev pub HasSection : List ℕ → Type 0
 HasSection file = starts_among file (commands file).items ≢ []
 
--- the end in memory of the section whose structure begins at start
-unfoldable pub end_at : List ℕ → ℕ → ℕ
-end_at file start = number_in file start section_fields.address + number_in file start section_fields.size
+-- where a section is in memory, and whether it holds instructions
+pub record Extent : Type 0 where
+  pub address : ℕ
+  pub size : ℕ
+  pub has_instructions : Bool
 
--- the ends of the file's sections, in the order of their numbers
-unfoldable pub section_ends : List ℕ → Result (List ℕ) Refusal
-section_ends file = section_starts file >>= λ starts. Ok (map (end_at file) starts)
+-- the section whose structure begins at start holds instructions: its flags have S_ATTR_PURE_INSTRUCTIONS (0x80000000) or S_ATTR_SOME_INSTRUCTIONS (0x400). Where they are truncated it holds none
+unfoldable pub has_instructions : List ℕ → ℕ → Bool
+has_instructions file start = nat_le (start + 68) (length file) && not (nat_eq (bit_and (number_in file start (field 64 4)) 0x80000400) 0)
+
+-- that section
+unfoldable pub extent_at : List ℕ → ℕ → Extent
+extent_at file start = record {
+  address = number_in file start section_fields.address;
+  size = number_in file start section_fields.size;
+  has_instructions = has_instructions file start;
+}
 
 -- a section's name behind its segment's, as `otool` and `ld` have it: `SEGMENT,SECTION`
 abbrev pub full_name : Section → List ℕ
@@ -77,57 +87,72 @@ symbols_of file = do
   table ← named_table file command
   symbols_by file table
 
--- the end of the section of this number, where there is one
-abbrev pub end_of : List ℕ → ℕ → Option ℕ
-end_of ends number = if nat_eq number 0 then None else slice_get ends (number - 1)
+-- the address lies in the section
+abbrev pub lies_in : Extent → ℕ → Bool
+lies_in section address = nat_le section.address address && nat_lt address (section.address + section.size)
 
--- a row with a name offset, whose N_TYPE has one of the bits 0x0A
-abbrev pub is_defined : SymbolRow ℕ → Bool
-is_defined row = not (nat_eq row.name 0) && not (nat_eq (bit_and row.kind 0x0A) 0)
+-- a row that is defined in the section of this number: of the type N_SECT (0x0e of the bits N_TYPE, 0x0e), and no entry for a debugger (no bit of N_STAB, 0xe0)
+abbrev pub is_defined_in : ℕ → SymbolRow ℕ → Bool
+is_defined_in number row = nat_eq (bit_and row.kind 0xEE) 0x0E && nat_eq row.section number
 
--- a section's end: below 2^64
-abbrev pub checked_end : ℕ → Result ℕ Refusal
-checked_end end = if nat_lt end (2 ^ 64) then Ok end else Err malformed_input
+-- a label of the assembler
+abbrev pub is_label : List ℕ → Bool
+is_label name = starts_with nat_eq name (codes "ltmp") || starts_with nat_eq name (codes "L")
 
--- this entry, as one of the section of this number
-abbrev pub numbered : ℕ → Option Entry → Option SectionEntry
-numbered number entry = option_map (λ e. record { section = number; entry = e }) entry
+-- a name that can be read and is no label
+abbrev pub no_label : Option (List ℕ) → Option (List ℕ)
+no_label None = None
+no_label (Some name) = if is_label name then None else Some name
 
--- the entry of such a row in its section, by the same rule as in the text
-abbrev pub entry_in : Symbols → RowAddress → SymbolRow ℕ → Option ℕ → Result (Option SectionEntry) Refusal
-entry_in symbols at row None = Ok None
-entry_in symbols at row (Some end) = do
-  section_end ← checked_end end
-  size ← macho_size (addresses_of (row_addresses symbols.rows)) section_end at.address
-  Ok (numbered row.section (sized_entry at.address size (text_at symbols.strings row.name)))
+-- the name of a row that is kept: a function of the section of this number, which lies in it
+unfoldable pub function_name : List ℕ → Extent → ℕ → SymbolRow ℕ → Option (List ℕ)
+function_name strings section number row =
+    if is_defined_in number row && lies_in section row.value && not (nat_eq row.name 0) then no_label (text_at strings row.name) else None
 
--- the result for a row with an address: nothing, its entry, or the refusal of its section's end or of its size
-unfoldable pub section_entry : List ℕ → Symbols → RowAddress → Result (Option SectionEntry) Refusal
-section_entry ends symbols at =
-    if is_defined (symbol_of symbols.rows at.row) then entry_in symbols at (symbol_of symbols.rows at.row) (end_of ends (symbol_of symbols.rows at.row).section)
-    else Ok None
+-- the address and the number of such a row
+unfoldable pub kept_row : Symbols → Extent → ℕ → ℕ → Option RowAddress
+kept_row symbols section number k =
+    option_map (λ _. record { address = (symbol_of symbols.rows k).value; row = k }) (function_name symbols.strings section number (symbol_of symbols.rows k))
 
--- entries by section, in the order of the sections' numbers; in each section they keep their order
-abbrev pub by_section : ℕ → List SectionEntry → List SectionEntry
-by_section count entries = flat_map (λ number. filter (λ e. nat_eq e.section number) entries) (range_with_len 1 count)
+-- the rows that are kept of the section of this number, in table order
+abbrev pub kept_rows : Symbols → Extent → ℕ → List RowAddress
+kept_rows symbols section number = filter_map (kept_row symbols section number) (range_with_len 0 (length symbols.rows / symbol_length))
 
--- the entries of all sections with these ends: by section, and in each in the order of (address, row number)
-unfoldable pub all_of : List ℕ → Option Symbols → Result (List SectionEntry) Refusal
-all_of ends None = Ok []
-all_of ends (Some symbols) = do
-  entries ← kept (section_entry ends symbols) (arranged (row_addresses symbols.rows))
-  Ok (by_section (length ends) entries)
+-- the size at an address of a kept row: up to the least of these addresses above it, where there is one, else up to the section's end
+abbrev pub size_in : Extent → List ℕ → ℕ → ℕ
+size_in section addresses address = unwrap_or (least_above addresses address) (section.address + section.size) - address
 
--- the refusals in order: those of the sections, of the symbol table, and of its rows
+-- the entry of a kept row
+unfoldable pub entry_of : Symbols → Extent → ℕ → RowAddress → Option Entry
+entry_of symbols section number at =
+    option_map (λ name. record { name = name; address = at.address; size = size_in section (addresses_of (kept_rows symbols section number)) at.address })
+    (function_name symbols.strings section number (symbol_of symbols.rows at.row))
+
+-- the entries of the section of this number, in the order of (address, row number); each kept row has a name, so that none is left out
+unfoldable pub entries_of : Symbols → Extent → ℕ → List Entry
+entries_of symbols section number =
+    if section.has_instructions then filter_map (entry_of symbols section number) (arranged (kept_rows symbols section number)) else []
+
+-- those entries with that number, where there is such a section
+abbrev pub entries_at : Symbols → ℕ → Option Extent → List SectionEntry
+entries_at symbols number None = []
+entries_at symbols number (Some section) = in_section number (entries_of symbols section number)
+
+-- the entries of all these sections, of which the first has number 1, in the order of their numbers
+unfoldable pub all_of : List Extent → Option Symbols → List SectionEntry
+all_of sections None = []
+all_of sections (Some symbols) = flat_map (λ index. entries_at symbols (index + 1) (slice_get sections index)) (range_with_len 0 greatest_section)
+
+-- the refusals in order: those of the sections and of the symbol table; else the entries of all sections
 unfoldable pub all_answer : List ℕ → Result (List SectionEntry) Refusal
 all_answer file = do
-  ends ← section_ends file
+  starts ← section_starts file
   symbols ← symbols_of file
-  all_of ends symbols
+  Ok (all_of (map (extent_at file) starts) symbols)
 
--- the ends and the names of a file's sections, in the order of their numbers; its symbols, where it has a symbol table; and whether it is an object file
+-- the sections of a file and their names, in the order of their numbers; its symbols, where it has a symbol table; and whether it is an object file
 pub record AllLocated : Type 0 where
-  pub ends : List ℕ
+  pub sections : List Extent
   pub names : List (Option (List ℕ))
   pub symbols : Option Symbols
   pub shares_addresses : Bool
@@ -137,33 +162,26 @@ abbrev pub all_located : List ℕ → Result AllLocated Refusal
 all_located file = do
   starts ← section_starts file
   symbols ← symbols_of file
-  Ok (record { ends = map (end_at file) starts; names = map (name_at file) starts; symbols = symbols; shares_addresses = nat_eq (header_of file).filetype 1 })
+  Ok (record { sections = map (extent_at file) starts; names = map (name_at file) starts; symbols = symbols; shares_addresses = nat_eq (header_of file).filetype 1 })
 
 -- where the file has a header
 abbrev pub all_located_answer : List ℕ → Result AllLocated Refusal
 all_located_answer file = if_as_long_as least_length file (all_located file)
 
 -- the entries of all sections, made of that
-abbrev pub all_entries : AllLocated → Result (List SectionEntry) Refusal
-all_entries found = all_of found.ends found.symbols
+abbrev pub all_entries : AllLocated → List SectionEntry
+all_entries found = all_of found.sections found.symbols
 
-abbrev pub all_symbols : AllLocated → Result AllSymbols Refusal
-all_symbols found = do
-  entries ← all_entries found
-  Ok (record { entries = entries; section_name = name_of found.names; shares_addresses = found.shares_addresses })
+abbrev pub all_symbols : AllLocated → AllSymbols
+all_symbols found = record { entries = all_entries found; section_name = name_of found.names; shares_addresses = found.shares_addresses }
 
 -- the answer of a file
 abbrev pub all_file_answer : List ℕ → Result AllSymbols Refusal
-all_file_answer file = all_located_answer file >>= all_symbols
+all_file_answer file = all_located_answer file >>= λ found. Ok (all_symbols found)
 
--- a law of `all_answer`: where the text is the first section, its entries are those of `macho_answer`
-abbrev pub AllHasText : List ℕ → Type 0
-AllHasText file = (ends : List ℕ) (found : Located) (entries : List SectionEntry) (listed : Listed) → section_ends file ≡ Ok ends → located file ≡ Ok (Some found) → end_of ends 1 ≡ Some found.text_end
-    → all_answer file ≡ Ok entries → macho_answer file ≡ Ok listed → of_section 1 entries ≡ listed.entries
-
--- the end of an `Extent`
-abbrev pub extent_end : Extent → ℕ
-extent_end e = e.address + e.size
+-- an `Extent`
+abbrev pub extent_view : code_extent.Extent → Extent
+extent_view e = record { address = e.address; size = e.size; has_instructions = e.has_instructions }
 
 -- a `SymbolBytes`
 abbrev pub symbols_view : code.SymbolBytes → Symbols

@@ -4,14 +4,14 @@ use Rattle.std.specs.Option.{option_map}
 use Rattle.binfarce_macho.specs.declared.parts.Needed.{Needed}
 use Rattle.binfarce_macho.specs.declared.symbols.Located as code
 use Rattle.binfarce_macho.specs.declared.symbols.SymbolTable as raw
-use Rattle.binfarce_macho.specs.Macho.{Command, header_of, header_length, command_length, command_at, body_of, is_segment, segment_read, section_count, whole_headers}
+use Rattle.binfarce_macho.specs.Macho.{Command, header_of, header_length, command_length, command_at, body_of, is_segment, section_count, section_offset}
 use Rattle.binfarce_macho.specs.MachoSymbols.{SymbolTable, symbol_table_length, NeededTables, Located, row_addresses}
 use Rattle.binfarce_macho.specs.MachoViews.{section_view}
 
--- the fields that are read of a command's body lie in these bytes: all sections of a segment command, the four numbers of a symbol table's
+-- what is read of a command's body lies in these bytes: the section structures of a segment command, the four numbers of a symbol table's
 abbrev pub holds_body : List ℕ → Command → Bool
 holds_body bytes command =
-    if is_segment command then nat_le (body_of command + segment_read) (length bytes) && nat_le (section_count bytes (body_of command)) (whole_headers bytes (body_of command))
+    if is_segment command then nat_le (section_offset (body_of command) (section_count bytes (body_of command))) (length bytes)
     else if nat_eq command.kind 2 then nat_le (body_of command + symbol_table_length) (length bytes)
     else true
 

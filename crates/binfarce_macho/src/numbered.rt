@@ -1,23 +1,22 @@
 //! The sections of a file by their numbers: where their structures begin, and their names.
 
-ghost use Rattle.std.specs.Prelude.{◌≡◌, ◌≢◌, ◌+◌, ◌*◌, ◌<◌, ◌≤◌, ◌^◌, ◌++◌, ◌⊎◌, [], length, map, nat_eq, take, All, None, Some, Ok, Err, IfOk, OnErr, MatchResult};
+ghost use Rattle.std.specs.Prelude.{◌≡◌, ◌≢◌, ◌+◌, ◌*◌, ◌<◌, ◌≤◌, ◌^◌, ◌++◌, ◌&&◌, ◌⊎◌, [], length, map, nat_eq, nat_le, take, All, None, Some, Ok, Err, IfOk, OnErr, MatchResult};
 ghost use Rattle.std.specs.Option.{option_map};
 ghost use Rattle.std.specs.String.{string_bytes};
 ghost use Rattle.binfarce_bytes.specs.Refusal.{refusal_of, out_of_memory};
-ghost use Rattle.binfarce_macho.specs.Macho.{header_of, segment};
+ghost use Rattle.binfarce_macho.specs.Macho.{header_of, segment, segment_read, section_count, whole_headers};
 ghost use Rattle.binfarce_macho.specs.MachoAll.{greatest_section, first_starts, starts_in, section_starts, HasSection, full_name, name_at};
 ghost use Rattle.binfarce_macho.specs.MachoViews.{header_view, section_view};
 
 use crate::commands::{LC_SEGMENT_64, commands};
 use crate::header::MachoHeader;
-use crate::parts::holds_sections;
 use crate::sections::{SECTION_LENGTH, Section, section_at};
 use binfarce_bytes::parser::number_at;
 use binfarce_bytes::{ByteOrder, ParseError};
 use std::alloc::{AllocError, Global};
 
 // The greatest number of a section that a row can state (`MAX_SECT`).
-const MAX_SECT: usize = 255;
+pub(crate) const MAX_SECT: u8 = 255;
 
 /// Where the structures of a file's sections begin, in the order of the sections' numbers, up to number 255. Refused as
 /// `find_section` of a reader is with a callback that accepts none; `OutOfMemory` comes only where the file has a section.
@@ -58,9 +57,22 @@ fn push_sections(starts: &mut Vec<usize>, file: &[u8], body: usize) -> Result<()
         return Err(ParseError::UnexpectedEof);
     }
     let count: u32 = number_at(file, body + 56, ByteOrder::LittleEndian)?;
-    let room = MAX_SECT - starts.len();
+    let room = usize::from(MAX_SECT) - starts.len();
     push_starts(starts, body, room.min(count as usize))?;
     Ok(())
+}
+
+// Whether no section of a segment command is truncated.
+fn holds_sections(bytes: &[u8], body: usize) -> bool
+    requires { body ≤ length bytes.now }
+    ensures { result ≡ (nat_le (body + segment_read) (length bytes.now) && nat_le (section_count bytes.now body)
+        (whole_headers bytes.now body)) }
+{
+    match number_at::<u32>(bytes, body + 56, ByteOrder::LittleEndian) {
+        Err(_) => false,
+        Ok(count) => count as usize
+            <= (bytes.len() + 28).saturating_sub(body + 64) / SECTION_LENGTH,
+    }
 }
 
 // Adds as many sections of a segment command.

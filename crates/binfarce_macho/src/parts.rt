@@ -1,9 +1,9 @@
 //! The tables that the function symbols of a file need, found in its header and its load commands alone.
 
-ghost use Rattle.std.specs.Prelude.{◌≡◌, ◌+◌, ◌≤◌, ◌&&◌, length, nat_le};
+ghost use Rattle.std.specs.Prelude.{◌≡◌, ◌+◌, ◌≤◌, length, nat_le};
 ghost use Rattle.std.specs.Option.{option_map};
 ghost use Rattle.binfarce_bytes.specs.Refusal.{Gives, refusal_of};
-ghost use Rattle.binfarce_macho.specs.Macho.{header_of, header_length, segment_read, section_count, whole_headers};
+ghost use Rattle.binfarce_macho.specs.Macho.{header_of, header_length, section_count, section_offset};
 ghost use Rattle.binfarce_macho.specs.MachoParts.{needed_view, table_view, holds_body, holds_commands};
 ghost use Rattle.binfarce_macho.specs.MachoSymbols.{needed, named_table, table_of};
 ghost use Rattle.binfarce_macho.specs.MachoViews.{header_view};
@@ -97,22 +97,20 @@ fn holds_body(bytes: &[u8], command: Command) -> bool
     ensures { result ≡ holds_body bytes.now (command_view command) }
 {
     let body = command.offset + 8;
-    if command.kind == LC_SEGMENT_64 {
-        holds_sections(bytes, body)
-    } else {
-        command.kind != LC_SYMTAB || body + 16 <= bytes.len()
+    match command.kind {
+        LC_SEGMENT_64 => holds_sections(bytes, body),
+        LC_SYMTAB => body + 16 <= bytes.len(),
+        _ => true,
     }
 }
 
-// Whether all sections of a segment command lie in the bytes.
-pub(crate) fn holds_sections(bytes: &[u8], body: usize) -> bool
+// Whether all section structures of a segment command lie in the bytes.
+fn holds_sections(bytes: &[u8], body: usize) -> bool
     requires { body ≤ length bytes.now }
-    ensures { result ≡ (nat_le (body + segment_read) (length bytes.now) && nat_le (section_count bytes.now body)
-        (whole_headers bytes.now body)) }
+    ensures { result ≡ nat_le (section_offset body (section_count bytes.now body)) (length bytes.now) }
 {
     match number_at::<u32>(bytes, body + 56, ByteOrder::LittleEndian) {
         Err(_) => false,
-        Ok(count) => count as usize
-            <= (bytes.len() + 28).saturating_sub(body + 64) / SECTION_LENGTH,
+        Ok(count) => body + 64 + count as usize * SECTION_LENGTH <= bytes.len(),
     }
 }

@@ -4,7 +4,6 @@ ghost use Rattle.std.specs.Prelude.{◌≡◌, ◌≢◌, ℕ, ◌+◌, ◌*◌,
 ghost use Rattle.std.specs.Option.{option_map};
 ghost use Rattle.binfarce_bytes.specs.Refusal.{Gives, refusal_of};
 ghost use Rattle.binfarce_macho.specs.Macho.{header_of, body_of};
-ghost use Rattle.binfarce_macho.specs.MachoAll.{is_defined};
 ghost use Rattle.binfarce_macho.specs.MachoParts.{located_view, table_view};
 ghost use Rattle.binfarce_macho.specs.MachoSymbols.{HasAddress, macho_answer, answer_of, listed_of, located, text_section, some_size, symbol_command, symbol_table_at, text_end_of, row_addresses, symbol_at, is_candidate, size_up_to, sized_entry, entry_of, located_in};
 ghost use Rattle.binfarce_bytes.specs.Sizes.{addresses_of, least_above};
@@ -169,9 +168,9 @@ pub fn text_end(text: Section<'_>) -> Result<u64, ParseError>
 #[derive(Clone, Copy)]
 pub(crate) struct SymbolRow {
     pub(crate) name: u32,
-    kind: u8,
+    pub(crate) kind: u8,
     pub(crate) section: u8,
-    value: u64,
+    pub(crate) value: u64,
 }
 
 #[inline]
@@ -213,7 +212,7 @@ pub fn functions_of<'a>(
 }
 
 // The addresses of the rows that have one.
-pub(crate) fn row_addresses(alloc: Global, rows: &[u8]) -> Result<Vec<RowAddress>, AllocError>
+fn row_addresses(alloc: Global, rows: &[u8]) -> Result<Vec<RowAddress>, AllocError>
     ensures items { IfOk result (λ v. rows_view v.items ≡ row_addresses rows.now) }
     ensures memory { OnErr result (row_addresses rows.now ≢ []) }
 {
@@ -282,21 +281,10 @@ fn has_address(row: SymbolRow) -> bool
 fn is_candidate(row: SymbolRow) -> bool
     ensures { result ≡ is_candidate (symbol_view row) }
 {
-    is_defined(row) && row.section == 1
+    row.name != 0 && row.kind & 0x0A != 0 && row.section == 1
 }
 
-// Whether a row may be a function symbol of its section, whatever section that is.
-pub(crate) fn is_defined(row: SymbolRow) -> bool
-    ensures { result ≡ is_defined (symbol_view row) }
-{
-    row.name != 0 && row.kind & 0x0A != 0
-}
-
-pub(crate) fn size_up_to(
-    above: Option<u64>,
-    text_end: u64,
-    address: u64,
-) -> Result<Option<u64>, ParseError>
+fn size_up_to(above: Option<u64>, text_end: u64, address: u64) -> Result<Option<u64>, ParseError>
     requires { (n : ℕ) → above ≡ Some n → address < n }
     ensures { Gives refusal_of (λ o. o) (size_up_to above text_end address) result }
 {
@@ -314,11 +302,7 @@ pub(crate) fn size_up_to(
     }
 }
 
-pub(crate) fn sized_entry(
-    address: u64,
-    size: Option<u64>,
-    name: Option<&str>,
-) -> Option<FunctionSymbol<'_>>
+fn sized_entry(address: u64, size: Option<u64>, name: Option<&str>) -> Option<FunctionSymbol<'_>>
     ensures { option_map function_view result ≡ sized_entry address size (option_map (λ t. t.now) name.entry) }
 {
     let size = size?;

@@ -1,16 +1,11 @@
 -- Where the symbols of all sections of a Mach-O file are, by what was read of it.
-use Rattle.std.proofs.Common.{◌≡◌, ◌⊎◌, ◌≢◌, ℕ, ◌+◌, ◌*◌, ◌≤◌, Bool, true, false, cond, nat_eq, List, [], ◌∷◌, length, map, All, Option, None, Some, Result, Ok, Err, inl, inr, refl, sym, ap, ap₂, subst, ◌∙◌}
-use Rattle.std.specs.Global.{Vec}
+use Rattle.std.proofs.Common.{◌≡◌, ◌⊎◌, ◌≢◌, ℕ, ◌*◌, ◌≤◌, Bool, true, false, cond, nat_eq, List, length, map, Option, Some, Result, Ok, Err, inl, inr, refl, sym, ap, subst, ◌∙◌}
 use Rattle.std.proofs.lemmas.Bool.{le-ltb}
-use Rattle.std.proofs.lemmas.List.Elements.{All-head, All-tail}
 use Rattle.binfarce_bytes.specs.declared.error.ParseError.{ParseError}
 use Rattle.binfarce_bytes.specs.Number.{bytes_at}
 use Rattle.binfarce_bytes.specs.Refusal.{◌>>=◌, Refusal, refusal_of, out_of_memory}
-use Rattle.binfarce_bytes.specs.declared.functions.SectionFunction.{SectionFunction}
-use Rattle.binfarce_bytes.specs.SectionEntries.{AnswersAll}
-use Rattle.binfarce_bytes.specs.SymbolViews.{HoldsSectionFunctions}
 use Rattle.binfarce_macho.specs.Macho.{header_of}
-use Rattle.binfarce_macho.specs.MachoAll.{AllLocated, Symbols, all_located, all_located_answer, all_entries, section_starts, end_at, name_at, symbols_by, symbols_of, all_of}
+use Rattle.binfarce_macho.specs.MachoAll.{AllLocated, Symbols, all_located, all_located_answer, section_starts, extent_at, name_at, symbols_by, symbols_of}
 use Rattle.binfarce_macho.specs.MachoParts.{holds_commands}
 use Rattle.binfarce_macho.specs.MachoSymbols.{SymbolTable, slice_at, symbol_command, symbol_length, named_table, table_of}
 use Rattle.binfarce_tables.specs.declared.error.ReadError.{ReadError}
@@ -18,14 +13,7 @@ use Rattle.binfarce_tables.specs.declared.error.ReadError.TheVariants.{Refused, 
 use Rattle.binfarce_tables.specs.Reading.{Reads}
 use Rattle.binfarce_tables.specs.MachoReads.{said_end, command_bytes}
 use Rattle.binfarce_tables.specs.machine.MachoPlaces.{CommandParts, all_commands}
-use Rattle.binfarce_tables.proofs.MachoPrefix.{assoc, same_sections, starts_inside}
-
--- functions that agree on what is held
-map_held : {X : Type 0} (f g : ℕ → X) (len : ℕ) (starts : List ℕ) → ((start : ℕ) → start + 52 ≤ len → f start ≡ g start) → All (λ start. start + 52 ≤ len) starts → map f starts ≡ map g starts
-map_held f g len [] same held = refl
-map_held f g len (start ∷ starts) same held =
-    ap₂ (λ y ys. y ∷ ys) (same start (All-head (λ start. start + 52 ≤ len) start starts held))
-    (map_held f g len starts same (All-tail (λ start. start + 52 ≤ len) start starts held))
+use Rattle.binfarce_tables.proofs.MachoPrefix.{assoc, same_sections}
 
 -- a file, by the bytes that its commands are in
 module _ (file bytes : List ℕ) (inside : 28 ≤ length file) (are : bytes ≡ command_bytes file) where
@@ -39,14 +27,14 @@ module _ (file bytes : List ℕ) (inside : 28 ≤ length file) (are : bytes ≡ 
       let same = same_sections file bytes inside are in
       rw (sym same.starts ∙ at, sym same.table ∙ is) refl
 
-  pub all_found : (starts : List ℕ) (found : CommandParts) → section_starts bytes ≡ Ok starts → All (λ start. start + 52 ≤ length bytes) starts
-      → found.ends ≡ map (end_at bytes) starts → found.names ≡ map (name_at bytes) starts → table_of bytes ≡ Ok found.table → found.shares_addresses ≡ nat_eq (header_of bytes).filetype 1 → all_commands file ≡ Ok found
-  all_found starts found at held ends names table object =
+  pub all_found : (starts : List ℕ) (found : CommandParts) → section_starts bytes ≡ Ok starts
+      → found.sections ≡ map (extent_at bytes) starts → found.names ≡ map (name_at bytes) starts → table_of bytes ≡ Ok found.table → found.shares_addresses ≡ nat_eq (header_of bytes).filetype 1 → all_commands file ≡ Ok found
+  all_found starts found at sections names table object =
       let same = same_sections file bytes inside are in
-      let ends_are : map (end_at file) starts ≡ found.ends = sym (map_held (end_at bytes) (end_at file) (length bytes) starts same.ends held) ∙ sym ends in
-      let names_are : map (name_at file) starts ≡ found.names = sym (map_held (name_at bytes) (name_at file) (length bytes) starts same.names held) ∙ sym names in
+      let sections_are : map (extent_at file) starts ≡ found.sections = sym (same.extents starts at) ∙ sym sections in
+      let names_are : map (name_at file) starts ≡ found.names = sym (same.names starts at) ∙ sym names in
       let object_is : nat_eq (header_of file).filetype 1 ≡ found.shares_addresses = sym (object ∙ ap (λ (n : ℕ). nat_eq n 1) same.filetype) in
-      rw (sym same.starts ∙ at, sym same.table ∙ table, ends_are, names_are, object_is) refl
+      rw (sym same.starts ∙ at, sym same.table ∙ table, sections_are, names_are, object_is) refl
 
 -- what the commands say is decided by the bytes that they are in
 pub commands_of_bytes : (file : List ℕ) → 28 ≤ length file → all_commands (command_bytes file) ≡ all_commands file
@@ -58,8 +46,8 @@ commands_of_bytes file inside = by_held (holds_commands (bytes_at file 0 (said_e
     by_steps (Ok starts) (Err why) held are at is = rw (at, is) (sym (table_refused file (bytes_at file 0 (said_end file)) inside are starts why at is))
     by_steps (Ok starts) (Ok table) held are at is =
         let bytes = bytes_at file 0 (said_end file) in
-        let found : CommandParts = record { ends = map (end_at bytes) starts; names = map (name_at bytes) starts; table = table; shares_addresses = nat_eq (header_of bytes).filetype 1 } in
-        rw (at, is) (sym (all_found file bytes inside are starts found at (starts_inside file starts inside held at) refl refl is refl))
+        let found : CommandParts = record { sections = map (extent_at bytes) starts; names = map (name_at bytes) starts; table = table; shares_addresses = nat_eq (header_of bytes).filetype 1 } in
+        rw (at, is) (sym (all_found file bytes inside are starts found at refl refl is refl))
 
     by_held : (b : Bool) → holds_commands (bytes_at file 0 (said_end file)) ≡ b → all_commands (cond b (bytes_at file 0 (said_end file)) file) ≡ all_commands file
     by_held true held =
@@ -69,7 +57,7 @@ commands_of_bytes file inside = by_held (holds_commands (bytes_at file 0 (said_e
 
 -- what follows the commands
 abbrev pub after_commands : List ℕ → CommandParts → Result AllLocated Refusal
-after_commands file found = symbols_by file found.table >>= λ symbols. Ok (record { ends = found.ends; names = found.names; symbols = symbols; shares_addresses = found.shares_addresses })
+after_commands file found = symbols_by file found.table >>= λ symbols. Ok (record { sections = found.sections; names = found.names; symbols = symbols; shares_addresses = found.shares_addresses })
 
 symbols_are : (file : List ℕ) → symbols_of file ≡ (table_of file >>= symbols_by file)
 unfolding symbols_of
@@ -79,10 +67,10 @@ located_by : List ℕ → Result (List ℕ) Refusal → Result (Option Symbols) 
 located_by file starts symbols = do
   starts ← starts
   symbols ← symbols
-  Ok (record { ends = map (end_at file) starts; names = map (name_at file) starts; symbols = symbols; shares_addresses = nat_eq (header_of file).filetype 1 })
+  Ok (record { sections = map (extent_at file) starts; names = map (name_at file) starts; symbols = symbols; shares_addresses = nat_eq (header_of file).filetype 1 })
 
 by_steps : (file : List ℕ) (starts : Result (List ℕ) Refusal) (table : Result (Option (SymbolTable ℕ)) Refusal) → located_by file starts (table >>= symbols_by file)
-    ≡ ((starts >>= λ starts. table >>= λ table. Ok (record { ends = map (end_at file) starts; names = map (name_at file) starts; table = table; shares_addresses = nat_eq (header_of file).filetype 1 })) >>= after_commands file)
+    ≡ ((starts >>= λ starts. table >>= λ table. Ok (record { sections = map (extent_at file) starts; names = map (name_at file) starts; table = table; shares_addresses = nat_eq (header_of file).filetype 1 })) >>= after_commands file)
 unfolding located_by
 by_steps file (Err why) table = refl
 by_steps file (Ok starts) (Err why) = refl
@@ -127,8 +115,3 @@ with_memory view answer p e (inr other) refused = subst (λ (error : ReadError).
 pub not_memory : {A : Type 0} {answer : Result A Refusal} {why memory : Refusal} {N : Type 0} → (answer ≡ Err why) ⊎ ((why ≡ memory) × N) → (why ≢ memory) → answer ≡ Err why
 not_memory (inl refused) other = refused
 not_memory (inr out) other = absurd (other out.0)
-
--- without a symbol table nothing is listed
-pub nothing_listed : (N : Type 0) (found : AllLocated) (functions : Vec SectionFunction) → found.symbols ≡ None → functions.items ≡ [] → AnswersAll HoldsSectionFunctions N (all_entries found) (Ok functions)
-unfolding all_of
-nothing_listed N found functions none empty = rw (none, empty) refl

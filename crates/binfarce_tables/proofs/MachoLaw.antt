@@ -120,7 +120,7 @@ all_located_from file other same inside =
     by_found : (r : Result CommandParts Refusal) → all_commands file ≡ r → (r >>= after_commands other) ≡ (r >>= after_commands file)
     by_found (Err why) is = refl
     by_found (Ok found) is =
-        ap (λ (r : Result (Option Symbols) Refusal). r >>= λ symbols. Ok (record { ends = found.ends; names = found.names; symbols = symbols; shares_addresses = found.shares_addresses }))
+        ap (λ (r : Result (Option Symbols) Refusal). r >>= λ symbols. Ok (record { sections = found.sections; names = found.names; symbols = symbols; shares_addresses = found.shares_addresses }))
         (symbols_same file other same.lengths found.table (symbol_parts (SameIn file other) file found.table (commands_table file found is) same.each))
 
 all_located_same : (file other : List ℕ) → SameParts (macho_parts file) file other → all_located_answer other ≡ all_located_answer file
@@ -131,4 +131,4 @@ all_located_same file other same = elim (cases_lt (length file) 28) [
 
 -- the function symbols of all sections
 pub all_macho_parts_decide : (file other : List ℕ) → SameParts (macho_parts file) file other → all_file_answer other ≡ all_file_answer file
-all_macho_parts_decide file other same = ap (λ (r : Result AllLocated Refusal). r >>= all_symbols) (all_located_same file other same)
+all_macho_parts_decide file other same = ap (λ (r : Result AllLocated Refusal). r >>= λ found. Ok (all_symbols found)) (all_located_same file other same)

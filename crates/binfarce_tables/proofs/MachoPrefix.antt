@@ -1,9 +1,9 @@
 -- A prefix of a Mach-O file that has its load commands.
-use Rattle.std.proofs.Common.{◌≡◌, ℕ, zero, suc, ◌+◌, ◌-◌, ◌<◌, ◌≤◌, Bool, true, false, cond, ltb, leb, eqb, ◌&&◌, List, [], ◌∷◌, ◌++◌, length, drop, take, min, find, codes, Option, Some, None, Result, Ok, Err, refl, sym, ap, ap₂, ◌∙◌, arith}
+use Rattle.std.proofs.Common.{◌≡◌, ℕ, zero, suc, ◌+◌, ◌-◌, ◌<◌, ◌≤◌, Bool, true, false, cond, ltb, eqb, ◌&&◌, List, [], ◌∷◌, ◌++◌, length, map, drop, take, min, find, codes, Option, Some, None, Result, Ok, Err, refl, sym, ap, ap₂, ◌∙◌, arith}
 use Rattle.std.proofs.Math.Nat.{div-mul-le_self}
 use Rattle.std.proofs.lemmas.Bool.{and_parts, ltb-false, ltb-true, leb-true, eqb-true, le-ltb, le-leb}
 use Rattle.std.proofs.lemmas.List.{length-take-le, take_all}
-use Rattle.std.proofs.lemmas.List.Elements.{All-nil, All-same, All-append, All-take}
+use Rattle.std.proofs.lemmas.List.Elements.{All-nil, All-head, All-tail, All-same, All-append, All-take}
 use Rattle.std.proofs.lemmas.Nat.{le-div}
 use Rattle.std.specs.Prelude.{All}
 use Rattle.std.specs.List.{range_with_len, filter_map, cons_option}
@@ -16,9 +16,9 @@ use Rattle.binfarce_bytes.specs.SectionEntries.{unless}
 use Rattle.binfarce_bytes.specs.Walk.{Walk, first, found_or_end, ahead_of, and_then}
 use Rattle.binfarce_macho.specs.Macho.{Command, Section, header_of, header_fields, header_length, command_at, body_of, commands_from, commands, section_at, section_fields, section_offset, section_count, whole_headers, sections_below, segment, is_segment, sections_of, walk, is_named}
 use Rattle.binfarce_macho.specs.MachoSymbols.{SymbolTable, symbol_table_at, symbol_table_fields, text_section, some_size, symbol_command, whole_table, NeededTables, needed, named_table, table_of}
-use Rattle.binfarce_macho.specs.MachoAll.{first_starts, starts_in, starts_among, section_starts, end_at, full_name, name_at}
+use Rattle.binfarce_macho.specs.MachoAll.{first_starts, starts_in, starts_among, section_starts, has_instructions, extent_at, full_name, name_at}
 use Rattle.binfarce_macho.specs.MachoParts.{holds_body, holds_from, holds_commands}
-use Rattle.binfarce_macho.proofs.AllWalks.{with_room}
+use Rattle.binfarce_macho.proofs.AllWalks.{each_start}
 use Rattle.binfarce_macho.proofs.CommandWalks.{bad, given}
 use Rattle.binfarce_tables.specs.BeginningReading.{Begins, macho_sections}
 use Rattle.binfarce_tables.specs.MachoReads.{said_end, command_bytes}
@@ -184,11 +184,15 @@ module _ (file bytes : List ℕ) (short : length bytes ≤ length file) (same : 
         items,
       ) refl
 
+  -- the structures of a segment's sections lie in the bytes
+  structures_held : (command : Command) → is_segment command ≡ true → holds_body bytes command ≡ true → section_offset (body_of command) (section_count bytes (body_of command)) ≤ length bytes
+  structures_held command is held = leb-true (section_offset (body_of command) (section_count bytes (body_of command))) (length bytes) (rw is at held)
+
   -- what a command of a segment says
   segment_held : (command : Command) → is_segment command ≡ true → holds_body bytes command ≡ true → segment bytes (body_of command) ≡ segment file (body_of command)
   segment_held command is held =
-      let fits = and_parts (leb (body_of command + 60) (length bytes)) (leb (section_count bytes (body_of command)) (whole_headers bytes (body_of command))) (rw is at held) in
-      segment_same (body_of command) (leb-true (body_of command + 60) (length bytes) fits.0) (leb-true (section_count bytes (body_of command)) (whole_headers bytes (body_of command)) fits.1)
+      let whole = structures_held command is held in
+      segment_same (body_of command) (omega (arith, whole)) (le-div (section_count bytes (body_of command)) (length bytes + 28 - (body_of command + 64)) 80 (omega arith) (omega (arith, whole)))
 
   sections_same : (commands : List Command) (refusal : Option Refusal) → AreHeld commands → sections_of bytes commands refusal ≡ sections_of file commands refusal
   unfolding sections_of AreHeld
@@ -234,11 +238,19 @@ module _ (file bytes : List ℕ) (short : length bytes ≤ length file) (same : 
   named_same None (Some refusal) each = refl
   named_same (Some command) end each = ap (λ (r : Result (SymbolTable ℕ) Refusal). r >>= λ table. Ok (Some table)) (each command refl)
 
+  -- a section structure lies in the bytes
+  abbrev IsHeld : ℕ → Type 0
+  IsHeld start = start + 80 ≤ length bytes
+
   -- where its sections begin
   count_held : (command : Command) → is_segment command ≡ true → holds_body bytes command ≡ true → section_count bytes (body_of command) ≡ section_count file (body_of command)
   count_held command is held =
-      let fits = and_parts (leb (body_of command + 60) (length bytes)) (leb (section_count bytes (body_of command)) (whole_headers bytes (body_of command))) (rw is at held) in
-      number_same (body_of command) (field 56 4) (omega (arith, leb-true (body_of command + 60) (length bytes) fits.0))
+      number_same (body_of command) (field 56 4) (omega (arith, structures_held command is held))
+
+  -- functions that agree on what is held
+  map_held : {X : Type 0} (f g : ℕ → X) (starts : List ℕ) → ((start : ℕ) → IsHeld start → f start ≡ g start) → All IsHeld starts → map f starts ≡ map g starts
+  map_held f g [] same held = refl
+  map_held f g (start ∷ starts) same held = ap₂ (λ y ys. y ∷ ys) (same start (All-head IsHeld start starts held)) (map_held f g starts same (All-tail IsHeld start starts held))
 
   starts_held : (commands : List Command) → AreHeld commands → starts_among bytes commands ≡ starts_among file commands
   unfolding AreHeld
@@ -250,30 +262,34 @@ module _ (file bytes : List ℕ) (short : length bytes ≤ length file) (same : 
       by_kind true is rest = ap₂ (λ (xs ys : List ℕ). xs ++ ys) (ap (λ (n : ℕ). first_starts (body_of command) n) (count_held command is held.0)) rest
       by_kind false is rest = rest
 
-  -- its sections lie in the bytes
-  room_held : (command : Command) → is_segment command ≡ true → holds_body bytes command ≡ true → All (λ start. start + 52 ≤ length bytes) (starts_in bytes (body_of command))
+  -- each of its structures lies in the bytes
+  room_held : (command : Command) → is_segment command ≡ true → holds_body bytes command ≡ true → All IsHeld (starts_in bytes (body_of command))
   room_held command is held =
-      let fits = and_parts (leb (body_of command + 60) (length bytes)) (leb (section_count bytes (body_of command)) (whole_headers bytes (body_of command))) (rw is at held) in
-      with_room (length bytes) (body_of command) (section_count bytes (body_of command)) [] (starts_in bytes (body_of command))
-      (leb-true (section_count bytes (body_of command)) (whole_headers bytes (body_of command)) fits.1) (All-nil (λ start. start + 52 ≤ length bytes)) refl
+      each_start IsHeld (body_of command) 0 (section_count bytes (body_of command)) (λ i lt. omega (arith, lt, structures_held command is held))
 
-  starts_whole : (commands : List Command) → AreHeld commands → All (λ start. start + 52 ≤ length bytes) (starts_among bytes commands)
+  starts_whole : (commands : List Command) → AreHeld commands → All IsHeld (starts_among bytes commands)
   unfolding AreHeld
-  starts_whole [] held = All-nil (λ start. start + 52 ≤ length bytes)
+  starts_whole [] held = All-nil IsHeld
   starts_whole (command ∷ others) held = by_kind (is_segment command) refl (starts_whole others held.1)
     where
-      by_kind : (b : Bool) → is_segment command ≡ b → All (λ start. start + 52 ≤ length bytes) (starts_among bytes others)
-          → All (λ start. start + 52 ≤ length bytes) (cond b (starts_in bytes (body_of command)) [] ++ starts_among bytes others)
-      by_kind true is rest = All-append (λ start. start + 52 ≤ length bytes) (starts_in bytes (body_of command)) (starts_among bytes others) (room_held command is held.0) rest
+      by_kind : (b : Bool) → is_segment command ≡ b → All IsHeld (starts_among bytes others)
+          → All IsHeld (cond b (starts_in bytes (body_of command)) [] ++ starts_among bytes others)
+      by_kind true is rest = All-append IsHeld (starts_in bytes (body_of command)) (starts_among bytes others) (room_held command is held.0) rest
       by_kind false is rest = rest
 
   -- what is read of a section
-  pub end_same : (start : ℕ) → start + 52 ≤ length bytes → end_at bytes start ≡ end_at file start
-  unfolding end_at section_fields
-  end_same start h = ap₂ (λ (a b : ℕ). a + b) (number_same start section_fields.address (omega (arith, h))) (number_same start section_fields.size (omega (arith, h)))
+  extent_same : (start : ℕ) → start + 80 ≤ length bytes → extent_at bytes start ≡ extent_at file start
+  unfolding extent_at has_instructions section_fields
+  extent_same start h = rw (
+    number_same start section_fields.address (omega (arith, h)),
+    number_same start section_fields.size (omega (arith, h)),
+    le-leb (start + 68) (length bytes) (omega (arith, h)),
+    le-leb (start + 68) (length file) (omega (arith, h, short)),
+    number_same start (field 64 4) (omega (arith, h)),
+  ) refl
 
-  pub name_same : (start : ℕ) → start + 52 ≤ length bytes → name_at bytes start ≡ name_at file start
-  name_same start h = ap (option_map full_name) (section_same start h)
+  name_same : (start : ℕ) → start + 80 ≤ length bytes → name_at bytes start ≡ name_at file start
+  name_same start h = ap (option_map full_name) (section_same start (omega (arith, h)))
 
   -- where they hold all commands of the header, the same is needed
   module _ (whole : 28 ≤ length bytes) (held : holds_commands bytes ≡ true) where
@@ -303,12 +319,18 @@ module _ (file bytes : List ℕ) (short : length bytes ≤ length file) (same : 
         ap₂ (λ (end : Option Refusal) (starts : List ℕ). unless end (take 255 starts)) (ap (λ (w : Walk Section). w.refusal) walk_same)
         (starts_held (commands bytes).items agrees.1 ∙ ap (λ (w : Walk Command). starts_among file w.items) commands_same)
 
-    pub each_whole : (starts : List ℕ) → section_starts bytes ≡ Ok starts → All (λ start. start + 52 ≤ length bytes) starts
+    each_whole : (starts : List ℕ) → section_starts bytes ≡ Ok starts → All IsHeld starts
     unfolding section_starts
     each_whole starts is =
         let all = starts_among bytes (commands bytes).items in
-        All-same (λ start. start + 52 ≤ length bytes) starts (take 255 all) (unless_refused (walk bytes).refusal (take 255 all) starts is)
-        (All-take (λ start. start + 52 ≤ length bytes) 255 all (starts_whole (commands bytes).items agrees.1))
+        All-same IsHeld starts (take 255 all) (unless_refused (walk bytes).refusal (take 255 all) starts is) (All-take IsHeld 255 all (starts_whole (commands bytes).items agrees.1))
+
+    -- what is read of each section
+    pub extents_same : (starts : List ℕ) → section_starts bytes ≡ Ok starts → map (extent_at bytes) starts ≡ map (extent_at file) starts
+    extents_same starts is = map_held (extent_at bytes) (extent_at file) starts extent_same (each_whole starts is)
+
+    pub names_same : (starts : List ℕ) → section_starts bytes ≡ Ok starts → map (name_at bytes) starts ≡ map (name_at file) starts
+    names_same starts is = map_held (name_at bytes) (name_at file) starts name_same (each_whole starts is)
 
     pub table_held : table_of bytes ≡ table_of file
     table_held = named_held
@@ -376,20 +398,13 @@ begins_with_commands file bytes is = by_held (holds_commands (bytes_at file 0 (s
     by_held true is = (said_end file, is)
     by_held false is = (length file, is ∙ sym (take_all (length file) file (omega arith)))
 
--- the sections of a file lie in the prefix that holds its commands
-pub starts_inside : (file : List ℕ) (starts : List ℕ) → 28 ≤ length file → holds_commands (bytes_at file 0 (said_end file)) ≡ true
-    → section_starts (bytes_at file 0 (said_end file)) ≡ Ok starts → All (λ start. start + 52 ≤ length (bytes_at file 0 (said_end file))) starts
-starts_inside file starts inside held is =
-    let long = prefix_long file (said_end file) (omega arith) in
-    each_whole file (bytes_at file 0 (said_end file)) (omega (arith, long)) (λ k width h. prefix_same file (said_end file) k width (omega arith) h) (omega (arith, long, inside)) held starts is
-
 -- what the bytes that its commands are in say of a file's sections and of its symbol table
 pub record SameSections (file bytes : List ℕ) : Type 0 where
   pub starts : section_starts bytes ≡ section_starts file
   pub table : table_of bytes ≡ table_of file
   pub filetype : (header_of bytes).filetype ≡ (header_of file).filetype
-  pub ends : (start : ℕ) → start + 52 ≤ length bytes → end_at bytes start ≡ end_at file start
-  pub names : (start : ℕ) → start + 52 ≤ length bytes → name_at bytes start ≡ name_at file start
+  pub extents : (starts : List ℕ) → section_starts bytes ≡ Ok starts → map (extent_at bytes) starts ≡ map (extent_at file) starts
+  pub names : (starts : List ℕ) → section_starts bytes ≡ Ok starts → map (name_at bytes) starts ≡ map (name_at file) starts
 
 pub same_sections : (file bytes : List ℕ) → 28 ≤ length file → bytes ≡ command_bytes file → SameSections file bytes
 same_sections file bytes inside is = rw is (by_held (holds_commands (bytes_at file 0 (said_end file))) refl)
@@ -404,7 +419,7 @@ same_sections file bytes inside is = rw is (by_held (holds_commands (bytes_at fi
           starts = starts_same file begins short (λ k width h. prefix_same file (said_end file) k width (omega arith) h) whole held;
           table = table_held file begins short (λ k width h. prefix_same file (said_end file) k width (omega arith) h) whole held;
           filetype = filetype_same file begins short (λ k width h. prefix_same file (said_end file) k width (omega arith) h) whole;
-          ends = end_same file begins short (λ k width h. prefix_same file (said_end file) k width (omega arith) h);
-          names = name_same file begins short (λ k width h. prefix_same file (said_end file) k width (omega arith) h);
+          extents = extents_same file begins short (λ k width h. prefix_same file (said_end file) k width (omega arith) h) whole held;
+          names = names_same file begins short (λ k width h. prefix_same file (said_end file) k width (omega arith) h) whole held;
         }
-    by_held false held = record { starts = refl; table = refl; filetype = refl; ends = λ start h. refl; names = λ start h. refl }
+    by_held false held = record { starts = refl; table = refl; filetype = refl; extents = λ starts is. refl; names = λ starts is. refl }

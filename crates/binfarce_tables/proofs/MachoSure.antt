@@ -6,7 +6,7 @@ use Rattle.binfarce_bytes.specs.Number.{bytes_at}
 use Rattle.binfarce_bytes.specs.Part.{Part, part, parts_if}
 use Rattle.binfarce_bytes.specs.Refusal.{◌>>=◌, Refusal}
 use Rattle.binfarce_macho.specs.Macho.{header_of}
-use Rattle.binfarce_macho.specs.MachoAll.{section_starts, end_at, name_at}
+use Rattle.binfarce_macho.specs.MachoAll.{section_starts, extent_at, name_at}
 use Rattle.binfarce_macho.specs.MachoParts.{holds_commands}
 use Rattle.binfarce_macho.specs.MachoSymbols.{SymbolTable, table_of}
 use Rattle.binfarce_tables.specs.MachoReads.{said_end, whole_file, macho_section_parts, table_parts, found_parts, macho_parts}
@@ -46,7 +46,7 @@ pub commands_table : (file : List ℕ) (found : CommandParts) → all_commands f
 commands_table file found is = by_starts (section_starts file) (table_of file) is
   where
     by_starts : (starts : Result (List ℕ) Refusal) (table : Result (Option (SymbolTable ℕ)) Refusal)
-        → (starts >>= λ s. table >>= λ t. Ok (record { ends = map (end_at file) s; names = map (name_at file) s; table = t; shares_addresses = eqb (header_of file).filetype 1 })) ≡ Ok found → table ≡ Ok found.table
+        → (starts >>= λ s. table >>= λ t. Ok (record { sections = map (extent_at file) s; names = map (name_at file) s; table = t; shares_addresses = eqb (header_of file).filetype 1 })) ≡ Ok found → table ≡ Ok found.table
     by_starts (Ok s) (Ok t) is = cc
     by_starts (Ok s) (Err why) is = absurd cc
     by_starts (Err why) table is = absurd cc

@@ -1,6 +1,6 @@
 //! The parts of a 64-bit Mach-O file that have the function symbols of all sections.
 
-ghost use Rattle.std.specs.Prelude.{◌≡◌, ◌≢◌, ◌⊎◌, ◌≤◌, List, ℕ, [], Some, false, length, IfErr};
+ghost use Rattle.std.specs.Prelude.{◌≡◌, ◌≢◌, ◌⊎◌, ◌≤◌, List, ℕ, [], Some, Ok, false, length, IfErr};
 ghost use Rattle.std.specs.Option.{option_map};
 ghost use Rattle.binfarce_bytes.specs.Part.{parts_if, AreSure};
 ghost use Rattle.binfarce_bytes.specs.Refusal.{refusal_of, out_of_memory};
@@ -29,7 +29,7 @@ use std::alloc::Global;
 /// The parts of a file that have the function symbols of all sections, and the sections' names.
 #[derive(Drop)]
 pub struct AllParts {
-    extents: Vec<Extent>,
+    sections: Vec<Extent>,
     names: Vec<Option<String>>,
     symbols: Option<SymbolParts>,
     shares_addresses: bool,
@@ -48,17 +48,13 @@ impl AllParts {
     ///
     /// # Errors
     ///
-    /// `MalformedInput` where the end of a section with a row to keep exceeds 64 bits, or where such a row lies past
-    /// its section's end with no address above it. `OutOfMemory` only where the file has a section; it may replace that
-    /// error.
+    /// `OutOfMemory`, only where the file has a section.
     pub fn functions(&self, alloc: Global) -> Result<Vec<SectionFunction<'_>>, ParseError>
-        ensures { AnswersAll HoldsSectionFunctions ((all_view self.now).ends ≢ []) (all_entries (all_view self.now))
-            result }
+        ensures { AnswersAll HoldsSectionFunctions ((all_view self.now).sections ≢ [])
+            (Ok (all_entries (all_view self.now))) result }
     {
-        match &self.symbols {
-            None => Ok(Vec::new(alloc)),
-            Some(symbols) => functions_of_extents(alloc, &self.extents, bytes_of(symbols)),
-        }
+        let symbols = self.symbols.as_ref().map(bytes_of);
+        Ok(functions_of_extents(alloc, &self.sections, symbols)?)
     }
 
     /// The name of the section of this number, `SEGMENT,SECTION`; nothing is copied. `None` where there is no such section,
@@ -115,7 +111,7 @@ pub fn read_all<S: Source>(alloc: Global, source: &S) -> Result<AllParts, ReadEr
     let found = found_in(alloc, &commands)?;
     let symbols = read_symbols(alloc, source, len, found.table)?;
     Ok(AllParts {
-        extents: found.extents,
+        sections: found.sections,
         names: found.names,
         symbols,
         shares_addresses: found.shares_addresses,
@@ -125,7 +121,7 @@ pub fn read_all<S: Source>(alloc: Global, source: &S) -> Result<AllParts, ReadEr
 // The content of the load commands: where the sections are in memory, their names, and where the symbol table is.
 #[derive(Drop)]
 struct Found {
-    extents: Vec<Extent>,
+    sections: Vec<Extent>,
     names: Vec<Option<String>>,
     table: Option<SymbolTable>,
     shares_addresses: bool,
@@ -142,10 +138,10 @@ fn found_in(alloc: Global, commands: &[u8]) -> Result<Found, ReadError>
         Err(e) => return Err(error_of(e)),
     };
     let table = symbol_table(commands, header)?;
-    let extents = extents_at(alloc, commands, &starts)?;
+    let sections = extents_at(alloc, commands, &starts)?;
     let names = section_names(alloc, commands, &starts)?;
     Ok(Found {
-        extents,
+        sections,
         names,
         table,
         shares_addresses: is_object(header),

@@ -1,5 +1,5 @@
 -- What private clauses see of the values that `macho` reads.
-use Rattle.std.specs.Prelude.{◌≡◌, ℕ, ◌-◌, ◌≤◌, List, length, min, nat_le, Option, Some, None, Result, Ok, Err, if◌then◌else◌}
+use Rattle.std.specs.Prelude.{◌≡◌, ℕ, ◌+◌, ◌-◌, ◌*◌, ◌<◌, ◌≤◌, List, length, min, nat_le, Option, Some, None, Result, Ok, Err, if◌then◌else◌}
 use Rattle.std.specs.List.{range_with_len, filter_map}
 use Rattle.binfarce_macho.specs.declared.commands.Command.{Command}
 use Rattle.binfarce_macho.specs.declared.commands.Damage.{Damage}
@@ -8,6 +8,9 @@ use Rattle.binfarce_macho.specs.declared.commands.MachoCommandsIterator.{MachoCo
 use Rattle.binfarce_macho.specs.declared.sections.Segment.{Segment}
 use Rattle.binfarce_macho.specs.declared.sections.Left.{Left}
 use Rattle.binfarce_macho.specs.declared.symbols.SymbolRow.{SymbolRow}
+use Rattle.binfarce_macho.specs.declared.all.Extent.{Extent}
+use Rattle.binfarce_macho.specs.declared.all.SymbolBytes.{SymbolBytes}
+use Rattle.binfarce_bytes.specs.declared.sizes.RowAddress.{RowAddress}
 use Rattle.binfarce_bytes.specs.Refusal.{Refusal, malformed_input, unexpected_eof}
 use Rattle.binfarce_bytes.specs.Walk.{Walk, ended, and_then, YieldsNext}
 use Rattle.binfarce_macho.specs.Macho as macho
@@ -61,3 +64,7 @@ IsWithin left = (left.segment.body ≤ length left.commands.bytes.now) × (left.
 
 abbrev pub symbol_view : SymbolRow → symbols.SymbolRow ℕ
 symbol_view s = record { name = s.name; kind = s.kind; section = s.section; value = s.value }
+
+-- the row is whole, and its address lies in the section
+abbrev pub IsInside : SymbolBytes → Extent → RowAddress → Type 0
+IsInside symbols section r = (r.index * 16 + 16 ≤ length symbols.rows.now) × (section.address ≤ r.address) × (r.address < section.address + section.size)

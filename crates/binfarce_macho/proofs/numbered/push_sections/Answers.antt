@@ -13,6 +13,6 @@ returns c =
     let room = held_room file c.args.body (sym c.holds_sections.ensures ∙ c.if-not-holds_sections.false) in (
       held_whole file c.args.body true (sym c.holds_sections.ensures ∙ c.if-not-holds_sections.false),
       filled file c.args.body c.in_ok-count.count c.min.result old new (omega (arith, c.requires.few)) c.in_ok-count.ensures.1
-          (omega (arith, c.min.ensures, c.len-room.ensures, c.args.starts.now.ok.0)) c.in_ok-push_starts.ensures.pushed,
+          (omega (arith, c.min.ensures, c.len.ensures, c.args.starts.now.ok.0)) c.in_ok-push_starts.ensures.pushed,
       with_room (length file) c.args.body c.min.result old new (omega (arith, room, c.min.ensures, c.in_ok-count.ensures.1)) c.requires.held c.in_ok-push_starts.ensures.pushed,
     )

@@ -1,7 +1,7 @@
 use Rattle.std.proofs.Common.{◌∙◌, ap, false, List, ℕ, map, nat_eq}
 use Rattle.binfarce_bytes.specs.Refusal.{refusal_of}
 use Rattle.binfarce_macho.specs.Macho.{Header}
-use Rattle.binfarce_macho.specs.MachoAll.{end_at, name_at}
+use Rattle.binfarce_macho.specs.MachoAll.{extent_at, name_at}
 use Rattle.binfarce_tables.specs.machine.MachoPlaces.{all_commands, found_view}
 use Rattle.binfarce_tables.proofs.MachoAllLocated.{starts_refused, table_refused, all_found, with_memory, not_memory}
 use Rattle.binfarce_tables.proofs.Readings.{converted}
@@ -20,8 +20,8 @@ returns-in_err-table c = λ file inside are.
 pub returns : goal.returns
 returns c = λ file inside are.
     let commands = c.args.commands.now in
-    all_found file commands inside are c.in-Ok.starts.items _ c.in-Ok.ensures.0 c.in-Ok.ensures.1
-    (c.in_ok-extents.ensures.extents ∙ ap (λ (starts : List ℕ). map (end_at commands) starts) c.deref.ensures.value)
+    all_found file commands inside are c.in-Ok.starts.items _ c.in-Ok.ensures.0
+    (c.in_ok-sections.ensures.extents ∙ ap (λ (starts : List ℕ). map (extent_at commands) starts) c.deref.ensures.value)
     (c.in_ok-names.ensures ∙ ap (λ (starts : List ℕ). map (name_at commands) starts) c.deref-2.ensures.value)
     c.in_ok-table.ensures
     (c.is_object.ensures ∙ ap (λ (h : Header ℕ). nat_eq h.filetype 1) c.in_ok-header.ensures.1)

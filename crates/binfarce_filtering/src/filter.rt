@@ -1,7 +1,8 @@
 //! Demangles the names within a text.
 
-ghost use Rattle.std.specs.Prelude.{◌≡◌, ◌++◌, ◌∷◌, ◌+◌, ◌-◌, ◌^◌, ◌<◌, ◌≤◌, ◌≢◌, ℕ, List, Bool, true, false, not, [], length, take, drop, slice_index, IfOk, OnOk};
+ghost use Rattle.std.specs.Prelude.{◌≡◌, ◌++◌, ◌∷◌, ◌+◌, ◌-◌, ◌^◌, ◌<◌, ◌≤◌, ◌≢◌, ℕ, List, Bool, true, false, not, [], length, take, drop, slice_index, IfOk, MatchOption, OnOk};
 ghost use Rattle.std.specs.List.{list_all, prefix_len};
+ghost use Rattle.std.specs.Str.{bytes_eq};
 ghost use Rattle.std.specs.String.{string_bytes};
 ghost use Rattle.binfarce_text.specs.Suffixes.{is_llvm_digit};
 ghost use Rattle.binfarce_names.specs.Name.{Name};
@@ -32,9 +33,10 @@ fn limit_is()
 /// A run begins with the first `_` among ASCII letters, digits, `_`, `$` and `.`, and ends before the next other byte.
 /// In a run that is no longer than `MAX_RUN`, names are looked for from left to right. A name begins with `_ZN` and a
 /// digit, or with `_R` and one of `N`, `I`, `M`, `X` and `Y`; at the run's first byte another `_` may come before. It
-/// ends where its mangling does, before a `.` or the run's end. `.llvm.` and a number after a name are left out. A name
-/// whose readable text has a control character stays unchanged. So do all other bytes, which need not be UTF-8. After a
-/// `_ZN` and a digit that begin no such name, the rest of the run stays unchanged.
+/// ends where its mangling does, before a `.` or the run's end. The last element of one with `_ZN` is a hash: `17h` and
+/// 16 lower-case hexadecimal digits. `.llvm.` and a number after a name that is replaced are left out. A name whose
+/// readable text has a control character stays unchanged. So do all other bytes, which need not be UTF-8. After a `_ZN`
+/// and a digit that begin no such name, such as a C++ name, the rest of the run stays unchanged.
 ///
 /// # Errors
 ///
@@ -349,9 +351,16 @@ fn push_next(
         out.push(run[0])?;
         return Ok(1);
     }
-    let len = name_len(run);
-    push_name(alloc, full, &run[..len], out)?;
-    Ok(len + llvm_len(&run[len..]))
+    let Some(len) = name_len(run) else {
+        out.extend_from_slice(run)?;
+        return Ok(run.len());
+    };
+    let changes = push_name(alloc, full, &run[..len], out)?;
+    if changes {
+        Ok(len + llvm_len(&run[len..]))
+    } else {
+        Ok(len)
+    }
 }
 
 // Whether a name may begin here.
@@ -383,36 +392,32 @@ fn begins_v0(run: &[u8]) -> bool
     run.starts_with(b"_R") && run.len() > 2 && matches!(run[2], b'N' | b'I' | b'M' | b'X' | b'Y')
 }
 
-// The length of the name at the front of a run.
-fn name_len(run: &[u8]) -> usize
+// The length of the name at the front of a run. `None` where none is there.
+fn name_len(run: &[u8]) -> Option<usize>
     requires { (first : Bool) × (begins_name first run.now ≡ true) }
-    ensures within { (0 < result) × (result ≤ length run.now) }
-    ensures len { IsNameLength run.now result }
+    ensures { MatchOption result ((n : ℕ) → ¬ (IsNameLength run.now n))
+        (λ n. (0 < n) × (n ≤ length run.now) × IsNameLength run.now n) }
 {
-    if begins_symbol(run) {
-        symbol_len(run)
-    } else {
-        1 + symbol_len(&run[1..])
-    }
+    let added = usize::from(!begins_symbol(run));
+    let len = symbol_len(&run[added..])?;
+    Some(added + len)
 }
 
 // The same for a run without a `_` that a platform has added.
-fn symbol_len(run: &[u8]) -> usize
+fn symbol_len(run: &[u8]) -> Option<usize>
     requires { begins_symbol run.now ≡ true }
-    ensures within { (0 < result) × (result ≤ length run.now) }
-    ensures len { IsSymbolLength (begins_v0 run.now) run.now result }
+    ensures { MatchOption result ((n : ℕ) → ¬ (IsSymbolLength (begins_v0 run.now) run.now n))
+        (λ n. (0 < n) × (n ≤ length run.now) × IsSymbolLength (begins_v0 run.now) run.now n) }
 {
     if begins_v0(run) {
-        return dot_at(run);
+        return Some(dot_at(run));
     }
-    let Some(end) = elements_end(&run[3..]) else {
-        return run.len();
-    };
+    let (end, has_hash) = elements_end(&run[3..])?;
     let len = 3 + end;
-    if ends_name(&run[len..]) {
-        len
+    if has_hash && ends_name(&run[len..]) {
+        Some(len)
     } else {
-        run.len()
+        None
     }
 }
 
@@ -459,17 +464,21 @@ fn digits_len(text: &[u8]) -> usize
     len
 }
 
-// Writes the output for a name.
-fn push_name(alloc: Global, full: bool, name: &[u8], out: &mut Vec<u8>) -> Result<(), AllocError>
+// Writes the output for a name. Returns whether it changes.
+fn push_name(alloc: Global, full: bool, name: &[u8], out: &mut Vec<u8>) -> Result<bool, AllocError>
     requires { list_all is_run_byte name.now ≡ true }
-    ensures { OnOk result
-        ((shown : List ℕ) × IsReadable full name.now shown × (out.new.items ≡ out.old.items ++ shown)) }
+    ensures { IfOk result
+        (λ changes. (readable : List ℕ) × IsReadable full name.now readable
+        × (changes ≡ not (bytes_eq readable name.now)) × (out.new.items ≡ out.old.items ++ readable)) }
 {
     let text = text_of(alloc, full, std::str::from_utf8(name).unwrap())?;
-    if has_control(text.as_str()) {
-        return out.extend_from_slice(name);
-    }
-    out.extend_from_slice(text.as_bytes())
+    let readable = if has_control(text.as_str()) {
+        name
+    } else {
+        text.as_bytes()
+    };
+    out.extend_from_slice(readable)?;
+    Ok(readable != name)
 }
 
 // The text of a name: complete, or trimmed.

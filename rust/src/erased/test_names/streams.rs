@@ -124,8 +124,8 @@ fn failed_flushes() {
 fn longest_names() -> Result<(), AllocError> {
     let rt = HostRuntime::new();
     let mut text = Vec::from_slice(rt.alloc(), b"_ZN")?;
-    text.resize(MAX_RUN - 8, b'0')?;
-    text.extend_from_slice(b"3foo1bE.")?;
+    text.resize(MAX_RUN - 25, b'0')?;
+    text.extend_from_slice(b"3foo17h0123456789abcdefE.")?;
     text.extend_from_slice(b"+1")?;
     let target = Target::taking(rt.alloc(), usize::MAX);
     assert!(is_filtered(rt.alloc(), Source::of(&text), target, Ok(()), b"foo.+1"));

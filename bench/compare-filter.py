@@ -1,8 +1,8 @@
 #!/usr/bin/env python3
 """Compares what `binfarce filter` writes of logs with `rustfilt`'s rule: compare-filter.py BINFARCE LOG..
 
-The rule: each match of `_(ZN|R)[$._[:alnum:]]*` is demangled whole, without a `.llvm.` and number at its end, and a rest that
-begins with `.` is kept. Texts are those of `c++filt` without the hash (legacy names) and of `llvm-cxxfilt` (v0 names).
+The rule: each match of `_(ZN|R)[$._[:alnum:]]*` is demangled whole, a legacy one only if its last element is a hash. A rest that
+begins with `.` is kept, but for a `.llvm.` and number at its end, which go where the match is demangled. Texts are those of `c++filt` without the hash (legacy names) and of `llvm-cxxfilt` (v0 names).
 """
 
 import re
@@ -18,13 +18,13 @@ def parts(match):
     if at >= 0 and re.fullmatch(rb"[A-F0-9@]*", match[at + 6 :]):
         match = match[:at]
     if match.startswith(b"_ZN"):
-        end = 3
+        last = end = 3
         while end < len(match) and match[end : end + 1] != b"E":
             digits = re.match(rb"\d+", match[end:])
             if not digits:
                 return None
-            end += len(digits[0]) + int(digits[0])
-        if end >= len(match):
+            last, end = end, end + len(digits[0]) + int(digits[0])
+        if end >= len(match) or not re.fullmatch(rb"17h[0-9a-f]{16}", match[last:end]):
             return None
         end += 1
     else:
@@ -46,7 +46,7 @@ def main():
             log = file.read()
         found = [p for m in MATCH.finditer(log) if (p := parts(m[0]))]
         shown = texts(sorted({name for name, _ in found}))
-        want = MATCH.sub(lambda m: shown[p[0]] + p[1] if (p := parts(m[0])) else m[0], log).split(b"\n")
+        want = MATCH.sub(lambda m: shown[p[0]] + p[1] if (p := parts(m[0])) and shown[p[0]] != p[0] else m[0], log).split(b"\n")
         got = subprocess.run([sys.argv[1], "filter"], input=log, stdout=subprocess.PIPE, check=True).stdout.split(b"\n")
         other = [(line, a, b) for line, a, b in zip(log.split(b"\n"), want, got) if a != b]
         print(f"{path}: {len(got)} lines, {len(found)} names, {len(other)} lines differ")

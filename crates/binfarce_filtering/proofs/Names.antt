@@ -1,12 +1,14 @@
 -- Names in a run, and what is shown of a run up to a position.
-use Rattle.std.proofs.Common.{inl, inr, ◌≡◌, ℕ, ◌+◌, ◌<◌, ◌≤◌, Bool, true, false, cond, not, ◌==◌, List, [], ◌∷◌, ◌++◌, length, drop, take, get_or, refl, sym, ◌∙◌, ap, subst, arith, append_assoc, append-nil}
+use Rattle.std.proofs.Common.{◌≡◌, ℕ, ◌+◌, ◌<◌, ◌≤◌, Bool, true, false, cond, not, ◌&&◌, ◌==◌, List, [], ◌∷◌, ◌++◌, length, drop, take, get_or, refl, sym, ◌∙◌, ap, subst, arith, append_assoc, append-nil}
 use Rattle.std.proofs.lemmas.Bool.{and_parts, false≢true}
 use Rattle.std.proofs.lemmas.Bool.Decides.{nat_tests}
 use Rattle.std.proofs.lemmas.List.{drop-drop, drop_all}
+use Rattle.std.specs.Cmp.Derive.{both_true}
 use Rattle.std.specs.List.{prefix_len}
-use Rattle.binfarce_legacy.specs.Legacy.{Element, Reads}
+use Rattle.std.specs.Str.{bytes_eq}
+use Rattle.binfarce_legacy.specs.Legacy.{Element, Reads, ends_in_hash}
 use Rattle.binfarce_legacy.proofs.ElementLemmas.{reads_one_way}
-use Rattle.binfarce_filtering.specs.Filter.{IsNameLength, IsRead, IsReadable, IsSymbolLength, begins_name, begins_symbol, begins_v0, byte_then, ends_name, is_dot, llvm_length, name_then, no_more}
+use Rattle.binfarce_filtering.specs.Filter.{IsLegacyUpTo, IsNameLength, IsRead, IsReadable, IsSymbolLength, begins_name, begins_symbol, begins_v0, byte_then, ends_name, dropped, is_dot, llvm_length, name_then, no_more, rest_stays}
 
 first_is : (b : ℕ) → (95 == b) ≡ true → not (is_dot b) ≡ true
 first_is b is = grind (arith, nat_tests)
@@ -23,59 +25,73 @@ v0_some (b ∷ run) is =
 pub symbol_length : (t : Bool) (run : List ℕ) (n : ℕ) → begins_v0 run ≡ t → IsSymbolLength t run n → IsSymbolLength (begins_v0 run) run n
 symbol_length t run n is len = let P : Bool → Type 0 = λ x. IsSymbolLength x run n in subst P (sym is) len
 
--- the elements that follow the prefix, and what follows them
-pub legacy_here : (run part rest : List ℕ) (end : ℕ) → part ≡ drop 3 run → (elements : List Element) × Reads part elements (drop end part) → rest ≡ drop (3 + end) run → ends_name rest ≡ true
-    → IsSymbolLength false run (3 + end)
-legacy_here run part rest end from found behind ends =
+-- and where it begins as no v0 name, that of a legacy name
+pub no_symbol : (run : List ℕ) → begins_v0 run ≡ false → ((n : ℕ) → ¬ (IsLegacyUpTo run n)) → (n : ℕ) → ¬ (IsSymbolLength (begins_v0 run) run n)
+no_symbol run is none n len = let P : Bool → Type 0 = λ x. IsSymbolLength x run n in none n (subst P is len)
+
+-- the elements that follow the prefix, of which the last is a hash, and what follows them
+pub legacy_here : (run part rest : List ℕ) (end : ℕ) (hash : Bool) → part ≡ drop 3 run → (elements : List Element) × Reads part elements (drop end part) × (hash ≡ ends_in_hash elements)
+    → rest ≡ drop (3 + end) run → hash ≡ true → ends_name rest ≡ true → IsLegacyUpTo run (3 + end)
+legacy_here run part rest end hash from found behind is ends =
     let P : List ℕ → Type 0 = λ x. Reads x found.0 (drop end x) in
     let Q : List ℕ → Type 0 = λ x. Reads (drop 3 run) found.0 x in
-    inl (found.0, subst Q (drop-drop end 3 run) (subst P from found.1), ap ends_name (sym behind) ∙ ends)
+    (found.0, subst Q (drop-drop end 3 run) (subst P from found.1), sym found.2 ∙ is, ap ends_name (sym behind) ∙ ends)
 
--- no name ends after the elements
-pub legacy_goes_on : (run part rest : List ℕ) (end : ℕ) → part ≡ drop 3 run → (elements : List Element) × Reads part elements (drop end part) → rest ≡ drop (3 + end) run → ends_name rest ≡ false
-    → IsSymbolLength false run (length run)
-legacy_goes_on run part rest end from found behind goes =
+-- the last of the elements is no hash, or no name ends after them
+pub legacy_other : (run part rest : List ℕ) (end : ℕ) (hash : Bool) → part ≡ drop 3 run → (elements : List Element) × Reads part elements (drop end part) × (hash ≡ ends_in_hash elements)
+    → rest ≡ drop (3 + end) run → hash && ends_name rest ≡ false → (k : ℕ) → ¬ (IsLegacyUpTo run k)
+legacy_other run part rest end hash from found behind other k is =
     let P : List ℕ → Type 0 = λ x. Reads x found.0 (drop end x) in
     let Q : List ℕ → Type 0 = λ x. Reads (drop 3 run) found.0 x in
     let here : Reads (drop 3 run) found.0 (drop (3 + end) run) = subst Q (drop-drop end 3 run) (subst P from found.1) in
-    inr (
-      refl,
-      λ k is.
-          let same = (reads_one_way (drop 3 run) found.0 is.0 (drop (3 + end) run) (drop k run) here is.1).1 in
-          false≢true (sym goes ∙ ap ends_name (behind ∙ same) ∙ is.2),
-    )
+    let same = reads_one_way (drop 3 run) found.0 is.0 (drop (3 + end) run) (drop k run) here is.1 in
+    false≢true (sym other ∙ both_true (found.2 ∙ ap ends_in_hash same.0 ∙ is.2) (ap ends_name (behind ∙ same.1) ∙ is.3))
 
 -- there are no such elements
-pub legacy_none : (run part : List ℕ) → part ≡ drop 3 run → ((elements : List Element) (rest : List ℕ) → ¬ (Reads part elements rest)) → IsSymbolLength false run (length run)
-legacy_none run part from none = inr (refl, λ k is. let P : List ℕ → Type 0 = λ x. Reads x is.0 (drop k run) in none is.0 (drop k run) (subst P (sym from) is.1))
-
-name_length : (t : Bool) (run : List ℕ) (n len : ℕ) → begins_symbol run ≡ t → n ≡ cond t 0 1 + len → IsSymbolLength (begins_v0 (drop (cond t 0 1) run)) (drop (cond t 0 1) run) len → IsNameLength run n
-name_length t run n len is added symbol =
-    let P : Bool → Type 0 = λ x. (len : ℕ) × (n ≡ cond x 0 1 + len) × IsSymbolLength (begins_v0 (drop (cond x 0 1) run)) (drop (cond x 0 1) run) len in
-    let here : P t = (len, added, symbol) in
-    subst P (sym is) here
-
--- the length of a name is that of its symbol
-pub name_at_once : (run : List ℕ) (len : ℕ) → begins_symbol run ≡ true → IsSymbolLength (begins_v0 run) run len → IsNameLength run len
-name_at_once run len is symbol = name_length true run len len is (omega arith) symbol
-
--- with the `_` that a platform has added
-pub name_behind : (run part : List ℕ) (len : ℕ) → begins_symbol run ≡ false → part ≡ drop 1 run → IsSymbolLength (begins_v0 part) part len → IsNameLength run (1 + len)
-name_behind run part len is from symbol =
-    let P : List ℕ → Type 0 = λ x. IsSymbolLength (begins_v0 x) x len in name_length false run (1 + len) len is refl (subst P from symbol)
+pub legacy_none : (run part : List ℕ) → part ≡ drop 3 run → ((elements : List Element) (rest : List ℕ) → ¬ (Reads part elements rest)) → (k : ℕ) → ¬ (IsLegacyUpTo run k)
+legacy_none run part from none k is = let P : List ℕ → Type 0 = λ x. Reads x is.0 (drop k run) in none is.0 (drop k run) (subst P (sym from) is.1)
 
 -- a byte where no name begins stays
 pub byte_read : (full first : Bool) (run rest : List ℕ) → 0 < length run → begins_name first run ≡ false → IsRead full false (drop 1 run) rest → IsRead full first run (get_or run 0 0 ∷ rest)
 byte_read full first [] rest some none is = absurd (omega (arith, some))
 byte_read full first (b ∷ run) rest some none is = byte_then first b run rest none is
 
--- a name is replaced, and a number of LLVM behind it left out
-pub name_read : (full first : Bool) (run part readable rest : List ℕ) (len llvm : ℕ) → begins_name first run ≡ true → IsNameLength run len → IsReadable full (take len run) readable → part ≡ drop len run
-    → llvm ≡ llvm_length part → IsRead full false (drop (len + llvm) run) rest → IsRead full first run (readable ++ rest)
-name_read full first run part readable rest len llvm begins length readable_is from is more =
+not_true : (t : Bool) → not t ≡ true → t ≡ false
+not_true true is = absurd (false≢true is)
+not_true false is = refl
+
+not_false : (t : Bool) → not t ≡ false → t ≡ true
+not_false true is = refl
+not_false false is = absurd (false≢true (sym is))
+
+-- behind a name that changes, a number of LLVM is dropped
+pub drops_number : (name readable rest part : List ℕ) (n : ℕ) (changes : Bool) → changes ≡ true → changes ≡ not (bytes_eq readable name) → part ≡ rest → n ≡ llvm_length part → n ≡ dropped name readable rest
+drops_number name readable rest part n changes is by from len = len ∙ ap llvm_length from ∙ sym (ap (λ t. cond t 0 (llvm_length rest)) (not_true (bytes_eq readable name) (sym by ∙ is)))
+
+-- and nothing behind one that stays
+pub drops_nothing : (name readable rest : List ℕ) (changes : Bool) → changes ≡ false → changes ≡ not (bytes_eq readable name) → 0 ≡ dropped name readable rest
+drops_nothing name readable rest changes is by = sym (ap (λ t. cond t 0 (llvm_length rest)) (not_false (bytes_eq readable name) (sym by ∙ is)))
+
+-- a name is replaced, and n bytes behind it are dropped
+pub name_read : (full first : Bool) (run readable rest : List ℕ) (len n to : ℕ) → begins_name first run ≡ true → IsNameLength run len → IsReadable full (take len run) readable
+    → n ≡ dropped (take len run) readable (drop len run) → to ≡ len + n → IsRead full false (drop to run) rest → IsRead full first run (readable ++ rest)
+name_read full first run readable rest len n to begins length readable_is is ends more =
     let P : List ℕ → Type 0 = λ x. IsRead full false x rest in
-    let same : drop (llvm_length (drop len run)) (drop len run) ≡ drop (len + llvm) run = ap (λ k. drop k (drop len run)) (ap llvm_length (sym from) ∙ sym is) ∙ drop-drop llvm len run in
+    let same : drop (dropped (take len run) readable (drop len run)) (drop len run) ≡ drop to run =
+    ap (λ k. drop k (drop len run)) (sym is) ∙ drop-drop n len run ∙ ap (λ k. drop k run) (sym ends) in
     name_then first run len readable rest begins length readable_is (subst P (sym same) more)
+
+-- where no name is, the rest stays
+nothing_read : (full : Bool) (run shown : List ℕ) → IsRead full false run shown → run ≡ [] → shown ≡ []
+nothing_read full run shown (no_more first) is = refl
+nothing_read full run shown (byte_then first b more rest other read) is = let none = ap length is in absurd (omega (arith, none))
+nothing_read full run shown (name_then first all n readable rest begins len readable_is read) is = absurd (false≢true (sym (ap (begins_name false) is) ∙ begins))
+nothing_read full run shown (rest_stays first all begins none) is = is
+
+pub rest_read : (full first : Bool) (run rest : List ℕ) → begins_name first run ≡ true → ((n : ℕ) → ¬ (IsNameLength run n)) → IsRead full false (drop (length run) run) rest → IsRead full first run (run ++ rest)
+rest_read full first run rest begins none read =
+    let P : List ℕ → Type 0 = λ x. IsRead full first run x in
+    subst P (sym (ap (λ (x : List ℕ). run ++ x) (nothing_read full (drop (length run) run) rest read (drop_all (length run) run (omega arith))) ∙ append-nil run)) (rest_stays first run begins none)
 
 -- what was written after old is what is shown of a run before a position
 abbrev pub ReadsTo : Bool → List ℕ → ℕ → List ℕ → List ℕ → Type 0

@@ -1,10 +1,10 @@
 -- A text in which mangled names are made readable.
-use Rattle.std.specs.Prelude.{◌≡◌, ◌⊎◌, ℕ, ◌+◌, Bool, true, false, not, ◌&&◌, ◌||◌, ◌==◌, nat_eq, nat_lt, List, [], ◌∷◌, ◌++◌, length, take, drop, slice_index, codes, if◌then◌else◌}
+use Rattle.std.specs.Prelude.{◌≡◌, ℕ, ◌+◌, Bool, true, false, not, ◌&&◌, ◌||◌, ◌==◌, nat_eq, nat_lt, List, [], ◌∷◌, ◌++◌, length, take, drop, slice_index, codes, if◌then◌else◌}
 use Rattle.std.specs.Char.{is_ascii_alphanumeric, is_ascii_digit, is_control}
 use Rattle.std.specs.List.{list_all, list_any, prefix_len, starts_with}
-use Rattle.std.specs.Str.{byte, chars}
+use Rattle.std.specs.Str.{byte, bytes_eq, chars}
 use Rattle.binfarce_text.specs.Suffixes.{is_llvm_digit}
-use Rattle.binfarce_legacy.specs.Legacy.{Element, Reads}
+use Rattle.binfarce_legacy.specs.Legacy.{Element, Reads, ends_in_hash}
 use Rattle.binfarce_names.specs.Name.{Name}
 use Rattle.binfarce_names.specs.Named.{IsNamed}
 use Rattle.binfarce_filtering.specs.declared.filter.TheConstants.{MAX_RUN}
@@ -48,15 +48,14 @@ abbrev pub ends_name : (rest : List ℕ) → Bool
 ends_name [] = true
 ends_name (b ∷ rest) = is_dot b
 
--- the first n bytes of the run are a legacy mangling, and a name ends there
+-- the first n bytes of the run are a legacy mangling whose last element is a hash, as `rustc` writes it and C++ compilers don't; and a name ends there
 abbrev pub IsLegacyUpTo : (run : List ℕ) (n : ℕ) → Type 0
-IsLegacyUpTo run n = (elements : List Element) × Reads (drop 3 run) elements (drop n run) × (ends_name (drop n run) ≡ true)
+IsLegacyUpTo run n = (elements : List Element) × Reads (drop 3 run) elements (drop n run) × (ends_in_hash elements ≡ true) × (ends_name (drop n run) ≡ true)
 
--- the length of the name at the front of a run. A v0 name ends before the first `.`, and a legacy name after its `E`; where the run begins with no
--- legacy mangling, all of it counts as one name
+-- the length of the name at the front of the run. A v0 name ends before the first `.`, and a legacy name after its `E`
 abbrev pub IsSymbolLength : (is_v0 : Bool) (run : List ℕ) (n : ℕ) → Type 0
 IsSymbolLength true run n = n ≡ prefix_len (λ b. not (is_dot b)) run
-IsSymbolLength false run n = IsLegacyUpTo run n ⊎ ((n ≡ length run) × ((k : ℕ) → ¬ (IsLegacyUpTo run k)))
+IsSymbolLength false run n = IsLegacyUpTo run n
 
 -- how many `_` a platform has added before the symbol at the front of a run
 abbrev pub added : (run : List ℕ) → ℕ
@@ -85,13 +84,18 @@ has_control text = list_any is_control (chars text)
 abbrev pub IsReadable : (full : Bool) (name shown : List ℕ) → Type 0
 IsReadable full name shown = (answer : Name) × IsNamed name answer × (shown ≡ (if has_control (text_of full answer) then name else text_of full answer))
 
--- shown replaces a run, or its rest, from left to right: each name by its readable form, `.llvm.` and a number after a name by nothing, and each
--- other byte by itself
+-- how many bytes behind a name are dropped: of `.llvm.` and a number behind a name that changes, and none behind one that stays
+abbrev pub dropped : (name readable rest : List ℕ) → ℕ
+dropped name readable rest = if bytes_eq readable name then 0 else llvm_length rest
+
+-- shown replaces a run, or its rest, from left to right: each name by its readable form, what is dropped behind it by nothing, and each other byte by
+-- itself. Where a name may begin and none does, all of the rest stays
 pub data IsRead (full : Bool) : (first : Bool) (run shown : List ℕ) → Type 0 where
   no_more : (first : Bool) → IsRead full first [] []
   byte_then : (first : Bool) (b : ℕ) (run shown : List ℕ) → begins_name first (b ∷ run) ≡ false → IsRead full false run shown → IsRead full first (b ∷ run) (b ∷ shown)
   name_then : (first : Bool) (run : List ℕ) (n : ℕ) (readable shown : List ℕ) → begins_name first run ≡ true → IsNameLength run n → IsReadable full (take n run) readable
-      → IsRead full false (drop (llvm_length (drop n run)) (drop n run)) shown → IsRead full first run (readable ++ shown)
+      → IsRead full false (drop (dropped (take n run) readable (drop n run)) (drop n run)) shown → IsRead full first run (readable ++ shown)
+  rest_stays : (first : Bool) (run : List ℕ) → begins_name first run ≡ true → ((n : ℕ) → ¬ (IsNameLength run n)) → IsRead full first run run
 
 -- a run of more than `MAX_RUN` bytes
 abbrev pub is_too_long : (run : List ℕ) → Bool

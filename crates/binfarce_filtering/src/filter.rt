@@ -1,7 +1,8 @@
 //! Demangles the names within a text.
 
-ghost use Rattle.std.specs.Prelude.{◌≡◌, ◌++◌, ◌∷◌, ◌+◌, ◌-◌, ◌^◌, ◌<◌, ◌≤◌, ◌≢◌, ℕ, List, Bool, true, false, not, [], length, take, drop, slice_index, IfOk, OnOk};
+ghost use Rattle.std.specs.Prelude.{◌≡◌, ◌++◌, ◌∷◌, ◌+◌, ◌-◌, ◌^◌, ◌<◌, ◌≤◌, ◌≢◌, ℕ, List, Bool, true, false, not, [], length, take, drop, slice_index, IfOk, MatchOption, OnOk};
 ghost use Rattle.std.specs.List.{list_all, prefix_len};
+ghost use Rattle.std.specs.Str.{bytes_eq};
 ghost use Rattle.std.specs.String.{string_bytes};
 ghost use Rattle.binfarce_text.specs.Suffixes.{is_llvm_digit};
 ghost use Rattle.binfarce_names.specs.Name.{Name};
@@ -12,7 +13,7 @@ ghost use Rattle.binfarce_filtering.specs.machine.Reading.{ShowsFirst};
 ghost use Rattle.binfarce_filtering.specs.machine.Scan.{IsOutside, MayGoOn, is_other, is_plain};
 
 use binfarce_legacy::elements::elements_end;
-use binfarce_names::demangle::{SymbolName, push_trimmed};
+use binfarce_names::demangle::Demangler;
 use std::alloc::{AllocError, Global};
 use std::simd::prelude::*;
 
@@ -32,9 +33,10 @@ fn limit_is()
 /// A run begins with the first `_` among ASCII letters, digits, `_`, `$` and `.`, and ends before the next other byte.
 /// In a run that is no longer than `MAX_RUN`, names are looked for from left to right. A name begins with `_ZN` and a
 /// digit, or with `_R` and one of `N`, `I`, `M`, `X` and `Y`; at the run's first byte another `_` may come before. It
-/// ends where its mangling does, before a `.` or the run's end. `.llvm.` and a number after a name are left out. A name
-/// whose readable text has a control character stays unchanged. So do all other bytes, which need not be UTF-8. After a
-/// `_ZN` and a digit that begin no such name, the rest of the run stays unchanged.
+/// ends where its mangling does, before a `.` or the run's end. The last element of one with `_ZN` is a hash: `17h` and
+/// 16 lower-case hexadecimal digits. `.llvm.` and a number after a name that is replaced are left out. A name whose
+/// readable text has a control character stays unchanged. So do all other bytes, which need not be UTF-8. After a `_ZN`
+/// and a digit that begin no such name, such as a C++ name, the rest of the run stays unchanged.
 ///
 /// # Errors
 ///
@@ -42,16 +44,34 @@ fn limit_is()
 pub fn filter(alloc: Global, full: bool, text: &[u8]) -> Result<Vec<u8>, AllocError>
     ensures { IfOk result (λ out. IsFiltered full text.now out.items) }
 {
+    let mut names = Names::new(alloc);
     let mut out = Vec::new(alloc);
-    let at = push_ended(alloc, full, text, &mut out)?;
-    push_run(alloc, full, &text[at..], &mut out)?;
+    let at = push_ended(&mut names, full, text, &mut out)?;
+    push_run(&mut names, full, &text[at..], &mut out)?;
     Ok(out)
+}
+
+// What makes names readable, one after the other, and the text of the last one.
+#[derive(Drop)]
+struct Names {
+    demangler: Demangler,
+    text: String,
+}
+
+impl Names {
+    fn new(alloc: Global) -> Names {
+        Names {
+            demangler: Demangler::new(alloc),
+            text: String::new(alloc),
+        }
+    }
 }
 
 /// Filters a text that comes in parts.
 #[derive(Drop)]
 pub struct TextFilter {
     full: bool,
+    names: Names,
     // The run that the text ends in so far, or where that is too long, more than `MAX_RUN` bytes of it.
     run: Vec<u8>,
     ghost is_run: { is_run run.items ≡ true },
@@ -67,6 +87,7 @@ impl TextFilter {
     {
         TextFilter {
             full,
+            names: Names::new(alloc),
             run: Vec::new(alloc),
         }
     }
@@ -77,19 +98,19 @@ impl TextFilter {
     /// # Errors
     ///
     /// `AllocError` where an allocation failed. Don't use the filter after that.
-    pub fn push(&mut self, alloc: Global, part: &[u8], out: &mut Vec<u8>) -> Result<(), AllocError>
+    pub fn push(&mut self, part: &[u8], out: &mut Vec<u8>) -> Result<(), AllocError>
         ensures { OnOk result
             ((more : List ℕ) × Goes self.old self.new part.now more × (out.new.items ≡ out.old.items ++ more)) }
     {
         if self.run.is_empty() {
-            return self.push_text(alloc, part, out);
+            return self.push_text(part, out);
         }
         let len = run_len(part);
         if len == part.len() {
             return self.grow(part, out);
         }
-        self.end_run(alloc, &part[..len], part[len], out)?;
-        self.push_text(alloc, &part[len + 1..], out)
+        self.end_run(&part[..len], part[len], out)?;
+        self.push_text(&part[len + 1..], out)
     }
 
     /// Ends the text, and appends the rest of the output to `out`. Don't use the filter after that, whatever the
@@ -98,19 +119,19 @@ impl TextFilter {
     /// # Errors
     ///
     /// `AllocError` where an allocation failed.
-    pub fn finish(&mut self, alloc: Global, out: &mut Vec<u8>) -> Result<(), AllocError>
+    pub fn finish(&mut self, out: &mut Vec<u8>) -> Result<(), AllocError>
         ensures { OnOk result ((more : List ℕ) × IsDone self.old more × (out.new.items ≡ out.old.items ++ more)) }
     {
-        self.show_run(alloc, &[], out)
+        self.show_run(&[], out)
     }
 
     // The text goes on with this part between two runs.
-    fn push_text(&mut self, alloc: Global, part: &[u8], out: &mut Vec<u8>) -> Result<(), AllocError>
+    fn push_text(&mut self, part: &[u8], out: &mut Vec<u8>) -> Result<(), AllocError>
         requires { IsBetweenRuns self.now }
         ensures { OnOk result
             ((more : List ℕ) × Goes self.old self.new part.now more × (out.new.items ≡ out.old.items ++ more)) }
     {
-        let at = push_ended(alloc, self.full, part, out)?;
+        let at = push_ended(&mut self.names, self.full, part, out)?;
         self.grow(&part[at..], out)
     }
 
@@ -131,13 +152,7 @@ impl TextFilter {
     }
 
     // The run goes on with these bytes, and another byte comes after it.
-    fn end_run(
-        &mut self,
-        alloc: Global,
-        bytes: &[u8],
-        other: u8,
-        out: &mut Vec<u8>,
-    ) -> Result<(), AllocError>
+    fn end_run(&mut self, bytes: &[u8], other: u8, out: &mut Vec<u8>) -> Result<(), AllocError>
         requires run { is_run (self.now.run.items ++ bytes.now) ≡ true }
         requires other { is_run_byte other ≡ false }
         ensures goes { OnOk result
@@ -145,14 +160,14 @@ impl TextFilter {
             × (out.new.items ≡ out.old.items ++ more)) }
         ensures between { OnOk result (IsBetweenRuns self.new) }
     {
-        self.show_run(alloc, bytes, out)?;
+        self.show_run(bytes, out)?;
         self.run.clear();
         out.push(other)?;
         Ok(())
     }
 
     // Writes the rest of the output for the run, which ends with these bytes.
-    fn show_run(&mut self, alloc: Global, bytes: &[u8], out: &mut Vec<u8>) -> Result<(), AllocError>
+    fn show_run(&mut self, bytes: &[u8], out: &mut Vec<u8>) -> Result<(), AllocError>
         requires { is_run (self.now.run.items ++ bytes.now) ≡ true }
         ensures shown { OnOk result
             ((more : List ℕ) × Shows self.old bytes.now more × (out.new.items ≡ out.old.items ++ more)) }
@@ -162,13 +177,13 @@ impl TextFilter {
             return out.extend_from_slice(bytes);
         }
         self.run.extend_from_slice(bytes)?;
-        push_run(alloc, self.full, self.run.as_slice(), out)
+        push_run(&mut self.names, self.full, self.run.as_slice(), out)
     }
 }
 
 // Writes the output for the text before the run at its end, and returns where that run begins.
 fn push_ended(
-    alloc: Global,
+    names: &mut Names,
     full: bool,
     text: &[u8],
     out: &mut Vec<u8>,
@@ -188,7 +203,7 @@ fn push_ended(
         if len == run.len() {
             return Ok(at + plain);
         }
-        push_run(alloc, full, &run[..len], out)?;
+        push_run(names, full, &run[..len], out)?;
         out.push(run[len])?;
         at += plain + len + 1;
     }
@@ -307,25 +322,30 @@ fn is_too_long(run: &[u8]) -> bool
 }
 
 // Writes the output for a run.
-fn push_run(alloc: Global, full: bool, run: &[u8], out: &mut Vec<u8>) -> Result<(), AllocError>
+fn push_run(names: &mut Names, full: bool, run: &[u8], out: &mut Vec<u8>) -> Result<(), AllocError>
     requires { is_run run.now ≡ true }
     ensures { OnOk result ((shown : List ℕ) × IsShown full run.now shown × (out.new.items ≡ out.old.items ++ shown)) }
 {
     if is_too_long(run) {
         return out.extend_from_slice(run);
     }
-    push_names(alloc, full, run, out)
+    push_names(names, full, run, out)
 }
 
 // Writes the output for a run that isn't too long.
-fn push_names(alloc: Global, full: bool, run: &[u8], out: &mut Vec<u8>) -> Result<(), AllocError>
+fn push_names(
+    names: &mut Names,
+    full: bool,
+    run: &[u8],
+    out: &mut Vec<u8>,
+) -> Result<(), AllocError>
     requires { list_all is_run_byte run.now ≡ true }
     ensures { OnOk result
         ((shown : List ℕ) × IsRead full true run.now shown × (out.new.items ≡ out.old.items ++ shown)) }
 {
     let mut at = 0;
     while at < run.len() {
-        let len = push_next(alloc, full, at == 0, &run[at..], out)?;
+        let len = push_next(names, full, at == 0, &run[at..], out)?;
         at += len;
     }
     Ok(())
@@ -334,7 +354,7 @@ fn push_names(alloc: Global, full: bool, run: &[u8], out: &mut Vec<u8>) -> Resul
 // Writes the output for the name, or else the byte, at the front of a run or its rest. Returns how many bytes that
 // replaces.
 fn push_next(
-    alloc: Global,
+    names: &mut Names,
     full: bool,
     first: bool,
     run: &[u8],
@@ -349,9 +369,16 @@ fn push_next(
         out.push(run[0])?;
         return Ok(1);
     }
-    let len = name_len(run);
-    push_name(alloc, full, &run[..len], out)?;
-    Ok(len + llvm_len(&run[len..]))
+    let Some(len) = name_len(run) else {
+        out.extend_from_slice(run)?;
+        return Ok(run.len());
+    };
+    let changes = push_name(names, full, &run[..len], out)?;
+    if changes {
+        Ok(len + llvm_len(&run[len..]))
+    } else {
+        Ok(len)
+    }
 }
 
 // Whether a name may begin here.
@@ -383,36 +410,32 @@ fn begins_v0(run: &[u8]) -> bool
     run.starts_with(b"_R") && run.len() > 2 && matches!(run[2], b'N' | b'I' | b'M' | b'X' | b'Y')
 }
 
-// The length of the name at the front of a run.
-fn name_len(run: &[u8]) -> usize
+// The length of the name at the front of a run. `None` where none is there.
+fn name_len(run: &[u8]) -> Option<usize>
     requires { (first : Bool) × (begins_name first run.now ≡ true) }
-    ensures within { (0 < result) × (result ≤ length run.now) }
-    ensures len { IsNameLength run.now result }
+    ensures { MatchOption result ((n : ℕ) → ¬ (IsNameLength run.now n))
+        (λ n. (0 < n) × (n ≤ length run.now) × IsNameLength run.now n) }
 {
-    if begins_symbol(run) {
-        symbol_len(run)
-    } else {
-        1 + symbol_len(&run[1..])
-    }
+    let added = usize::from(!begins_symbol(run));
+    let len = symbol_len(&run[added..])?;
+    Some(added + len)
 }
 
 // The same for a run without a `_` that a platform has added.
-fn symbol_len(run: &[u8]) -> usize
+fn symbol_len(run: &[u8]) -> Option<usize>
     requires { begins_symbol run.now ≡ true }
-    ensures within { (0 < result) × (result ≤ length run.now) }
-    ensures len { IsSymbolLength (begins_v0 run.now) run.now result }
+    ensures { MatchOption result ((n : ℕ) → ¬ (IsSymbolLength (begins_v0 run.now) run.now n))
+        (λ n. (0 < n) × (n ≤ length run.now) × IsSymbolLength (begins_v0 run.now) run.now n) }
 {
     if begins_v0(run) {
-        return dot_at(run);
+        return Some(dot_at(run));
     }
-    let Some(end) = elements_end(&run[3..]) else {
-        return run.len();
-    };
+    let (end, has_hash) = elements_end(&run[3..])?;
     let len = 3 + end;
-    if ends_name(&run[len..]) {
-        len
+    if has_hash && ends_name(&run[len..]) {
+        Some(len)
     } else {
-        run.len()
+        None
     }
 }
 
@@ -459,30 +482,39 @@ fn digits_len(text: &[u8]) -> usize
     len
 }
 
-// Writes the output for a name.
-fn push_name(alloc: Global, full: bool, name: &[u8], out: &mut Vec<u8>) -> Result<(), AllocError>
+// Writes the output for a name. Returns whether it changes.
+fn push_name(
+    names: &mut Names,
+    full: bool,
+    name: &[u8],
+    out: &mut Vec<u8>,
+) -> Result<bool, AllocError>
     requires { list_all is_run_byte name.now ≡ true }
-    ensures { OnOk result
-        ((shown : List ℕ) × IsReadable full name.now shown × (out.new.items ≡ out.old.items ++ shown)) }
+    ensures { IfOk result
+        (λ changes. (readable : List ℕ) × IsReadable full name.now readable
+        × (changes ≡ not (bytes_eq readable name.now)) × (out.new.items ≡ out.old.items ++ readable)) }
 {
-    let text = text_of(alloc, full, std::str::from_utf8(name).unwrap())?;
-    if has_control(text.as_str()) {
-        return out.extend_from_slice(name);
-    }
-    out.extend_from_slice(text.as_bytes())
+    read_name(names, full, std::str::from_utf8(name).unwrap())?;
+    let text = names.text.as_str();
+    let readable = if has_control(text) {
+        name
+    } else {
+        text.as_bytes()
+    };
+    out.extend_from_slice(readable)?;
+    Ok(readable != name)
 }
 
-// The text of a name: complete, or trimmed.
-fn text_of(alloc: Global, full: bool, name: &str) -> Result<String, AllocError>
-    ensures { IfOk result (λ t. (n : Name) × IsNamed name.now n × (string_bytes t ≡ text_of full n)) }
+// Makes the text of a name: complete, or trimmed.
+fn read_name(names: &mut Names, full: bool, name: &str) -> Result<(), AllocError>
+    ensures { OnOk result ((n : Name) × IsNamed name.now n × (string_bytes names.new.text ≡ text_of full n)) }
 {
     if full {
-        let named = SymbolName::demangle(alloc, name)?;
-        return Ok(named.complete);
+        names.text = names.demangler.demangle(name)?.complete;
+        return Ok(());
     }
-    let mut text = String::new(alloc);
-    push_trimmed(alloc, &mut text, name)?;
-    Ok(text)
+    names.text.clear();
+    names.demangler.push_trimmed(&mut names.text, name)
 }
 
 // Whether a character of the text is a control character.

@@ -72,7 +72,7 @@ pub fn filter_stream<R: Read, W: Write>(
     let mut filter = TextFilter::new(alloc, full);
     let mut out = Vec::new(alloc);
     let ended = pass_all(alloc, &mut filter, &mut out, input, output)?;
-    pass_rest(alloc, &mut filter, &mut out, output)?;
+    pass_rest(&mut filter, &mut out, output)?;
     if ended {
         Ok(())
     } else {
@@ -92,7 +92,7 @@ fn pass_all<R: Read, W: Write>(
         (W.contents output.new) result }
 {
     let mut chunk = new_chunk(alloc)?;
-    pass_chunks(alloc, filter, out, chunk.as_mut_slice(), input, output)
+    pass_chunks(filter, out, chunk.as_mut_slice(), input, output)
 }
 
 // Room for the bytes of a read.
@@ -104,7 +104,6 @@ fn new_chunk(alloc: Global) -> Result<Vec<u8>, AllocError>
 
 // The same, with room for the bytes of a read.
 fn pass_chunks<R: Read, W: Write>(
-    alloc: Global,
     filter: &mut TextFilter,
     out: &mut Vec<u8>,
     chunk: &mut [u8],
@@ -118,7 +117,7 @@ fn pass_chunks<R: Read, W: Write>(
     for _ in 0..u64::MAX {
         match input.read(chunk) {
             Ok(0) => return Ok(true),
-            Ok(n) => pass(alloc, filter, out, &chunk[..n], output)?,
+            Ok(n) => pass(filter, out, &chunk[..n], output)?,
             Err(e) => {
                 if e.kind() != ErrorKind::Interrupted {
                     return Ok(false);
@@ -131,7 +130,6 @@ fn pass_chunks<R: Read, W: Write>(
 
 // Filters the next part of the text.
 fn pass<W: Write>(
-    alloc: Global,
     filter: &mut TextFilter,
     out: &mut Vec<u8>,
     part: &[u8],
@@ -140,13 +138,12 @@ fn pass<W: Write>(
     ensures { Passes filter.old filter.new part.now (W.contents output.old) (W.contents output.new) result }
 {
     out.clear();
-    filter.push(alloc, part, out)?;
+    filter.push(part, out)?;
     write_whole(output, out.as_slice())
 }
 
 // Writes the rest of the output at the text's end.
 fn pass_rest<W: Write>(
-    alloc: Global,
     filter: &mut TextFilter,
     out: &mut Vec<u8>,
     output: &mut W,
@@ -154,7 +151,7 @@ fn pass_rest<W: Write>(
     ensures { Ends filter.old (W.contents output.old) (W.contents output.new) result }
 {
     out.clear();
-    filter.finish(alloc, out)?;
+    filter.finish(out)?;
     write_whole(output, out.as_slice())
 }
 

@@ -1,12 +1,12 @@
 -- Counted elements: what a text that reads as them begins with, and that it reads so in one way.
-use Rattle.std.proofs.Common.{◌≡◌, ℕ, ◌+◌, true, List, [], ◌∷◌, ◌++◌, length, get_or, drop, take, refl, ap, sym, ◌∙◌, arith, length-drop, length-append}
+use Rattle.std.proofs.Common.{◌≡◌, ℕ, ◌+◌, Bool, true, List, [], ◌∷◌, ◌++◌, length, get_or, drop, take, refl, ap, sym, ◌∙◌, arith, length-drop, length-append}
 use Rattle.std.proofs.lemmas.Bool.{false≢true}
-use Rattle.std.proofs.lemmas.List.{take-append-drop, drop-drop, drop_at, take_at, length-take-le}
+use Rattle.std.proofs.lemmas.List.{take-append-drop, take-take, drop-drop, drop-take, drop_at, take_at, length-take-le}
 use Rattle.std.proofs.lemmas.List.Sums.{prefix_len-le-length, prefix_len_passes}
 use Rattle.std.specs.Char.{is_ascii_digit}
 use Rattle.std.specs.List.{prefix_len, take_while}
 use Rattle.std.specs.Str.Parse.{digits_value}
-use Rattle.binfarce_legacy.specs.Legacy.{Element, IsCounted, Reads, mangled}
+use Rattle.binfarce_legacy.specs.Legacy.{Element, IsCounted, Reads, ends_in_hash, is_hash, mangled}
 use Rattle.binfarce_legacy.specs.machine.Reading.{name_start, name_end, HasElement}
 
 -- the element that a text begins with
@@ -127,3 +127,21 @@ pub reads_tail : (text : List ℕ) (elements : List Element) (rest : List ℕ) �
     → Reads text elements rest → (others : List Element) × Reads (drop (name_end text) text) others rest
 reads_tail text [] rest ne r = absurd (ne (ap (λ (x : List ℕ). get_or x 0 0) r.1))
 reads_tail text (x ∷ elements) rest ne r = (elements, reads_after text x elements rest r)
+
+-- as it is written, that element is the text up to its end
+pub first_written : (text : List ℕ) → (first text).digits ++ (first text).name ≡ take (name_end text) text
+unfolding name_start name_end first
+first_written text =
+    let n : ℕ = prefix_len is_ascii_digit text in
+    let v : ℕ = digits_value 10 (take n text) in
+    sym (sym (take-append-drop n (take (n + v) text)) ∙ ap (λ (x : List ℕ). x ++ drop n (take (n + v) text)) (take-take n (n + v) text (omega arith)) ∙ ap (λ (x : List ℕ). take n text ++ x) (drop-take n v text))
+
+-- of an element as it is written and the elements after it, the last is a hash
+abbrev pub last_is_hash : List ℕ → List Element → Bool
+last_is_hash written [] = is_hash written
+last_is_hash written (e ∷ elements) = last_is_hash (e.digits ++ e.name) elements
+
+pub ends_as_last : (elements : List Element) → ends_in_hash elements ≡ last_is_hash [] elements
+ends_as_last [] = refl
+ends_as_last (e ∷ []) = refl
+ends_as_last (e ∷ (f ∷ elements)) = ends_as_last (f ∷ elements)

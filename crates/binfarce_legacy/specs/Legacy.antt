@@ -1,8 +1,8 @@
 -- The legacy mangling that `rustc` writes: `_ZN`, elements that each follow their length, and `E`.
-use Rattle.std.specs.Prelude.{◌≡◌, ◌⊎◌, ℕ, zero, suc, ◌+◌, ◌-◌, ◌<◌, Bool, ◌&&◌, not, List, [], ◌∷◌, ◌++◌, length, take, drop, Option, Some, None, if◌then◌else◌, ◌==◌, nat_eq, nat_lt, slice_index, codes, IsTrue, ⊤}
+use Rattle.std.specs.Prelude.{◌≡◌, ◌⊎◌, ℕ, zero, suc, ◌+◌, ◌-◌, ◌<◌, Bool, false, ◌&&◌, not, List, [], ◌∷◌, ◌++◌, length, take, drop, Option, Some, None, if◌then◌else◌, ◌==◌, nat_eq, nat_lt, slice_index, codes, IsTrue, ⊤}
 use Rattle.std.proofs.Common.{refl, arith}
 use Rattle.std.specs.Option.{option_map, option_or, unwrap_or}
-use Rattle.std.specs.List.{find, flat_map, join_by, list_any, starts_with, take_while, before_last}
+use Rattle.std.specs.List.{find, flat_map, join_by, list_all, list_any, starts_with, take_while, before_last}
 use Rattle.std.specs.Char.{is_ascii_digit, is_control}
 use Rattle.std.specs.Str.{IsAscii}
 use Rattle.std.specs.Str.Parse.{digits_value}
@@ -40,6 +40,16 @@ AreCounted (e ∷ elements) rest = IsCounted e (mangled elements rest) × AreCou
 -- part is counted elements, `E` and the rest
 abbrev pub Reads : (part : List ℕ) (elements : List Element) (rest : List ℕ) → Type 0
 Reads part elements rest = AreCounted elements rest × (part ≡ mangled elements rest)
+
+-- an element with its digits is a hash: `17h` and 16 lower-case hexadecimal digits, which its length counts
+abbrev pub is_hash : (written : List ℕ) → Bool
+is_hash written = starts_with nat_eq written (codes "17h") && list_all is_hex_digit (drop 3 written)
+
+-- the last element is a hash
+abbrev pub ends_in_hash : (elements : List Element) → Bool
+ends_in_hash [] = false
+ends_in_hash (e ∷ []) = is_hash (e.digits ++ e.name)
+ends_in_hash (e ∷ (f ∷ elements)) = ends_in_hash (f ∷ elements)
 
 -- text is a legacy mangling of these elements: part follows its prefix, and rest follows its `E`
 pub record IsLegacy (text part : List ℕ) (elements : List Element) (rest : List ℕ) : Type 0 where

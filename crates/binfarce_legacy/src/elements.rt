@@ -1,10 +1,11 @@
 //! The elements of a legacy mangling: the length of each, and where all of them end.
 
 ghost use Rattle.std.specs.Prelude.{◌≡◌, ℕ, ◌+◌, ◌-◌, ◌*◌, ◌^◌, ◌<◌, ◌≤◌, List, MatchOption, SomeIff, IfSome, length, take, drop, min};
-ghost use Rattle.std.specs.List.{prefix_len};
+ghost use Rattle.std.specs.List.{list_all, prefix_len};
 ghost use Rattle.std.specs.Char.{is_ascii_digit};
 ghost use Rattle.std.specs.Str.Parse.{digits_value};
-ghost use Rattle.binfarce_legacy.specs.Legacy.{Element, Reads};
+ghost use Rattle.binfarce_text.specs.Letters.{is_hex_digit};
+ghost use Rattle.binfarce_legacy.specs.Legacy.{Element, Reads, ends_in_hash, is_hash};
 ghost use Rattle.binfarce_legacy.specs.machine.Reading.{name_start, name_end, HasElement};
 
 // The length of the run of digits that `text` begins with, and the number that they write, if it is below `usize::MAX`.
@@ -77,21 +78,39 @@ pub(crate) fn element(text: &[u8], at: usize) -> Option<(usize, usize)>
     Some((start, start + number))
 }
 
-/// The position after the `E` that ends the elements at the front of `text`. `None` where `text` doesn't begin with
-/// elements and an `E`. `text` is what follows the prefix of a legacy mangling; bytes after the `E` aren't checked.
-/// Nothing is allocated.
-pub fn elements_end(text: &[u8]) -> Option<usize>
+/// The position after the `E` that ends the elements at the front of `text`, and whether the last element is a hash:
+/// `17h` and 16 lower-case hexadecimal digits. `None` where `text` doesn't begin with elements and an `E`. `text` is
+/// what follows the prefix of a legacy mangling; bytes after the `E` aren't checked. Nothing is allocated.
+#[inline(always)]
+pub fn elements_end(text: &[u8]) -> Option<(usize, bool)>
     ensures { MatchOption result
         ((elements : List Element) (rest : List ℕ) → ¬ (Reads text.now elements rest))
-        (λ end. (end ≤ length text.now) × ((elements : List Element) × Reads text.now elements (drop end text.now))) }
+        (λ end. (end.0 ≤ length text.now) × ((elements : List Element) × Reads text.now elements (drop end.0 text.now)
+        × (end.1 ≡ ends_in_hash elements))) }
 {
+    let mut last = 0;
     let mut at = 0;
     while at < text.len() && text[at] != b'E' {
         let (_, end) = element(text, at)?;
+        last = at;
         at = end;
     }
     if at == text.len() {
         return None;
     }
-    Some(at + 1)
+    Some((at + 1, is_hash(&text[last..at])))
+}
+
+// Whether an element with its digits is a hash.
+fn is_hash(element: &[u8]) -> bool
+    ensures { result ≡ is_hash element.now }
+{
+    element.starts_with(b"17h") && are_hex_digits(&element[3..])
+}
+
+// Whether each byte is a lower-case hexadecimal digit.
+fn are_hex_digits(bytes: &[u8]) -> bool
+    ensures { result ≡ list_all is_hex_digit bytes.now }
+{
+    bytes.iter().all(|byte| matches!(*byte, b'0'..=b'9' | b'a'..=b'f'))
 }

@@ -36,11 +36,11 @@ fn in_parts(
     let mut filter = TextFilter::new(alloc, full);
     let mut out = Vec::new(alloc);
     let (front, back) = text.split_at(first.min(text.len()));
-    filter.push(alloc, front, &mut out)?;
+    filter.push(front, &mut out)?;
     for part in back.chunks(len.max(1)) {
-        filter.push(alloc, part, &mut out)?;
+        filter.push(part, &mut out)?;
     }
-    filter.finish(alloc, &mut out)?;
+    filter.finish(&mut out)?;
     Ok(out)
 }
 

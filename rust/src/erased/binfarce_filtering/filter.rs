@@ -4,7 +4,7 @@
 
 use crate::shim::{String, Vec};
 use crate::erased::binfarce_legacy::elements::elements_end;
-use crate::erased::binfarce_names::demangle::{SymbolName, push_trimmed};
+use crate::erased::binfarce_names::demangle::Demangler;
 use crate::shim::alloc::{AllocError, Global};
 use crate::shim::simd::prelude::*;
 
@@ -19,23 +19,41 @@ const STRIDE: usize = 16;
 /// A run begins with the first `_` among ASCII letters, digits, `_`, `$` and `.`, and ends before the next other byte.
 /// In a run that is no longer than `MAX_RUN`, names are looked for from left to right. A name begins with `_ZN` and a
 /// digit, or with `_R` and one of `N`, `I`, `M`, `X` and `Y`; at the run's first byte another `_` may come before. It
-/// ends where its mangling does, before a `.` or the run's end. `.llvm.` and a number after a name are left out. A name
-/// whose readable text has a control character stays unchanged. So do all other bytes, which need not be UTF-8. After a
-/// `_ZN` and a digit that begin no such name, the rest of the run stays unchanged.
+/// ends where its mangling does, before a `.` or the run's end. The last element of one with `_ZN` is a hash: `17h` and
+/// 16 lower-case hexadecimal digits. `.llvm.` and a number after a name that is replaced are left out. A name whose
+/// readable text has a control character stays unchanged. So do all other bytes, which need not be UTF-8. After a `_ZN`
+/// and a digit that begin no such name, such as a C++ name, the rest of the run stays unchanged.
 ///
 /// # Errors
 ///
 /// `AllocError` where an allocation failed.
 pub fn filter(alloc: Global, full: bool, text: &[u8]) -> Result<Vec<u8>, AllocError> {
+    let mut names = Names::new(alloc);
     let mut out = Vec::new(alloc);
-    let at = push_ended(alloc, full, text, &mut out)?;
-    push_run(alloc, full, &text[at..], &mut out)?;
+    let at = push_ended(&mut names, full, text, &mut out)?;
+    push_run(&mut names, full, &text[at..], &mut out)?;
     Ok(out)
+}
+
+// What makes names readable, one after the other, and the text of the last one.
+struct Names {
+    demangler: Demangler,
+    text: String,
+}
+
+impl Names {
+    fn new(alloc: Global) -> Names {
+        Names {
+            demangler: Demangler::new(alloc),
+            text: String::new(alloc),
+        }
+    }
 }
 
 /// Filters a text that comes in parts.
 pub struct TextFilter {
     full: bool,
+    names: Names,
     // The run that the text ends in so far, or where that is too long, more than `MAX_RUN` bytes of it.
     run: Vec<u8>,
 }
@@ -46,6 +64,7 @@ impl TextFilter {
     pub fn new(alloc: Global, full: bool) -> TextFilter {
         TextFilter {
             full,
+            names: Names::new(alloc),
             run: Vec::new(alloc),
         }
     }
@@ -56,16 +75,16 @@ impl TextFilter {
     /// # Errors
     ///
     /// `AllocError` where an allocation failed. Don't use the filter after that.
-    pub fn push(&mut self, alloc: Global, part: &[u8], out: &mut Vec<u8>) -> Result<(), AllocError> {
+    pub fn push(&mut self, part: &[u8], out: &mut Vec<u8>) -> Result<(), AllocError> {
         if self.run.is_empty() {
-            return self.push_text(alloc, part, out);
+            return self.push_text(part, out);
         }
         let len = run_len(part);
         if len == part.len() {
             return self.grow(part, out);
         }
-        self.end_run(alloc, &part[..len], part[len], out)?;
-        self.push_text(alloc, &part[len + 1..], out)
+        self.end_run(&part[..len], part[len], out)?;
+        self.push_text(&part[len + 1..], out)
     }
 
     /// Ends the text, and appends the rest of the output to `out`. Don't use the filter after that, whatever the
@@ -74,13 +93,13 @@ impl TextFilter {
     /// # Errors
     ///
     /// `AllocError` where an allocation failed.
-    pub fn finish(&mut self, alloc: Global, out: &mut Vec<u8>) -> Result<(), AllocError> {
-        self.show_run(alloc, &[], out)
+    pub fn finish(&mut self, out: &mut Vec<u8>) -> Result<(), AllocError> {
+        self.show_run(&[], out)
     }
 
     // The text goes on with this part between two runs.
-    fn push_text(&mut self, alloc: Global, part: &[u8], out: &mut Vec<u8>) -> Result<(), AllocError> {
-        let at = push_ended(alloc, self.full, part, out)?;
+    fn push_text(&mut self, part: &[u8], out: &mut Vec<u8>) -> Result<(), AllocError> {
+        let at = push_ended(&mut self.names, self.full, part, out)?;
         self.grow(&part[at..], out)
     }
 
@@ -97,32 +116,26 @@ impl TextFilter {
     }
 
     // The run goes on with these bytes, and another byte comes after it.
-    fn end_run(
-        &mut self,
-        alloc: Global,
-        bytes: &[u8],
-        other: u8,
-        out: &mut Vec<u8>,
-    ) -> Result<(), AllocError> {
-        self.show_run(alloc, bytes, out)?;
+    fn end_run(&mut self, bytes: &[u8], other: u8, out: &mut Vec<u8>) -> Result<(), AllocError> {
+        self.show_run(bytes, out)?;
         self.run.clear();
         out.push(other)?;
         Ok(())
     }
 
     // Writes the rest of the output for the run, which ends with these bytes.
-    fn show_run(&mut self, alloc: Global, bytes: &[u8], out: &mut Vec<u8>) -> Result<(), AllocError> {
+    fn show_run(&mut self, bytes: &[u8], out: &mut Vec<u8>) -> Result<(), AllocError> {
         if is_too_long(self.run.as_slice()) {
             return out.extend_from_slice(bytes);
         }
         self.run.extend_from_slice(bytes)?;
-        push_run(alloc, self.full, self.run.as_slice(), out)
+        push_run(&mut self.names, self.full, self.run.as_slice(), out)
     }
 }
 
 // Writes the output for the text before the run at its end, and returns where that run begins.
 fn push_ended(
-    alloc: Global,
+    names: &mut Names,
     full: bool,
     text: &[u8],
     out: &mut Vec<u8>,
@@ -137,7 +150,7 @@ fn push_ended(
         if len == run.len() {
             return Ok(at + plain);
         }
-        push_run(alloc, full, &run[..len], out)?;
+        push_run(names, full, &run[..len], out)?;
         out.push(run[len])?;
         at += plain + len + 1;
     }
@@ -223,18 +236,23 @@ fn is_too_long(run: &[u8]) -> bool {
 }
 
 // Writes the output for a run.
-fn push_run(alloc: Global, full: bool, run: &[u8], out: &mut Vec<u8>) -> Result<(), AllocError> {
+fn push_run(names: &mut Names, full: bool, run: &[u8], out: &mut Vec<u8>) -> Result<(), AllocError> {
     if is_too_long(run) {
         return out.extend_from_slice(run);
     }
-    push_names(alloc, full, run, out)
+    push_names(names, full, run, out)
 }
 
 // Writes the output for a run that isn't too long.
-fn push_names(alloc: Global, full: bool, run: &[u8], out: &mut Vec<u8>) -> Result<(), AllocError> {
+fn push_names(
+    names: &mut Names,
+    full: bool,
+    run: &[u8],
+    out: &mut Vec<u8>,
+) -> Result<(), AllocError> {
     let mut at = 0;
     while at < run.len() {
-        let len = push_next(alloc, full, at == 0, &run[at..], out)?;
+        let len = push_next(names, full, at == 0, &run[at..], out)?;
         at += len;
     }
     Ok(())
@@ -243,7 +261,7 @@ fn push_names(alloc: Global, full: bool, run: &[u8], out: &mut Vec<u8>) -> Resul
 // Writes the output for the name, or else the byte, at the front of a run or its rest. Returns how many bytes that
 // replaces.
 fn push_next(
-    alloc: Global,
+    names: &mut Names,
     full: bool,
     first: bool,
     run: &[u8],
@@ -253,9 +271,16 @@ fn push_next(
         out.push(run[0])?;
         return Ok(1);
     }
-    let len = name_len(run);
-    push_name(alloc, full, &run[..len], out)?;
-    Ok(len + llvm_len(&run[len..]))
+    let Some(len) = name_len(run) else {
+        out.extend_from_slice(run)?;
+        return Ok(run.len());
+    };
+    let changes = push_name(names, full, &run[..len], out)?;
+    if changes {
+        Ok(len + llvm_len(&run[len..]))
+    } else {
+        Ok(len)
+    }
 }
 
 // Whether a name may begin here.
@@ -278,28 +303,24 @@ fn begins_v0(run: &[u8]) -> bool {
     run.starts_with(b"_R") && run.len() > 2 && matches!(run[2], b'N' | b'I' | b'M' | b'X' | b'Y')
 }
 
-// The length of the name at the front of a run.
-fn name_len(run: &[u8]) -> usize {
-    if begins_symbol(run) {
-        symbol_len(run)
-    } else {
-        1 + symbol_len(&run[1..])
-    }
+// The length of the name at the front of a run. `None` where none is there.
+fn name_len(run: &[u8]) -> Option<usize> {
+    let added = usize::from(!begins_symbol(run));
+    let len = symbol_len(&run[added..])?;
+    Some(added + len)
 }
 
 // The same for a run without a `_` that a platform has added.
-fn symbol_len(run: &[u8]) -> usize {
+fn symbol_len(run: &[u8]) -> Option<usize> {
     if begins_v0(run) {
-        return dot_at(run);
+        return Some(dot_at(run));
     }
-    let Some(end) = elements_end(&run[3..]) else {
-        return run.len();
-    };
+    let (end, has_hash) = elements_end(&run[3..])?;
     let len = 3 + end;
-    if ends_name(&run[len..]) {
-        len
+    if has_hash && ends_name(&run[len..]) {
+        Some(len)
     } else {
-        run.len()
+        None
     }
 }
 
@@ -335,24 +356,32 @@ fn digits_len(text: &[u8]) -> usize {
     len
 }
 
-// Writes the output for a name.
-fn push_name(alloc: Global, full: bool, name: &[u8], out: &mut Vec<u8>) -> Result<(), AllocError> {
-    let text = text_of(alloc, full, std::str::from_utf8(name).unwrap())?;
-    if has_control(text.as_str()) {
-        return out.extend_from_slice(name);
-    }
-    out.extend_from_slice(text.as_bytes())
+// Writes the output for a name. Returns whether it changes.
+fn push_name(
+    names: &mut Names,
+    full: bool,
+    name: &[u8],
+    out: &mut Vec<u8>,
+) -> Result<bool, AllocError> {
+    read_name(names, full, std::str::from_utf8(name).unwrap())?;
+    let text = names.text.as_str();
+    let readable = if has_control(text) {
+        name
+    } else {
+        text.as_bytes()
+    };
+    out.extend_from_slice(readable)?;
+    Ok(readable != name)
 }
 
-// The text of a name: complete, or trimmed.
-fn text_of(alloc: Global, full: bool, name: &str) -> Result<String, AllocError> {
+// Makes the text of a name: complete, or trimmed.
+fn read_name(names: &mut Names, full: bool, name: &str) -> Result<(), AllocError> {
     if full {
-        let named = SymbolName::demangle(alloc, name)?;
-        return Ok(named.complete);
+        names.text = names.demangler.demangle(name)?.complete;
+        return Ok(());
     }
-    let mut text = String::new(alloc);
-    push_trimmed(alloc, &mut text, name)?;
-    Ok(text)
+    names.text.clear();
+    names.demangler.push_trimmed(&mut names.text, name)
 }
 
 // Whether a character of the text is a control character.

@@ -58,17 +58,30 @@ pub(crate) fn element(text: &[u8], at: usize) -> Option<(usize, usize)> {
     Some((start, start + number))
 }
 
-/// The position after the `E` that ends the elements at the front of `text`. `None` where `text` doesn't begin with
-/// elements and an `E`. `text` is what follows the prefix of a legacy mangling; bytes after the `E` aren't checked.
-/// Nothing is allocated.
-pub fn elements_end(text: &[u8]) -> Option<usize> {
+/// The position after the `E` that ends the elements at the front of `text`, and whether the last element is a hash:
+/// `17h` and 16 lower-case hexadecimal digits. `None` where `text` doesn't begin with elements and an `E`. `text` is
+/// what follows the prefix of a legacy mangling; bytes after the `E` aren't checked. Nothing is allocated.
+#[cfg_attr(not(debug_assertions), inline(always))]
+pub fn elements_end(text: &[u8]) -> Option<(usize, bool)> {
+    let mut last = 0;
     let mut at = 0;
     while at < text.len() && text[at] != b'E' {
         let (_, end) = element(text, at)?;
+        last = at;
         at = end;
     }
     if at == text.len() {
         return None;
     }
-    Some(at + 1)
+    Some((at + 1, is_hash(&text[last..at])))
+}
+
+// Whether an element with its digits is a hash.
+fn is_hash(element: &[u8]) -> bool {
+    element.starts_with(b"17h") && are_hex_digits(&element[3..])
+}
+
+// Whether each byte is a lower-case hexadecimal digit.
+fn are_hex_digits(bytes: &[u8]) -> bool {
+    bytes.iter().all(|byte| matches!(*byte, b'0'..=b'9' | b'a'..=b'f'))
 }

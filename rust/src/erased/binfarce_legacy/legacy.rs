@@ -20,7 +20,7 @@ fn part_after_prefix(text: &str) -> Option<&str> {
 pub fn mangling(text: &str) -> Option<&str> {
     let part = part_after_prefix(text)?;
     let bytes = part.as_bytes();
-    let end = elements_end(bytes)?;
+    let (end, _) = elements_end(bytes)?;
     if !is_allowed_rest(&bytes[end..]) {
         return None;
     }

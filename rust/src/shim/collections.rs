@@ -2,7 +2,8 @@
 
 use super::alloc::{AllocError, Global, reserve};
 use std::borrow::Borrow;
-use std::mem;
+use std::iter::Flatten;
+use std::{mem, vec};
 
 // The most entries of a leaf.
 const LEAF: usize = 64;
@@ -90,5 +91,15 @@ impl<K: Ord, V> BTreeMap<K, V> {
     /// The entries in the order of their keys.
     pub fn iter(&self) -> impl Iterator<Item = (&K, &V)> {
         self.leaves.iter().flatten().map(|(key, value)| (key, value))
+    }
+}
+
+/// The entries in the order of their keys.
+impl<K, V> IntoIterator for BTreeMap<K, V> {
+    type Item = (K, V);
+    type IntoIter = Flatten<vec::IntoIter<Vec<(K, V)>>>;
+
+    fn into_iter(self) -> Self::IntoIter {
+        self.leaves.into_iter().flatten()
     }
 }

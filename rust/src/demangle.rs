@@ -221,11 +221,11 @@ pub struct Demangle<'a> {
 
 impl fmt::Display for Demangle<'_> {
     fn fmt(&self, f: &mut fmt::Formatter<'_>) -> fmt::Result {
-        f.pad(&if f.alternate() {
-            trimmed(self.name).unwrap_or_else(|_| out_of_memory())
-        } else {
-            SymbolName::demangle(self.name).complete
-        })
+        match self.kind {
+            Kind::Unknown => f.pad(self.name),
+            _ if f.alternate() => f.pad(&trimmed(self.name).unwrap_or_else(|_| out_of_memory())),
+            _ => f.pad(&SymbolName::demangle(self.name).complete),
+        }
     }
 }
 

@@ -118,7 +118,7 @@ pub use erased::binfarce_elf::symbol_table::SymbolTable;
 pub use erased::binfarce_sections::sections::Section;
 pub use error::{Error, OutOfMemory, ParseError, UnexpectedEof};
 pub use filter::{Form, filter, filter_stream};
-pub use tables::{Selection, Sums, Symbolizer, Tables};
+pub use tables::{AllFunctions, Selection, Sums, Symbolizer, Tables};
 
 use demangle::SymbolData;
 

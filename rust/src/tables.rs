@@ -13,7 +13,7 @@ use crate::erased::binfarce_tools::tables;
 use crate::error::{Error, ParseError};
 use crate::shim::{self, alloc::Global};
 use crate::streams::Kept;
-use crate::{FunctionSymbol, SymbolTable};
+use crate::{FunctionSymbol, SectionFunction, SymbolTable};
 use std::cell::RefCell;
 use std::io::{self, ErrorKind, Read, Seek, Write};
 
@@ -88,6 +88,51 @@ impl<'a> Tables<'a> {
     /// where an allocation failed.
     pub fn functions(&self) -> Result<Functions<'_>, Error> {
         Ok(Functions(self.functions_and_size()?.0))
+    }
+
+    /// Returns the function symbols of all sections, each with its section's number; `None` where the tables are of one
+    /// section.
+    ///
+    /// # Errors
+    ///
+    /// Those of [`Tables::functions`].
+    ///
+    /// # Examples
+    ///
+    /// ```
+    /// use binfarce::{Selection, SymbolTable, Tables};
+    ///
+    /// # let path = concat!(env!("CARGO_MANIFEST_DIR"), "/samples/elf64-little.bin");
+    /// let file = std::fs::read(path)?;
+    /// let tables = Tables::new(&file, Selection::All, SymbolTable::Symtab)?;
+    /// let symbols = tables.all_functions()?.into_iter().flatten();
+    /// let sections = symbols.map(|symbol| tables.section_name(symbol.section)).collect::<Vec<_>>();
+    /// assert_eq!(sections, [Some(".text"), Some(".symtab")]);
+    /// # Ok::<(), Box<dyn std::error::Error>>(())
+    /// ```
+    pub fn all_functions(&self) -> Result<Option<AllFunctions<'_>>, Error> {
+        match &self.0 {
+            Kind::Section(_) => Ok(None),
+            Kind::All(tables) => Ok(Some(AllFunctions(tables.functions(Global)?))),
+        }
+    }
+
+    /// Returns the name of the section of this number. `None` where there is none, where it has no valid name, and where the
+    /// tables are of one section.
+    pub fn section_name(&self, number: u32) -> Option<&str> {
+        match &self.0 {
+            Kind::Section(_) => None,
+            Kind::All(tables) => tables.section_name(number),
+        }
+    }
+
+    /// Returns whether the selected sections share addresses, so that an address may be that of symbols in several: all
+    /// sections of an object file do, and those of a PE file, where an address is an offset in the section.
+    pub fn shares_addresses(&self) -> bool {
+        match &self.0 {
+            Kind::Section(_) => false,
+            Kind::All(tables) => tables.shares_addresses(),
+        }
     }
 
     /// The function symbols, and the size of the section, if it is one.
@@ -209,6 +254,20 @@ impl<'a> Tables<'a> {
         Ok(Sums { rows, total, section_size: section_size.unwrap_or(total) })
     }
 }
+
+/// An iterator over the function symbols of all sections: the answer of [`Tables::all_functions`].
+#[must_use = "iterators are lazy and do nothing unless consumed"]
+pub struct AllFunctions<'a>(all::AllFunctions<'a>);
+
+impl<'a> Iterator for AllFunctions<'a> {
+    type Item = SectionFunction<'a>;
+
+    fn next(&mut self) -> Option<Self::Item> {
+        self.0.next()
+    }
+}
+
+of_iterators!(AllFunctions);
 
 impl Tables<'static> {
     /// Reads the tables of a file at offsets: its first 64 bytes, its headers, the symbol table and its strings, and nothing

@@ -88,11 +88,21 @@ fn written(write: impl FnOnce(&mut Vec<u8>) -> io::Result<()>) -> String {
 #[test]
 fn tables_in_memory_and_read_at_offsets() {
     for (file, listing) in FILES {
+        let all = Tables::new(file, Selection::All, SymbolTable::Symtab).unwrap();
+        let text_of_all = written(|output| all.list_to(output));
         for selection in [Selection::Section(".text"), Selection::All] {
             let tables = Tables::new(file, selection, SymbolTable::Symtab).unwrap();
             let read = Tables::read(Cursor::new(file), selection, SymbolTable::Symtab).unwrap();
             let found = tables.functions().unwrap().collect::<Vec<_>>();
             assert!(read.functions().unwrap().eq(found.iter().copied()));
+            let all = read.all_functions().unwrap().map(|functions| functions.collect::<Vec<_>>());
+            assert_eq!(all.is_some(), selection == Selection::All);
+            // The ELF files are objects.
+            assert_eq!(all.is_some() && detect_format(file) != Format::Macho, read.shares_addresses());
+            for (one, function) in all.into_iter().flatten().zip(&found) {
+                assert_eq!(one.function, *function);
+                assert!(read.section_name(one.section).is_some_and(|name| text_of_all.contains(&format!(" {name} "))));
+            }
             let text = written(|output| tables.list_to(output));
             assert_eq!(written(|output| read.list_to(output)), text);
             let sums = tables.sums_by_crate().unwrap();

@@ -74,14 +74,14 @@ impl<K: Ord, V> BTreeMap<K, V> {
             let mut upper = Vec::new();
             reserve(&mut upper, LEAF)?;
             reserve(&mut self.leaves, 1)?;
-            if let Some(entries) = self.leaves.get_mut(leaf) {
-                upper.extend(entries.drain(LEAF / 2..));
+            if self.leaves.is_empty() {
+                self.leaves.push(upper);
+            } else {
+                upper.extend(self.leaves[leaf].drain(LEAF / 2..));
                 self.leaves.insert(leaf + 1, upper);
                 if at > LEAF / 2 {
                     (leaf, at) = (leaf + 1, at - LEAF / 2);
                 }
-            } else {
-                self.leaves.push(upper);
             }
         }
         self.leaves[leaf].insert(at, (key, value));

@@ -43,7 +43,6 @@ for needed in cargo gcc g++ nm readelf python3 valgrind; do
     command -v "$needed" >/dev/null || { echo "examples: $needed is missing" >&2; exit 1; }
 done
 cargo build --offline --quiet --release --workspace --lib --bins --examples
-(cd examples/backtrace && CARGO_TARGET_DIR="$work/target" cargo build --offline --quiet --release)
 built="${CARGO_TARGET_DIR:-target}/release"
 list=${LIST:-$built/binfarce-list}
 archive=${1:-$built/libbinfarce.a}
@@ -101,8 +100,18 @@ done
 "$work/hostile" 100000 10000 "$sample" || fail "a call depends on its buffer"
 "$work/hostile-checked" 2000 500 "$sample" || fail "a call depends on its buffer, under the sanitizers"
 "$work/refused" "$sample" || fail "a failed allocation isn't reported"
-"$work/target/release/backtrace" >"$work/given"
-grep -q '^backtrace::inner::divide ' "$work/given" || fail "the backtrace doesn't name its function"
+"$built/examples/backtrace" >"$work/given"
+grep -q ' backtrace::inner::divide+0x' "$work/given" || fail "the backtrace doesn't name its function"
+"$built/examples/bloat" "$built/binfarce" 1000000 >"$work/given"
+sed '/by function:$/,$d; 1d' "$work/given" | awk '{ print $1, $3 }' | LC_ALL=C sort -k2 >"$work/crates"
+"$built/binfarce" size --all "$built/binfarce" | sed '/^sum /,$d' | awk '{ print $1, $2 }' | LC_ALL=C sort -k2 | cmp - "$work/crates" ||
+    fail "bloat and \`binfarce size --all\` differ"
+gcc -x c - -o "$work/recorded" <<END
+__attribute__((section(".dep-v0"), used)) static const char list[] = "x\234 packages";
+int main(void) { return list[0] == 0; }
+END
+"$built/examples/audit" "$work/recorded" >/dev/null && "$built/examples/audit" --extract "$work/recorded" | tail -c 10 | tr -d '\0' >"$work/given"
+[ "$(cat "$work/given")" = " packages" ] || fail "audit doesn't read the list of dependencies"
 for run in "symbols $work/symbols" "listing $work/symbols" "refused $sample" "sections $work/symbols" "hostile 500 100 $sample"; do
     $checked "$work"/$run >"$work/given" || fail "valgrind reports something of $run"
 done

@@ -6,9 +6,12 @@ use crate::erased::binfarce_sections::sections as sections_of;
 use crate::erased::binfarce_tools::functions as functions_of;
 use crate::erased::binfarce_tools::list::{self as listing, ListError, Sink};
 use crate::erased::binfarce_tools::report::{self as reporting, ReportError};
-use crate::error::{Error, ParseError};
+use crate::error::{Error, OutOfMemory, ParseError};
 use crate::shim::{self, alloc::Global};
+use crate::streams::Kept;
 use crate::{FunctionSymbol, Section, string_of};
+use std::cell::RefCell;
+use std::io::{self, ErrorKind, Read, Seek};
 
 /// Returns an iterator over the function symbols of a file, and the size of their section in bytes.
 ///
@@ -26,7 +29,7 @@ pub fn functions<'a>(file: &'a [u8], section: &str) -> Result<(Functions<'a>, u6
 
 /// An iterator over the function symbols of a file: the answer of [`functions`].
 #[must_use = "iterators are lazy and do nothing unless consumed"]
-pub struct Functions<'a>(functions_of::Functions<'a>);
+pub struct Functions<'a>(pub(crate) functions_of::Functions<'a>);
 
 impl<'a> Iterator for Functions<'a> {
     type Item = FunctionSymbol<'a>;
@@ -82,6 +85,31 @@ of_iterators!(Functions, Sections);
 /// ```
 pub fn section_bytes<'a>(file: &'a [u8], name: &str) -> Result<&'a [u8], Error> {
     Ok(bytes_of::section_bytes(file, name)?)
+}
+
+/// Returns the bytes of the first section with this name, of a file that is read at offsets: only its headers and these bytes.
+///
+/// # Errors
+///
+/// That of `file`; otherwise that of [`section_bytes`], as an [`io::Error`].
+///
+/// # Examples
+///
+/// ```
+/// # let path = concat!(env!("CARGO_MANIFEST_DIR"), "/samples/elf64-little.bin");
+/// let text = binfarce::read_section(std::fs::File::open(path)?, ".text")?;
+/// assert_eq!(text.len(), 32);
+/// # Ok::<(), std::io::Error>(())
+/// ```
+pub fn read_section<R: Read + Seek>(file: R, name: &str) -> io::Result<Vec<u8>> {
+    let file = RefCell::new(Kept::new(file));
+    let mut text = Text::new();
+    match bytes_of::write_section_of(Global, &file, name, &mut text) {
+        Ok(()) => Ok(text.bytes.into_std()),
+        Err(SectionError::Unreadable) => Err(file.into_inner().into_error(ErrorKind::UnexpectedEof)),
+        Err(SectionError::Write) => Err(OutOfMemory.into()),
+        Err(e) => Err(Error::from(e).into()),
+    }
 }
 
 /// Returns the listing of a file's function symbols: a line `{address:016x} {size:>10} {trimmed name}` for each, and last

@@ -18,7 +18,8 @@
 
 use crate::erased::binfarce_names::demangle as erased;
 use crate::error::{OutOfMemory, out_of_memory};
-use crate::shim::{self, alloc::Global};
+use crate::shim;
+use crate::shim::alloc::{AllocError, Global};
 use std::fmt;
 
 pub use erased::{Kind, MAX_LEVELS, MAX_STEPS};
@@ -101,6 +102,9 @@ impl From<erased::SymbolName> for SymbolName {
 /// let mut text = String::from("at ");
 /// demangler.push_trimmed(&mut text, "_RNvC1a1b")?;
 /// assert_eq!(text, "at a::b");
+/// demangler.push_complete(&mut text, "_RNvC1a1b")?;
+/// assert_eq!(text, "at a::ba[0]::b");
+/// assert!(!demangler.push_crate(&mut text, "main")?);
 /// # Ok(())
 /// # }
 /// ```
@@ -127,10 +131,26 @@ impl Demangler {
     ///
     /// [`OutOfMemory`] where an allocation failed. `text` is unchanged then.
     pub fn push_trimmed(&mut self, text: &mut String, name: &str) -> Result<(), OutOfMemory> {
-        let mut grown = std::mem::take(text).into();
-        let pushed = self.0.push_trimmed(&mut grown, name);
-        *text = grown.into_std();
-        Ok(pushed?)
+        with_shim(text, |text| self.0.push_trimmed(text, name))
+    }
+
+    /// Appends the complete text of `name` to `text`.
+    ///
+    /// # Errors
+    ///
+    /// [`OutOfMemory`] where an allocation failed. `text` is unchanged then.
+    pub fn push_complete(&mut self, text: &mut String, name: &str) -> Result<(), OutOfMemory> {
+        let complete = self.0.demangle(name)?.complete;
+        with_shim(text, |text| text.push_str(&complete))
+    }
+
+    /// Appends the crate of `name`, as [`Demangler::crate_of`] returns it, to `text`. Returns whether it has one.
+    ///
+    /// # Errors
+    ///
+    /// [`OutOfMemory`] where an allocation failed. `text` is unchanged then.
+    pub fn push_crate(&mut self, text: &mut String, name: &str) -> Result<bool, OutOfMemory> {
+        with_shim(text, |text| erased::push_crate(Global, text, name))
     }
 
     /// Returns the crate of `name`: that of a v0 name as [`SymbolName::crate_name`] has it, and of a legacy name the first
@@ -142,6 +162,17 @@ impl Demangler {
     pub fn crate_of(&mut self, name: &str) -> Result<Option<String>, OutOfMemory> {
         Ok(self.0.crate_of(name)?.map(shim::String::into_std))
     }
+}
+
+/// Lends a text to a call that appends to it.
+fn with_shim<T>(
+    text: &mut String,
+    append: impl FnOnce(&mut shim::String) -> Result<T, AllocError>,
+) -> Result<T, OutOfMemory> {
+    let mut lent = std::mem::take(text).into();
+    let appended = append(&mut lent);
+    *text = lent.into_std();
+    Ok(appended?)
 }
 
 impl Default for Demangler {
@@ -181,7 +212,7 @@ pub fn trimmed(name: &str) -> Result<String, OutOfMemory> {
 ///
 /// `{}` prints its [complete](SymbolName::complete) text, and `{:#}` its [trimmed](SymbolName::trimmed) one. Where an allocation
 /// fails, the program ends as it does where a `String` can't grow.
-#[derive(Debug, Clone, Copy)]
+#[derive(Debug, Clone, Copy, PartialEq, Eq, Hash)]
 pub struct Demangle<'a> {
     name: &'a str,
     kind: Kind,
@@ -190,11 +221,11 @@ pub struct Demangle<'a> {
 
 impl fmt::Display for Demangle<'_> {
     fn fmt(&self, f: &mut fmt::Formatter<'_>) -> fmt::Result {
-        f.pad(&if f.alternate() {
-            trimmed(self.name).unwrap_or_else(|_| out_of_memory())
-        } else {
-            SymbolName::demangle(self.name).complete
-        })
+        match self.kind {
+            Kind::Unknown => f.pad(self.name),
+            _ if f.alternate() => f.pad(&trimmed(self.name).unwrap_or_else(|_| out_of_memory())),
+            _ => f.pad(&SymbolName::demangle(self.name).complete),
+        }
     }
 }
 

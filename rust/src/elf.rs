@@ -75,6 +75,29 @@ macro_rules! reader {
             pub fn address(&self) -> $Width {
                 self.0.address()
             }
+
+            /// Returns the offset of the section's first byte in the file (`sh_offset`), as the file states it.
+            pub fn offset(&self) -> $Width {
+                self.0.offset()
+            }
+
+            /// Returns the section's size in bytes (`sh_size`), as the file states it. A section of type `SHT_NOBITS` has
+            /// this size in memory alone.
+            pub fn size(&self) -> $Width {
+                self.0.size()
+            }
+
+            /// Returns the index of the section's header in the section header table, which counts from 0.
+            pub fn index(&self) -> u16 {
+                self.0.index
+            }
+        }
+
+        of_values! {
+            Section: |it| (
+                (it.0.index, it.0.name_offset, it.0.kind, it.0.link),
+                (it.0.address, it.0.offset, it.0.size, it.0.entry_size),
+            );
         }
 
         impl fmt::Debug for Section {

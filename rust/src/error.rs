@@ -139,6 +139,13 @@ impl From<OutOfMemory> for Error {
 }
 
 #[doc(hidden)]
+impl From<AllocError> for Error {
+    fn from(_: AllocError) -> Self {
+        Error::OutOfMemory
+    }
+}
+
+#[doc(hidden)]
 impl From<binfarce_bytes::ParseError> for Error {
     fn from(e: binfarce_bytes::ParseError) -> Self {
         use binfarce_bytes::ParseError as Refusal;

@@ -4,11 +4,13 @@ use crate::erased::binfarce_filtering::filter as erased;
 use crate::erased::binfarce_filtering::stream::{self, StreamError};
 use crate::error::OutOfMemory;
 use crate::shim::alloc::Global;
+use crate::streams::Kept;
 use crate::string_of;
 use std::io::{self, Read, Write};
 
 /// Which text of a name is shown.
 #[derive(Debug, Clone, Copy, PartialEq, Eq, Hash)]
+#[non_exhaustive]
 pub enum Form {
     /// [`SymbolName::trimmed`](crate::demangle::SymbolName::trimmed): without hashes and disambiguators.
     Trimmed,
@@ -64,59 +66,11 @@ pub fn filter(text: &str, form: Form) -> Result<String, OutOfMemory> {
 /// # Ok::<(), std::io::Error>(())
 /// ```
 pub fn filter_stream<R: Read, W: Write>(input: R, output: W, form: Form) -> io::Result<()> {
-    let mut input = Kept { stream: input, error: None };
-    let mut output = Kept { stream: output, error: None };
-    let (error, kind) = match stream::filter_stream(Global, form == Form::Complete, &mut input, &mut output) {
-        Ok(()) => return Ok(()),
-        Err(StreamError::Read) => (input.error, io::ErrorKind::TimedOut),
-        Err(StreamError::Write) => (output.error, io::ErrorKind::WriteZero),
-        Err(StreamError::OutOfMemory) => (None, io::ErrorKind::OutOfMemory),
-    };
-    Err(error.unwrap_or_else(|| io::Error::from(kind)))
-}
-
-/// A stream that keeps its last error.
-struct Kept<S> {
-    stream: S,
-    error: Option<io::Error>,
-}
-
-impl<S> Kept<S> {
-    /// Keeps the error, and returns one of its kind.
-    fn keep<T>(&mut self, result: io::Result<T>) -> io::Result<T> {
-        result.map_err(|e| {
-            let kind = e.kind();
-            self.error = Some(e);
-            io::Error::from(kind)
-        })
-    }
-
-    /// The same of a count of bytes, which is at most `most`.
-    fn keep_count(&mut self, result: io::Result<usize>, most: usize) -> io::Result<usize> {
-        self.keep(match result {
-            Ok(count) if count > most => {
-                Err(io::Error::new(io::ErrorKind::InvalidData, "a stream counts more bytes than it was given"))
-            }
-            _ => result,
-        })
-    }
-}
-
-impl<R: Read> Read for Kept<R> {
-    fn read(&mut self, buffer: &mut [u8]) -> io::Result<usize> {
-        let result = self.stream.read(buffer);
-        self.keep_count(result, buffer.len())
-    }
-}
-
-impl<W: Write> Write for Kept<W> {
-    fn write(&mut self, bytes: &[u8]) -> io::Result<usize> {
-        let result = self.stream.write(bytes);
-        self.keep_count(result, bytes.len())
-    }
-
-    fn flush(&mut self) -> io::Result<()> {
-        let result = self.stream.flush();
-        self.keep(result)
+    let (mut input, mut output) = (Kept::new(input), Kept::new(output));
+    match stream::filter_stream(Global, form == Form::Complete, &mut input, &mut output) {
+        Ok(()) => Ok(()),
+        Err(StreamError::Read) => Err(input.into_error(io::ErrorKind::TimedOut)),
+        Err(StreamError::Write) => Err(output.into_error(io::ErrorKind::WriteZero)),
+        Err(StreamError::OutOfMemory) => Err(OutOfMemory.into()),
     }
 }

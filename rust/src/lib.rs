@@ -28,43 +28,50 @@
 #[cfg(not(target_pointer_width = "64"))]
 compile_error!("binfarce reads files on 64-bit machines only");
 
-/// Implements what the iterators over parts of a file have beside `next`: after the end they stay there, and `Debug` prints their
-/// names alone.
-macro_rules! of_iterators {
-    ($($Iterator:ident),*) => {$(
-        impl std::iter::FusedIterator for $Iterator<'_> {}
-
-        impl std::fmt::Debug for $Iterator<'_> {
+/// Implements `Debug` for values that show their names alone.
+macro_rules! debug_by_name {
+    ($($Value:ident),*) => {$(
+        impl std::fmt::Debug for $Value<'_> {
             fn fmt(&self, f: &mut std::fmt::Formatter<'_>) -> std::fmt::Result {
-                f.debug_struct(stringify!($Iterator)).finish_non_exhaustive()
+                f.debug_struct(stringify!($Value)).finish_non_exhaustive()
             }
         }
     )*};
 }
 
-/// Implements the traits of values that are compared field by field.
+/// Implements what the iterators over parts of a file have beside `next`: after the end they stay there.
+macro_rules! of_iterators {
+    ($($Iterator:ident),*) => {
+        debug_by_name!($($Iterator),*);
+        $(impl std::iter::FusedIterator for $Iterator<'_> {})*
+    };
+}
+
+/// Implements the traits of values that are compared by all that they hold.
 macro_rules! of_values {
-    ($($Value:ident: $($field:ident)*;)*) => {$(
-        impl PartialEq for $Value<'_> {
+    ($($Value:ty: |$it:ident| $key:expr;)*) => {$(
+        impl PartialEq for $Value {
             fn eq(&self, other: &Self) -> bool {
-                $(self.$field == other.$field)&&*
+                let key = |$it: &Self| $key;
+                key(self) == key(other)
             }
         }
 
-        impl Eq for $Value<'_> {}
+        impl Eq for $Value {}
 
-        impl std::hash::Hash for $Value<'_> {
+        impl std::hash::Hash for $Value {
             fn hash<H: std::hash::Hasher>(&self, state: &mut H) {
-                $(self.$field.hash(state);)*
+                let $it = self;
+                $key.hash(state);
             }
         }
     )*};
 }
 
 of_values! {
-    FunctionSymbol: name address size;
-    SectionFunction: section function;
-    Section: segment name address offset size has_bytes;
+    FunctionSymbol<'_>: |it| (it.name, it.address, it.size);
+    SectionFunction<'_>: |it| (it.section, it.function);
+    Section<'_>: |it| (it.segment, it.name, it.address, it.offset, it.size, it.has_bytes);
 }
 
 impl Clone for Format {
@@ -76,6 +83,12 @@ impl Clone for Format {
 impl Copy for Format {}
 
 impl Eq for SymbolTable {}
+
+impl std::hash::Hash for SymbolTable {
+    fn hash<H: std::hash::Hasher>(&self, state: &mut H) {
+        std::mem::discriminant(self).hash(state);
+    }
+}
 
 mod any;
 pub mod demangle;
@@ -92,10 +105,12 @@ pub mod macho;
 pub mod pe;
 #[doc(hidden)]
 pub mod shim;
+mod streams;
+mod tables;
 #[cfg(test)]
 mod tests;
 
-pub use any::{Functions, Sections, functions, list, report, section_bytes, sections};
+pub use any::{Functions, Sections, functions, list, read_section, report, section_bytes, sections};
 pub use erased::binfarce_bytes::ByteOrder;
 pub use erased::binfarce_bytes::format::{Format, detect_format};
 pub use erased::binfarce_bytes::functions::{FunctionSymbol, SectionFunction, symbol_at};
@@ -103,6 +118,7 @@ pub use erased::binfarce_elf::symbol_table::SymbolTable;
 pub use erased::binfarce_sections::sections::Section;
 pub use error::{Error, OutOfMemory, ParseError, UnexpectedEof};
 pub use filter::{Form, filter, filter_stream};
+pub use tables::{AllFunctions, Selection, Sums, Symbolizer, Tables};
 
 use demangle::SymbolData;
 

@@ -51,6 +51,20 @@ impl<'a> Section<'a> {
     pub fn address(&self) -> u64 {
         self.0.address()
     }
+
+    /// Returns the offset of the section's first byte in the file, or 0 where it has no bytes there (`offset`).
+    pub fn offset(&self) -> u32 {
+        self.0.offset()
+    }
+
+    /// Returns the section's size in bytes (`size`).
+    pub fn size(&self) -> u64 {
+        self.0.size()
+    }
+}
+
+of_values! {
+    Section<'_>: |it| (it.0.segment_name, it.0.section_name, it.0.address, it.0.offset, it.0.size);
 }
 
 impl fmt::Debug for Section<'_> {

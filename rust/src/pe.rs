@@ -51,6 +51,29 @@ impl<'a> Section<'a> {
     pub fn virtual_size(&self) -> u32 {
         self.0.virtual_size()
     }
+
+    /// Returns the offset of the section's first byte in the file, or 0 where it has no bytes there (`PointerToRawData`).
+    pub fn offset(&self) -> u32 {
+        self.0.offset()
+    }
+
+    /// Returns how many bytes the section has in the file (`SizeOfRawData`).
+    pub fn size(&self) -> u32 {
+        self.0.size()
+    }
+
+    /// Returns the index of the section's header in the section table, which counts from 0. The section's number in
+    /// [`SectionFunction`] is greater by 1.
+    pub fn index(&self) -> u16 {
+        self.0.index
+    }
+}
+
+of_values! {
+    Section<'_>: |it| (
+        (it.0.index, it.0.name, it.0.virtual_address, it.0.virtual_size),
+        (it.0.pointer_to_raw_data, it.0.size_of_raw_data),
+    );
 }
 
 impl fmt::Debug for Section<'_> {

@@ -1,11 +1,11 @@
 //! Tests of the public items: the signatures and the `Debug` output of the original, errors, and failed allocations. The
 //! `Debug` output is what the original prints of the samples.
 
-use crate::demangle::{Demangler, SymbolData, SymbolName, trimmed};
+use crate::demangle::{Demangler, Kind, SymbolData, SymbolName, trimmed};
 use crate::shim::test::refusing;
 use crate::*;
 use std::collections::HashSet;
-use std::io::{self, ErrorKind, Read, Write};
+use std::io::{self, Cursor, ErrorKind, Read, Seek, SeekFrom, Write};
 use std::iter::FusedIterator;
 
 const ELF32_LITTLE: &[u8] = include_bytes!("../samples/elf32-little.bin");
@@ -78,6 +78,87 @@ fn sections_of_each_format() {
     }
 }
 
+/// The text that a call writes.
+fn written(write: impl FnOnce(&mut Vec<u8>) -> io::Result<()>) -> String {
+    let mut text = Vec::new();
+    write(&mut text).unwrap();
+    String::from_utf8(text).unwrap()
+}
+
+#[test]
+fn tables_in_memory_and_read_at_offsets() {
+    for (file, listing) in FILES {
+        let all = Tables::new(file, Selection::All, SymbolTable::Symtab).unwrap();
+        let text_of_all = written(|output| all.list_to(output));
+        for selection in [Selection::Section(".text"), Selection::All] {
+            let tables = Tables::new(file, selection, SymbolTable::Symtab).unwrap();
+            let read = Tables::read(Cursor::new(file), selection, SymbolTable::Symtab).unwrap();
+            let found = tables.functions().unwrap().collect::<Vec<_>>();
+            assert!(read.functions().unwrap().eq(found.iter().copied()));
+            let all = read.all_functions().unwrap().map(|functions| functions.collect::<Vec<_>>());
+            assert_eq!(all.is_some(), selection == Selection::All);
+            // The ELF files are objects.
+            assert_eq!(all.is_some() && detect_format(file) != Format::Macho, read.shares_addresses());
+            for (one, function) in all.into_iter().flatten().zip(&found) {
+                assert_eq!(one.function, *function);
+                assert!(read.section_name(one.section).is_some_and(|name| text_of_all.contains(&format!(" {name} "))));
+            }
+            let text = written(|output| tables.list_to(output));
+            assert_eq!(written(|output| read.list_to(output)), text);
+            let sums = tables.sums_by_crate().unwrap();
+            assert_eq!(read.sums_by_crate().unwrap(), sums);
+            let lines = sums.rows.iter().map(|(name, sum)| format!("{sum:>10} {name}\n")).collect::<String>();
+            let size =
+                if selection == Selection::All { String::new() } else { format!("text {}\n", sums.section_size) };
+            let reported = format!("{lines}sum {}\n{size}", sums.total);
+            assert_eq!(written(|output| read.report_to(output)), reported);
+            let picture = written(|output| read.map_to(output));
+            assert!(picture.starts_with("<svg ") && sums.rows.iter().all(|(name, _)| picture.contains(name)));
+            if selection == Selection::All {
+                assert_eq!(text.lines().count(), found.len());
+                assert_eq!(sums.section_size, sums.total);
+            } else {
+                assert_eq!((text.as_str(), reported), (listing, report(file, ".text").unwrap()));
+            }
+            let sums = read.sums_by(|function| Ok(function.name.len())).unwrap();
+            assert!(sums.rows.windows(2).all(|rows| rows[0].0 < rows[1].0));
+            for (len, sum) in &sums.rows {
+                assert_eq!(*sum, found.iter().filter(|f| f.name.len() == *len).map(|f| f.size).sum::<u64>());
+            }
+            assert_eq!((sums.rows.iter().map(|row| row.1).sum::<u64>(), read.sums_by(|_| Ok(())).unwrap().total), {
+                let total = found.iter().map(|f| f.size).sum();
+                (total, total)
+            });
+            let symbolizer = Symbolizer::new(&read).unwrap().with_base(0x10_0000);
+            for address in 0..0x1200 {
+                let wanted = symbol_at(&found, address).map(|function| (function, address - function.address));
+                assert_eq!(symbolizer.find(0x10_0000 + address), wanted);
+            }
+            assert_eq!(symbolizer.find(0xf_ffff), None);
+        }
+        assert_eq!(read_section(Cursor::new(file), ".dep-v0").unwrap_err().to_string(), "no section of this name");
+    }
+    assert_eq!(read_section(Cursor::new(ELF32_BIG), ".text").unwrap(), section_bytes(ELF32_BIG, ".text").unwrap());
+}
+
+#[test]
+fn tables_of_refused_files() {
+    let missing = Error::Parse(ParseError::SectionIsMissing(".dynsym"));
+    for (file, _) in FILES {
+        for selection in [Selection::Section(".text"), Selection::All] {
+            assert_eq!(Tables::new(file, selection, SymbolTable::Dynsym).unwrap_err(), missing);
+        }
+    }
+    let unknown = Tables::read(Cursor::new("#!/bin/sh"), Selection::All, SymbolTable::Symtab).unwrap();
+    assert_eq!(unknown.functions().unwrap_err(), Error::UnknownFormat);
+    assert_eq!(unknown.sums_by_crate().unwrap_err(), Error::UnknownFormat);
+    assert_eq!(unknown.list_to(io::sink()).unwrap_err().to_string(), "unknown file format");
+    let truncated = Tables::read(Cursor::new(&PE[..90]), Selection::All, SymbolTable::Symtab).unwrap_err();
+    assert_eq!((truncated.kind(), truncated.to_string().as_str()), (ErrorKind::InvalidData, "unexpected end of file"));
+    let tables = Tables::new(PE, Selection::All, SymbolTable::Symtab).unwrap();
+    assert_eq!(tables.sums_by(|_| Err::<(), _>(Error::NoBytes)).unwrap_err(), Error::NoBytes);
+}
+
 #[test]
 fn iterators_stay_at_their_end() {
     fn stays<T>(mut items: impl FusedIterator<Item = T>) {
@@ -114,6 +195,14 @@ fn values_are_compared_by_their_fields() {
     let format = detect_format(ELF64_BIG);
     let same = format;
     assert_eq!(HashSet::from([format, same]), HashSet::from([Format::Elf64 { byte_order: ByteOrder::BigEndian }]));
+    let file = elf64::parse(ELF64_LITTLE, ByteOrder::LittleEndian).unwrap();
+    let read = |index| file.section_with_index(index).unwrap().unwrap();
+    assert_eq!(HashSet::from([read(1), read(2), read(1)]).len(), 2);
+    assert_eq!((read(2).index(), read(2).offset(), read(2).size()), (2, 96, 120));
+    let text = macho::parse(MACHO).unwrap().section_with_name("__TEXT", "__text").unwrap().unwrap();
+    assert_eq!((text.offset(), text.size()), (0, 256));
+    let text = pe::parse(PE).unwrap().section_with_name(".text").unwrap().unwrap();
+    assert_eq!((text.index(), text.offset(), text.size()), (0, 0, 256));
 }
 
 // As rustc-demangle prints its `Demangle`.
@@ -209,6 +298,18 @@ fn a_failed_allocation_is_an_error() {
         refuses_each(|| list(file, ".text"));
         refuses_each(|| report(file, ".text"));
     }
+    refuses_each(|| Ok(Demangler::new().push_crate(&mut String::new(), NAME)?));
+    let refused = |e: io::Error| if e.kind() == ErrorKind::OutOfMemory { Error::OutOfMemory } else { panic!("{e}") };
+    refuses_each(|| read_section(Cursor::new(ELF32_BIG), ".text").map_err(refused));
+    for (file, _) in FILES {
+        for selection in [Selection::Section(".text"), Selection::All] {
+            let read = || Tables::read(Cursor::new(file), selection, SymbolTable::Symtab).map_err(refused);
+            refuses_each(|| Symbolizer::new(&read()?).map(|_| ()));
+            refuses_each(|| read()?.sums_by_crate());
+            refuses_each(|| read()?.sums_by(|function| Ok(function.size)));
+            refuses_each(|| read()?.map_to(io::sink()).map_err(refused));
+        }
+    }
     refuses_each(|| elf64::parse(ELF64_LITTLE, ByteOrder::LittleEndian)?.try_symbols(".text"));
     refuses_each(|| macho::parse(MACHO)?.functions());
     refuses_each(|| macho::parse(MACHO)?.try_symbols());
@@ -221,6 +322,21 @@ fn a_text_stays_where_an_allocation_fails() {
     let mut text = String::from("at ");
     let (pushed, refused) = refusing(1, || Demangler::new().push_trimmed(&mut text, "_RNvC6_123foo3bar"));
     assert_eq!((pushed, refused, text.as_str()), (Err(OutOfMemory), true, "at "));
+}
+
+#[test]
+fn texts_are_appended() {
+    let (mut text, mut demangler) = (String::from("-"), Demangler::new());
+    for name in ["_RNvC6_123foo3bar", "_ZN3foo3bar17h05af221e174051e9E", "main"] {
+        demangler.push_trimmed(&mut text, name).unwrap();
+        text.push('|');
+        demangler.push_complete(&mut text, name).unwrap();
+        text.push('|');
+        let has_crate = demangler.push_crate(&mut text, name).unwrap();
+        assert_eq!(has_crate, demangle::demangle(name).kind() != Kind::Unknown);
+        text.push('\n');
+    }
+    assert_eq!(text, "-123foo::bar|123foo[0]::bar|123foo\nfoo::bar|foo::bar::h05af221e174051e9|foo\nmain|main|\n");
 }
 
 /// A stream that is interrupted, and then gives or takes its bytes and fails.
@@ -273,6 +389,22 @@ impl Write for Counting {
     fn flush(&mut self) -> io::Result<()> {
         Ok(())
     }
+}
+
+impl Seek for Broken {
+    fn seek(&mut self, _: SeekFrom) -> io::Result<u64> {
+        Ok(64)
+    }
+}
+
+#[test]
+fn tables_give_the_error_of_their_stream() {
+    let read = |calls| Tables::read(Broken { calls }, Selection::All, SymbolTable::Symtab).unwrap_err().to_string();
+    assert_eq!(read(0), "cable pulled");
+    let tables = Tables::new(ELF64_LITTLE, Selection::All, SymbolTable::Symtab).unwrap();
+    assert_eq!(tables.list_to(Broken { calls: 0 }).unwrap_err().to_string(), "cable pulled");
+    assert_eq!(tables.report_to(&mut [0; 1][..]).unwrap_err().kind(), ErrorKind::WriteZero);
+    assert_eq!(tables.map_to(Counting).unwrap_err().kind(), ErrorKind::InvalidData);
 }
 
 #[test]

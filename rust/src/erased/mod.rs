@@ -18,15 +18,21 @@ pub mod binfarce_macho;
 pub mod binfarce_pe;
 pub mod binfarce_tables;
 pub mod binfarce;
+#[cfg(test)]
 pub mod binfarce_image;
 pub mod binfarce_chart;
 pub mod binfarce_tools;
 pub mod binfarce_addresses;
+#[cfg(any(test, feature = "programs"))]
 pub mod binfarce_words;
 pub mod binfarce_sections;
+#[cfg(any(test, feature = "c"))]
 pub mod binfarce_c;
+#[cfg(any(test, feature = "programs"))]
 pub mod binfarce_list;
+#[cfg(any(test, feature = "programs"))]
 pub mod binfarce_size;
+#[cfg(any(test, feature = "programs"))]
 pub mod binfarce_command;
 #[cfg(test)]
 pub mod test_samples;

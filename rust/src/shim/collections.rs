@@ -2,7 +2,8 @@
 
 use super::alloc::{AllocError, Global, reserve};
 use std::borrow::Borrow;
-use std::mem;
+use std::iter::Flatten;
+use std::{mem, vec};
 
 // The most entries of a leaf.
 const LEAF: usize = 64;
@@ -73,14 +74,14 @@ impl<K: Ord, V> BTreeMap<K, V> {
             let mut upper = Vec::new();
             reserve(&mut upper, LEAF)?;
             reserve(&mut self.leaves, 1)?;
-            if let Some(entries) = self.leaves.get_mut(leaf) {
-                upper.extend(entries.drain(LEAF / 2..));
+            if self.leaves.is_empty() {
+                self.leaves.push(upper);
+            } else {
+                upper.extend(self.leaves[leaf].drain(LEAF / 2..));
                 self.leaves.insert(leaf + 1, upper);
                 if at > LEAF / 2 {
                     (leaf, at) = (leaf + 1, at - LEAF / 2);
                 }
-            } else {
-                self.leaves.push(upper);
             }
         }
         self.leaves[leaf].insert(at, (key, value));
@@ -90,5 +91,15 @@ impl<K: Ord, V> BTreeMap<K, V> {
     /// The entries in the order of their keys.
     pub fn iter(&self) -> impl Iterator<Item = (&K, &V)> {
         self.leaves.iter().flatten().map(|(key, value)| (key, value))
+    }
+}
+
+/// The entries in the order of their keys.
+impl<K, V> IntoIterator for BTreeMap<K, V> {
+    type Item = (K, V);
+    type IntoIter = Flatten<vec::IntoIter<Vec<(K, V)>>>;
+
+    fn into_iter(self) -> Self::IntoIter {
+        self.leaves.into_iter().flatten()
     }
 }

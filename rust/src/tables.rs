@@ -1,0 +1,376 @@
+//! The function symbols of a file of any format: of one section or of all, from memory or from a file that is read at offsets.
+
+use crate::any::Functions;
+use crate::erased::binfarce_addresses::at::Places;
+use crate::erased::binfarce_bytes::source::Source;
+use crate::erased::binfarce_tables::ReadError;
+use crate::erased::binfarce_tools::all::{self, AllTables};
+use crate::erased::binfarce_tools::functions as functions_of;
+use crate::erased::binfarce_tools::list::{ListError, list_tables};
+use crate::erased::binfarce_tools::map::map_tables;
+use crate::erased::binfarce_tools::report::{ReportError, report_tables, sums_of_tables};
+use crate::erased::binfarce_tools::tables;
+use crate::error::{Error, ParseError};
+use crate::shim::{self, alloc::Global};
+use crate::streams::Kept;
+use crate::{FunctionSymbol, SectionFunction, SymbolTable};
+use std::cell::RefCell;
+use std::io::{self, ErrorKind, Read, Seek, Write};
+
+/// Which function symbols of a file are meant.
+#[derive(Debug, Clone, Copy, PartialEq, Eq, Hash)]
+#[non_exhaustive]
+pub enum Selection<'a> {
+    /// Those of the section with this name in an ELF file, usually `.text`. Of a Mach-O or PE file they are always those of
+    /// the text section.
+    Section(&'a str),
+    /// Those of all sections.
+    All,
+}
+
+/// The tables of a file's function symbols, for a [`Selection`] and a [`SymbolTable`].
+///
+/// # Examples
+///
+/// A file of which only the tables are read:
+///
+/// ```
+/// use binfarce::{Selection, SymbolTable, Tables};
+/// use std::{fs::File, io};
+///
+/// # fn main() -> io::Result<()> {
+/// # let path = concat!(env!("CARGO_MANIFEST_DIR"), "/samples/elf64-little.bin");
+/// let tables = Tables::read(File::open(path)?, Selection::All, SymbolTable::Symtab)?;
+/// for function in tables.functions()? {
+///     println!("{:016x} {}", function.address, function.name);
+/// }
+/// tables.list_to(io::stdout())?;
+/// # Ok(())
+/// # }
+/// ```
+pub struct Tables<'a>(Kind<'a>);
+
+enum Kind<'a> {
+    Section(tables::Tables<'a>),
+    All(AllTables),
+}
+
+fn read<S: Source>(source: &S, selection: Selection<'_>, table: SymbolTable) -> Result<Kind<'static>, ReadError> {
+    Ok(match selection {
+        Selection::Section(section) => Kind::Section(tables::read_by(Global, source, table, section)?),
+        Selection::All => Kind::All(all::read_all(Global, source, table)?),
+    })
+}
+
+impl<'a> Tables<'a> {
+    /// Returns the tables of a file in memory. Those of a section by [`SymbolTable::Symtab`] are the file itself, in which
+    /// nothing is read yet; all others are copied.
+    ///
+    /// # Errors
+    ///
+    /// [`Error::Parse`] where the reader of the file's format refuses it; [`ParseError::SectionIsMissing`] for
+    /// [`SymbolTable::Dynsym`] of a Mach-O or PE file; [`Error::OutOfMemory`] where an allocation failed. A file that nothing
+    /// is read of yet, a file of unknown format, and a Mach-O file with refused symbols are refused by the calls that need
+    /// the function symbols.
+    pub fn new(file: &'a [u8], selection: Selection<'a>, table: SymbolTable) -> Result<Self, Error> {
+        Ok(Tables(match (selection, table) {
+            (Selection::Section(section), SymbolTable::Symtab) => Kind::Section(tables::Tables::whole(file, section)),
+            _ => read(&file, selection, table)?,
+        }))
+    }
+
+    /// Returns an iterator over the function symbols, with their names as the file stores them: those of a section as
+    /// [`functions`](crate::functions) orders them, those of all sections as `all_functions` of the format's reader does.
+    ///
+    /// # Errors
+    ///
+    /// [`Error::UnknownFormat`]; [`Error::Parse`] where the reader of the file's format refuses it; [`Error::OutOfMemory`]
+    /// where an allocation failed.
+    pub fn functions(&self) -> Result<Functions<'_>, Error> {
+        Ok(Functions(self.functions_and_size()?.0))
+    }
+
+    /// Returns the function symbols of all sections, each with its section's number; `None` where the tables are of one
+    /// section.
+    ///
+    /// # Errors
+    ///
+    /// Those of [`Tables::functions`].
+    ///
+    /// # Examples
+    ///
+    /// ```
+    /// use binfarce::{Selection, SymbolTable, Tables};
+    ///
+    /// # let path = concat!(env!("CARGO_MANIFEST_DIR"), "/samples/elf64-little.bin");
+    /// let file = std::fs::read(path)?;
+    /// let tables = Tables::new(&file, Selection::All, SymbolTable::Symtab)?;
+    /// let symbols = tables.all_functions()?.into_iter().flatten();
+    /// let sections = symbols.map(|symbol| tables.section_name(symbol.section)).collect::<Vec<_>>();
+    /// assert_eq!(sections, [Some(".text"), Some(".symtab")]);
+    /// # Ok::<(), Box<dyn std::error::Error>>(())
+    /// ```
+    pub fn all_functions(&self) -> Result<Option<AllFunctions<'_>>, Error> {
+        match &self.0 {
+            Kind::Section(_) => Ok(None),
+            Kind::All(tables) => Ok(Some(AllFunctions(tables.functions(Global)?))),
+        }
+    }
+
+    /// Returns the name of the section of this number. `None` where there is none, where it has no valid name, and where the
+    /// tables are of one section.
+    pub fn section_name(&self, number: u32) -> Option<&str> {
+        match &self.0 {
+            Kind::Section(_) => None,
+            Kind::All(tables) => tables.section_name(number),
+        }
+    }
+
+    /// Returns whether the selected sections share addresses, so that an address may be that of symbols in several: all
+    /// sections of an object file do, and those of a PE file, where an address is an offset in the section.
+    pub fn shares_addresses(&self) -> bool {
+        match &self.0 {
+            Kind::Section(_) => false,
+            Kind::All(tables) => tables.shares_addresses(),
+        }
+    }
+
+    /// The function symbols, and the size of the section, if it is one.
+    fn functions_and_size(&self) -> Result<(functions_of::Functions<'_>, Option<u64>), ListError> {
+        Ok(match &self.0 {
+            Kind::Section(tables) => {
+                let (functions, size) = tables.functions(Global)?;
+                (functions, Some(size))
+            }
+            Kind::All(tables) => (functions_of::Functions::All(tables.functions(Global)?), None),
+        })
+    }
+
+    /// Writes the text of [`list`](crate::list). For [`Selection::All`] each line has the name of the symbol's section
+    /// before the symbol's, or its number in brackets where it has none, and there is no last line.
+    ///
+    /// # Errors
+    ///
+    /// That of `output`; [`ErrorKind::WriteZero`] where it takes no more bytes; otherwise that of [`Tables::functions`], as an
+    /// [`io::Error`]: then nothing is written.
+    pub fn list_to<W: Write>(&self, output: W) -> io::Result<()> {
+        write_to(output, |sink| match &self.0 {
+            Kind::Section(tables) => Ok(list_tables(Global, tables, sink)?),
+            Kind::All(tables) => Ok(all::list_all(Global, tables, sink)?),
+        })
+    }
+
+    /// Writes the text of [`report`](crate::report). For [`Selection::All`] its last line is that of the sum.
+    ///
+    /// # Errors
+    ///
+    /// Those of [`Tables::list_to`]; [`Error::TooLarge`], as an [`io::Error`], where the sum of all sizes is 2^64 or more.
+    pub fn report_to<W: Write>(&self, output: W) -> io::Result<()> {
+        write_to(output, |sink| match &self.0 {
+            Kind::Section(tables) => report_tables(Global, tables, sink),
+            Kind::All(tables) => all::report_all(Global, tables, sink),
+        })
+    }
+
+    /// Writes the sums of [`Tables::sums_by_crate`] as a picture: an SVG document with a bar for each crate, the greatest
+    /// first.
+    ///
+    /// # Errors
+    ///
+    /// Those of [`Tables::report_to`].
+    pub fn map_to<W: Write>(&self, output: W) -> io::Result<()> {
+        write_to(output, |sink| match &self.0 {
+            Kind::Section(tables) => map_tables(Global, tables, sink),
+            Kind::All(tables) => all::map_all(Global, tables, sink),
+        })
+    }
+
+    /// Returns how many bytes each crate takes: the sums of [`report`](crate::report).
+    ///
+    /// # Errors
+    ///
+    /// Those of [`Tables::functions`]; [`Error::TooLarge`] where the sum of all sizes is 2^64 or more.
+    ///
+    /// # Examples
+    ///
+    /// ```
+    /// use binfarce::{Selection, SymbolTable, Tables};
+    ///
+    /// # let path = concat!(env!("CARGO_MANIFEST_DIR"), "/samples/elf64-little.bin");
+    /// let file = std::fs::read(path)?;
+    /// let sums = Tables::new(&file, Selection::Section(".text"), SymbolTable::Symtab)?.sums_by_crate()?;
+    /// assert_eq!(sums.rows, [("foo".to_string(), 16)]);
+    /// assert_eq!((sums.total, sums.section_size), (16, 32));
+    /// # Ok::<(), Box<dyn std::error::Error>>(())
+    /// ```
+    pub fn sums_by_crate(&self) -> Result<Sums<String>, Error> {
+        let sums = match &self.0 {
+            Kind::Section(tables) => sums_of_tables(Global, tables)?,
+            Kind::All(tables) => all::sums_of_all(Global, tables)?,
+        };
+        let mut rows = shim::Vec::new(Global);
+        for (name, size) in sums.crates {
+            rows.push((name.into_std(), size))?;
+        }
+        Ok(Sums { rows: rows.into_std(), total: sums.total, section_size: sums.section_size })
+    }
+
+    /// Returns how many bytes the function symbols of each key take.
+    ///
+    /// # Errors
+    ///
+    /// Those of [`Tables::sums_by_crate`], and of `key`.
+    ///
+    /// # Examples
+    ///
+    /// ```
+    /// use binfarce::{Selection, SymbolTable, Tables, demangle};
+    ///
+    /// # let path = concat!(env!("CARGO_MANIFEST_DIR"), "/samples/elf64-little.bin");
+    /// let file = std::fs::read(path)?;
+    /// let tables = Tables::new(&file, Selection::All, SymbolTable::Symtab)?;
+    /// let by_name = tables.sums_by(|function| Ok(demangle::trimmed(function.name)?))?;
+    /// assert_eq!(by_name.rows, [("bad".to_string(), 16), ("foo".to_string(), 16)]);
+    /// # Ok::<(), Box<dyn std::error::Error>>(())
+    /// ```
+    pub fn sums_by<'t, K, F>(&'t self, mut key: F) -> Result<Sums<K>, Error>
+    where
+        K: Ord,
+        F: FnMut(FunctionSymbol<'t>) -> Result<K, Error>,
+    {
+        let (functions, section_size) = self.functions_and_size()?;
+        let (mut rows, mut total) = (shim::Vec::new(Global), 0u64);
+        for function in functions {
+            total = total.checked_add(function.size).ok_or(Error::TooLarge)?;
+            rows.push((key(function)?, function.size))?;
+        }
+        let mut rows = rows.into_std();
+        rows.sort_unstable_by(|one, other| one.0.cmp(&other.0));
+        rows.dedup_by(|next, kept| {
+            let is_same = next.0 == kept.0;
+            kept.1 += if is_same { next.1 } else { 0 };
+            is_same
+        });
+        Ok(Sums { rows, total, section_size: section_size.unwrap_or(total) })
+    }
+}
+
+/// An iterator over the function symbols of all sections: the answer of [`Tables::all_functions`].
+#[must_use = "iterators are lazy and do nothing unless consumed"]
+pub struct AllFunctions<'a>(all::AllFunctions<'a>);
+
+impl<'a> Iterator for AllFunctions<'a> {
+    type Item = SectionFunction<'a>;
+
+    fn next(&mut self) -> Option<Self::Item> {
+        self.0.next()
+    }
+}
+
+of_iterators!(AllFunctions);
+
+impl Tables<'static> {
+    /// Reads the tables of a file at offsets: its first 64 bytes, its headers, the symbol table and its strings, and nothing
+    /// else. `file` is a [`File`](std::fs::File), or anything else that can be read from the offsets that it is set to.
+    ///
+    /// # Errors
+    ///
+    /// That of `file`; otherwise that of [`Tables::new`], as an [`io::Error`].
+    pub fn read<R: Read + Seek>(file: R, selection: Selection<'_>, table: SymbolTable) -> io::Result<Self> {
+        let file = RefCell::new(Kept::new(file));
+        match read(&file, selection, table) {
+            Ok(kind) => Ok(Tables(kind)),
+            Err(ReadError::Unreadable) => Err(file.into_inner().into_error(ErrorKind::UnexpectedEof)),
+            Err(e) => Err(Error::from(e).into()),
+        }
+    }
+}
+
+fn write_to<W, F>(output: W, write: F) -> io::Result<()>
+where
+    W: Write,
+    F: FnOnce(&mut Kept<W>) -> Result<(), ReportError>,
+{
+    let mut output = Kept::new(output);
+    match write(&mut output) {
+        Ok(()) => Ok(()),
+        Err(ReportError::Write) => Err(output.into_error(ErrorKind::WriteZero)),
+        Err(e) => Err(Error::from(e).into()),
+    }
+}
+
+/// How many bytes function symbols take, by keys: the answer of [`Tables::sums_by_crate`] and [`Tables::sums_by`].
+#[derive(Debug, Clone, PartialEq, Eq, Hash)]
+#[non_exhaustive]
+pub struct Sums<K> {
+    /// Each key, and the sum of the sizes of its function symbols in bytes, in the order of the keys.
+    pub rows: Vec<(K, u64)>,
+    /// The sum of all sizes in bytes.
+    pub total: u64,
+    /// The size of the section in bytes; for [`Selection::All`] the sum of all sizes.
+    pub section_size: u64,
+}
+
+/// Finds the function symbol at an address by a binary search.
+///
+/// # Examples
+///
+/// ```
+/// use binfarce::{Selection, Symbolizer, SymbolTable, Tables};
+///
+/// # let path = concat!(env!("CARGO_MANIFEST_DIR"), "/samples/elf64-little.bin");
+/// let file = std::fs::read(path)?;
+/// let tables = Tables::new(&file, Selection::All, SymbolTable::Symtab)?;
+/// // The program runs where its first byte is at 0x5555_5555_4000.
+/// let symbolizer = Symbolizer::new(&tables)?.with_base(0x5555_5555_4000);
+/// let (function, offset) = symbolizer.find(0x5555_5555_5004).unwrap();
+/// assert_eq!((binfarce::demangle::trimmed(function.name)?.as_str(), offset), ("foo", 4));
+/// # Ok::<(), Box<dyn std::error::Error>>(())
+/// ```
+pub struct Symbolizer<'a> {
+    places: Places<'a>,
+    base: u64,
+}
+
+impl<'a> Symbolizer<'a> {
+    /// Arranges the function symbols of a file, with base 0.
+    ///
+    /// # Errors
+    ///
+    /// Those of [`Tables::functions`].
+    pub fn new(tables: &'a Tables<'_>) -> Result<Self, Error> {
+        let places = match &tables.0 {
+            Kind::Section(tables) => Places::of_tables(Global, tables)?,
+            Kind::All(tables) => Places::of_all(Global, tables)?,
+        };
+        Ok(Symbolizer { places, base: 0 })
+    }
+
+    /// Sets the base, which is subtracted from each address: where the address 0 of the file is in memory.
+    #[must_use]
+    pub fn with_base(self, base: u64) -> Self {
+        Symbolizer { base, ..self }
+    }
+
+    /// Returns the function symbol at an address, and the offset into it. Of several that hold the address it is the one of
+    /// greatest address, and of several there the first. `None` where none holds it, and for an address below the base.
+    ///
+    /// A return address may lie at the end of its function: look up the address before it.
+    pub fn find(&self, address: u64) -> Option<(FunctionSymbol<'a>, u64)> {
+        self.places.find(self.base, address)
+    }
+}
+
+debug_by_name!(Tables, Symbolizer);
+
+#[doc(hidden)]
+impl From<ReadError> for Error {
+    fn from(e: ReadError) -> Self {
+        match e {
+            ReadError::Refused(e) => Error::from(e),
+            ReadError::OutOfMemory => Error::OutOfMemory,
+            // Not of bytes in memory.
+            ReadError::Unreadable => Error::Parse(ParseError::UnexpectedEof),
+        }
+    }
+}

@@ -13,7 +13,7 @@ use crate::lists::print_items;
 use crate::paths::print_path;
 use crate::productions::{print, print_target};
 use binfarce_v0_grammar::forms::{
-    Listed, Signature, TypeForm, basic_type, function_form, lifetime_form,
+    FunctionForm, Listed, Signature, basic_type, function_form, lifetime_form,
 };
 use binfarce_v0_grammar::numbers::{back_reference, byte_at, optional_base_62_number};
 use binfarce_v0_grammar::positions::{bound_end, eat, required_end};
@@ -205,10 +205,10 @@ fn print_function_form(
         printer.part,
         optional_base_62_number(printer.part.as_bytes(), b'G', at),
     ) {
-        TypeForm::FunctionOf(signature, after) => {
+        FunctionForm::FunctionOf(signature, after) => {
             print_function(printer, levels_left, binder_depth, signature, after)
         }
-        TypeForm::InvalidAbi(binder) => print_invalid_function(printer, binder_depth, binder),
+        FunctionForm::InvalidAbi(binder) => print_invalid_function(printer, binder_depth, binder),
         _ => printer.invalid_syntax(),
     }
 }

@@ -3,7 +3,7 @@ use Rattle.std.specs.Prelude.{ℕ, Option}
 use Rattle.std.specs.Option.{option_map}
 use Rattle.binfarce_v0_grammar.specs.Identifiers
 use Rattle.binfarce_v0_grammar.specs.Identifiers.{Identifier}
-use Rattle.binfarce_v0_grammar.specs.Forms.{Signature, NoLifetime, InvalidLifetime, IndexedLifetime, NoPathForm, NestedIn, InherentImpl, TraitImpl, TraitDefinition, WithArguments, BackToPath, NoTypeForm, BasicType, ReferenceTo, InvalidReference, PointerTo, SliceOf, ArrayOf, TupleOf, FunctionOf, InvalidAbi, DynOf, InvalidDyn, BackToType, PathType, NoConstForm, UntypedPlaceholderConst, PlaceholderConst, ValueConst, InvalidConst, BackToConst}
+use Rattle.binfarce_v0_grammar.specs.Forms.{Signature, NoLifetime, InvalidLifetime, IndexedLifetime, NoTypeForm, FunctionOf, InvalidAbi, NoConstForm, UntypedPlaceholderConst, PlaceholderConst, ValueConst, InvalidConst, BackToConst}
 use Rattle.binfarce_v0_grammar.specs.Forms as forms
 use Rattle.binfarce_v0_grammar.specs.Tree as tree
 use Rattle.binfarce_v0_grammar.specs.declared.forms.Listed as listed
@@ -13,10 +13,8 @@ use Rattle.binfarce_v0_grammar.specs.declared.identifiers.Identifier as identifi
 use Rattle.binfarce_v0_grammar.specs.declared.forms.signature.Signature as signature
 use Rattle.binfarce_v0_grammar.specs.declared.forms.Lifetime as lifetime
 use Rattle.binfarce_v0_grammar.specs.declared.forms.Lifetime.TheVariants as lifetimes
-use Rattle.binfarce_v0_grammar.specs.declared.forms.PathForm as path
-use Rattle.binfarce_v0_grammar.specs.declared.forms.PathForm.TheVariants as paths
-use Rattle.binfarce_v0_grammar.specs.declared.forms.TypeForm as type
-use Rattle.binfarce_v0_grammar.specs.declared.forms.TypeForm.TheVariants as types
+use Rattle.binfarce_v0_grammar.specs.declared.forms.FunctionForm as function
+use Rattle.binfarce_v0_grammar.specs.declared.forms.FunctionForm.TheVariants as functions
 use Rattle.binfarce_v0_grammar.specs.declared.forms.consts.ConstValue as const_value
 use Rattle.binfarce_v0_grammar.specs.declared.forms.consts.ConstValue.TheVariants as values
 use Rattle.binfarce_v0_grammar.specs.declared.forms.consts.ConstForm as const
@@ -32,16 +30,6 @@ identifier_view l = record { disambiguator = l.disambiguator; name = undisambigu
 abbrev pub without_disambiguator : Option (Identifier × ℕ) → Option (Identifiers.UndisambiguatedIdentifier × ℕ)
 without_disambiguator l = option_map (λ l. (l.0.name, l.1)) l
 
-abbrev pub path_view : path.PathForm → forms.PathForm
-path_view paths.Nothing = NoPathForm
-path_view (paths.CrateRoot l q) = forms.CrateRoot (identifier_view l) q
-path_view (paths.NestedIn c q) = NestedIn c q
-path_view (paths.InherentImpl q) = InherentImpl q
-path_view (paths.TraitImpl q) = TraitImpl q
-path_view (paths.TraitDefinition q) = TraitDefinition q
-path_view (paths.WithArguments q) = WithArguments q
-path_view (paths.Back target q) = BackToPath target q
-
 abbrev pub lifetime_view : lifetime.Lifetime → forms.Lifetime
 lifetime_view lifetimes.Nothing = NoLifetime
 lifetime_view lifetimes.Invalid = InvalidLifetime
@@ -50,21 +38,10 @@ lifetime_view (lifetimes.Indexed k) = IndexedLifetime k
 abbrev pub signature_view : signature.Signature → Signature
 signature_view s = record { binder = s.binder; is_unsafe = s.is_unsafe; abi = option_map (λ a. a.now) s.abi }
 
-abbrev pub type_view : type.TypeForm → forms.TypeForm
-type_view types.Nothing = NoTypeForm
-type_view (types.Basic text q) = BasicType text.now q
-type_view (types.ReferenceTo mutable life q) = ReferenceTo mutable (lifetime_view life) q
-type_view types.InvalidReference = InvalidReference
-type_view (types.PointerTo mutable q) = PointerTo mutable q
-type_view (types.SliceOf q) = SliceOf q
-type_view (types.ArrayOf q) = ArrayOf q
-type_view (types.TupleOf q) = TupleOf q
-type_view (types.FunctionOf s q) = FunctionOf (signature_view s) q
-type_view (types.InvalidAbi binder) = InvalidAbi binder
-type_view (types.DynOf binder q) = DynOf binder q
-type_view types.InvalidDyn = InvalidDyn
-type_view (types.Back target q) = BackToType target q
-type_view types.Path = PathType
+abbrev pub function_view : function.FunctionForm → forms.TypeForm
+function_view functions.Nothing = NoTypeForm
+function_view (functions.FunctionOf s q) = FunctionOf (signature_view s) q
+function_view (functions.InvalidAbi binder) = InvalidAbi binder
 
 abbrev pub value_view : const_value.ConstValue → forms.ConstValue
 value_view (values.Integer negative digits) = forms.Integer negative digits.now

@@ -7,7 +7,7 @@ use crate::erased::binfarce_v0::lists::print_items;
 use crate::erased::binfarce_v0::paths::print_path;
 use crate::erased::binfarce_v0::productions::{print, print_target};
 use crate::erased::binfarce_v0_grammar::forms::{
-    Listed, Signature, TypeForm, basic_type, function_form, lifetime_form,
+    FunctionForm, Listed, Signature, basic_type, function_form, lifetime_form,
 };
 use crate::erased::binfarce_v0_grammar::numbers::{back_reference, byte_at, optional_base_62_number};
 use crate::erased::binfarce_v0_grammar::positions::{bound_end, eat, required_end};
@@ -142,10 +142,10 @@ fn print_function_form(
         printer.part,
         optional_base_62_number(printer.part.as_bytes(), b'G', at),
     ) {
-        TypeForm::FunctionOf(signature, after) => {
+        FunctionForm::FunctionOf(signature, after) => {
             print_function(printer, levels_left, binder_depth, signature, after)
         }
-        TypeForm::InvalidAbi(binder) => print_invalid_function(printer, binder_depth, binder),
+        FunctionForm::InvalidAbi(binder) => print_invalid_function(printer, binder_depth, binder),
         _ => printer.invalid_syntax(),
     }
 }

@@ -6,35 +6,10 @@
 mod consts;
 mod signature;
 
-use crate::erased::binfarce_v0_grammar::identifiers::{
-    Identifier, identifier_at, undisambiguated_at,
-};
-use crate::erased::binfarce_v0_grammar::numbers::{
-    back_reference, base_62_number, byte_at, optional_base_62_number, past,
-};
+use crate::erased::binfarce_v0_grammar::identifiers::undisambiguated_at;
+use crate::erased::binfarce_v0_grammar::numbers::{base_62_number, byte_at, past};
 pub use consts::{ConstForm, ConstValue, const_form};
 pub use signature::Signature;
-
-/// `<path>`, up to its first path or type. The last number of a form is the position after it.
-#[derive(Clone, Copy)]
-pub enum PathForm<'a> {
-    /// No form, or one whose number, name or namespace is invalid.
-    Nothing,
-    /// `"C" <identifier>`
-    CrateRoot(Identifier<'a>, usize),
-    /// `"N" <namespace> ..`, with the letter of the namespace.
-    NestedIn(u8, usize),
-    /// `"M" [<disambiguator>] ..`
-    InherentImpl(usize),
-    /// `"X" [<disambiguator>] ..`
-    TraitImpl(usize),
-    /// `"Y" ..`
-    TraitDefinition(usize),
-    /// `"I" ..`
-    WithArguments(usize),
-    /// `<backref>`, with the position that it names.
-    Back(usize, usize),
-}
 
 /// `[<lifetime>]`
 #[derive(Clone, Copy)]
@@ -47,37 +22,15 @@ pub enum Lifetime {
     Indexed(u64),
 }
 
-/// `<type>`, up to its first path, type or list. The last number of a form is the position after it.
+/// `"F"` and the front of a `<fn-sig>`, up to its types. The last number of a form is the position after it.
 #[derive(Clone, Copy)]
-pub enum TypeForm<'a> {
-    /// No byte, or a form whose binder or back reference is invalid.
+pub enum FunctionForm<'a> {
+    /// One whose binder is invalid.
     Nothing,
-    /// `<basic-type>`, by its name.
-    Basic(&'static str, usize),
-    /// `"R" [<lifetime>] ..`, or `"Q" [<lifetime>] ..` for a mutable one.
-    ReferenceTo(bool, Lifetime, usize),
-    /// The same with an `L` whose number is invalid.
-    InvalidReference,
-    /// `"P" ..`, or `"O" ..` for a mutable one.
-    PointerTo(bool, usize),
-    /// `"S" ..`
-    SliceOf(usize),
-    /// `"A" ..`
-    ArrayOf(usize),
-    /// `"T" ..`
-    TupleOf(usize),
-    /// `"F"` and the front of a `<fn-sig>`.
+    /// A valid one.
     FunctionOf(Signature<'a>, usize),
-    /// The same with an invalid ABI, by its binder.
+    /// One with an invalid ABI, by its binder.
     InvalidAbi(u64),
-    /// `"D" [<binder>] ..`, with the number of lifetimes that the binder announces.
-    DynOf(u64, usize),
-    /// The same with an invalid binder.
-    InvalidDyn,
-    /// `<backref>`, with the position that it names.
-    Back(usize, usize),
-    /// Any other byte: a path.
-    Path,
 }
 
 /// The kind of a list's items.
@@ -89,51 +42,6 @@ pub enum Listed {
     Types,
     /// `<dyn-trait>`
     Traits,
-}
-
-// A nested path's namespace.
-fn nested_form<'a>(namespace: u8, after: usize) -> PathForm<'a> {
-    match namespace {
-        b'A'..=b'Z' | b'a'..=b'z' => PathForm::NestedIn(namespace, after),
-        _ => PathForm::Nothing,
-    }
-}
-
-/// The form of the path at a position, where there is a position.
-pub fn path_form<'a>(part: &'a str, at: Option<usize>) -> PathForm<'a> {
-    let Some(at) = at else {
-        return PathForm::Nothing;
-    };
-    let bytes = part.as_bytes();
-    match byte_at(bytes, at) {
-        b'C' => match identifier_at(part, at + 1) {
-            Some((root, after)) => PathForm::CrateRoot(root, after),
-            None => PathForm::Nothing,
-        },
-        b'N' => {
-            let namespace = byte_at(bytes, at + 1);
-            if namespace == 0 {
-                PathForm::Nothing
-            } else {
-                nested_form(namespace, at + 2)
-            }
-        }
-        b'M' => match optional_base_62_number(bytes, b's', at + 1) {
-            Some((_, after)) => PathForm::InherentImpl(after),
-            None => PathForm::Nothing,
-        },
-        b'X' => match optional_base_62_number(bytes, b's', at + 1) {
-            Some((_, after)) => PathForm::TraitImpl(after),
-            None => PathForm::Nothing,
-        },
-        b'Y' => PathForm::TraitDefinition(at + 1),
-        b'I' => PathForm::WithArguments(at + 1),
-        b'B' => match back_reference(bytes, at) {
-            Some((target, after)) => PathForm::Back(target, after),
-            None => PathForm::Nothing,
-        },
-        _ => PathForm::Nothing,
-    }
 }
 
 /// The optional lifetime at a position, and the position after it: `None` after an invalid lifetime.
@@ -197,14 +105,14 @@ fn abi<'a>(part: &'a str, at: usize) -> Option<(Option<&'a str>, usize)> {
 }
 
 /// `"F"` and the front of a `<fn-sig>`, after its binder.
-pub fn function_form<'a>(part: &'a str, binder: Option<(u64, usize)>) -> TypeForm<'a> {
+pub fn function_form<'a>(part: &'a str, binder: Option<(u64, usize)>) -> FunctionForm<'a> {
     let Some((binder, at)) = binder else {
-        return TypeForm::Nothing;
+        return FunctionForm::Nothing;
     };
     let bytes = part.as_bytes();
     let is_unsafe = byte_at(bytes, at) == b'U';
     match abi(part, past(bytes, b'U', at)) {
-        Some((abi, after)) => TypeForm::FunctionOf(
+        Some((abi, after)) => FunctionForm::FunctionOf(
             Signature {
                 binder,
                 is_unsafe,
@@ -212,54 +120,6 @@ pub fn function_form<'a>(part: &'a str, binder: Option<(u64, usize)>) -> TypeFor
             },
             after,
         ),
-        None => TypeForm::InvalidAbi(binder),
-    }
-}
-
-// `"R"` or `"Q"` with the lifetime after it.
-fn reference_form<'a>(mutable: bool, life: (Lifetime, Option<usize>)) -> TypeForm<'a> {
-    let (life, after) = life;
-    match after {
-        Some(after) => TypeForm::ReferenceTo(mutable, life, after),
-        None => TypeForm::InvalidReference,
-    }
-}
-
-// A type that isn't a basic type.
-fn type_form_by<'a>(part: &'a str, at: usize, tag: u8) -> TypeForm<'a> {
-    let bytes = part.as_bytes();
-    match tag {
-        b'R' => reference_form(false, lifetime_form(bytes, Some(at + 1))),
-        b'Q' => reference_form(true, lifetime_form(bytes, Some(at + 1))),
-        b'P' => TypeForm::PointerTo(false, at + 1),
-        b'O' => TypeForm::PointerTo(true, at + 1),
-        b'S' => TypeForm::SliceOf(at + 1),
-        b'A' => TypeForm::ArrayOf(at + 1),
-        b'T' => TypeForm::TupleOf(at + 1),
-        b'F' => function_form(part, optional_base_62_number(bytes, b'G', at + 1)),
-        b'D' => match optional_base_62_number(bytes, b'G', at + 1) {
-            Some((binder, after)) => TypeForm::DynOf(binder, after),
-            None => TypeForm::InvalidDyn,
-        },
-        b'B' => match back_reference(bytes, at) {
-            Some((target, after)) => TypeForm::Back(target, after),
-            None => TypeForm::Nothing,
-        },
-        _ => TypeForm::Path,
-    }
-}
-
-/// The form of the type at a position, where there is a position.
-pub fn type_form<'a>(part: &'a str, at: Option<usize>) -> TypeForm<'a> {
-    let Some(at) = at else {
-        return TypeForm::Nothing;
-    };
-    if at >= part.len() {
-        return TypeForm::Nothing;
-    }
-    let tag = byte_at(part.as_bytes(), at);
-    match basic_type(tag) {
-        Some(text) => TypeForm::Basic(text, at + 1),
-        None => type_form_by(part, at, tag),
+        None => FunctionForm::InvalidAbi(binder),
     }
 }

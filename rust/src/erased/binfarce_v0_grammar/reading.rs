@@ -3,9 +3,10 @@
 //! Reading a v0 name by the grammar alone: it is validated in one pass, without allocation.
 
 use crate::erased::binfarce_v0_grammar::forms::{
-    ConstForm, Listed, PathForm, TypeForm, const_form, lifetime_form, path_form, type_form,
+    ConstForm, FunctionForm, Listed, basic_type, const_form, function_form, lifetime_form,
 };
 use crate::erased::binfarce_v0_grammar::identifiers::{identifier_at, undisambiguated_at};
+use crate::erased::binfarce_v0_grammar::numbers::{back_reference, byte_at, optional_base_62_number};
 use crate::erased::binfarce_v0_grammar::positions::eat;
 
 // `<const>`
@@ -36,63 +37,90 @@ pub fn read_path(part: &str, levels_left: usize, at: usize) -> Option<usize> {
         return None;
     }
     let inner = levels_left - 1;
-    match path_form(part, Some(at)) {
-        PathForm::Nothing => None,
-        PathForm::CrateRoot(_, after) => Some(after),
-        PathForm::Back(_, after) => Some(after),
-        PathForm::NestedIn(_, after) => {
-            let mid = read_path(part, inner, after)?;
+    let bytes = part.as_bytes();
+    match byte_at(bytes, at) {
+        b'C' => {
+            let (_root, end) = identifier_at(part, at + 1)?;
+            Some(end)
+        }
+        b'N' => {
+            if !byte_at(bytes, at + 1).is_ascii_alphabetic() {
+                return None;
+            }
+            let mid = read_path(part, inner, at + 2)?;
             let (_identifier, end) = identifier_at(part, mid)?;
             Some(end)
         }
-        PathForm::InherentImpl(after) => {
+        b'M' => {
+            let (_impl, after) = optional_base_62_number(bytes, b's', at + 1)?;
             let mid = read_path(part, inner, after)?;
             read_type(part, inner, mid)
         }
-        PathForm::TraitImpl(after) => {
+        b'X' => {
+            let (_impl, after) = optional_base_62_number(bytes, b's', at + 1)?;
             let mid = read_path(part, inner, after)?;
             let end = read_type(part, inner, mid)?;
             read_path(part, inner, end)
         }
-        PathForm::TraitDefinition(after) => {
-            let mid = read_type(part, inner, after)?;
+        b'Y' => {
+            let mid = read_type(part, inner, at + 1)?;
             read_path(part, inner, mid)
         }
-        PathForm::WithArguments(after) => {
-            let mid = read_path(part, inner, after)?;
+        b'I' => {
+            let mid = read_path(part, inner, at + 1)?;
             read_items(part, inner, Listed::Arguments, mid)
         }
+        b'B' => {
+            let (_target, after) = back_reference(bytes, at)?;
+            Some(after)
+        }
+        _ => None,
     }
 }
 
 // `<type>`
 fn read_type(part: &str, levels_left: usize, at: usize) -> Option<usize> {
-    if levels_left == 0 {
+    if levels_left == 0 || at >= part.len() {
         return None;
     }
-    let inner = levels_left - 1;
-    match type_form(part, Some(at)) {
-        TypeForm::Nothing | TypeForm::InvalidReference | TypeForm::InvalidDyn => None,
-        TypeForm::InvalidAbi(_) => None,
-        TypeForm::Basic(_, after) => Some(after),
-        TypeForm::Back(_, after) => Some(after),
-        TypeForm::ReferenceTo(_, _, after) => read_type(part, inner, after),
-        TypeForm::PointerTo(_, after) => read_type(part, inner, after),
-        TypeForm::SliceOf(after) => read_type(part, inner, after),
-        TypeForm::ArrayOf(after) => {
-            let mid = read_type(part, inner, after)?;
-            read_const(part, inner, mid)
+    let letter = byte_at(part.as_bytes(), at);
+    if basic_type(letter).is_some() {
+        return Some(at + 1);
+    }
+    read_other_type(part, levels_left - 1, at, letter)
+}
+
+// A type that isn't a basic type.
+fn read_other_type(part: &str, levels_left: usize, at: usize, letter: u8) -> Option<usize> {
+    let bytes = part.as_bytes();
+    match letter {
+        b'R' | b'Q' => {
+            let (_life, after) = lifetime_form(bytes, Some(at + 1));
+            read_type(part, levels_left, after?)
         }
-        TypeForm::TupleOf(after) => read_items(part, inner, Listed::Types, after),
-        TypeForm::FunctionOf(_, after) => {
-            let mid = read_items(part, inner, Listed::Types, after)?;
-            read_return(part, inner, mid)
+        b'P' | b'O' | b'S' => read_type(part, levels_left, at + 1),
+        b'A' => {
+            let mid = read_type(part, levels_left, at + 1)?;
+            read_const(part, levels_left, mid)
         }
-        TypeForm::DynOf(_, after) => {
-            let mid = read_items(part, inner, Listed::Traits, after)?;
+        b'T' => read_items(part, levels_left, Listed::Types, at + 1),
+        b'F' => match function_form(part, optional_base_62_number(bytes, b'G', at + 1)) {
+            FunctionForm::FunctionOf(_, after) => {
+                let mid = read_items(part, levels_left, Listed::Types, after)?;
+                read_return(part, levels_left, mid)
+            }
+            FunctionForm::Nothing | FunctionForm::InvalidAbi(_) => None,
+        },
+        b'D' => {
+            let (_binder, after) = optional_base_62_number(bytes, b'G', at + 1)?;
+            let mid = read_items(part, levels_left, Listed::Traits, after)?;
             read_lifetime(part, mid)
         }
-        TypeForm::Path => read_path(part, inner, at),
+        b'B' => {
+            let (_target, after) = back_reference(bytes, at)?;
+            Some(after)
+        }
+        _ => read_path(part, levels_left, at),
     }
 }
 

@@ -3,7 +3,7 @@
 //! The possible targets of a name's back references.
 
 use crate::shim::Vec;
-use crate::erased::binfarce_v0_grammar::numbers::{back_reference, byte_at};
+use crate::erased::binfarce_v0_grammar::numbers::back_reference;
 use crate::shim::alloc::{AllocError, Global};
 use crate::shim::simd::prelude::*;
 
@@ -83,9 +83,7 @@ impl Targets {
                 break;
             }
             let at = start + left.trailing_zeros() as usize % STRIDE;
-            if !leads_to_a_root(part, at) {
-                self.add_target(part, at)?;
-            }
+            self.add_target(part, at)?;
             left &= left - 1;
         }
         Ok(())
@@ -97,10 +95,10 @@ impl Targets {
         if at >= part.len() || part[at] != b'B' {
             return Ok(());
         }
-        match back_reference(part, at) {
-            Some((target, _)) if !is_read_again(part, target) => self.add(target, part.len()),
-            _ => Ok(()),
+        if let Some((target, _)) = back_reference(part, at) {
+            self.add(target, part.len())?;
         }
+        Ok(())
     }
 
     // Adds a position of a name of so many bytes.
@@ -137,43 +135,6 @@ impl Targets {
         };
         (bits >> (at % 64)) & 1 == 1
     }
-}
-
-// The longest name whose short targets are read again. A longer name may have long Punycode there, which takes longer
-// to decode than to copy.
-const SHORT_NAME: usize = 512;
-
-// Whether the path at a position is read again: a crate's name, alone or before one or two names, costs no more to read
-// than to keep and to copy.
-#[cfg_attr(not(debug_assertions), inline(always))]
-fn is_read_again(part: &[u8], at: usize) -> bool {
-    if part.len() > SHORT_NAME {
-        return false;
-    }
-    let Some(path) = part.get(at..) else {
-        return false;
-    };
-    matches!(
-        path,
-        [b'C', ..] | [b'N', _, b'C', ..] | [b'N', _, b'N', _, b'C', ..]
-    )
-}
-
-// Whether a back reference of one digit leads to a crate root, which is read again: this needs no parsing of the
-// number.
-#[cfg_attr(not(debug_assertions), inline(always))]
-fn leads_to_a_root(part: &[u8], at: usize) -> bool {
-    if part.len() > SHORT_NAME || byte_at(part, at + 1) == 0 || byte_at(part, at + 2) != b'_' {
-        return false;
-    }
-    let digit = byte_at(part, at + 1);
-    let target = match digit {
-        b'0'..=b'9' => digit - b'0' + 1,
-        b'a'..=b'z' => digit - b'a' + 11,
-        b'A'..=b'Z' => digit - b'A' + 37,
-        _ => return false,
-    };
-    byte_at(part, target as usize) == b'C'
 }
 
 // A bit for each of 16 bytes: whether it is `B`.

@@ -17,6 +17,9 @@ decreases-read_path l = 10 * l.levels_left + 0
 abbrev pub decreases-read_type : goal.decreases-read_type
 decreases-read_type l = 10 * l.levels_left + 0
 
+abbrev pub decreases-read_other_type : goal.decreases-read_other_type
+decreases-read_other_type l = 10 * l.levels_left + 5
+
 abbrev pub decreases-read_return : goal.decreases-read_return
 decreases-read_return l = 10 * l.levels_left + 4
 

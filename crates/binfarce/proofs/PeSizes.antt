@@ -1,5 +1,5 @@
 -- The sizes of a PE file's symbols, which their addresses give.
-use Rattle.std.proofs.Common.{◌≡◌, ℕ, List, [], ◌∷◌, All, Option, Some, None, Result, Ok, Err, sym, ap, ◌∙◌}
+use Rattle.std.proofs.Common.{◌≡◌, ℕ, Bool, List, [], ◌∷◌, All, Option, Some, None, Result, Ok, Err, sym, ap, ◌∙◌}
 use Rattle.std.specs.Global.{Vec}
 use Rattle.std.specs.Option.{option_map}
 use Rattle.std.specs.List.{filter_map, cons_option}
@@ -9,7 +9,7 @@ use Rattle.binfarce_bytes.specs.Refusal.{◌>>=◌, Refusal}
 use Rattle.binfarce_bytes.specs.Sizes.{RowAddress, arranged}
 use Rattle.binfarce_bytes.specs.Entries.{Answers, ListsSome}
 use Rattle.binfarce.specs.Symbol.{AreSymbolsOf, HoldsSymbols}
-use Rattle.binfarce_pe.specs.PeSymbols.{SymbolTable, symbol_of, name_of, kept_rows, size_among, size_members, entry_of, entries_of, Located, located, pe_answer}
+use Rattle.binfarce_pe.specs.PeSymbols.{SymbolTable, SymbolRow, is_function_of, symbol_of, name_of, kept_rows, size_among, size_members, entry_of, entries_of, Located, located, pe_answer}
 use Rattle.binfarce.specs.PeSizes.{EqualAddressesEqualSizes}
 
 -- each symbol's size is what its own address gives
@@ -29,11 +29,11 @@ sizes_are table members (r ∷ rows) symbols all = by_name (name_of table r.row 
         All-cons (λ s. s.size ≡ size_among members s.address) y ys (all.0.size ∙ ap (size_among members) (sym all.0.address)) (rest ys all.1)
 
 -- symbols of equal address have equal sizes
-equal_sizes : (table : SymbolTable) (index t : ℕ) (symbols : List SymbolData) → AreSymbolsOf (entries_of table index t) symbols → EqualAddressesEqualSizes symbols
+equal_sizes : (table : SymbolTable) (accepts : SymbolRow ℕ → Bool) (t : ℕ) (symbols : List SymbolData) → AreSymbolsOf (entries_of table accepts t) symbols → EqualAddressesEqualSizes symbols
 unfolding entries_of
-equal_sizes table index t symbols all a b has_a has_b same =
-    let members = size_members t (kept_rows table index) in
-    let sizes = sizes_are table members (arranged (kept_rows table index)) symbols all in
+equal_sizes table accepts t symbols all a b has_a has_b same =
+    let members = size_members t (kept_rows table accepts) in
+    let sizes = sizes_are table members (arranged (kept_rows table accepts)) symbols all in
     All-contains (λ s. s.size ≡ size_among members s.address) symbols a sizes has_a ∙ ap (size_among members) same ∙ sym (All-contains (λ s. s.size ≡ size_among members s.address) symbols b sizes has_b)
 
 -- at equal addresses the symbols of an answer have equal sizes
@@ -42,7 +42,7 @@ unfolding pe_answer
 sizes_agree file symbols size holds = by_case (located file) holds
   where
     by_case : (r : Result Located Refusal)
-        → Answers HoldsSymbols ListsSome (r >>= λ f. Ok (record { entries = entries_of f.table f.text.index f.text.size_of_raw_data; section_size = f.text.size_of_raw_data })) (Ok (symbols, size))
+        → Answers HoldsSymbols ListsSome (r >>= λ f. Ok (record { entries = entries_of f.table (is_function_of f.text.index) f.text.size_of_raw_data; section_size = f.text.size_of_raw_data })) (Ok (symbols, size))
         → EqualAddressesEqualSizes symbols.items
-    by_case (Ok f) h = equal_sizes f.table f.text.index f.text.size_of_raw_data symbols.items h.0
+    by_case (Ok f) h = equal_sizes f.table (is_function_of f.text.index) f.text.size_of_raw_data symbols.items h.0
     by_case (Err e) h = absurd h

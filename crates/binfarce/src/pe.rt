@@ -9,7 +9,7 @@ ghost use Rattle.binfarce_bytes.specs.SectionEntries.{AnswersAll};
 ghost use Rattle.binfarce_bytes.specs.SymbolViews.{HoldsFunctions, HoldsSectionFunctions};
 ghost use Rattle.binfarce.specs.Symbol.{HoldsSymbols};
 ghost use Rattle.binfarce_pe.specs.Pe.{least_length, signature_offset, header_of, section_data, walk, is_named};
-ghost use Rattle.binfarce_pe.specs.PeAll.{all_answer, HasSection, AllHasText};
+ghost use Rattle.binfarce_pe.specs.PeAll.{all_answer, HasSection};
 ghost use Rattle.binfarce_pe.specs.PeParts.{places_of, places_view};
 ghost use Rattle.binfarce_pe.specs.PeSymbols.{pe_answer, ArrangesRows};
 ghost use Rattle.binfarce_pe.specs.PeViews.{header_view, section_view};
@@ -168,12 +168,13 @@ impl<'a> Pe<'a> {
         Ok((symbols, size))
     }
 
-    /// The function symbols of all sections, each with its section's number: by section, and in each by address and at equal
-    /// addresses in table order.
+    /// The function symbols of all sections, external and static, each with its section's number: by section, and in each by the
+    /// row's value and at equal values in table order.
     ///
-    /// The function symbols of a section are those that `functions` would give if it were the section `.text`:
-    /// addresses are offsets in the section, and a size ends at the next greater address in the same section, or with
-    /// the section's bytes in the file. Sections are numbered from 1 on, also those whose name isn't UTF-8. A row
+    /// An address is a virtual address: the image base, the section's address and the row's value, modulo 2^64. A file
+    /// without an optional header of PE32 or PE32+ is an object, and there it is the value, the offset in the section. A
+    /// size ends at the next greater address in the same section, or with the section in memory (`VirtualSize`, or
+    /// where that is 0 `SizeOfRawData`). Sections are numbered from 1 on, also those whose name isn't UTF-8. A row
     /// without a section, or whose section doesn't exist, isn't kept.
     ///
     /// # Errors
@@ -181,10 +182,8 @@ impl<'a> Pe<'a> {
     /// In this order: `UnexpectedEof` where the section table doesn't begin in the file, or a header is truncated, as
     /// for `find_section` with a callback that accepts no section; `UnexpectedEof` where the symbol table, even an
     /// empty one, doesn't begin in the file, or ends past it. `OutOfMemory` only where the file has a section.
-    #[tactic(auto, using(binfarce_pe::proofs::AllLaw::all_has_text))]
     pub fn all_functions(&self, alloc: Global) -> Result<Vec<SectionFunction<'a>>, ParseError>
-        ensures functions { AnswersAll HoldsSectionFunctions (HasSection self.now) (all_answer self.now) result }
-        ensures text { AllHasText self.now }
+        ensures { AnswersAll HoldsSectionFunctions (HasSection self.now) (all_answer self.now) result }
     {
         functions_of_sections(alloc, self.data, self.places())
     }

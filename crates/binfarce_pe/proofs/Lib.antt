@@ -6,4 +6,3 @@ pub mod Listing
 pub mod Answered
 pub mod SectionsLeft
 pub mod EachSection
-pub mod AllLaw

@@ -11,7 +11,7 @@ use Rattle.binfarce_bytes.specs.declared.sizes.RowAddress as code
 use Rattle.binfarce_bytes.specs.Sizes.{RowAddress, comes_before, put_in, arranged, addresses_of, least, least_of, least_above}
 use Rattle.binfarce_bytes.specs.Entries.{Entry}
 use Rattle.binfarce_bytes.specs.RowViews.{row_view, rows_view}
-use Rattle.binfarce_pe.specs.PeSymbols.{SymbolTable, symbol_of, name_of, kept_rows, size_among, size_members, entry_of, entries_of}
+use Rattle.binfarce_pe.specs.PeSymbols.{SymbolTable, SymbolRow, symbol_of, name_of, kept_rows, size_among, size_members, entry_of, entries_of}
 use Rattle.binfarce_pe.specs.machine.RawPe.{numbered, IsNameOf, HoldsKept, function_at}
 use Rattle.binfarce_bytes.proofs.Above.{LeastAbove, arranged_above, least_above_is}
 use Rattle.binfarce_bytes.proofs.Arrangement.{Rising}
@@ -89,10 +89,10 @@ module _ (R : RowAddress → RowAddress → Type 0) (same_order : (x q y p : Row
 abbrev pub arranged_numbers : List RowAddress → List RowAddress
 arranged_numbers kept = arranged (numbered 0 (addresses_of kept))
 
-arranged_rows_same : (table : SymbolTable) (index : ℕ) → AllZip (IsNumbered (kept_rows table index)) (arranged_numbers (kept_rows table index)) (arranged (kept_rows table index))
-arranged_rows_same table index =
-    let kept = kept_rows table index in
-    arranged_pairs (IsNumbered kept) (agree kept (kept_rise table index)) (numbered 0 (addresses_of kept)) kept (all_numbered kept)
+arranged_rows_same : (table : SymbolTable) (accepts : SymbolRow ℕ → Bool) → AllZip (IsNumbered (kept_rows table accepts)) (arranged_numbers (kept_rows table accepts)) (arranged (kept_rows table accepts))
+arranged_rows_same table accepts =
+    let kept = kept_rows table accepts in
+    arranged_pairs (IsNumbered kept) (agree kept (kept_rise table accepts)) (numbered 0 (addresses_of kept)) kept (all_numbered kept)
 
 numbers_below : (kept xs ys : List RowAddress) → AllZip (IsNumbered kept) xs ys → All (λ r. r.row < length kept) xs
 numbers_below kept [] [] all = All-nil (λ r. r.row < length kept)
@@ -101,11 +101,11 @@ numbers_below kept (x ∷ xs) [] all = absurd all
 numbers_below kept (x ∷ xs) (q ∷ ys) all = All-cons (λ r. r.row < length kept) x xs all.0.0 (numbers_below kept xs ys all.1)
 
 -- the numbers of the arranged rows are those of names
-pub all_have_names : (table : SymbolTable) (index : ℕ) (held : List RowAddress) (names : List (List ℕ)) (rows : List code.RowAddress) (n : ℕ)
-    → HoldsKept table (kept_rows table index) held names → rows_view rows ≡ arranged held → n ≡ length names → All (λ r. r.index < n) rows
-all_have_names table index held names rows n h are long k d lt =
-    let kept = kept_rows table index in
-    let all : All (λ r. r.row < length kept) (rows_view rows) = subst (λ (rs : List RowAddress). All (λ r. r.row < length kept) rs) (sym (are ∙ ap arranged h.rows_are)) (numbers_below kept (arranged_numbers kept) (arranged kept) (arranged_rows_same table index)) in
+pub all_have_names : (table : SymbolTable) (accepts : SymbolRow ℕ → Bool) (held : List RowAddress) (names : List (List ℕ)) (rows : List code.RowAddress) (n : ℕ)
+    → HoldsKept table (kept_rows table accepts) held names → rows_view rows ≡ arranged held → n ≡ length names → All (λ r. r.index < n) rows
+all_have_names table accepts held names rows n h are long k d lt =
+    let kept = kept_rows table accepts in
+    let all : All (λ r. r.row < length kept) (rows_view rows) = subst (λ (rs : List RowAddress). All (λ r. r.row < length kept) rs) (sym (are ∙ ap arranged h.rows_are)) (numbers_below kept (arranged_numbers kept) (arranged kept) (arranged_rows_same table accepts)) in
     let below : (get_or rows k d).index < length kept = rw (get_or-map row_view rows k d (row_view d) lt) at (all k (row_view d) (omega (arith, length-map rows row_view))) in
     omega (arith, AllZip-long (IsNameOf table) kept names h.names_are)
 
@@ -160,13 +160,13 @@ entries_same table members others same (r ∷ rows) =
     ap (λ (o : Option Entry). cons_option o (filter_map (entry_of table members) rows)) first ∙ ap (cons_option (entry_of table others r)) (entries_same table members others same rows)
 
 -- what is listed of the arranged rows is the entries
-pub entries_are : (table : SymbolTable) (index t : ℕ) (held in_order : List RowAddress) (names : List (List ℕ)) → HoldsKept table (kept_rows table index) held names → in_order ≡ arranged held
-    → map (function_at names (size_members t in_order)) in_order ≡ entries_of table index t
+pub entries_are : (table : SymbolTable) (accepts : SymbolRow ℕ → Bool) (t : ℕ) (held in_order : List RowAddress) (names : List (List ℕ)) → HoldsKept table (kept_rows table accepts) held names → in_order ≡ arranged held
+    → map (function_at names (size_members t in_order)) in_order ≡ entries_of table accepts t
 unfolding entries_of
-entries_are table index t held in_order names h are =
-    let kept = kept_rows table index in
+entries_are table accepts t held in_order names h are =
+    let kept = kept_rows table accepts in
     ap (λ (rs : List RowAddress). map (function_at names (size_members t rs)) rs) (are ∙ ap arranged h.rows_are)
-    ∙ entries_listed table (size_members t (arranged_numbers kept)) kept names h.names_are (arranged_numbers kept) (arranged kept) (arranged_rows_same table index)
+    ∙ entries_listed table (size_members t (arranged_numbers kept)) kept names h.names_are (arranged_numbers kept) (arranged kept) (arranged_rows_same table accepts)
     ∙ entries_same table (size_members t (arranged_numbers kept)) (size_members t kept) (λ a. sizes_same t a kept) (arranged kept)
 
 greater : (xs : List ℕ) (a : ℕ) (o : Option ℕ) → LeastAbove xs a o → IfSome o (λ b. a < b)

@@ -11,7 +11,7 @@ use Rattle.std.proofs.lemmas.Slice.Zip.{AllZip-long}
 use Rattle.binfarce_bytes.specs.declared.sizes.RowAddress as code
 use Rattle.binfarce_bytes.specs.Sizes.{RowAddress, arranged, addresses_of}
 use Rattle.binfarce_bytes.specs.RowViews.{row_view, rows_view}
-use Rattle.binfarce_pe.specs.PeSymbols.{SymbolTable, SymbolRow, record_count, symbol_of, rows_from, name_of, function_name, is_function_of, kept_row, kept_rows, size_among, size_members, entry_of, entries_in, entries_of}
+use Rattle.binfarce_pe.specs.PeSymbols.{SymbolTable, SymbolRow, record_count, symbol_of, rows_from, name_of, function_name, kept_row, kept_rows, size_among, size_members, entry_of, entries_in, entries_of}
 use Rattle.binfarce_pe.specs.machine.RawPe.{numbered, IsNameOf, HoldsKept}
 use Rattle.binfarce_bytes.proofs.Arranging.{arranged_same}
 
@@ -43,41 +43,41 @@ rows_enough table (suc n) (suc m) k enough also = by_test (nat_lt k (record_coun
         no_rows table (suc n) k past ∙ sym (no_rows table (suc m) k past)
 
 -- what is kept from row k on
-abbrev pub kept_from : SymbolTable → ℕ → ℕ → List RowAddress
-kept_from table index k = filter_map (kept_row table index) (rows_from table (record_count table - k) k)
+abbrev pub kept_from : SymbolTable → (SymbolRow ℕ → Bool) → ℕ → List RowAddress
+kept_from table accepts k = filter_map (kept_row table accepts) (rows_from table (record_count table - k) k)
 
-all_from_first : (table : SymbolTable) (index : ℕ) → kept_rows table index ≡ kept_from table index 0
+all_from_first : (table : SymbolTable) (accepts : SymbolRow ℕ → Bool) → kept_rows table accepts ≡ kept_from table accepts 0
 unfolding kept_rows
-all_from_first table index = ap (λ (n : ℕ). filter_map (kept_row table index) (rows_from table n 0)) (omega arith)
+all_from_first table accepts = ap (λ (n : ℕ). filter_map (kept_row table accepts) (rows_from table n 0)) (omega arith)
 
-none_after : (table : SymbolTable) (index k : ℕ) → record_count table ≤ k → kept_from table index k ≡ []
-none_after table index k past = ap (filter_map (kept_row table index)) (no_rows table (record_count table - k) k past)
+none_after : (table : SymbolTable) (accepts : SymbolRow ℕ → Bool) (k : ℕ) → record_count table ≤ k → kept_from table accepts k ≡ []
+none_after table accepts k past = ap (filter_map (kept_row table accepts)) (no_rows table (record_count table - k) k past)
 
-kept_step : (table : SymbolTable) (index k : ℕ) → k < record_count table → kept_from table index k ≡ cons_option (kept_row table index k) (kept_from table index (after table k))
-kept_step table index k within =
+kept_step : (table : SymbolTable) (accepts : SymbolRow ℕ → Bool) (k : ℕ) → k < record_count table → kept_from table accepts k ≡ cons_option (kept_row table accepts k) (kept_from table accepts (after table k))
+kept_step table accepts k within =
     let one : rows_from table (record_count table - k) k ≡ k ∷ rows_from table (record_count table - k - 1) (after table k) =
     ap (λ (n : ℕ). rows_from table n k) (omega arith) ∙ one_row table (record_count table - k - 1) k within in
     let rest : rows_from table (record_count table - k - 1) (after table k) ≡ rows_from table (record_count table - after table k) (after table k) =
     rows_enough table (record_count table - k - 1) (record_count table - after table k) (after table k) (omega arith) (omega arith) in
-    ap (filter_map (kept_row table index)) (one ∙ ap (λ (ks : List ℕ). k ∷ ks) rest)
+    ap (filter_map (kept_row table accepts)) (one ∙ ap (λ (ks : List ℕ). k ∷ ks) rest)
 
 -- of the kept rows some are held, and those from row k on are left
-pub record HoldsUpTo (table : SymbolTable) (index k : ℕ) (rows : List RowAddress) (names : List (List ℕ)) : Type 0 where
+pub record HoldsUpTo (table : SymbolTable) (accepts : SymbolRow ℕ → Bool) (k : ℕ) (rows : List RowAddress) (names : List (List ℕ)) : Type 0 where
   pub so_far : List RowAddress
-  pub whole : kept_rows table index ≡ so_far ++ kept_from table index k
+  pub whole : kept_rows table accepts ≡ so_far ++ kept_from table accepts k
   pub held : HoldsKept table so_far rows names
 
-pub holds_none : (table : SymbolTable) (index : ℕ) → HoldsUpTo table index 0 [] []
-holds_none table index = record { so_far = []; whole = all_from_first table index; held = record { rows_are = refl; names_are = tt } }
+pub holds_none : (table : SymbolTable) (accepts : SymbolRow ℕ → Bool) → HoldsUpTo table accepts 0 [] []
+holds_none table accepts = record { so_far = []; whole = all_from_first table accepts; held = record { rows_are = refl; names_are = tt } }
 
 -- a row that isn't kept adds nothing
-pub goes_on : (table : SymbolTable) (index k next : ℕ) (row : SymbolRow ℕ) (rows : List RowAddress) (names : List (List ℕ)) → k < record_count table → next ≡ after table k → row ≡ symbol_of table k → None ≡ function_name table index k row
-    → HoldsUpTo table index k rows names → HoldsUpTo table index next rows names
-goes_on table index k next row rows names within at is none h =
-    let left : kept_row table index k ≡ None = ap (λ (r : SymbolRow ℕ). option_map (λ (_ : List ℕ). record { address = r.value; row = k }) (function_name table index k r)) (sym is) ∙ ap (option_map (λ (_ : List ℕ). record { address = row.value; row = k })) (sym none) in
+pub goes_on : (table : SymbolTable) (accepts : SymbolRow ℕ → Bool) (k next : ℕ) (row : SymbolRow ℕ) (rows : List RowAddress) (names : List (List ℕ)) → k < record_count table → next ≡ after table k → row ≡ symbol_of table k → None ≡ function_name table accepts k row
+    → HoldsUpTo table accepts k rows names → HoldsUpTo table accepts next rows names
+goes_on table accepts k next row rows names within at is none h =
+    let left : kept_row table accepts k ≡ None = ap (λ (r : SymbolRow ℕ). option_map (λ (_ : List ℕ). record { address = r.value; row = k }) (function_name table accepts k r)) (sym is) ∙ ap (option_map (λ (_ : List ℕ). record { address = row.value; row = k })) (sym none) in
     record {
       so_far = h.so_far;
-      whole = h.whole ∙ ap (λ (xs : List RowAddress). h.so_far ++ xs) (kept_step table index k within ∙ rw left (ap (kept_from table index) (sym at)));
+      whole = h.whole ∙ ap (λ (xs : List RowAddress). h.so_far ++ xs) (kept_step table accepts k within ∙ rw left (ap (kept_from table accepts) (sym at)));
       held = h.held;
     }
 
@@ -99,92 +99,92 @@ named_too : (b : Bool) (o : Option (List ℕ)) (name : List ℕ) → cond b o No
 named_too true o name e = e
 named_too false o name e = absurd cc
 
-has_name : (table : SymbolTable) (index k : ℕ) (name : List ℕ) → function_name table index k (symbol_of table k) ≡ Some name → name_of table k (symbol_of table k) ≡ Some name
+has_name : (table : SymbolTable) (accepts : SymbolRow ℕ → Bool) (k : ℕ) (name : List ℕ) → function_name table accepts k (symbol_of table k) ≡ Some name → name_of table k (symbol_of table k) ≡ Some name
 unfolding function_name
-has_name table index k name e = named_too (is_function_of index (symbol_of table k)) (name_of table k (symbol_of table k)) name e
+has_name table accepts k name e = named_too (accepts (symbol_of table k)) (name_of table k (symbol_of table k)) name e
 
 -- one that is kept is held after those so far, with its name
-one_more_held : (table : SymbolTable) (index k next : ℕ) (row : SymbolRow ℕ) (name : List ℕ) (rows : List RowAddress) (names : List (List ℕ)) (n : ℕ) → k < record_count table → next ≡ after table k → row ≡ symbol_of table k → Some name ≡ function_name table index k row
-    → n ≡ length names → HoldsUpTo table index k rows names → HoldsUpTo table index next (rows ++ record { address = row.value; row = n } ∷ []) (names ++ name ∷ [])
-one_more_held table index k next row name rows names n within at is some long h =
+one_more_held : (table : SymbolTable) (accepts : SymbolRow ℕ → Bool) (k next : ℕ) (row : SymbolRow ℕ) (name : List ℕ) (rows : List RowAddress) (names : List (List ℕ)) (n : ℕ) → k < record_count table → next ≡ after table k → row ≡ symbol_of table k → Some name ≡ function_name table accepts k row
+    → n ≡ length names → HoldsUpTo table accepts k rows names → HoldsUpTo table accepts next (rows ++ record { address = row.value; row = n } ∷ []) (names ++ name ∷ [])
+one_more_held table accepts k next row name rows names n within at is some long h =
     let x : RowAddress = record { address = (symbol_of table k).value; row = k } in
-    let function : function_name table index k (symbol_of table k) ≡ Some name = ap (function_name table index k) (sym is) ∙ sym some in
-    let kept : kept_row table index k ≡ Some x = ap (option_map (λ (_ : List ℕ). x)) function in
+    let function : function_name table accepts k (symbol_of table k) ≡ Some name = ap (function_name table accepts k) (sym is) ∙ sym some in
+    let kept : kept_row table accepts k ≡ Some x = ap (option_map (λ (_ : List ℕ). x)) function in
     let here : n ≡ 0 + length (addresses_of h.so_far) = omega (arith, AllZip-long (IsNameOf table) h.so_far names h.held.names_are, length-map h.so_far (λ r. r.address)) in
     record {
       so_far = h.so_far ++ x ∷ [];
-      whole = h.whole ∙ ap (λ (xs : List RowAddress). h.so_far ++ xs) (kept_step table index k within ∙ rw kept (ap (λ (i : ℕ). x ∷ kept_from table index i) (sym at))) ∙ sym (append_assoc h.so_far (x ∷ []) (kept_from table index next));
+      whole = h.whole ∙ ap (λ (xs : List RowAddress). h.so_far ++ xs) (kept_step table accepts k within ∙ rw kept (ap (λ (i : ℕ). x ∷ kept_from table accepts i) (sym at))) ∙ sym (append_assoc h.so_far (x ∷ []) (kept_from table accepts next));
       held = record {
         rows_are =
             ap (λ (r : SymbolRow ℕ). rows ++ record { address = r.value; row = n } ∷ []) is
             ∙ ap (λ (rs : List RowAddress). rs ++ record { address = x.address; row = n } ∷ []) h.held.rows_are
             ∙ sym (numbered_push 0 x.address n (addresses_of h.so_far) here)
             ∙ ap (numbered 0) (sym (addresses_push h.so_far x));
-        names_are = all_zip_push (IsNameOf table) h.so_far names x name h.held.names_are (has_name table index k name function);
+        names_are = all_zip_push (IsNameOf table) h.so_far names x name h.held.names_are (has_name table accepts k name function);
       };
     }
 
 -- as the vectors hold them
-pub goes_on_with : {N : Type 0} (now : N → List ℕ) (table : SymbolTable) (index k next : ℕ) (row : SymbolRow ℕ) (name : N) (rows : List code.RowAddress) (names : List N) (address n : ℕ) → k < record_count table → next ≡ after table k → row ≡ symbol_of table k → Some (now name) ≡ function_name table index k row
-    → address ≡ row.value → n ≡ length names → HoldsUpTo table index k (rows_view rows) (map now names) → HoldsUpTo table index next (rows_view (rows ++ record { address = address; index = n } ∷ [])) (map now (names ++ name ∷ []))
-goes_on_with now table index k next row name rows names address n within at is some value long h =
+pub goes_on_with : {N : Type 0} (now : N → List ℕ) (table : SymbolTable) (accepts : SymbolRow ℕ → Bool) (k next : ℕ) (row : SymbolRow ℕ) (name : N) (rows : List code.RowAddress) (names : List N) (address n : ℕ) → k < record_count table → next ≡ after table k → row ≡ symbol_of table k → Some (now name) ≡ function_name table accepts k row
+    → address ≡ row.value → n ≡ length names → HoldsUpTo table accepts k (rows_view rows) (map now names) → HoldsUpTo table accepts next (rows_view (rows ++ record { address = address; index = n } ∷ [])) (map now (names ++ name ∷ []))
+goes_on_with now table accepts k next row name rows names address n within at is some value long h =
     rw (map-append row_view rows (record { address = address; index = n } ∷ []), map-append now names (name ∷ []), value)
-    (one_more_held table index k next row (now name) (rows_view rows) (map now names) n within at is some (omega (arith, length-map names now)) h)
+    (one_more_held table accepts k next row (now name) (rows_view rows) (map now names) n within at is some (omega (arith, length-map names now)) h)
 
-first_kept : (table : SymbolTable) (index k : ℕ) (so_far all : List RowAddress) (x : RowAddress) → k < record_count table → kept_row table index k ≡ Some x
-    → all ≡ so_far ++ kept_from table index k → all ≢ []
-first_kept table index k [] all x within some e none = let there : kept_from table index k ≡ x ∷ kept_from table index (after table k) = kept_step table index k within ∙ rw some refl in cc
-first_kept table index k (y ∷ ys) all x within some e none = cc
+first_kept : (table : SymbolTable) (accepts : SymbolRow ℕ → Bool) (k : ℕ) (so_far all : List RowAddress) (x : RowAddress) → k < record_count table → kept_row table accepts k ≡ Some x
+    → all ≡ so_far ++ kept_from table accepts k → all ≢ []
+first_kept table accepts k [] all x within some e none = let there : kept_from table accepts k ≡ x ∷ kept_from table accepts (after table k) = kept_step table accepts k within ∙ rw some refl in cc
+first_kept table accepts k (y ∷ ys) all x within some e none = cc
 
 -- then there is one
-pub some_kept : (table : SymbolTable) (index k : ℕ) (row : SymbolRow ℕ) (name : List ℕ) (rows : List RowAddress) (names : List (List ℕ)) → k < record_count table → row ≡ symbol_of table k → Some name ≡ function_name table index k row
-    → HoldsUpTo table index k rows names → kept_rows table index ≢ []
-some_kept table index k row name rows names within is some h =
+pub some_kept : (table : SymbolTable) (accepts : SymbolRow ℕ → Bool) (k : ℕ) (row : SymbolRow ℕ) (name : List ℕ) (rows : List RowAddress) (names : List (List ℕ)) → k < record_count table → row ≡ symbol_of table k → Some name ≡ function_name table accepts k row
+    → HoldsUpTo table accepts k rows names → kept_rows table accepts ≢ []
+some_kept table accepts k row name rows names within is some h =
     let x : RowAddress = record { address = (symbol_of table k).value; row = k } in
-    let kept : kept_row table index k ≡ Some x = ap (option_map (λ (_ : List ℕ). x)) (ap (function_name table index k) (sym is) ∙ sym some) in
-    first_kept table index k h.so_far (kept_rows table index) x within kept h.whole
+    let kept : kept_row table accepts k ≡ Some x = ap (option_map (λ (_ : List ℕ). x)) (ap (function_name table accepts k) (sym is) ∙ sym some) in
+    first_kept table accepts k h.so_far (kept_rows table accepts) x within kept h.whole
 
 -- past the last record all are held
-pub holds_all : (table : SymbolTable) (index k : ℕ) (rows : List RowAddress) (names : List (List ℕ)) → record_count table ≤ k → HoldsUpTo table index k rows names → HoldsKept table (kept_rows table index) rows names
-holds_all table index k rows names past h =
-    let all : kept_rows table index ≡ h.so_far = h.whole ∙ rw (none_after table index k past) (append-nil h.so_far) in
+pub holds_all : (table : SymbolTable) (accepts : SymbolRow ℕ → Bool) (k : ℕ) (rows : List RowAddress) (names : List (List ℕ)) → record_count table ≤ k → HoldsUpTo table accepts k rows names → HoldsKept table (kept_rows table accepts) rows names
+holds_all table accepts k rows names past h =
+    let all : kept_rows table accepts ≡ h.so_far = h.whole ∙ rw (none_after table accepts k past) (append-nil h.so_far) in
     subst (λ (kept : List RowAddress). HoldsKept table kept rows names) (sym all) h.held
 
 -- without a kept row there is no entry
-pub no_entries : (table : SymbolTable) (index t : ℕ) → kept_rows table index ≡ [] → entries_of table index t ≡ []
+pub no_entries : (table : SymbolTable) (accepts : SymbolRow ℕ → Bool) (t : ℕ) → kept_rows table accepts ≡ [] → entries_of table accepts t ≡ []
 unfolding entries_of arranged
-no_entries table index t none = ap (λ (rows : List RowAddress). entries_in table index t (arranged rows)) none
+no_entries table accepts t none = ap (λ (rows : List RowAddress). entries_in table accepts t (arranged rows)) none
 
 -- the name of a kept row can be read
 abbrev HasName : SymbolTable → RowAddress → Type 0
 HasName table r = (name : List ℕ) × IsNameOf table r name
 
-kept_has_name : (table : SymbolTable) (index k : ℕ) (r : RowAddress) → kept_row table index k ≡ Some r → HasName table r
-kept_has_name table index k r e = by_name (function_name table index k (symbol_of table k)) refl e
+kept_has_name : (table : SymbolTable) (accepts : SymbolRow ℕ → Bool) (k : ℕ) (r : RowAddress) → kept_row table accepts k ≡ Some r → HasName table r
+kept_has_name table accepts k r e = by_name (function_name table accepts k (symbol_of table k)) refl e
   where
-    by_name : (o : Option (List ℕ)) → function_name table index k (symbol_of table k) ≡ o → option_map (λ _. record { address = (symbol_of table k).value; row = k }) o ≡ Some r → HasName table r
+    by_name : (o : Option (List ℕ)) → function_name table accepts k (symbol_of table k) ≡ o → option_map (λ _. record { address = (symbol_of table k).value; row = k }) o ≡ Some r → HasName table r
     by_name None is e = absurd cc
     by_name (Some name) is e =
-        let here : HasName table (record { address = (symbol_of table k).value; row = k }) = (name, has_name table index k name is) in
+        let here : HasName table (record { address = (symbol_of table k).value; row = k }) = (name, has_name table accepts k name is) in
         let same : record { address = (symbol_of table k).value; row = k } ≡ r = cc in
         subst (HasName table) same here
 
-all_from : (table : SymbolTable) (index n k : ℕ) → All (HasName table) (filter_map (kept_row table index) (rows_from table n k))
+all_from : (table : SymbolTable) (accepts : SymbolRow ℕ → Bool) (n k : ℕ) → All (HasName table) (filter_map (kept_row table accepts) (rows_from table n k))
 unfolding rows_from
-all_from table index zero k = All-nil (HasName table)
-all_from table index (suc n) k = by_test (nat_lt k (record_count table)) (all_from table index n (after table k))
+all_from table accepts zero k = All-nil (HasName table)
+all_from table accepts (suc n) k = by_test (nat_lt k (record_count table)) (all_from table accepts n (after table k))
   where
-    by_row : (o : Option RowAddress) → kept_row table index k ≡ o → All (HasName table) (filter_map (kept_row table index) (rows_from table n (after table k))) → All (HasName table) (cons_option o (filter_map (kept_row table index) (rows_from table n (after table k))))
+    by_row : (o : Option RowAddress) → kept_row table accepts k ≡ o → All (HasName table) (filter_map (kept_row table accepts) (rows_from table n (after table k))) → All (HasName table) (cons_option o (filter_map (kept_row table accepts) (rows_from table n (after table k))))
     by_row None is rest = rest
-    by_row (Some r) is rest = All-cons (HasName table) r (filter_map (kept_row table index) (rows_from table n (after table k))) (kept_has_name table index k r is) rest
+    by_row (Some r) is rest = All-cons (HasName table) r (filter_map (kept_row table accepts) (rows_from table n (after table k))) (kept_has_name table accepts k r is) rest
 
-    by_test : (b : Bool) → All (HasName table) (filter_map (kept_row table index) (rows_from table n (after table k))) → All (HasName table) (filter_map (kept_row table index) (cond b (k ∷ rows_from table n (after table k)) []))
-    by_test true rest = by_row (kept_row table index k) refl rest
+    by_test : (b : Bool) → All (HasName table) (filter_map (kept_row table accepts) (rows_from table n (after table k))) → All (HasName table) (filter_map (kept_row table accepts) (cond b (k ∷ rows_from table n (after table k)) []))
+    by_test true rest = by_row (kept_row table accepts k) refl rest
     by_test false rest = All-nil (HasName table)
 
-arranged_named : (table : SymbolTable) (index : ℕ) → All (HasName table) (arranged (kept_rows table index))
+arranged_named : (table : SymbolTable) (accepts : SymbolRow ℕ → Bool) → All (HasName table) (arranged (kept_rows table accepts))
 unfolding kept_rows
-arranged_named table index = All-permutation (HasName table) (kept_rows table index) (arranged (kept_rows table index)) (arranged_same (kept_rows table index)) (all_from table index (record_count table) 0)
+arranged_named table accepts = All-permutation (HasName table) (kept_rows table accepts) (arranged (kept_rows table accepts)) (arranged_same (kept_rows table accepts)) (all_from table accepts (record_count table) 0)
 
 first_entry : (table : SymbolTable) (members : List ℕ) (rows : List RowAddress) → rows ≢ [] → All (HasName table) rows → filter_map (entry_of table members) rows ≢ []
 first_entry table members [] some all = absurd (some refl)
@@ -199,10 +199,10 @@ not_nothing [] ys same some none = some refl
 not_nothing (x ∷ xs) ys same some none = let long : length ys ≡ length (x ∷ xs) = length_permutation (x ∷ xs) ys same in absurd (omega (arith, ap length none))
 
 -- with a kept row there is an entry
-pub some_entry : (table : SymbolTable) (index t : ℕ) → kept_rows table index ≢ [] → entries_of table index t ≢ []
+pub some_entry : (table : SymbolTable) (accepts : SymbolRow ℕ → Bool) (t : ℕ) → kept_rows table accepts ≢ [] → entries_of table accepts t ≢ []
 unfolding entries_of
-some_entry table index t some =
-    first_entry table (size_members t (kept_rows table index)) (arranged (kept_rows table index)) (not_nothing (kept_rows table index) (arranged (kept_rows table index)) (arranged_same (kept_rows table index)) some) (arranged_named table index)
+some_entry table accepts t some =
+    first_entry table (size_members t (kept_rows table accepts)) (arranged (kept_rows table accepts)) (not_nothing (kept_rows table accepts) (arranged (kept_rows table accepts)) (arranged_same (kept_rows table accepts)) some) (arranged_named table accepts)
 
 numbered_long : (n : ℕ) (addresses : List ℕ) → length (numbered n addresses) ≡ length addresses
 numbered_long n [] = refl

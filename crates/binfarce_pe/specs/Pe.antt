@@ -1,5 +1,5 @@
 -- PE files (Microsoft PE Format): the fields of the file header and of the section headers. Every number is little endian.
-use Rattle.std.specs.Prelude.{ℕ, ◌+◌, ◌-◌, ◌*◌, ◌/◌, Bool, ◌&&◌, List, length, Option, Some, None, Result, nat_lt, nat_le, min, max, if◌then◌else◌}
+use Rattle.std.specs.Prelude.{ℕ, ◌+◌, ◌-◌, ◌*◌, ◌/◌, Bool, ◌&&◌, List, length, Option, Some, None, Result, nat_eq, nat_lt, nat_le, min, max, if◌then◌else◌}
 use Rattle.std.specs.Option.{option_map}
 use Rattle.std.specs.List.{range_with_len, filter_map}
 use Rattle.std.specs.Str.{bytes_eq}
@@ -86,6 +86,19 @@ header_of file = header_after file (signature_offset file)
 -- where the section table begins: after the file header and the optional header
 abbrev pub sections_offset : List ℕ → ℕ
 sections_offset file = signature_offset file + headers_length + (header_of file).size_of_optional_header
+
+-- how many bytes of an optional header state the image base: in PE32 it ends at 32, in PE32+ too
+abbrev pub optional_header_length : ℕ
+optional_header_length = 32
+
+-- ImageBase, by the magic number of an optional header that begins with these bytes: PE32 (0x10B) or PE32+ (0x20B); none for another, and for fewer bytes
+unfoldable pub image_base : List ℕ → Option ℕ
+image_base header =
+    let magic = number_in header 0 (field 0 2) in
+    if nat_lt (length header) optional_header_length then None
+    else if nat_eq magic 0x10B then Some (number_in header 0 (field 28 4))
+    else if nat_eq magic 0x20B then Some (number_in header 0 (field 24 8))
+    else None
 
 -- the values of a section header, and the section's index
 pub record Section : Type 0 where

@@ -5,11 +5,14 @@ use Rattle.binfarce_bytes.specs.Refusal.{◌>>=◌, Refusal, required, symbols_s
 use Rattle.binfarce_bytes.specs.Walk.{Walk, first}
 use Rattle.binfarce_pe.specs.declared.parts.Places.{Places}
 use Rattle.binfarce_pe.specs.declared.parts.Text.{Text}
-use Rattle.binfarce_pe.specs.Pe.{Header, header_of, headers_length, signature_offset, sections_offset, Section, section_at, section_length, section_unread, is_named}
+use Rattle.binfarce_pe.specs.Pe.{Header, header_of, headers_length, optional_header_length, signature_offset, sections_offset, Section, section_at, section_length, section_unread, is_named}
 use Rattle.binfarce_pe.specs.PeSymbols.{symbol_length}
 
--- where the section table begins, and how many headers it has; where the symbol table begins, and how many bytes its records have
+-- where the optional header begins, and how many bytes of it state the image base; where the section table begins, and how many headers it has; where the
+-- symbol table begins, and how many bytes its records have
 pub record TablePlaces : Type 0 where
+  pub optional_header : ℕ
+  pub optional_header_size : ℕ
   pub sections : ℕ
   pub section_count : ℕ
   pub symbols : ℕ
@@ -18,6 +21,8 @@ pub record TablePlaces : Type 0 where
 -- as the file header after a signature at this offset states them
 abbrev pub places_after : ℕ → Header ℕ → TablePlaces
 places_after signature header = record {
+  optional_header = signature + headers_length;
+  optional_header_size = min header.size_of_optional_header optional_header_length;
   sections = signature + headers_length + header.size_of_optional_header;
   section_count = header.number_of_sections;
   symbols = header.pointer_to_symbol_table;
@@ -29,7 +34,7 @@ places_of file = places_after (signature_offset file) (header_of file)
 
 -- a `Places`
 abbrev pub places_view : Places → TablePlaces
-places_view p = record { sections = p.sections; section_count = p.section_count; symbols = p.symbols; symbols_size = p.symbols_size }
+places_view p = record { optional_header = p.optional_header; optional_header_size = p.optional_header_size; sections = p.sections; section_count = p.section_count; symbols = p.symbols; symbols_size = p.symbols_size }
 
 -- section headers: the bytes that hold them, their offset in these bytes, and their number
 pub record SectionTable : Type 0 where

@@ -76,22 +76,25 @@ name_of table k row =
     if nat_eq row.zeroes 0 then text_at table.strings row.offset
     else padded_text (bytes_at table.rows (k * symbol_length) 8)
 
--- a function (the complex type, from bit 4 of the type on, is 2) that is external (class 2), in the section of this index; the file numbers sections
--- from 1 on
+-- a function: the complex type, from bit 4 of the type on, is 2
+abbrev pub is_function : SymbolRow ℕ → Bool
+is_function row = nat_eq (row.kind / 16) 2
+
+-- one that is external (class 2), in the section of this index; the file numbers sections from 1 on
 abbrev pub is_function_of : ℕ → SymbolRow ℕ → Bool
-is_function_of index row = nat_eq (row.kind / 16) 2 && nat_eq row.storage_class 2 && nat_eq row.section_number (index + 1)
+is_function_of index row = is_function row && nat_eq row.storage_class 2 && nat_eq row.section_number (index + 1)
 
--- the name of such a function
-unfoldable pub function_name : SymbolTable → ℕ → ℕ → SymbolRow ℕ → Option (List ℕ)
-function_name table index k row = if is_function_of index row then name_of table k row else None
+-- the name of a row that is accepted
+unfoldable pub function_name : SymbolTable → (SymbolRow ℕ → Bool) → ℕ → SymbolRow ℕ → Option (List ℕ)
+function_name table accepts k row = if accepts row then name_of table k row else None
 
--- the address and the number of a row that is kept: a function of the section whose name can be read
-abbrev pub kept_row : SymbolTable → ℕ → ℕ → Option RowAddress
-kept_row table index k = option_map (λ _. record { address = (symbol_of table k).value; row = k }) (function_name table index k (symbol_of table k))
+-- the address and the number of a row that is kept: one that is accepted, and whose name can be read
+abbrev pub kept_row : SymbolTable → (SymbolRow ℕ → Bool) → ℕ → Option RowAddress
+kept_row table accepts k = option_map (λ _. record { address = (symbol_of table k).value; row = k }) (function_name table accepts k (symbol_of table k))
 
 -- the rows that are kept, in table order
-unfoldable pub kept_rows : SymbolTable → ℕ → List RowAddress
-kept_rows table index = filter_map (kept_row table index) (row_numbers table)
+unfoldable pub kept_rows : SymbolTable → (SymbolRow ℕ → Bool) → List RowAddress
+kept_rows table accepts = filter_map (kept_row table accepts) (row_numbers table)
 
 -- the size at an address: up to the least member above it, and 0 where there is none
 abbrev pub size_among : List ℕ → ℕ → ℕ
@@ -99,19 +102,19 @@ size_among members address = unwrap_or (option_map (λ above. above - address) (
 
 -- the bounds that sizes end at: the section's size and the addresses of the kept rows
 abbrev pub size_members : ℕ → List RowAddress → List ℕ
-size_members text_size rows = text_size ∷ addresses_of rows
+size_members section_size rows = section_size ∷ addresses_of rows
 
 -- the entry of a kept row
 abbrev pub entry_of : SymbolTable → List ℕ → RowAddress → Option Entry
 entry_of table members at = option_map (λ name. record { name = name; address = at.address; size = size_among members at.address }) (name_of table at.row (symbol_of table at.row))
 
 -- the entries of kept rows in this order; each has a name, so that none is left out
-abbrev pub entries_in : SymbolTable → ℕ → ℕ → List RowAddress → List Entry
-entries_in table index text_size in_order = filter_map (entry_of table (size_members text_size (kept_rows table index))) in_order
+abbrev pub entries_in : SymbolTable → (SymbolRow ℕ → Bool) → ℕ → List RowAddress → List Entry
+entries_in table accepts section_size in_order = filter_map (entry_of table (size_members section_size (kept_rows table accepts))) in_order
 
 -- the entries of the kept rows, in the order of (address, row number)
-unfoldable pub entries_of : SymbolTable → ℕ → ℕ → List Entry
-entries_of table index text_size = entries_in table index text_size (arranged (kept_rows table index))
+unfoldable pub entries_of : SymbolTable → (SymbolRow ℕ → Bool) → ℕ → List Entry
+entries_of table accepts section_size = entries_in table accepts section_size (arranged (kept_rows table accepts))
 
 -- the text: the first section `.text`
 abbrev pub text_section : List ℕ → Result Section Refusal
@@ -146,7 +149,7 @@ located file = do
 unfoldable pub pe_answer : List ℕ → Result Listed Refusal
 pe_answer file = do
   found ← located file
-  Ok (record { entries = entries_of found.table found.text.index found.text.size_of_raw_data; section_size = found.text.size_of_raw_data })
+  Ok (record { entries = entries_of found.table (is_function_of found.text.index) found.text.size_of_raw_data; section_size = found.text.size_of_raw_data })
 
 -- that of a file that has a header
 abbrev pub pe_file_answer : List ℕ → Result Listed Refusal
@@ -155,5 +158,5 @@ pe_file_answer file = if_as_long_as (least_length file) file (pe_answer file)
 -- a law of `pe_answer`: its entries are those of the kept rows, arranged so that (address, row number) rises strictly
 abbrev pub ArrangesRows : List ℕ → Type 0
 ArrangesRows file = (found : Located) (listed : Listed) → located file ≡ Ok found → pe_answer file ≡ Ok listed
-    → ListsArranged (kept_rows found.table found.text.index)
-    (λ in_order entries. entries ≡ entries_in found.table found.text.index found.text.size_of_raw_data in_order) listed.entries
+    → ListsArranged (kept_rows found.table (is_function_of found.text.index))
+    (λ in_order entries. entries ≡ entries_in found.table (is_function_of found.text.index) found.text.size_of_raw_data in_order) listed.entries

@@ -1,27 +1,30 @@
-//! The function symbols of all sections.
+//! The function symbols of all sections, at their addresses in memory.
 
-ghost use Rattle.std.specs.Prelude.{◌≡◌, ◌≢◌, ℕ, ◌+◌, ◌*◌, ◌<◌, ◌≤◌, ◌++◌, [], ◌∷◌, length, map, All, IfOk, OnErr, MatchOption};
+ghost use Rattle.std.specs.Prelude.{◌≡◌, ◌≢◌, ℕ, ◌+◌, ◌*◌, ◌<◌, ◌≤◌, ◌++◌, true, false, [], ◌∷◌, length, map, All, IfOk, OnErr, MatchOption};
 ghost use Rattle.std.specs.Option.{option_map};
 ghost use Rattle.binfarce_bytes.specs.Refusal.{Gives, refusal_of};
 ghost use Rattle.binfarce_bytes.specs.SectionEntries.{AnswersAll, in_section};
 ghost use Rattle.binfarce_bytes.specs.SymbolViews.{function_view, section_function_view, HoldsSectionFunctions};
 ghost use Rattle.binfarce_pe.specs.Pe.{section_at};
-ghost use Rattle.binfarce_pe.specs.PeAll.{size_in, name_of, all_entries, whole_sections, all_answer, HasSection};
+ghost use Rattle.binfarce_pe.specs.PeAll.{is_external_or_static, memory_size, memory_address, entry_from, name_of, all_entries, whole_sections, all_answer, HasSection};
 ghost use Rattle.binfarce_pe.specs.PeParts.{places_of, places_view, headers_alone, whole_in};
 ghost use Rattle.binfarce_pe.specs.machine.RawPe.{headers_view, table_view, symbol_view, HoldsSections};
 
+use crate::header::image_base;
 use crate::parts::{Places, SECTION_LENGTH};
 use crate::sections::{Table, section_at, section_table};
 use crate::symbols::{
-    Kept, SYMBOL_LENGTH, SymbolRow, SymbolTable, function_name, kept_functions, symbol_of,
-    symbol_table,
+    IMAGE_SYM_CLASS_EXTERNAL, Kept, SYMBOL_LENGTH, SymbolRow, SymbolTable, is_function,
+    kept_functions, name_of, symbol_of, symbol_table,
 };
 use binfarce_bytes::functions::{FunctionSymbol, SectionFunction};
-use binfarce_bytes::parser::number_at;
+use binfarce_bytes::parser::{number_at, slice_at};
 use binfarce_bytes::sizes::RowAddress;
 use binfarce_bytes::{ByteOrder, ParseError};
 use std::alloc::{AllocError, Global};
 use std::mem;
+
+const IMAGE_SYM_CLASS_STATIC: u8 = 3;
 
 /// The function symbols of all sections of a file whose tables are at these places: the answer of `all_functions` of a
 /// reader, with its refusals. `OutOfMemory` only where the file has a section.
@@ -34,15 +37,17 @@ pub fn functions_of_sections<'a>(
     requires { places_view places ≡ places_of file.now }
     ensures { AnswersAll HoldsSectionFunctions (HasSection file.now) (all_answer file.now) result }
 {
+    let header = slice_at(file, places.optional_header, places.optional_header_size)?;
     let sections = whole_sections(section_table(file, places))?;
     let symbols = symbol_table(file, places)?;
-    Ok(functions_in(alloc, sections, symbols)?)
+    Ok(functions_in(alloc, image_base(header), sections, symbols)?)
 }
 
-/// The function symbols of all sections, which have these headers, in these records, whose long names are in these strings.
-/// `OutOfMemory` comes only where there is a section.
+/// The function symbols of all sections of a file with this image base, whose sections have these headers, in these records,
+/// whose long names are in these strings. `OutOfMemory` comes only where there is a section.
 pub fn functions_of_headers<'a>(
     alloc: Global,
+    image_base: Option<u64>,
     headers: &[u8],
     count: u16,
     rows: &'a [u8],
@@ -51,25 +56,16 @@ pub fn functions_of_headers<'a>(
     requires { count ≤ whole_in (headers_alone headers.now count) }
     ensures functions { IfOk result
         (λ v. map section_function_view v.items
-        ≡ all_entries (headers_alone headers.now count)
+        ≡ all_entries image_base (headers_alone headers.now count)
         (record { rows = rows.entry.now; strings = strings.entry.now })) }
     ensures memory { OnErr result (count ≢ 0) }
 {
-    functions_in(
-        alloc,
-        table_of(headers, count),
-        SymbolTable { rows, strings },
-    )
-}
-
-fn table_of(headers: &[u8], count: u16) -> Table<'_>
-    ensures { headers_view result ≡ headers_alone headers.entry.now count }
-{
-    Table {
+    let sections = Table {
         bytes: headers,
         offset: 0,
         count,
-    }
+    };
+    functions_in(alloc, image_base, sections, SymbolTable { rows, strings })
 }
 
 /// The name of the section of this number, where there is one and its name is UTF-8; a part of these headers.
@@ -78,19 +74,10 @@ pub fn section_name(headers: &[u8], count: u16, number: u32) -> Option<&str>
     ensures { option_map (λ t. t.now) result ≡ name_of (headers_alone headers.entry.now count) number }
 {
     let index = number.checked_sub(1)?;
-    if index < u32::from(count) {
-        name_at(headers, index as u16)
-    } else {
-        None
+    if index >= u32::from(count) {
+        return None;
     }
-}
-
-fn name_at(headers: &[u8], index: u16) -> Option<&str>
-    requires { index * 40 + 24 ≤ length headers.now }
-    ensures { option_map (λ t. t.now) result
-        ≡ option_map (λ s. s.name) (section_at headers.entry.now (index * 40) index) }
-{
-    match section_at(headers, index as usize * SECTION_LENGTH, index).unwrap() {
+    match section_at(headers, index as usize * SECTION_LENGTH, index as u16).unwrap() {
         None => None,
         Some(section) => Some(section.name),
     }
@@ -113,49 +100,76 @@ fn whole_sections(sections: Table<'_>) -> Result<Table<'_>, ParseError>
 // The function symbols of all sections, none of whose headers is truncated.
 fn functions_in<'a>(
     alloc: Global,
+    image_base: Option<u64>,
     sections: Table<'_>,
     symbols: SymbolTable<'a>,
 ) -> Result<Vec<SectionFunction<'a>>, AllocError>
     requires { sections.count ≤ whole_in (headers_view sections) }
     ensures functions { IfOk result
         (λ v. map section_function_view v.items
-        ≡ all_entries (headers_view sections.entry) (table_view symbols.entry)) }
+        ≡ all_entries image_base (headers_view sections.entry) (table_view symbols.entry)) }
     ensures memory { OnErr result (sections.entry.count ≢ 0) }
 {
     let mut kept = kept_by_section(alloc, symbols, sections.count)?;
     let mut all = Vec::new(alloc);
     for index in 0..sections.count {
         let rows = mem::replace(&mut kept[index as usize], nothing_kept(alloc));
-        let functions = kept_functions(alloc, rows, size_in(sections, index))?;
-        push_all(&mut all, u32::from(index) + 1, &functions)?;
+        let functions = kept_functions(alloc, rows, memory_size(sections, index))?;
+        let start = memory_address(image_base, sections, index);
+        push_all(&mut all, u32::from(index) + 1, start, &functions)?;
     }
     Ok(all)
 }
 
-// How many bytes the section of this index has in the file.
-#[tactic(auto, unfolding(crate::specs::PeAll::size_in, crate::specs::Pe::section_fields))]
-fn size_in(sections: Table<'_>, index: u16) -> u32
+// How many bytes the section of this index has in memory, or in an object.
+#[tactic(auto, unfolding(crate::specs::PeAll::memory_size, crate::specs::Pe::section_fields))]
+fn memory_size(sections: Table<'_>, index: u16) -> u32
     requires { index < whole_in (headers_view sections) }
-    ensures { result ≡ size_in (headers_view sections.entry) index }
+    ensures { result ≡ memory_size (headers_view sections.entry) index }
 {
     let start = sections.offset + index as usize * SECTION_LENGTH;
-    number_at(sections.bytes, start + 16, ByteOrder::LittleEndian).unwrap()
+    let size = number_at(sections.bytes, start + 8, ByteOrder::LittleEndian).unwrap();
+    if size == 0 {
+        number_at(sections.bytes, start + 16, ByteOrder::LittleEndian).unwrap()
+    } else {
+        size
+    }
 }
 
-// Adds the function symbols of the section of this number.
+// Where the section of this index begins in memory; 0 in an object.
+#[tactic(auto, unfolding(crate::specs::PeAll::memory_address, crate::specs::Pe::section_fields))]
+fn memory_address(image_base: Option<u64>, sections: Table<'_>, index: u16) -> u64
+    requires { index < whole_in (headers_view sections) }
+    ensures { result ≡ memory_address image_base (headers_view sections.entry) index }
+{
+    let start = sections.offset + index as usize * SECTION_LENGTH;
+    let address: u32 = number_at(sections.bytes, start + 12, ByteOrder::LittleEndian).unwrap();
+    match image_base {
+        None => 0,
+        Some(base) => base.wrapping_add(u64::from(address)),
+    }
+}
+
+// Adds the function symbols of the section of this number, which begins at `start` in memory.
 fn push_all<'a>(
     all: &mut Vec<SectionFunction<'a>>,
     section: u32,
+    start: u64,
     functions: &[FunctionSymbol<'a>],
 ) -> Result<(), AllocError>
     ensures pushed { IfOk result (λ _. map section_function_view all.new.items
-        ≡ map section_function_view all.old.items ++ in_section section (map function_view functions.now)) }
+        ≡ map section_function_view all.old.items
+        ++ in_section section (map (entry_from start) (map function_view functions.now))) }
     ensures memory { OnErr result (functions.now ≢ []) }
 {
     for function in functions {
         all.push(SectionFunction {
             section,
-            function: *function,
+            function: FunctionSymbol {
+                name: function.name,
+                address: start.wrapping_add(function.address),
+                size: function.size,
+            },
         })?;
     }
     Ok(())
@@ -181,7 +195,7 @@ fn kept_by_section<'a>(
             None => continue,
             Some(index) => index,
         };
-        let name = match function_name(symbols, index, number, row) {
+        let name = match name_of(symbols, number, row) {
             None => continue,
             Some(name) => name,
         };
@@ -190,12 +204,19 @@ fn kept_by_section<'a>(
     Ok(kept)
 }
 
-// The index of a row's section, where it is below the count.
+// The index of the section of an external or static function, where it is below the count.
 fn index_of(row: SymbolRow, count: u16) -> Option<u16>
     ensures { MatchOption result
-        ((index : ℕ) → index < count → (symbol_view row).section_number ≢ index + 1)
-        (λ index. (index < count) × ((symbol_view row).section_number ≡ index + 1)) }
+        ((index : ℕ) → index < count → is_external_or_static index (symbol_view row) ≡ false)
+        (λ index. (index < count) × (is_external_or_static index (symbol_view row) ≡ true)
+        × ((symbol_view row).section_number ≡ index + 1)) }
 {
+    if !is_function(row)
+        || row.storage_class != IMAGE_SYM_CLASS_EXTERNAL
+            && row.storage_class != IMAGE_SYM_CLASS_STATIC
+    {
+        return None;
+    }
     let index = row.section_number.checked_sub(1)?;
     if index < count { Some(index) } else { None }
 }

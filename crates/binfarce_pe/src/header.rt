@@ -1,12 +1,16 @@
 //! The file header (Microsoft PE Format, "COFF File Header").
 
 ghost use Rattle.std.specs.Prelude.{◌≡◌, ◌+◌, ◌<◌, ◌≤◌, length, MatchResult};
-ghost use Rattle.binfarce_pe.specs.Pe.{least_length, signature_offset, header_after, header_of};
+ghost use Rattle.binfarce_pe.specs.Pe.{least_length, signature_offset, header_after, header_of, image_base};
 ghost use Rattle.binfarce_pe.specs.PeViews.{header_view};
 
-use crate::parts::SIGNATURE_POINTER;
+use crate::parts::{OPTIONAL_HEADER_LENGTH, SIGNATURE_POINTER};
 use binfarce_bytes::ByteOrder;
 use binfarce_bytes::parser::{Stream, UnexpectedEof, number_at};
+
+const IMAGE_NT_OPTIONAL_HDR32_MAGIC: u16 = 0x10b;
+
+const IMAGE_NT_OPTIONAL_HDR64_MAGIC: u16 = 0x20b;
 
 /// The COFF file header ("COFF File Header").
 #[derive(Debug, Clone, Copy)]
@@ -50,4 +54,24 @@ pub(crate) fn header_after(file: &[u8], signature: usize) -> Result<PeHeader, Un
         size_of_optional_header: s.read()?,
         characteristics: s.read()?,
     })
+}
+
+/// The image base (`ImageBase`) by an optional header that begins with these bytes. `None` for less than 32 bytes, and where
+/// the magic number is neither that of PE32 nor that of PE32+, as in an object file.
+#[tactic(auto, unfolding(crate::specs::Pe::image_base))]
+pub fn image_base(optional_header: &[u8]) -> Option<u64>
+    ensures { result ≡ image_base optional_header.now }
+{
+    if optional_header.len() < OPTIONAL_HEADER_LENGTH {
+        return None;
+    }
+    let magic: u16 = number_at(optional_header, 0, ByteOrder::LittleEndian).unwrap();
+    if magic == IMAGE_NT_OPTIONAL_HDR32_MAGIC {
+        let base: u32 = number_at(optional_header, 28, ByteOrder::LittleEndian).unwrap();
+        Some(u64::from(base))
+    } else if magic == IMAGE_NT_OPTIONAL_HDR64_MAGIC {
+        Some(number_at(optional_header, 24, ByteOrder::LittleEndian).unwrap())
+    } else {
+        None
+    }
 }

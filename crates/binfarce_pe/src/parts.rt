@@ -7,7 +7,7 @@ ghost use Rattle.binfarce_bytes.specs.Refusal.{Gives, refusal_of, unexpected_eof
 ghost use Rattle.binfarce_bytes.specs.SymbolViews.{function_view};
 ghost use Rattle.binfarce_pe.specs.Pe.{header_after};
 ghost use Rattle.binfarce_pe.specs.PeParts.{places_after, places_view, headers_alone, text_place, text_view};
-ghost use Rattle.binfarce_pe.specs.PeSymbols.{entries_of};
+ghost use Rattle.binfarce_pe.specs.PeSymbols.{is_function_of, entries_of};
 ghost use Rattle.binfarce_pe.specs.PeViews.{header_view};
 
 use crate::header::{PeHeader, header_after};
@@ -24,12 +24,19 @@ pub const SIGNATURE_POINTER: usize = 0x3c;
 /// The length in bytes of the signature and the file header.
 pub const HEADERS_LENGTH: usize = 24;
 
+/// The length in bytes of the beginning of an optional header that states the image base.
+pub const OPTIONAL_HEADER_LENGTH: usize = 32;
+
 /// The length in bytes of a section header.
 pub const SECTION_LENGTH: usize = 40;
 
 /// Where the tables of a file are, in bytes from its beginning.
 #[derive(Clone, Copy)]
 pub struct Places {
+    /// Where the optional header begins.
+    pub optional_header: usize,
+    /// How many of its first 32 bytes it has; they state the image base.
+    pub optional_header_size: usize,
     /// Where the section table begins.
     pub sections: usize,
     /// How many section headers it has.
@@ -72,8 +79,11 @@ pub fn places_after(signature: u32, header: PeHeader) -> Places
     ensures { places_view result ≡ places_after signature (header_view header) }
 {
     let optional_header = signature as usize + HEADERS_LENGTH;
+    let size = header.size_of_optional_header as usize;
     Places {
-        sections: optional_header + header.size_of_optional_header as usize,
+        optional_header,
+        optional_header_size: size.min(OPTIONAL_HEADER_LENGTH),
+        sections: optional_header + size,
         section_count: header.number_of_sections,
         symbols: header.pointer_to_symbol_table as usize,
         symbols_size: header.number_of_symbols as usize * SYMBOL_LENGTH,
@@ -107,9 +117,11 @@ pub fn functions_in<'a>(
 ) -> Result<Vec<FunctionSymbol<'a>>, AllocError>
     ensures functions { IfOk result
         (λ v. map function_view v.items
-        ≡ entries_of (record { rows = rows.entry.now; strings = strings.entry.now }) text.index text.size) }
+        ≡ entries_of (record { rows = rows.entry.now; strings = strings.entry.now }) (is_function_of text.index)
+        text.size) }
     ensures memory { OnErr result
-        (entries_of (record { rows = rows.entry.now; strings = strings.entry.now }) text.index text.size ≢ []) }
+        (entries_of (record { rows = rows.entry.now; strings = strings.entry.now }) (is_function_of text.index)
+        text.size ≢ []) }
 {
     functions_of(alloc, SymbolTable { rows, strings }, text.index, text.size)
 }

@@ -5,10 +5,10 @@ ghost use Rattle.std.specs.Option.{option_map};
 ghost use Rattle.binfarce_bytes.specs.Refusal.{Gives, refusal_of};
 ghost use Rattle.binfarce_bytes.specs.Entries.{Answers, ListsSome};
 ghost use Rattle.binfarce_bytes.specs.SymbolViews.{function_view, HoldsFunctions};
-ghost use Rattle.binfarce_pe.specs.PeSymbols.{pe_answer, text_section, symbol_table, located, symbol_at, record_count, symbol_of, name_of, function_name, kept_rows, size_members, entries_of};
+ghost use Rattle.binfarce_pe.specs.PeSymbols.{pe_answer, text_section, symbol_table, is_function_of, is_function, located, symbol_at, record_count, symbol_of, name_of, function_name, kept_rows, size_members, entries_of};
 ghost use Rattle.binfarce_pe.specs.PeParts.{text_among, places_of, places_view};
 ghost use Rattle.binfarce_pe.specs.PeViews.{section_view};
-ghost use Rattle.binfarce_pe.specs.machine.RawPe.{headers_view, table_view, located_view, symbol_view, HoldsKept, ListsKept, function_at};
+ghost use Rattle.binfarce_pe.specs.machine.RawPe.{headers_view, table_view, located_view, symbol_view, HoldsRows, ListsKept, function_at};
 ghost use Rattle.binfarce_bytes.specs.Sizes.{addresses_of, least_above, least_of};
 ghost use Rattle.binfarce_bytes.specs.RowViews.{rows_view};
 
@@ -22,7 +22,7 @@ use std::alloc::{AllocError, Global};
 
 pub(crate) const SYMBOL_LENGTH: usize = 18;
 
-const IMAGE_SYM_CLASS_EXTERNAL: u8 = 2;
+pub(crate) const IMAGE_SYM_CLASS_EXTERNAL: u8 = 2;
 
 const IMAGE_SYM_DTYPE_SHIFT: u16 = 4;
 
@@ -49,8 +49,8 @@ pub(crate) struct SymbolRow {
     offset: u32,
     pub(crate) value: u32,
     pub(crate) section_number: u16,
-    kind: u16,
-    storage_class: u8,
+    pub(crate) kind: u16,
+    pub(crate) storage_class: u8,
     pub(crate) number_of_aux_symbols: u8,
 }
 
@@ -128,8 +128,9 @@ pub(crate) fn functions_of<'a>(
     text_size: u32,
 ) -> Result<Vec<FunctionSymbol<'a>>, AllocError>
     ensures functions { IfOk result
-        (λ v. map function_view v.items ≡ entries_of (table_view table.entry) index text_size) }
-    ensures memory { OnErr result (entries_of (table_view table.entry) index text_size ≢ []) }
+        (λ v. map function_view v.items
+        ≡ entries_of (table_view table.entry) (is_function_of index) text_size) }
+    ensures memory { OnErr result (entries_of (table_view table.entry) (is_function_of index) text_size ≢ []) }
 {
     let kept = kept_rows(alloc, table, index)?;
     kept_functions(alloc, kept, text_size)
@@ -161,9 +162,8 @@ pub(crate) fn kept_functions<'a>(
 // The rows that are kept, in table order.
 fn kept_rows<'a>(alloc: Global, table: SymbolTable<'a>, index: u16) -> Result<Kept<'a>, AllocError>
     ensures kept { IfOk result
-        (λ k. HoldsKept (table_view table.entry) (kept_rows (table_view table.entry) index) (rows_view k.rows.items)
-        (map (λ t. t.now) k.names.items)) }
-    ensures memory { OnErr result (kept_rows (table_view table.entry) index ≢ []) }
+        (λ k. HoldsRows (table_view table.entry) (is_function_of index) k) }
+    ensures memory { OnErr result (kept_rows (table_view table.entry) (is_function_of index) ≢ []) }
 {
     let count = table.rows.len() / SYMBOL_LENGTH;
     let mut rows = Vec::new(alloc);
@@ -229,16 +229,17 @@ fn size_up_to(address: u64, above: Option<u64>, text_size: u64) -> u64
 
 // The name of an external function of the section with this index.
 #[tactic(auto, unfolding(crate::specs::PeSymbols::function_name))]
-pub(crate) fn function_name<'a>(
+fn function_name<'a>(
     table: SymbolTable<'a>,
     index: u16,
     number: usize,
     row: SymbolRow,
 ) -> Option<&'a str>
     requires { number < record_count (table_view table) }
-    ensures { option_map (λ t. t.now) result ≡ function_name (table_view table.entry) index number (symbol_view row) }
+    ensures { option_map (λ t. t.now) result
+        ≡ function_name (table_view table.entry) (is_function_of index) number (symbol_view row) }
 {
-    if row.kind >> IMAGE_SYM_DTYPE_SHIFT == IMAGE_SYM_DTYPE_FUNCTION
+    if is_function(row)
         && row.storage_class == IMAGE_SYM_CLASS_EXTERNAL
         && u32::from(row.section_number) == u32::from(index) + 1
     {
@@ -248,9 +249,16 @@ pub(crate) fn function_name<'a>(
     }
 }
 
+#[inline]
+pub(crate) fn is_function(row: SymbolRow) -> bool
+    ensures { result ≡ is_function (symbol_view row) }
+{
+    row.kind >> IMAGE_SYM_DTYPE_SHIFT == IMAGE_SYM_DTYPE_FUNCTION
+}
+
 // A row's name: its own 8 bytes, or the text in the string table.
 #[tactic(auto, unfolding(crate::specs::PeSymbols::name_of))]
-fn name_of<'a>(table: SymbolTable<'a>, number: usize, row: SymbolRow) -> Option<&'a str>
+pub(crate) fn name_of<'a>(table: SymbolTable<'a>, number: usize, row: SymbolRow) -> Option<&'a str>
     requires { number < record_count (table_view table) }
     ensures { option_map (λ t. t.now) result ≡ name_of (table_view table.entry) number (symbol_view row) }
 {

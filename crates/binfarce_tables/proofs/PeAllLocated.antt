@@ -1,17 +1,18 @@
 -- The entries of all sections of a PE file, by what was read of it.
-use Rattle.std.proofs.Common.{◌≡◌, ℕ, zero, suc, ◌+◌, ◌*◌, ◌-◌, ◌/◌, ◌<◌, ◌≤◌, Bool, true, false, cond, ltb, leb, ◌&&◌, List, ◌++◌, length, min, Vec, Global, Option, Some, None, Result, Ok, Err, inl, inr, refl, sym, ap, ap₂, ◌∙◌, arith}
+use Rattle.std.proofs.Common.{◌≡◌, ℕ, zero, suc, ◌+◌, ◌*◌, ◌-◌, ◌/◌, ◌%◌, ◌^◌, ◌<◌, ◌≤◌, Bool, true, false, cond, ltb, leb, ◌&&◌, List, ◌++◌, length, min, map, Vec, Global, Option, Some, None, Result, Ok, Err, inl, inr, refl, sym, ap, ap₂, subst, ◌∙◌, arith}
 use Rattle.std.proofs.Math.Path.{fun_ext}
 use Rattle.std.proofs.lemmas.Bool.{cases_lt, cases_eq, eq-eqb, ne_eqb, lt-ltb, le-ltb, lt-leb, le-leb, ltb-true, leb-true}
 use Rattle.std.proofs.lemmas.Nat.{le-div, div_below}
+use Rattle.std.specs.Prelude.{is_none}
 use Rattle.std.specs.List.{range_with_len, flat_map}
 use Rattle.std.specs.Option.{option_map}
 use Rattle.binfarce_bytes.specs.declared.ByteOrder.TheVariants.{LittleEndian}
-use Rattle.binfarce_bytes.specs.Field.{value_at}
+use Rattle.binfarce_bytes.specs.Field.{Field, value_at}
 use Rattle.binfarce_bytes.specs.Number.{bytes_at}
 use Rattle.binfarce_bytes.specs.Refusal.{◌>>=◌, Refusal, unexpected_eof}
 use Rattle.binfarce_bytes.specs.SectionEntries.{SectionEntry, AllSymbols, in_section, unless}
 use Rattle.binfarce_pe.specs.Pe.{Section, header_of, least_length, section_fields}
-use Rattle.binfarce_pe.specs.PeAll.{size_in, section_entries, all_entries, name_of, whole_sections, all_answer, all_file_answer}
+use Rattle.binfarce_pe.specs.PeAll.{base_at, is_external_or_static, number_of, memory_size, memory_address, entry_from, section_entries, all_entries, name_of, whole_sections, all_answer, all_file_answer}
 use Rattle.binfarce_pe.specs.PeParts.{TablePlaces, SectionTable, headers_alone, places_of, section_table, whole_in, table_walk}
 use Rattle.binfarce_pe.specs.PeSymbols.{SymbolTable, symbol_table, entries_of}
 use Rattle.binfarce_tables.specs.PeAllReading.{all_view}
@@ -21,6 +22,7 @@ use Rattle.binfarce_tables.specs.declared.error.ReadError.TheVariants.{Refused, 
 use Rattle.binfarce_tables.specs.Reading.{Reads}
 use Rattle.binfarce_tables.proofs.HeadersAlone.{value_in}
 use Rattle.binfarce_tables.proofs.PeAlone.{same_header}
+use Rattle.binfarce_tables.proofs.PeBeginning.{places_read}
 use Rattle.binfarce_tables.proofs.Readings.{taken}
 
 -- functions that agree on so many numbers
@@ -61,19 +63,27 @@ module _ (file : List ℕ) (places : TablePlaces) where
         most : (n len : ℕ) → n ≤ len / 40 → n * 40 ≤ len
         most n len le = grind arith
 
-    size_same : (i : ℕ) → i < places.section_count → size_in alone i ≡ size_in table i
-    unfolding size_in section_fields
-    size_same i lt =
-        ap (λ (k : ℕ). value_at LittleEndian alone.bytes k section_fields.size_of_raw_data) (from_start (i * 40))
-        ∙ value_in LittleEndian file places.sections (min (places.section_count * 40) (length file - places.sections)) (i * 40) section_fields.size_of_raw_data (omega (arith, fits i lt))
+    number_same : (i : ℕ) (f : Field) → i < places.section_count → f.offset + f.width ≤ 24 → number_of alone i f ≡ number_of table i f
+    number_same i f lt inside =
+        ap (λ (k : ℕ). value_at LittleEndian alone.bytes k f) (from_start (i * 40))
+        ∙ value_in LittleEndian file places.sections (min (places.section_count * 40) (length file - places.sections)) (i * 40) f (omega (arith, fits i lt, inside))
       where
         from_start : (n : ℕ) → 0 + n ≡ n
         from_start n = omega arith
 
-    entries_same : (symbols : SymbolTable) → all_entries alone symbols ≡ all_entries table symbols
-    entries_same symbols =
-        flat_map_same (section_entries alone symbols) (section_entries table symbols) 0 places.section_count
-        (λ i lt. ap (λ (size : ℕ). in_section (i + 1) (entries_of symbols i size)) (size_same i (omega (arith, lt))))
+    size_same : (i : ℕ) → i < places.section_count → memory_size alone i ≡ memory_size table i
+    unfolding memory_size section_fields
+    size_same i lt = rw (number_same i section_fields.virtual_size lt (omega arith), number_same i section_fields.size_of_raw_data lt (omega arith)) refl
+
+    address_same : (base : Option ℕ) (i : ℕ) → i < places.section_count → memory_address base alone i ≡ memory_address base table i
+    unfolding memory_address section_fields
+    address_same None i lt = refl
+    address_same (Some base) i lt = ap (λ (n : ℕ). (base + n) % 2 ^ 64) (number_same i section_fields.virtual_address lt (omega arith))
+
+    entries_same : (base : Option ℕ) (symbols : SymbolTable) → all_entries base alone symbols ≡ all_entries base table symbols
+    entries_same base symbols =
+        flat_map_same (section_entries base alone symbols) (section_entries base table symbols) 0 places.section_count
+        (λ i lt. ap₂ (λ (start size : ℕ). in_section (i + 1) (map (entry_from start) (entries_of symbols (is_external_or_static i) size))) (address_same base i (omega (arith, lt))) (size_same i (omega (arith, lt))))
 
     name_same : (number : ℕ) → name_of alone number ≡ name_of table number
     name_same number = elim (cases_eq number 0) [
@@ -84,8 +94,9 @@ module _ (file : List ℕ) (places : TablePlaces) where
       ]
     ]
 
-    pub view_same : (symbols : SymbolTable) → all_view (record { sections = alone; symbols = symbols }) ≡ record { entries = all_entries table symbols; section_name = name_of table; shares_addresses = true }
-    view_same symbols = ap₂ (λ (es : List SectionEntry) (names : ℕ → Option (List ℕ)). record { entries = es; section_name = names; shares_addresses = true }) (entries_same symbols) (fun_ext name_same)
+    pub view_same : (base : Option ℕ) (symbols : SymbolTable)
+        → all_view (record { image_base = base; sections = alone; symbols = symbols }) ≡ record { entries = all_entries base table symbols; section_name = name_of table; shares_addresses = is_none base }
+    view_same base symbols = ap₂ (λ (es : List SectionEntry) (names : ℕ → Option (List ℕ)). record { entries = es; section_name = names; shares_addresses = is_none base }) (entries_same base symbols) (fun_ext name_same)
 
   -- where nothing is refused, none is truncated
   held : (table_walk table).refusal ≡ None → (places.sections < length file) × (places.section_count ≤ whole_in table)
@@ -102,7 +113,7 @@ module _ (file : List ℕ) (places : TablePlaces) where
 
 -- what follows the places
 abbrev pub after_sections : List ℕ → TablePlaces → SectionTable → Result AllSymbols Refusal
-after_sections file places sections = table_at file places >>= λ symbols. Ok (all_view (record { sections = sections; symbols = symbols }))
+after_sections file places sections = table_at file places >>= λ symbols. Ok (all_view (record { image_base = base_at file places; sections = sections; symbols = symbols }))
 
 abbrev pub after_places : List ℕ → TablePlaces → Result AllSymbols Refusal
 after_places file places = whole_at file places >>= after_sections file places
@@ -111,30 +122,33 @@ table_is : (file : List ℕ) → symbol_table file ≡ table_at file (places_of 
 unfolding symbol_table
 table_is file = refl
 
-answer_by : SectionTable → Result SectionTable Refusal → Result SymbolTable Refusal → Result AllSymbols Refusal
-answer_by table sections symbols =
-    (sections >>= λ sections. symbols >>= λ symbols. Ok (all_entries sections symbols)) >>= λ entries. Ok (record { entries = entries; section_name = name_of table; shares_addresses = true })
+answer_by : Option ℕ → SectionTable → Result SectionTable Refusal → Result SymbolTable Refusal → Result AllSymbols Refusal
+answer_by base table sections symbols =
+    (sections >>= λ sections. symbols >>= λ symbols. Ok (all_entries base sections symbols)) >>= λ entries. Ok (record { entries = entries; section_name = name_of table; shares_addresses = is_none base })
 
-answer_is : (file : List ℕ) → (all_answer file >>= λ entries. Ok (record { entries = entries; section_name = name_of (section_table file); shares_addresses = true })) ≡ answer_by (section_table file) (whole_sections (section_table file)) (symbol_table file)
+answer_is : (file : List ℕ)
+    → (all_answer file >>= λ entries. Ok (record { entries = entries; section_name = name_of (section_table file); shares_addresses = is_none (base_at file (places_of file)) }))
+    ≡ answer_by (base_at file (places_of file)) (section_table file) (whole_sections (section_table file)) (symbol_table file)
 unfolding all_answer answer_by
 answer_is file = refl
 
 by_refusal : (file : List ℕ) (places : TablePlaces) (o : Option Refusal) (symbols : Result SymbolTable Refusal) → (table_walk (headers_at file places)).refusal ≡ o
-    → answer_by (headers_at file places) (unless o (headers_at file places)) symbols ≡ (unless o (alone_at file places) >>= λ sections. symbols >>= λ symbols. Ok (all_view (record { sections = sections; symbols = symbols })))
+    → answer_by (base_at file places) (headers_at file places) (unless o (headers_at file places)) symbols
+    ≡ (unless o (alone_at file places) >>= λ sections. symbols >>= λ symbols. Ok (all_view (record { image_base = base_at file places; sections = sections; symbols = symbols })))
 unfolding answer_by
 by_refusal file places (Some why) symbols is = refl
 by_refusal file places None (Err why) is = refl
-by_refusal file places None (Ok symbols) is = let none = held file places is in ap Ok (sym (view_same file places none.0 none.1 symbols))
+by_refusal file places None (Ok symbols) is = let none = held file places is in ap Ok (sym (view_same file places none.0 none.1 (base_at file places) symbols))
 
-after_is : (file : List ℕ) → answer_by (section_table file) (whole_sections (section_table file)) (symbol_table file) ≡ after_places file (places_of file)
+after_is : (file : List ℕ) → answer_by (base_at file (places_of file)) (section_table file) (whole_sections (section_table file)) (symbol_table file) ≡ after_places file (places_of file)
 after_is file =
-    ap (answer_by (section_table file) (whole_sections (section_table file))) (table_is file)
+    ap (answer_by (base_at file (places_of file)) (section_table file) (whole_sections (section_table file))) (table_is file)
     ∙ by_refusal file (places_of file) (table_walk (section_table file)).refusal (table_at file (places_of file)) refl
 
 pub steps_are : (file : List ℕ) → all_file_answer file ≡ (places_step file >>= after_places file)
 steps_are file = by_test (ltb (length file) (least_length file))
   where
-    by_test : (b : Bool) → cond b (Err unexpected_eof) (all_answer file >>= λ entries. Ok (record { entries = entries; section_name = name_of (section_table file); shares_addresses = true }))
+    by_test : (b : Bool) → cond b (Err unexpected_eof) (all_answer file >>= λ entries. Ok (record { entries = entries; section_name = name_of (section_table file); shares_addresses = is_none (base_at file (places_of file)) }))
         ≡ (cond b (Err unexpected_eof) (Ok (places_of file)) >>= after_places file)
     by_test true = refl
     by_test false = answer_is file ∙ after_is file
@@ -146,9 +160,16 @@ pub from_sections : (file : List ℕ) (places : TablePlaces) (sections : Section
 from_sections file places sections is whole = from_places file places is ∙ ap (λ (r : Result SectionTable Refusal). r >>= after_sections file places) whole
 
 pub all_read : (file : List ℕ) (places : TablePlaces) (sections : SectionTable) (symbols : SymbolTable) → places_step file ≡ Ok places → whole_at file places ≡ Ok sections → table_at file places ≡ Ok symbols
-    → all_file_answer file ≡ Ok (all_view (record { sections = sections; symbols = symbols }))
+    → all_file_answer file ≡ Ok (all_view (record { image_base = base_at file places; sections = sections; symbols = symbols }))
 all_read file places sections symbols is whole table =
-    from_sections file places sections is whole ∙ ap (λ (r : Result SymbolTable Refusal). r >>= λ symbols. Ok (all_view (record { sections = sections; symbols = symbols }))) table
+    from_sections file places sections is whole ∙ ap (λ (r : Result SymbolTable Refusal). r >>= λ symbols. Ok (all_view (record { image_base = base_at file places; sections = sections; symbols = symbols }))) table
+
+-- the optional header's beginning lies in the file, before the section headers
+pub optional_header_inside : (file : List ℕ) (places : TablePlaces) → places_step file ≡ Ok places → places.sections < length file → places.optional_header + places.optional_header_size ≤ length file
+optional_header_inside file places step begins =
+    let is = places_read file places step in
+    let inside : (places_of file).sections < length file = subst (λ (p : TablePlaces). p.sections < length file) is.0 begins in
+    subst (λ (p : TablePlaces). p.optional_header + p.optional_header_size ≤ length file) (sym is.0) (omega (arith, inside))
 
 -- the count that the file header states
 pub count_is : (file : List ℕ) (places : TablePlaces) → places_step file ≡ Ok places → places.section_count ≡ (header_of file).number_of_sections

@@ -8,13 +8,13 @@ use Rattle.binfarce_bytes.specs.Number.{bytes_at, number}
 use Rattle.binfarce_bytes.specs.Part.{Part, part, SameIn, SameParts}
 use Rattle.binfarce_bytes.specs.Refusal.{◌>>=◌, Refusal, unexpected_eof}
 use Rattle.binfarce_bytes.specs.SectionEntries.{unless}
-use Rattle.binfarce_pe.specs.Pe.{header_after, header_of, least_length, signature_offset}
-use Rattle.binfarce_pe.specs.PeAll.{all_file_answer}
+use Rattle.binfarce_pe.specs.Pe.{header_after, header_of, image_base, least_length, signature_offset}
+use Rattle.binfarce_pe.specs.PeAll.{base_at, all_file_answer}
 use Rattle.binfarce_pe.specs.PeParts.{TablePlaces, TextPlace, SectionTable, headers_alone, places_after, places_of, table_walk, text_place}
 use Rattle.binfarce_pe.specs.PeSymbols.{SymbolTable, pe_file_answer}
 use Rattle.binfarce_tables.specs.BeginningReading.{pe_sections}
 use Rattle.binfarce_tables.specs.PeAllReading.{all_view}
-use Rattle.binfarce_tables.specs.PeReads.{pointer_part, header_part, headers_part, table_parts, beginning_part, pe_section_parts, pe_parts}
+use Rattle.binfarce_tables.specs.PeReads.{pointer_part, header_part, headers_part, table_parts, beginning_part, optional_header_part, pe_section_parts, pe_parts, pe_all_parts}
 use Rattle.binfarce_tables.specs.machine.PePlaces.{places_step, headers_at, text_at, whole_at, table_at}
 use Rattle.binfarce_tables.proofs.PeAllLocated as all
 use Rattle.binfarce_tables.proofs.PeAlone.{headers_of, header_alone, text_alone, text_of_none, text_outside}
@@ -148,14 +148,22 @@ module _ (file other : List ℕ) (same : SameParts (pe_parts file) file other) w
       (ap₂ (λ (text : Result TextPlace Refusal) (table : Result SymbolTable Refusal). text >>= λ text. table >>= listed text) (text_same file other same.lengths (places_of file) headers) table)
       ∙ sym (steps_are file)
 
-  -- of all sections
-  pub all_answer_same : all_file_answer other ≡ all_file_answer file
-  all_answer_same =
+  -- of all sections, where they agree in the optional header's beginning too
+  all_answer_same : SameIn file other (optional_header_part (places_of file)) → all_file_answer other ≡ all_file_answer file
+  all_answer_same optional_header =
+      let places = places_of file in
       all.steps_are other
       ∙ ap (λ (r : Result TablePlaces Refusal). r >>= all.after_places other) step
       ∙ then_same file (all.after_places other) (all.after_places file)
-      (ap₂ (λ (sections : Result SectionTable Refusal) (table : Result SymbolTable Refusal). sections >>= λ sections. table >>= λ symbols. Ok (all_view (record { sections = sections; symbols = symbols }))) (whole_same file other same.lengths (places_of file) headers) table)
+      (ap (λ (header : List ℕ). whole_at other places >>= λ sections. table_at other places >>= λ symbols. Ok (all_view (record { image_base = image_base header; sections = sections; symbols = symbols }))) (sym optional_header)
+      ∙ ap₂ (λ (sections : Result SectionTable Refusal) (table : Result SymbolTable Refusal). sections >>= λ sections. table >>= λ symbols. Ok (all_view (record { image_base = base_at file places; sections = sections; symbols = symbols }))) (whole_same file other same.lengths places headers) table)
       ∙ sym (all.steps_are file)
+
+pub all_file_answer_same : (file other : List ℕ) → SameParts (pe_all_parts file) file other → all_file_answer other ≡ all_file_answer file
+unfolding pe_all_parts
+all_file_answer_same file other same =
+    let P = SameIn file other in
+    all_answer_same file other (record { lengths = same.lengths; each = All-tail P (optional_header_part (places_of file)) (pe_parts file) same.each }) (All-head P (optional_header_part (places_of file)) (pe_parts file) same.each)
 
 -- the sections
 pub file_sections_same : (file other : List ℕ) → SameParts (pe_section_parts file) file other → pe_sections other ≡ pe_sections file

@@ -7,7 +7,7 @@ use Rattle.binfarce_bytes.specs.Refusal.{◌>>=◌, Refusal, unexpected_eof}
 use Rattle.binfarce_bytes.specs.Entries.{Listed}
 use Rattle.binfarce_pe.specs.Pe.{Section, least_length, signature_offset, header_after, header_of}
 use Rattle.binfarce_pe.specs.PeParts.{TablePlaces, TextPlace, places_after, places_of, section_table, text_among}
-use Rattle.binfarce_pe.specs.PeSymbols.{SymbolTable, Located, text_section, symbol_table, located, entries_of, pe_answer, pe_file_answer}
+use Rattle.binfarce_pe.specs.PeSymbols.{SymbolTable, Located, text_section, symbol_table, located, is_function_of, entries_of, pe_answer, pe_file_answer}
 use Rattle.binfarce_pe.proofs.Walks.{text_of}
 use Rattle.binfarce_tables.specs.declared.error.ReadError.{ReadError}
 use Rattle.binfarce_tables.specs.Reading.{Reads}
@@ -17,7 +17,7 @@ use Rattle.binfarce_tables.proofs.Readings.{instead}
 
 -- what follows the symbol table, the text, and the places
 abbrev pub listed : TextPlace → SymbolTable → Result Listed Refusal
-listed text table = Ok (record { entries = entries_of table text.index text.size; section_size = text.size })
+listed text table = Ok (record { entries = entries_of table (is_function_of text.index) text.size; section_size = text.size })
 
 abbrev pub answer_at : List ℕ → TablePlaces → TextPlace → Result Listed Refusal
 answer_at file places text = table_at file places >>= listed text
@@ -26,10 +26,10 @@ abbrev pub after_places : List ℕ → TablePlaces → Result Listed Refusal
 after_places file places = text_at file places >>= answer_at file places
 
 listed_by : Result Section Refusal → Result SymbolTable Refusal → Result Listed Refusal
-listed_by text table = (text >>= λ text. table >>= λ table. Ok (record { text = text; table = table })) >>= λ (found : Located). Ok (record { entries = entries_of found.table found.text.index found.text.size_of_raw_data; section_size = found.text.size_of_raw_data })
+listed_by text table = (text >>= λ text. table >>= λ table. Ok (record { text = text; table = table })) >>= λ (found : Located). Ok (record { entries = entries_of found.table (is_function_of found.text.index) found.text.size_of_raw_data; section_size = found.text.size_of_raw_data })
 
 by_places : Result Section Refusal → Result SymbolTable Refusal → Result Listed Refusal
-by_places text table = (text >>= λ text. Ok (record { index = text.index; size = text.size_of_raw_data })) >>= λ (text : TextPlace). table >>= λ table. Ok (record { entries = entries_of table text.index text.size; section_size = text.size })
+by_places text table = (text >>= λ text. Ok (record { index = text.index; size = text.size_of_raw_data })) >>= λ (text : TextPlace). table >>= λ table. Ok (record { entries = entries_of table (is_function_of text.index) text.size; section_size = text.size })
 
 same_listed : (text : Result Section Refusal) (table : Result SymbolTable Refusal) → listed_by text table ≡ by_places text table
 unfolding listed_by by_places

@@ -4,7 +4,7 @@ use Rattle.std.proofs.lemmas.Bool.{le-leb}
 use Rattle.std.proofs.lemmas.List.Elements.{All-head, All-tail, All-take}
 use Rattle.binfarce_bytes.specs.Part.{Part, part, AreSure}
 use Rattle.binfarce_pe.specs.PeParts.{TablePlaces, places_of}
-use Rattle.binfarce_tables.specs.PeReads.{pointer_part, header_part, places_parts, headers_part, table_parts, beginning_part, pe_section_parts, pe_parts}
+use Rattle.binfarce_tables.specs.PeReads.{pointer_part, header_part, places_parts, headers_part, table_parts, beginning_part, pe_section_parts, optional_header_part, pe_parts, pe_all_parts}
 use Rattle.binfarce_tables.specs.machine.PePlaces.{signature_step, places_step}
 use Rattle.binfarce_tables.proofs.PeBeginning.{places_read}
 use Rattle.binfarce_tables.proofs.PeSteps.{signature_known}
@@ -39,6 +39,20 @@ module _ (sure : Part → Bool) (file : List ℕ) where
 
       pub table_sure : AreSure sure (table_parts file places)
       table_sure = subst (λ (p : TablePlaces). AreSure sure (table_parts file p)) same (All-tail P (headers_part file (places_of file)) (table_parts file (places_of file)) rest)
+
+  -- those of the symbols of all sections
+  module _ (are : AreSure sure (pe_all_parts file)) where
+    all_each : AreSure sure (optional_header_part (places_of file) ∷ pe_parts file)
+    unfolding pe_all_parts
+    all_each = are
+
+    pub symbols_sure : AreSure sure (pe_parts file)
+    symbols_sure = All-tail P (optional_header_part (places_of file)) (pe_parts file) all_each
+
+    pub optional_header_sure : (places : TablePlaces) → places_step file ≡ Ok places → sure (optional_header_part places) ≡ true
+    optional_header_sure places step =
+        let is = places_read file places step in
+        subst (λ (p : TablePlaces). sure (optional_header_part p) ≡ true) (sym is.0) (All-head P (optional_header_part (places_of file)) (pe_parts file) all_each)
 
   -- those of the sections
   module _ (are : AreSure sure (pe_section_parts file)) where

@@ -17,6 +17,10 @@ header_part file = part (signature_offset file) headers_length
 abbrev pub places_parts : List ℕ → List Part
 places_parts file = pointer_part ∷ header_part file ∷ []
 
+-- the beginning of the optional header, which states the image base
+abbrev pub optional_header_part : TablePlaces → Part
+optional_header_part places = part places.optional_header places.optional_header_size
+
 -- the section headers: as many of their bytes as the file has
 abbrev pub headers_part : List ℕ → TablePlaces → Part
 headers_part file places = part places.sections (min (places.section_count * section_length) (length file - places.sections))
@@ -36,6 +40,10 @@ beginning_part file places = part 0 (min (max (places.sections + max (places.sec
 unfoldable pub pe_section_parts : List ℕ → List Part
 pe_section_parts file = pointer_part ∷ header_part file ∷ beginning_part file (places_of file) ∷ []
 
--- what a reading of the symbols reads, of `.text` or of all sections
+-- what a reading of the symbols of `.text` reads
 unfoldable pub pe_parts : List ℕ → List Part
 pe_parts file = pointer_part ∷ header_part file ∷ headers_part file (places_of file) ∷ table_parts file (places_of file)
+
+-- and one of the symbols of all sections
+unfoldable pub pe_all_parts : List ℕ → List Part
+pe_all_parts file = optional_header_part (places_of file) ∷ pe_parts file

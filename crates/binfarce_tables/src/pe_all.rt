@@ -1,6 +1,6 @@
 //! The parts of a PE file that have the function symbols of all sections.
 
-ghost use Rattle.std.specs.Prelude.{◌≡◌, ◌≢◌, ◌≤◌, List, ℕ, true, Ok, Some, IfOk, IfErr};
+ghost use Rattle.std.specs.Prelude.{◌≡◌, ◌≢◌, ◌<◌, ◌≤◌, List, ℕ, true, Ok, Some, IfOk, IfErr};
 ghost use Rattle.std.specs.Option.{option_map};
 ghost use Rattle.binfarce_bytes.specs.Part.{AreSure};
 ghost use Rattle.binfarce_bytes.specs.SectionEntries.{AnswersAll};
@@ -9,7 +9,7 @@ ghost use Rattle.binfarce_pe.specs.Pe.{header_of};
 ghost use Rattle.binfarce_pe.specs.PeAll.{all_file_answer};
 ghost use Rattle.binfarce_pe.specs.PeParts.{headers_alone, places_view, whole_in};
 ghost use Rattle.binfarce_tables.specs.PeAllReading.{all_view};
-ghost use Rattle.binfarce_tables.specs.PeReads.{headers_part, pe_parts};
+ghost use Rattle.binfarce_tables.specs.PeReads.{headers_part, pe_all_parts};
 ghost use Rattle.binfarce_tables.specs.Reading.{Reads, Known};
 ghost use Rattle.binfarce_tables.specs.declared.error.ReadError.TheVariants.{Unreadable};
 ghost use Rattle.binfarce_tables.specs.machine.PePlaces.{whole_at};
@@ -21,6 +21,7 @@ use binfarce_bytes::ParseError;
 use binfarce_bytes::functions::SectionFunction;
 use binfarce_bytes::source::Source;
 use binfarce_pe::all::{functions_of_headers, section_name};
+use binfarce_pe::header::image_base;
 use binfarce_pe::parts::{Places, SECTION_LENGTH};
 use std::alloc::Global;
 use std::marker::Model;
@@ -31,6 +32,7 @@ const SECTION_UNREAD: usize = 16;
 /// The parts of a file that have the function symbols of all sections, and the section headers.
 #[derive(Drop)]
 pub struct AllParts {
+    image_base: Option<u64>,
     headers: Vec<u8>,
     section_count: u16,
     records: Records,
@@ -45,6 +47,7 @@ impl Model for AllParts {
     ghost Value = { AllTables };
 
     ghost view = { λ p. record {
+      image_base = p.image_base;
       sections = headers_alone p.headers.items p.section_count;
       symbols = records_view p.records;
     } };
@@ -66,6 +69,7 @@ impl AllParts {
         let records = &self.records;
         Ok(functions_of_headers(
             alloc,
+            self.image_base,
             &self.headers,
             self.section_count,
             &records.rows,
@@ -81,12 +85,19 @@ impl AllParts {
     {
         section_name(&self.headers, self.section_count, number)
     }
+
+    /// Whether the file's sections share addresses: it has no image base, as an object file.
+    pub fn shares_addresses(&self) -> bool
+        ensures { result ≡ (all_view self.now).shares_addresses }
+    {
+        self.image_base.is_none()
+    }
 }
 
 /// Reads the parts of a file that have the function symbols of all sections: the offset of the signature, the signature
-/// and the file header, which are 24 bytes, the section headers, the symbol table, and the strings, which are all that
-/// follows it. Each is read once, into memory of its size, which is never more than the file has of it. No other byte
-/// is read. The signature isn't checked.
+/// and the file header, which are 24 bytes, the section headers, up to 32 bytes of the optional header, the symbol table, and
+/// the strings, which are all that follows it. Each is read once, into memory of its size, which is never more than the
+/// file has of it. No other byte is read. The signature isn't checked.
 ///
 /// # Errors
 ///
@@ -99,13 +110,20 @@ pub fn read_all<S: Source>(alloc: Global, source: &S) -> Result<AllParts, ReadEr
     ensures count { (file : List ℕ) → S.bytes source.now ≡ Some file
         → IfOk result (λ p. p.sections.count ≡ (header_of file).number_of_sections) }
     ensures nothing_else { (file : List ℕ) → S.bytes source.now ≡ Some file
-        → AreSure (S.is_sure source.now) (pe_parts file) → IfErr result (λ e. e ≢ Unreadable) }
+        → AreSure (S.is_sure source.now) (pe_all_parts file) → IfErr result (λ e. e ≢ Unreadable) }
 {
     let len = source.length()? as usize;
     let places = read_places(alloc, source, len)?;
     let headers = read_headers(alloc, source, len, places)?;
+    let header = part(
+        alloc,
+        source,
+        places.optional_header,
+        places.optional_header_size,
+    )?;
     let records = read_records(alloc, source, len, places)?;
     Ok(AllParts {
+        image_base: image_base(&header),
         headers,
         section_count: places.section_count,
         records,
@@ -122,6 +140,7 @@ fn read_headers<S: Source>(
     ensures answer { (file : List ℕ) → Known (S.bytes source.now) len file
         → Reads (S.may_fail source.now) (λ v. headers_alone v.items places.section_count)
         (whole_at file (places_view places)) result }
+    ensures begins { IfOk result (λ _. places.sections < len) }
     ensures whole { IfOk result
         (λ v. places.section_count ≤ whole_in (headers_alone v.items places.section_count)) }
     ensures nothing_else { (file : List ℕ) → Known (S.bytes source.now) len file

@@ -17,7 +17,7 @@ use Rattle.binfarce_tables.proofs.MachoLaw.{macho_parts_decide, macho_parts_deci
 use Rattle.binfarce_tables.proofs.PeLaw as pe
 use Rattle.binfarce_tools.specs.Answer.{by_symbol_table, symbols_answer, NeedsMemory}
 use Rattle.binfarce_tools.specs.AllAnswer.{all_symbols_answer}
-use Rattle.binfarce_tools.specs.Parts.{head_part, format_parts, PartsDecide}
+use Rattle.binfarce_tools.specs.Parts.{head_part, format_parts, all_format_parts, PartsDecide}
 use Rattle.binfarce_tools.proofs.TablesRead.{format_of_head}
 
 -- files of one length that hold the same in their first 64 bytes have one format
@@ -36,12 +36,12 @@ module _ (which : SymbolTable) where
   answers_same PE file other same section = ap (λ (r : Result Listed Refusal). Some (by_symbol_table which r)) (pe.file_answer_same file other same)
   answers_same Unknown file other same section = refl
 
-  all_same : (format : Format) (file other : List ℕ) → SameParts (format_parts which format file) file other → all_symbols_answer which format other ≡ all_symbols_answer which format file
-  unfolding all_symbols_answer format_parts
+  all_same : (format : Format) (file other : List ℕ) → SameParts (all_format_parts which format file) file other → all_symbols_answer which format other ≡ all_symbols_answer which format file
+  unfolding all_symbols_answer all_format_parts
   all_same (Elf32 order) file other same = ap Some (all_elf_parts_decide which elf32 order file other within_32 some_32 same)
   all_same (Elf64 order) file other same = ap Some (all_elf_parts_decide which elf64 order file other within_64 some_64 same)
   all_same Macho file other same = ap (λ (r : Result AllSymbols Refusal). Some (by_symbol_table which r)) (all_macho_parts_decide file other same)
-  all_same PE file other same = ap (λ (r : Result AllSymbols Refusal). Some (by_symbol_table which r)) (pe.all_answer_same file other same)
+  all_same PE file other same = ap (λ (r : Result AllSymbols Refusal). Some (by_symbol_table which r)) (pe.all_file_answer_same file other same)
   all_same Unknown file other same = refl
 
   memory_same : (format : Format) (file other : List ℕ) → SameParts (format_parts which format file) file other → (answer : Result Listed Refusal) → NeedsMemory format other answer ↔ NeedsMemory format file answer
@@ -53,14 +53,19 @@ module _ (which : SymbolTable) where
   memory_same Unknown file other same answer = (λ needs. needs, λ needs. needs)
 
 pub parts_decide : (file other : List ℕ) → PartsDecide file other
-parts_decide file other which same =
+parts_decide file other which =
     let P = SameIn file other in
-    let format = format_of file in
-    let parts = format_parts which format file in
-    let formats = format_same file other same.lengths (All-head P (head_part file) parts same.each) in
-    let those : SameParts parts file other = record { lengths = same.lengths; each = All-tail P (head_part file) parts same.each } in (
-      formats,
-      λ section. ap (λ f. symbols_answer which f other section) formats ∙ answers_same which format file other those section,
-      ap (λ f. all_symbols_answer which f other) formats ∙ all_same which format file other those,
-      λ answer. subst (λ f. NeedsMemory f other answer ↔ NeedsMemory format file answer) (sym formats) (memory_same which format file other those answer),
+    let format = format_of file in (
+      λ same.
+          let parts = format_parts which format file in
+          let formats = format_same file other same.lengths (All-head P (head_part file) parts same.each) in
+          let those : SameParts parts file other = record { lengths = same.lengths; each = All-tail P (head_part file) parts same.each } in (
+            formats,
+            λ section. ap (λ f. symbols_answer which f other section) formats ∙ answers_same which format file other those section,
+            λ answer. subst (λ f. NeedsMemory f other answer ↔ NeedsMemory format file answer) (sym formats) (memory_same which format file other those answer),
+          ),
+      λ same.
+          let parts = all_format_parts which format file in
+          let those : SameParts parts file other = record { lengths = same.lengths; each = All-tail P (head_part file) parts same.each } in
+          ap (λ f. all_symbols_answer which f other) (format_same file other same.lengths (All-head P (head_part file) parts same.each)) ∙ all_same which format file other those,
     )

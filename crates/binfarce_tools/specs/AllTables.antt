@@ -1,5 +1,5 @@
 -- What was read of a file to list the function symbols of all sections, and what such a reading gives.
-use Rattle.std.specs.Prelude.{◌≡◌, ℕ, Bool, true, false, List, Option, Some, None, Result, Ok}
+use Rattle.std.specs.Prelude.{◌≡◌, ℕ, Bool, false, List, Option, Some, None, Result, Ok}
 use Rattle.binfarce.specs.declared.Format.TheVariants as formats
 use Rattle.binfarce.specs.Format.{format_of}
 use Rattle.binfarce.specs.Elf.{elf32, elf64}
@@ -40,5 +40,5 @@ abbrev pub shares_addresses_of : AllTables → Bool
 shares_addresses_of (Elf32 parts) = (all_view elf32 parts).shares_addresses
 shares_addresses_of (Elf64 parts) = (all_view elf64 parts).shares_addresses
 shares_addresses_of (Macho parts) = (macho.all_view parts).shares_addresses
-shares_addresses_of (Pe parts) = true
+shares_addresses_of (Pe parts) = (pe.all_view parts).shares_addresses
 shares_addresses_of Unknown = false

@@ -10,7 +10,7 @@ use Rattle.binfarce.specs.Refusal.{Refusal}
 use Rattle.binfarce.specs.Symbol.{Listed}
 use Rattle.binfarce_tables.specs.ElfReads.{elf_parts}
 use Rattle.binfarce_tables.specs.MachoReads.{macho_parts}
-use Rattle.binfarce_tables.specs.PeReads.{pe_parts}
+use Rattle.binfarce_tables.specs.PeReads.{pe_parts, pe_all_parts}
 use Rattle.binfarce_tools.specs.Answer.{answer_of, NeedsMemory}
 use Rattle.binfarce_tools.specs.AllAnswer.{all_answer_of}
 
@@ -26,16 +26,28 @@ format_parts which Macho file = macho_parts file
 format_parts which PE file = pe_parts file
 format_parts which Unknown file = []
 
--- all that it reads of a file
+-- and one of the symbols of all sections
+unfoldable pub all_format_parts : SymbolTable → Format → List ℕ → List Part
+all_format_parts which (Elf32 order) file = elf_parts which elf32 order file
+all_format_parts which (Elf64 order) file = elf_parts which elf64 order file
+all_format_parts which Macho file = macho_parts file
+all_format_parts which PE file = pe_all_parts file
+all_format_parts which Unknown file = []
+
+-- all that they read of a file
 abbrev pub parts_of : SymbolTable → List ℕ → List Part
 parts_of which file = head_part file ∷ format_parts which (format_of file) file
 
--- files of one length that agree in the parts of the first, for a symbol table, have one format, one answer for each section and for all, and the same answers that need
--- memory
+abbrev pub all_parts_of : SymbolTable → List ℕ → List Part
+all_parts_of which file = head_part file ∷ all_format_parts which (format_of file) file
+
+-- files of one length that agree in the parts of the first, for a symbol table, have one format, one answer for each section, and the same answers that need memory;
+-- those that agree in the parts for all sections have one answer for these
 abbrev pub PartsDecide : List ℕ → List ℕ → Type 0
 PartsDecide file other =
-    (which : SymbolTable) → SameParts (parts_of which file) file other
+    (which : SymbolTable)
+    → (SameParts (parts_of which file) file other
     → (format_of other ≡ format_of file)
     × ((section : List ℕ) → answer_of which other section ≡ answer_of which file section)
-    × (all_answer_of which other ≡ all_answer_of which file)
-    × ((answer : Result Listed Refusal) → NeedsMemory (format_of other) other answer ↔ NeedsMemory (format_of file) file answer)
+    × ((answer : Result Listed Refusal) → NeedsMemory (format_of other) other answer ↔ NeedsMemory (format_of file) file answer))
+    × (SameParts (all_parts_of which file) file other → all_answer_of which other ≡ all_answer_of which file)

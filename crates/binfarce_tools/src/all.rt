@@ -18,7 +18,7 @@ ghost use Rattle.binfarce_tools.specs.ListWords.{outcome_of};
 ghost use Rattle.binfarce_tools.specs.Map.{IsMapOf};
 ghost use Rattle.binfarce_tools.specs.Report.{Share, IsSumsOf, ReportFits};
 ghost use Rattle.binfarce_tools.specs.ReportWords as reporting;
-ghost use Rattle.binfarce_tools.specs.Parts.{format_parts, parts_of};
+ghost use Rattle.binfarce_tools.specs.Parts.{all_format_parts, all_parts_of};
 ghost use Rattle.binfarce_tools.specs.Sums.{AreSumsOf, GetsSums};
 ghost use Rattle.binfarce_tools.specs.Writing.{EndsAs, Takes, Fails, Leaves};
 ghost use Rattle.binfarce_tools.specs.declared.list.ListError.TheVariants.{Write};
@@ -105,8 +105,8 @@ impl AllTables {
         }
     }
 
-    /// Whether the file's sections share addresses: those of an object file do (in ELF `ET_REL`, in Mach-O `MH_OBJECT`), and
-    /// those of a PE file, whose addresses are offsets in a section.
+    /// Whether the file's sections share addresses: those of an object file do (in ELF `ET_REL`, in Mach-O `MH_OBJECT`, in PE a
+    /// file without an image base).
     pub fn shares_addresses(&self) -> bool
         ensures read { result ≡ shares_addresses_of self.now }
         ensures file { (which : SymbolTable) (file : List ℕ) (all : AllSymbols) → AreAllTablesOf which file self.now
@@ -122,7 +122,7 @@ impl AllTables {
             AllTables::Elf32(parts) => parts.shares_addresses(),
             AllTables::Elf64(parts) => parts.shares_addresses(),
             AllTables::Macho(parts) => parts.shares_addresses(),
-            AllTables::Pe(_) => true,
+            AllTables::Pe(parts) => parts.shares_addresses(),
             AllTables::Unknown => false,
         }
     }
@@ -191,7 +191,7 @@ pub fn read_all<S: Source>(
     ensures answer { (file : List ℕ) → S.bytes source.now ≡ Some file
         → ReadsAllTables (S.may_fail source.now ≡ true) which file result }
     ensures nothing_else { (file : List ℕ) → S.bytes source.now ≡ Some file
-        → AreSure (S.is_sure source.now) (parts_of which file) → IfErr result (λ e. e ≢ Unreadable) }
+        → AreSure (S.is_sure source.now) (all_parts_of which file) → IfErr result (λ e. e ≢ Unreadable) }
 {
     let begun = Begun::new(alloc, source)?;
     let format = detect_format(begun.head());
@@ -209,7 +209,7 @@ fn read_as<S: Source>(
     ensures answer { (file : List ℕ) → S.bytes source.now ≡ Some file → format ≡ format_of file
         → ReadsAllTables (S.may_fail source.now ≡ true) which file result }
     ensures nothing_else { (file : List ℕ) → S.bytes source.now ≡ Some file
-        → AreSure (S.is_sure source.now) (format_parts which format file) → IfErr result (λ e. e ≢ Unreadable) }
+        → AreSure (S.is_sure source.now) (all_format_parts which format file) → IfErr result (λ e. e ≢ Unreadable) }
 {
     match format {
         Format::Elf32 { byte_order } => {

@@ -15,7 +15,7 @@ ghost use Rattle.binfarce.specs.declared.SymbolTable.TheVariants.{Symtab};
 ghost use Rattle.binfarce_bytes.specs.Part.{SameParts, part};
 ghost use Rattle.binfarce_tables.specs.ElfReads.{elf_parts, headers_size};
 ghost use Rattle.binfarce_tables.specs.MachoReads.{macho_parts};
-ghost use Rattle.binfarce_tables.specs.PeReads.{pe_parts};
+ghost use Rattle.binfarce_tables.specs.PeReads.{pe_parts, pe_all_parts};
 ghost use Rattle.binfarce_tools.specs.Parts.{PartsDecide};
 ghost use Rattle.binfarce.specs.Symbol.{AreSymbolsOf, Listed};
 ghost use Rattle.binfarce_tools.specs.Listing.{IsListingOf};
@@ -73,9 +73,10 @@ pub fn macho_parts_decide(file: &[u8], other: &[u8])
 
 /// The same for the answers of the PE reader.
 pub fn pe_parts_decide(file: &[u8], other: &[u8])
-    ensures { SameParts (pe_parts file.now) file.now other.now
-        → (pe_file_answer other.now ≡ pe_file_answer file.now)
-        × (pe_all.all_file_answer other.now ≡ pe_all.all_file_answer file.now) }
+    ensures text { SameParts (pe_parts file.now) file.now other.now
+        → pe_file_answer other.now ≡ pe_file_answer file.now }
+    ensures all { SameParts (pe_all_parts file.now) file.now other.now
+        → pe_all.all_file_answer other.now ≡ pe_all.all_file_answer file.now }
 {
     let _ = file;
     let _ = other;
@@ -137,8 +138,8 @@ fn worked_macho_parts()
 {}
 
 /// The parts of a file with one section header right after the file header, and a symbol table of one record at 112: that
-/// with a string byte after it, or cut off in it.
-#[tactic(auto, unfolding(binfarce_tables::specs::PeReads::pe_parts, binfarce_pe::specs::Pe::header_fields, binfarce_pe::specs::Pe::header_after, binfarce_bytes::proofs::Computing::computing))]
+/// with a string byte after it, or cut off in it. Last, of a file without sections, with an optional header of 40 bytes.
+#[tactic(auto, unfolding(binfarce_tables::specs::PeReads::pe_parts, binfarce_tables::specs::PeReads::pe_all_parts, binfarce_pe::specs::Pe::header_fields, binfarce_pe::specs::Pe::header_after, binfarce_bytes::proofs::Computing::computing))]
 fn worked_pe_parts()
     ensures whole { pe_parts
         (replicate 60 0 ++ 64 ∷ replicate 9 0 ++ 1 ∷ replicate 5 0 ++ 112 ∷ 0 ∷ 0 ∷ 0 ∷ 1 ∷ replicate 50 0)
@@ -146,6 +147,9 @@ fn worked_pe_parts()
     ensures truncated { pe_parts
         (replicate 60 0 ++ 64 ∷ replicate 9 0 ++ 1 ∷ replicate 5 0 ++ 112 ∷ 0 ∷ 0 ∷ 0 ∷ 1 ∷ replicate 48 0)
         ≡ part 60 4 ∷ part 64 24 ∷ part 88 40 ∷ [] }
+    ensures optional_header { pe_all_parts
+        (replicate 60 0 ++ 64 ∷ replicate 23 0 ++ 40 ∷ replicate 50 0)
+        ≡ part 88 32 ∷ part 60 4 ∷ part 64 24 ∷ part 128 0 ∷ part 0 0 ∷ part 0 135 ∷ [] }
 {}
 
 /// The lines of the symbols of a file's entries are the file's listing, and the report of their shares is the file's

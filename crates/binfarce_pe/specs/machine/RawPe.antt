@@ -1,5 +1,5 @@
 -- What private contracts see of the values that a PE file is read into.
-use Rattle.std.specs.Prelude.{◌≡◌, ℕ, ◌+◌, ◌-◌, ◌<◌, ◌≤◌, List, [], ◌∷◌, length, map, Option, Some, None, Result, IfOk, min, get_or}
+use Rattle.std.specs.Prelude.{◌≡◌, ℕ, ◌+◌, ◌-◌, ◌<◌, ◌≤◌, Bool, List, [], ◌∷◌, length, map, Option, Some, None, Result, IfOk, min, get_or}
 use Rattle.std.specs.Global.{Vec}
 use Rattle.std.specs.declared.alloc.AllocError.{AllocError}
 use Rattle.std.specs.List.{AllZip, range_with_len, filter_map}
@@ -12,6 +12,7 @@ use Rattle.binfarce_pe.specs.declared.symbols.Located.{Located}
 use Rattle.binfarce_pe.specs.Pe as pe
 use Rattle.binfarce_pe.specs.PeParts.{SectionTable, whole_in, section_in, table_walk}
 use Rattle.binfarce_pe.specs.PeSymbols as symbols
+use Rattle.binfarce_pe.specs.PeAll.{is_external_or_static}
 use Rattle.binfarce_pe.specs.PeViews.{section_view}
 use Rattle.binfarce_bytes.specs.Sizes.{RowAddress, addresses_of}
 use Rattle.binfarce_bytes.specs.Entries.{Entry}
@@ -58,19 +59,19 @@ pub record HoldsKept (table : symbols.SymbolTable) (kept rows : List RowAddress)
   pub rows_are : rows ≡ numbered 0 (addresses_of kept)
   pub names_are : AllZip (IsNameOf table) kept names
 
--- the rows that are kept of the section of this index
-abbrev pub HoldsSection : symbols.SymbolTable → ℕ → Kept → Type 0
-HoldsSection table index k = HoldsKept table (symbols.kept_rows table index) (rows_view k.rows.items) (map (λ t. t.now) k.names.items)
+-- the rows that are kept of those that are accepted
+abbrev pub HoldsRows : symbols.SymbolTable → (symbols.SymbolRow ℕ → Bool) → Kept → Type 0
+HoldsRows table accepts k = HoldsKept table (symbols.kept_rows table accepts) (rows_view k.rows.items) (map (λ t. t.now) k.names.items)
 
 -- the list of the kept rows of a section with this size
 abbrev pub ListsKept : Kept → ℕ → Result (Vec FunctionSymbol) AllocError → Type 0
 ListsKept kept size result =
-    (table : symbols.SymbolTable) (index : ℕ) → HoldsSection table index kept → IfOk result (λ v. map function_view v.items ≡ symbols.entries_of table index size)
+    (table : symbols.SymbolTable) (accepts : symbols.SymbolRow ℕ → Bool) → HoldsRows table accepts kept → IfOk result (λ v. map function_view v.items ≡ symbols.entries_of table accepts size)
 
 -- so do these, one for each section whose index is below the count, from this index on
 pub record HoldsSections (table : symbols.SymbolTable) (first count : ℕ) (kept : List Kept) : Type 0 where
   pub long : length kept ≡ count
-  pub each : (index : ℕ) (d : Kept) → first ≤ index → index < count → HoldsSection table index (get_or kept index d)
+  pub each : (index : ℕ) (d : Kept) → first ≤ index → index < count → HoldsRows table (is_external_or_static index) (get_or kept index d)
 
 -- the entry of a row whose name has its number
 abbrev pub function_at : List (List ℕ) → List ℕ → RowAddress → Entry

@@ -119,12 +119,13 @@ impl<'a> Pe<'a> {
         Ok((symbols, size))
     }
 
-    /// The function symbols of all sections, each with its section's number: by section, and in each by address and at equal
-    /// addresses in table order.
+    /// The function symbols of all sections, external and static, each with its section's number: by section, and in each by the
+    /// row's value and at equal values in table order.
     ///
-    /// The function symbols of a section are those that `functions` would give if it were the section `.text`:
-    /// addresses are offsets in the section, and a size ends at the next greater address in the same section, or with
-    /// the section's bytes in the file. Sections are numbered from 1 on, also those whose name isn't UTF-8. A row
+    /// An address is a virtual address: the image base, the section's address and the row's value, modulo 2^64. A file
+    /// without an optional header of PE32 or PE32+ is an object, and there it is the value, the offset in the section. A
+    /// size ends at the next greater address in the same section, or with the section in memory (`VirtualSize`, or
+    /// where that is 0 `SizeOfRawData`). Sections are numbered from 1 on, also those whose name isn't UTF-8. A row
     /// without a section, or whose section doesn't exist, isn't kept.
     ///
     /// # Errors

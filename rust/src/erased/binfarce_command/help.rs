@@ -86,8 +86,8 @@ it. Without an ADDRESS the addresses are the lines of standard input.
   --dynamic        by the dynamic symbol table of an ELF file (.dynsym)
   --section=NAME   the section of an ELF file, by default .text; of Mach-O and PE
                    files the code section is taken
-  --all            the symbols of all sections; refused of an object file and of a
-                   PE file, whose sections share addresses
+  --all            the symbols of all sections; refused of an object file, whose
+                   sections share addresses
   --base=ADDRESS   is subtracted from each address: where the file is loaded
   --help           this text
 ";

@@ -1,20 +1,23 @@
 // From crates/binfarce_pe/src/all.rt, by tools/erase.
 
-//! The function symbols of all sections.
+//! The function symbols of all sections, at their addresses in memory.
 
 use crate::shim::Vec;
+use crate::erased::binfarce_pe::header::image_base;
 use crate::erased::binfarce_pe::parts::{Places, SECTION_LENGTH};
 use crate::erased::binfarce_pe::sections::{Table, section_at, section_table};
 use crate::erased::binfarce_pe::symbols::{
-    Kept, SYMBOL_LENGTH, SymbolRow, SymbolTable, function_name, kept_functions, symbol_of,
-    symbol_table,
+    IMAGE_SYM_CLASS_EXTERNAL, Kept, SYMBOL_LENGTH, SymbolRow, SymbolTable, is_function,
+    kept_functions, name_of, symbol_of, symbol_table,
 };
 use crate::erased::binfarce_bytes::functions::{FunctionSymbol, SectionFunction};
-use crate::erased::binfarce_bytes::parser::number_at;
+use crate::erased::binfarce_bytes::parser::{number_at, slice_at};
 use crate::erased::binfarce_bytes::sizes::RowAddress;
 use crate::erased::binfarce_bytes::{ByteOrder, ParseError};
 use crate::shim::alloc::{AllocError, Global};
 use std::mem;
+
+const IMAGE_SYM_CLASS_STATIC: u8 = 3;
 
 /// The function symbols of all sections of a file whose tables are at these places: the answer of `all_functions` of a
 /// reader, with its refusals. `OutOfMemory` only where the file has a section.
@@ -23,47 +26,37 @@ pub fn functions_of_sections<'a>(
     file: &'a [u8],
     places: Places,
 ) -> Result<Vec<SectionFunction<'a>>, ParseError> {
+    let header = slice_at(file, places.optional_header, places.optional_header_size)?;
     let sections = whole_sections(section_table(file, places))?;
     let symbols = symbol_table(file, places)?;
-    Ok(functions_in(alloc, sections, symbols)?)
+    Ok(functions_in(alloc, image_base(header), sections, symbols)?)
 }
 
-/// The function symbols of all sections, which have these headers, in these records, whose long names are in these strings.
-/// `OutOfMemory` comes only where there is a section.
+/// The function symbols of all sections of a file with this image base, whose sections have these headers, in these records,
+/// whose long names are in these strings. `OutOfMemory` comes only where there is a section.
 pub fn functions_of_headers<'a>(
     alloc: Global,
+    image_base: Option<u64>,
     headers: &[u8],
     count: u16,
     rows: &'a [u8],
     strings: &'a [u8],
 ) -> Result<Vec<SectionFunction<'a>>, AllocError> {
-    functions_in(
-        alloc,
-        table_of(headers, count),
-        SymbolTable { rows, strings },
-    )
-}
-
-fn table_of(headers: &[u8], count: u16) -> Table<'_> {
-    Table {
+    let sections = Table {
         bytes: headers,
         offset: 0,
         count,
-    }
+    };
+    functions_in(alloc, image_base, sections, SymbolTable { rows, strings })
 }
 
 /// The name of the section of this number, where there is one and its name is UTF-8; a part of these headers.
 pub fn section_name(headers: &[u8], count: u16, number: u32) -> Option<&str> {
     let index = number.checked_sub(1)?;
-    if index < u32::from(count) {
-        name_at(headers, index as u16)
-    } else {
-        None
+    if index >= u32::from(count) {
+        return None;
     }
-}
-
-fn name_at(headers: &[u8], index: u16) -> Option<&str> {
-    match section_at(headers, index as usize * SECTION_LENGTH, index).unwrap() {
+    match section_at(headers, index as usize * SECTION_LENGTH, index as u16).unwrap() {
         None => None,
         Some(section) => Some(section.name),
     }
@@ -82,6 +75,7 @@ fn whole_sections(sections: Table<'_>) -> Result<Table<'_>, ParseError> {
 // The function symbols of all sections, none of whose headers is truncated.
 fn functions_in<'a>(
     alloc: Global,
+    image_base: Option<u64>,
     sections: Table<'_>,
     symbols: SymbolTable<'a>,
 ) -> Result<Vec<SectionFunction<'a>>, AllocError> {
@@ -89,28 +83,49 @@ fn functions_in<'a>(
     let mut all = Vec::new(alloc);
     for index in 0..sections.count {
         let rows = mem::replace(&mut kept[index as usize], nothing_kept(alloc));
-        let functions = kept_functions(alloc, rows, size_in(sections, index))?;
-        push_all(&mut all, u32::from(index) + 1, &functions)?;
+        let functions = kept_functions(alloc, rows, memory_size(sections, index))?;
+        let start = memory_address(image_base, sections, index);
+        push_all(&mut all, u32::from(index) + 1, start, &functions)?;
     }
     Ok(all)
 }
 
-// How many bytes the section of this index has in the file.
-fn size_in(sections: Table<'_>, index: u16) -> u32 {
+// How many bytes the section of this index has in memory, or in an object.
+fn memory_size(sections: Table<'_>, index: u16) -> u32 {
     let start = sections.offset + index as usize * SECTION_LENGTH;
-    number_at(sections.bytes, start + 16, ByteOrder::LittleEndian).unwrap()
+    let size = number_at(sections.bytes, start + 8, ByteOrder::LittleEndian).unwrap();
+    if size == 0 {
+        number_at(sections.bytes, start + 16, ByteOrder::LittleEndian).unwrap()
+    } else {
+        size
+    }
 }
 
-// Adds the function symbols of the section of this number.
+// Where the section of this index begins in memory; 0 in an object.
+fn memory_address(image_base: Option<u64>, sections: Table<'_>, index: u16) -> u64 {
+    let start = sections.offset + index as usize * SECTION_LENGTH;
+    let address: u32 = number_at(sections.bytes, start + 12, ByteOrder::LittleEndian).unwrap();
+    match image_base {
+        None => 0,
+        Some(base) => base.wrapping_add(u64::from(address)),
+    }
+}
+
+// Adds the function symbols of the section of this number, which begins at `start` in memory.
 fn push_all<'a>(
     all: &mut Vec<SectionFunction<'a>>,
     section: u32,
+    start: u64,
     functions: &[FunctionSymbol<'a>],
 ) -> Result<(), AllocError> {
     for function in functions {
         all.push(SectionFunction {
             section,
-            function: *function,
+            function: FunctionSymbol {
+                name: function.name,
+                address: start.wrapping_add(function.address),
+                size: function.size,
+            },
         })?;
     }
     Ok(())
@@ -133,7 +148,7 @@ fn kept_by_section<'a>(
             None => continue,
             Some(index) => index,
         };
-        let name = match function_name(symbols, index, number, row) {
+        let name = match name_of(symbols, number, row) {
             None => continue,
             Some(name) => name,
         };
@@ -142,8 +157,14 @@ fn kept_by_section<'a>(
     Ok(kept)
 }
 
-// The index of a row's section, where it is below the count.
+// The index of the section of an external or static function, where it is below the count.
 fn index_of(row: SymbolRow, count: u16) -> Option<u16> {
+    if !is_function(row)
+        || row.storage_class != IMAGE_SYM_CLASS_EXTERNAL
+            && row.storage_class != IMAGE_SYM_CLASS_STATIC
+    {
+        return None;
+    }
     let index = row.section_number.checked_sub(1)?;
     if index < count { Some(index) } else { None }
 }

@@ -17,12 +17,19 @@ pub const SIGNATURE_POINTER: usize = 0x3c;
 /// The length in bytes of the signature and the file header.
 pub const HEADERS_LENGTH: usize = 24;
 
+/// The length in bytes of the beginning of an optional header that states the image base.
+pub const OPTIONAL_HEADER_LENGTH: usize = 32;
+
 /// The length in bytes of a section header.
 pub const SECTION_LENGTH: usize = 40;
 
 /// Where the tables of a file are, in bytes from its beginning.
 #[derive(Clone, Copy)]
 pub struct Places {
+    /// Where the optional header begins.
+    pub optional_header: usize,
+    /// How many of its first 32 bytes it has; they state the image base.
+    pub optional_header_size: usize,
     /// Where the section table begins.
     pub sections: usize,
     /// How many section headers it has.
@@ -55,8 +62,11 @@ pub fn places_in(headers: &[u8], signature: u32) -> Result<Places, ParseError> {
 /// The places that this file header states, where the signature is at this offset of the file.
 pub fn places_after(signature: u32, header: PeHeader) -> Places {
     let optional_header = signature as usize + HEADERS_LENGTH;
+    let size = header.size_of_optional_header as usize;
     Places {
-        sections: optional_header + header.size_of_optional_header as usize,
+        optional_header,
+        optional_header_size: size.min(OPTIONAL_HEADER_LENGTH),
+        sections: optional_header + size,
         section_count: header.number_of_sections,
         symbols: header.pointer_to_symbol_table as usize,
         symbols_size: header.number_of_symbols as usize * SYMBOL_LENGTH,

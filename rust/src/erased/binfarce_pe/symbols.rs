@@ -15,7 +15,7 @@ use crate::shim::alloc::{AllocError, Global};
 
 pub(crate) const SYMBOL_LENGTH: usize = 18;
 
-const IMAGE_SYM_CLASS_EXTERNAL: u8 = 2;
+pub(crate) const IMAGE_SYM_CLASS_EXTERNAL: u8 = 2;
 
 const IMAGE_SYM_DTYPE_SHIFT: u16 = 4;
 
@@ -42,8 +42,8 @@ pub(crate) struct SymbolRow {
     offset: u32,
     pub(crate) value: u32,
     pub(crate) section_number: u16,
-    kind: u16,
-    storage_class: u8,
+    pub(crate) kind: u16,
+    pub(crate) storage_class: u8,
     pub(crate) number_of_aux_symbols: u8,
 }
 
@@ -179,13 +179,13 @@ fn size_up_to(address: u64, above: Option<u64>, text_size: u64) -> u64 {
 }
 
 // The name of an external function of the section with this index.
-pub(crate) fn function_name<'a>(
+fn function_name<'a>(
     table: SymbolTable<'a>,
     index: u16,
     number: usize,
     row: SymbolRow,
 ) -> Option<&'a str> {
-    if row.kind >> IMAGE_SYM_DTYPE_SHIFT == IMAGE_SYM_DTYPE_FUNCTION
+    if is_function(row)
         && row.storage_class == IMAGE_SYM_CLASS_EXTERNAL
         && u32::from(row.section_number) == u32::from(index) + 1
     {
@@ -195,8 +195,13 @@ pub(crate) fn function_name<'a>(
     }
 }
 
+#[inline]
+pub(crate) fn is_function(row: SymbolRow) -> bool {
+    row.kind >> IMAGE_SYM_DTYPE_SHIFT == IMAGE_SYM_DTYPE_FUNCTION
+}
+
 // A row's name: its own 8 bytes, or the text in the string table.
-fn name_of<'a>(table: SymbolTable<'a>, number: usize, row: SymbolRow) -> Option<&'a str> {
+pub(crate) fn name_of<'a>(table: SymbolTable<'a>, number: usize, row: SymbolRow) -> Option<&'a str> {
     if row.zeroes == 0 {
         parse_null_string(table.strings, row.offset as usize)
     } else {

@@ -10,6 +10,7 @@ use crate::erased::binfarce_bytes::ParseError;
 use crate::erased::binfarce_bytes::functions::SectionFunction;
 use crate::erased::binfarce_bytes::source::Source;
 use crate::erased::binfarce_pe::all::{functions_of_headers, section_name};
+use crate::erased::binfarce_pe::header::image_base;
 use crate::erased::binfarce_pe::parts::{Places, SECTION_LENGTH};
 use crate::shim::alloc::Global;
 
@@ -18,6 +19,7 @@ const SECTION_UNREAD: usize = 16;
 
 /// The parts of a file that have the function symbols of all sections, and the section headers.
 pub struct AllParts {
+    image_base: Option<u64>,
     headers: Vec<u8>,
     section_count: u16,
     records: Records,
@@ -34,6 +36,7 @@ impl AllParts {
         let records = &self.records;
         Ok(functions_of_headers(
             alloc,
+            self.image_base,
             &self.headers,
             self.section_count,
             &records.rows,
@@ -47,12 +50,17 @@ impl AllParts {
     pub fn section_name(&self, number: u32) -> Option<&str> {
         section_name(&self.headers, self.section_count, number)
     }
+
+    /// Whether the file's sections share addresses: it has no image base, as an object file.
+    pub fn shares_addresses(&self) -> bool {
+        self.image_base.is_none()
+    }
 }
 
 /// Reads the parts of a file that have the function symbols of all sections: the offset of the signature, the signature
-/// and the file header, which are 24 bytes, the section headers, the symbol table, and the strings, which are all that
-/// follows it. Each is read once, into memory of its size, which is never more than the file has of it. No other byte
-/// is read. The signature isn't checked.
+/// and the file header, which are 24 bytes, the section headers, up to 32 bytes of the optional header, the symbol table, and
+/// the strings, which are all that follows it. Each is read once, into memory of its size, which is never more than the
+/// file has of it. No other byte is read. The signature isn't checked.
 ///
 /// # Errors
 ///
@@ -63,8 +71,15 @@ pub fn read_all<S: Source>(alloc: Global, source: &S) -> Result<AllParts, ReadEr
     let len = source.length()? as usize;
     let places = read_places(alloc, source, len)?;
     let headers = read_headers(alloc, source, len, places)?;
+    let header = part(
+        alloc,
+        source,
+        places.optional_header,
+        places.optional_header_size,
+    )?;
     let records = read_records(alloc, source, len, places)?;
     Ok(AllParts {
+        image_base: image_base(&header),
         headers,
         section_count: places.section_count,
         records,

@@ -73,8 +73,8 @@ impl AllTables {
         }
     }
 
-    /// Whether the file's sections share addresses: those of an object file do (in ELF `ET_REL`, in Mach-O `MH_OBJECT`), and
-    /// those of a PE file, whose addresses are offsets in a section.
+    /// Whether the file's sections share addresses: those of an object file do (in ELF `ET_REL`, in Mach-O `MH_OBJECT`, in PE a
+    /// file without an image base).
     pub fn shares_addresses(&self) -> bool {
         self.sharing_read()
     }
@@ -84,7 +84,7 @@ impl AllTables {
             AllTables::Elf32(parts) => parts.shares_addresses(),
             AllTables::Elf64(parts) => parts.shares_addresses(),
             AllTables::Macho(parts) => parts.shares_addresses(),
-            AllTables::Pe(_) => true,
+            AllTables::Pe(parts) => parts.shares_addresses(),
             AllTables::Unknown => false,
         }
     }

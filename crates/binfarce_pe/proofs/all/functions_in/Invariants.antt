@@ -9,5 +9,5 @@ use Rattle.binfarce_pe.proofs.all.functions_in.Given as goal
 abbrev pub invariant-loop-index : goal.invariant-loop-index
 invariant-loop-index l = record {
   held : HoldsSections (table_view l.symbols) l.index l.sections.count l.kept.items;
-  listed : map section_function_view l.all.items ≡ flat_map (section_entries (headers_view l.sections) (table_view l.symbols)) (range_with_len 0 l.index);
+  listed : map section_function_view l.all.items ≡ flat_map (section_entries l.image_base (headers_view l.sections) (table_view l.symbols)) (range_with_len 0 l.index);
 }

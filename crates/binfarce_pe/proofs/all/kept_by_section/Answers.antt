@@ -14,13 +14,13 @@ loop-next-preserved-in-None c =
     let at : next ≡ after t c.loop-next.next = omega (arith, ap (λ r. r.number_of_aux_symbols) c.symbol_of-row.ensures) in
     each_passes_over t c.loop-next.next next c.args.count (symbol_view c.symbol_of-row.result) c.loop-next.kept.items c.loop-next-test.true at c.symbol_of-row.ensures c.loop-next.invariant c.in-None.ensures
 
-pub loop-next-preserved-in-None-function_name : goal.loop-next-preserved-in-None-function_name
-loop-next-preserved-in-None-function_name c =
+pub loop-next-preserved-in-None-name_of : goal.loop-next-preserved-in-None-name_of
+loop-next-preserved-in-None-name_of c =
     let t = table_view c.args.symbols in
     let next = c.loop-next.next + (1 + c.symbol_of-row.result.number_of_aux_symbols) in
     let at : next ≡ after t c.loop-next.next = omega (arith, ap (λ r. r.number_of_aux_symbols) c.symbol_of-row.ensures) in
     each_leaves_out t c.loop-next.next next c.args.count (symbol_view c.symbol_of-row.result) c.loop-next.kept.items c.loop-next-test.true at c.symbol_of-row.ensures c.loop-next.invariant
-    c.in-Some.index c.in-Some.ensures.1 c.in-None-function_name.ensures
+    c.in-Some.index c.in-Some.ensures.1 c.in-Some.ensures.2 c.in-None-name_of.ensures
 
 pub loop-next-preserved : goal.loop-next-preserved
 loop-next-preserved c =
@@ -28,7 +28,7 @@ loop-next-preserved c =
     let next = c.loop-next.next + (1 + c.symbol_of-row.result.number_of_aux_symbols) in
     let at : next ≡ after t c.loop-next.next = omega (arith, ap (λ r. r.number_of_aux_symbols) c.symbol_of-row.ensures) in
     each_keeps t c.loop-next.next next c.args.count (symbol_view c.symbol_of-row.result) c.loop-next.kept.items c.loop-next-test.true at c.symbol_of-row.ensures c.loop-next.invariant
-    c.in-Some.index c.in-Some.ensures.1 c.in-Some-function_name.name c.index_mut.result.now c.push_kept.new.kept c.from.result c.in-Some.ensures.0 c.in-Some-function_name.ensures c.from.ensures c.index_mut.ensures.value
+    c.in-Some.index c.in-Some.ensures.1 c.in-Some.ensures.2 c.in-Some-name_of.name c.index_mut.result.now c.push_kept.new.kept c.from.result c.in-Some.ensures.0 c.in-Some-name_of.ensures c.from.ensures c.index_mut.ensures.value
     c.in_ok-push_kept.ensures.rows c.in_ok-push_kept.ensures.names
 
 pub returns-clause-kept : goal.returns-clause-kept

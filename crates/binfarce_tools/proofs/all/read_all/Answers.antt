@@ -4,7 +4,7 @@ use Rattle.binfarce_bytes.specs.Part.{Part, AreSure}
 use Rattle.binfarce.specs.declared.Format.{Format}
 use Rattle.binfarce.specs.Format.{format_of}
 use Rattle.binfarce_tables.proofs.Readings.{passed_surely}
-use Rattle.binfarce_tools.specs.Parts.{head_part, format_parts}
+use Rattle.binfarce_tools.specs.Parts.{head_part, all_format_parts}
 use Rattle.binfarce_tools.specs.AllTables.{ReadsAllTables}
 use Rattle.binfarce_tools.proofs.TablesRead.{format_of_head}
 use Rattle.binfarce_tools.proofs.all.read_all.Goals as goal
@@ -22,12 +22,12 @@ returns-clause-nothing_else g c = λ file known sure.
     let same = c.in_ok-begun.ensures.begun in
     let begun : g.S.Source.bytes c.in_ok-begun.begun ≡ Some file = ap g.S.Source.bytes same ∙ known in
     let format = c.detect_format-format.ensures ∙ ap format_of (c.head.ensures file begun) ∙ format_of_head file in
-    let parts = All-tail (λ (p : Part). g.S.Source.is_sure c.args.source.now p ≡ true) (head_part file) (format_parts c.args.which (format_of file) file) sure in
+    let parts = All-tail (λ (p : Part). g.S.Source.is_sure c.args.source.now p ≡ true) (head_part file) (all_format_parts c.args.which (format_of file) file) sure in
     c.read_as.ensures.nothing_else file begun
-    (subst (λ source. AreSure (g.S.Source.is_sure source) (format_parts c.args.which c.detect_format-format.result file)) (sym same)
-    (subst (λ (f : Format). AreSure (g.S.Source.is_sure c.args.source.now) (format_parts c.args.which f file)) (sym format) parts))
+    (subst (λ source. AreSure (g.S.Source.is_sure source) (all_format_parts c.args.which c.detect_format-format.result file)) (sym same)
+    (subst (λ (f : Format). AreSure (g.S.Source.is_sure c.args.source.now) (all_format_parts c.args.which f file)) (sym format) parts))
 
 pub returns-in_err-begun-clause-nothing_else : goal.returns-in_err-begun-clause-nothing_else
 returns-in_err-begun-clause-nothing_else g c = λ file known sure.
-    let head = All-head (λ (p : Part). g.S.Source.is_sure c.args.source.now p ≡ true) (head_part file) (format_parts c.args.which (format_of file) file) sure in
+    let head = All-head (λ (p : Part). g.S.Source.is_sure c.args.source.now p ≡ true) (head_part file) (all_format_parts c.args.which (format_of file) file) sure in
     passed_surely c.in_err-begun.field-0.0 c.from_residual.result (c.in_err-begun.ensures.nothing_else file known head) c.from_residual.ensures

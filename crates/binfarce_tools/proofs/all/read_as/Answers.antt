@@ -20,7 +20,7 @@ use Rattle.binfarce_tools.proofs.AllGiven.{answer_32, answer_64, answer_macho, a
 use Rattle.binfarce_tools.proofs.TablesRead.{of_answer, unread_as, refused_as}
 use Rattle.binfarce_tables.proofs.Readings.{passed_surely}
 use Rattle.binfarce_tables.proofs.Sure.{converted_surely}
-use Rattle.binfarce_tools.specs.Parts.{format_parts}
+use Rattle.binfarce_tools.specs.Parts.{all_format_parts}
 use Rattle.binfarce_tools.proofs.all.read_as.Goals as goal
 
 pub returns-in_ok-parts-in-Elf32-clause-answer : goal.returns-in_ok-parts-in-Elf32-clause-answer
@@ -94,27 +94,27 @@ returns-in_err-has_table-in-PE-clause-answer g c = λ file known is_format.
     (answer_pe c.args.which file format ∙ no_dynamic_table c.args.which (pe_all.all_file_answer file) c.in_err-has_table-in-PE.field-0.0 c.in_err-has_table-in-PE.ensures) c.from_residual-in_err-has_table-in-PE.ensures
 
 pub returns-in_err-parts-in-Elf32-clause-nothing_else : goal.returns-in_err-parts-in-Elf32-clause-nothing_else
-unfolding format_parts
+unfolding all_format_parts
 returns-in_err-parts-in-Elf32-clause-nothing_else g c = λ file known sure.
-    let parts = subst (λ (f : Format). AreSure (g.S.Source.is_sure c.args.source.now) (format_parts c.args.which f file)) c.in-Elf32.is sure in
+    let parts = subst (λ (f : Format). AreSure (g.S.Source.is_sure c.args.source.now) (all_format_parts c.args.which f file)) c.in-Elf32.is sure in
     passed_surely c.in_err-parts-in-Elf32.field-0.0 c.from_residual.result (c.in_err-parts-in-Elf32.ensures.nothing_else file known parts) c.from_residual.ensures
 
 pub returns-in_err-parts-in-Elf64-clause-nothing_else : goal.returns-in_err-parts-in-Elf64-clause-nothing_else
-unfolding format_parts
+unfolding all_format_parts
 returns-in_err-parts-in-Elf64-clause-nothing_else g c = λ file known sure.
-    let parts = subst (λ (f : Format). AreSure (g.S.Source.is_sure c.args.source.now) (format_parts c.args.which f file)) c.in-Elf64.is sure in
+    let parts = subst (λ (f : Format). AreSure (g.S.Source.is_sure c.args.source.now) (all_format_parts c.args.which f file)) c.in-Elf64.is sure in
     passed_surely c.in_err-parts-in-Elf64.field-0.0 c.from_residual-in_err-parts-in-Elf64.result (c.in_err-parts-in-Elf64.ensures.nothing_else file known parts) c.from_residual-in_err-parts-in-Elf64.ensures
 
 pub returns-in_err-parts-in-Macho-clause-nothing_else : goal.returns-in_err-parts-in-Macho-clause-nothing_else
-unfolding format_parts
+unfolding all_format_parts
 returns-in_err-parts-in-Macho-clause-nothing_else g c = λ file known sure.
-    let parts = subst (λ (f : Format). AreSure (g.S.Source.is_sure c.args.source.now) (format_parts c.args.which f file)) c.in-Macho.is sure in
+    let parts = subst (λ (f : Format). AreSure (g.S.Source.is_sure c.args.source.now) (all_format_parts c.args.which f file)) c.in-Macho.is sure in
     passed_surely c.in_err-parts-in-Macho.field-0.0 c.from_residual-in_err-parts-in-Macho.result (c.in_err-parts-in-Macho.ensures.nothing_else file known parts) c.from_residual-in_err-parts-in-Macho.ensures
 
 pub returns-in_err-parts-in-PE-clause-nothing_else : goal.returns-in_err-parts-in-PE-clause-nothing_else
-unfolding format_parts
+unfolding all_format_parts
 returns-in_err-parts-in-PE-clause-nothing_else g c = λ file known sure.
-    let parts = subst (λ (f : Format). AreSure (g.S.Source.is_sure c.args.source.now) (format_parts c.args.which f file)) c.in-PE.is sure in
+    let parts = subst (λ (f : Format). AreSure (g.S.Source.is_sure c.args.source.now) (all_format_parts c.args.which f file)) c.in-PE.is sure in
     passed_surely c.in_err-parts-in-PE.field-0.0 c.from_residual-in_err-parts-in-PE.result (c.in_err-parts-in-PE.ensures.nothing_else file known parts) c.from_residual-in_err-parts-in-PE.ensures
 
 pub returns-in_err-has_table-in-Macho-clause-nothing_else : goal.returns-in_err-has_table-in-Macho-clause-nothing_else

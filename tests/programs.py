@@ -8,6 +8,7 @@ import errno
 import os
 import pathlib
 import re
+import struct
 import subprocess
 import sys
 import tempfile
@@ -188,7 +189,8 @@ ends(2, "", f"binfarce: not an address: {sample}", "binfarce", "at", "--base", s
 library, stripped = printed("gcc", "-print-file-name=libc.so.6").strip(), f"{scratch}/stripped"
 printed("strip", "-o", stripped, library)
 code = re.search(r"\[ *(\d+)\] \.text ", printed("readelf", "-SW", library))[1]
-rows = re.findall(r": (\w+) +(?!0 )\w+ FUNC +\w+ +\w+ +(\d+)", printed("readelf", "-W", "--dyn-syms", library))
+rows = re.findall(r": (\w+) +(?!0 )\w+ I?FUNC +\w+ +\w+ +(\d+)(?: (\w+))?", printed("readelf", "-W", "--dyn-syms", library))
+assert {"strlen", "memset"} <= {row[2] for row in rows}, "readelf shows no indirect functions"
 for option, starts in (((), [it[0] for it in rows if it[1] == code] + ["text"]), (("--all",), [it[0] for it in rows])):
     lines = printed(folder / "binfarce", "list", "--dynamic", *option, stripped).splitlines()
     assert [it.split()[0] for it in lines] == starts, "other dynamic symbols than those of readelf"
@@ -209,4 +211,12 @@ shared = f"binfarce: {file}: its sections share addresses; use --section in plac
 ends(1, "", shared, "binfarce", "at", "--all", file, "2")
 ends(1, "", shared, "binfarce", "at", "--all", file, given=b"2\n")
 ends(2, "", "binfarce: --all and --section exclude each other", "binfarce", "list", "--all", "--section=.text", file)
+
+# A PE image, of PE32+ at 0x140000000 with `.text` at 0x1000: an external and a static function, at their addresses in memory.
+image = b"MZ".ljust(60, b"\0") + struct.pack("<I4s2H3I2H", 64, b"PE", 0x8664, 1, 0, 160, 2, 32, 0) + struct.pack("<H22xQ", 0x20B, 0x140000000)
+image += struct.pack("<8s4I16x", b".text", 0x18, 0x1000, 0x200, 0)
+image += b"".join(struct.pack("<8sI2H2B", *row) for row in ((b"f", 0, 1, 0x20, 2, 0), (b"g", 0x10, 1, 0x20, 3, 0)))
+pathlib.Path(f"{scratch}/image.exe").write_bytes(image)
+ends(0, f"{0x140001000:016x}         16 .text f\n{0x140001010:016x}          8 .text g\n", "", "binfarce", "list", "--all", f"{scratch}/image.exe")
+ends(0, f"{0x140001017:016x} g+0x7\n", "", "binfarce", "at", "--all", f"{scratch}/image.exe", "140001017")
 print(f"programs.py: {folder}: as they must be")

@@ -244,7 +244,7 @@ macro_rules! reader {
                 Ok(symbols_of(self.0.dynamic_symbols(Global, section_name)?)?)
             }
 
-            /// Returns what `functions` does, of the dynamic symbol table.
+            /// Returns what `functions` does, of the dynamic symbol table, and indirect functions (`STT_GNU_IFUNC`).
             ///
             /// # Errors
             ///
@@ -255,7 +255,8 @@ macro_rules! reader {
             }
 
             /// Returns an iterator over the function symbols of all sections, each with the index of its section, in the
-            /// order of this symbol table, with their names as the file stores them. Nothing is allocated.
+            /// order of this symbol table, with their names as the file stores them. Indirect functions (`STT_GNU_IFUNC`)
+            /// count too. Nothing is allocated.
             ///
             /// # Errors
             ///

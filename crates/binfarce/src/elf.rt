@@ -152,7 +152,8 @@ impl<'a, C: Class> Elf<'a, C> {
         symbols::section_functions::<C>(self.section_table(), SymbolTable::Symtab, section_name)
     }
 
-    /// The same functions from the dynamic symbol table, which a stripped file still has.
+    /// The same functions from the dynamic symbol table, which a stripped file still has; and indirect functions
+    /// (`STT_GNU_IFUNC`), such as `strlen` of a C library.
     ///
     /// # Errors
     ///
@@ -171,8 +172,8 @@ impl<'a, C: Class> Elf<'a, C> {
     /// The function symbols of all sections as the file stores them, each with the index of its section, in the order of
     /// this symbol table. Nothing is allocated, and names stay mangled.
     ///
-    /// It keeps the rows that `functions`, or for the dynamic symbol table `dynamic_functions`, keeps for some section
-    /// of the file: none without a section (`SHN_UNDEF`), and none with a reserved index such as `SHN_ABS`.
+    /// It keeps the rows that `dynamic_functions` would keep for some section of the file, from either symbol table:
+    /// indirect functions too, none without a section (`SHN_UNDEF`), and none with a reserved index such as `SHN_ABS`.
     ///
     /// # Errors
     ///

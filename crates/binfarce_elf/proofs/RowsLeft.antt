@@ -1,5 +1,5 @@
 -- The entries of the rows that are left.
-use Rattle.std.proofs.Common.{◌≡◌, ℕ, suc, ◌+◌, ◌-◌, ◌*◌, ◌<◌, ◌≤◌, List, [], ◌∷◌, Option, Some, None, map, refl, sym, ◌∙◌, ap, arith}
+use Rattle.std.proofs.Common.{◌≡◌, ℕ, suc, ◌+◌, ◌-◌, ◌*◌, ◌<◌, ◌≤◌, Bool, List, [], ◌∷◌, Option, Some, None, map, refl, sym, ◌∙◌, ap, arith}
 use Rattle.std.specs.Iterator.{YieldsFirstBy, Drains}
 use Rattle.std.specs.List.{range_with_len, filter_map}
 use Rattle.std.specs.Option.{option_map}
@@ -32,11 +32,11 @@ pub row_is : (class : ElfClass) (order : ByteOrder) (rows : List ℕ) (k length 
     → read ≡ symbol_at class order rows (k * length) → symbol_at class order rows (k * class.symbol_length) ≡ read
 row_is class order rows k length read is at = ap (λ (n : ℕ). symbol_at class order rows (k * n)) (sym is) ∙ sym at
 
-pub entry_is : (strings : List ℕ) (index : ℕ) (row read : SymbolRow ℕ) (name : Option (List ℕ))
-    → row ≡ read → function_name strings index read ≡ name
-    → entry_of strings index row ≡ option_map (λ n. record { name = n; address = read.value; size = read.size }) name
-entry_is strings index row read name same is =
-    ap (entry_of strings index) same ∙ ap (option_map (λ (n : List ℕ). record { name = n; address = read.value; size = read.size })) is
+pub entry_is : (strings : List ℕ) (indirect : Bool) (index : ℕ) (row read : SymbolRow ℕ) (name : Option (List ℕ))
+    → row ≡ read → function_name strings indirect index read ≡ name
+    → entry_of strings indirect index row ≡ option_map (λ n. record { name = n; address = read.value; size = read.size }) name
+entry_is strings indirect index row read name same is =
+    ap (entry_of strings indirect index) same ∙ ap (option_map (λ (n : List ℕ). record { name = n; address = read.value; size = read.size })) is
 
 -- before any came, none is found
 pub none_at_first : (address : ℕ) → None ≡ entry_at [] address

@@ -63,7 +63,7 @@ module _ (which : SymbolTable) (class : ElfClass) (table : SectionTable) where
     of_section section = table_sections which (walk class table) >>= λ sections. Ok (record { section = section; table = sections })
 
     abbrev listed : Section → TableRows → Result Listed Refusal
-    listed section found = Ok (listed_of class table.order section found)
+    listed section found = Ok (listed_of which class table.order section found)
 
     abbrev of_needed : NeededSections → Result Listed Refusal
     of_needed sections = rows_at class table.file sections.table >>= listed sections.section

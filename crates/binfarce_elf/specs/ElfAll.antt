@@ -1,5 +1,5 @@
 -- The function symbols of all sections of an ELF file.
-use Rattle.std.specs.Prelude.{ℕ, ◌-◌, ◌*◌, ◌/◌, Bool, ◌&&◌, List, length, slice_get, Option, None, Result, Ok, nat_eq, nat_lt, if◌then◌else◌}
+use Rattle.std.specs.Prelude.{ℕ, ◌-◌, ◌*◌, ◌/◌, Bool, true, ◌&&◌, List, length, slice_get, Option, None, Result, Ok, nat_eq, nat_lt, if◌then◌else◌}
 use Rattle.std.specs.Option.{option_map, option_and_then}
 use Rattle.std.specs.List.{range_with_len, filter_map}
 use Rattle.binfarce_bytes.specs.declared.ByteOrder.{ByteOrder}
@@ -15,10 +15,10 @@ use Rattle.binfarce_elf.specs.declared.symbol_table.SymbolTable.{SymbolTable}
 abbrev pub is_of_section : ℕ → ℕ → Bool
 is_of_section count index = nat_lt 0 index && nat_lt index 65280 && nat_lt index count
 
--- the row's entry with its section, where it has one: by the rule of the section that it names
+-- the row's entry with its section, where it has one: by the rule of the section that it names, and indirect functions count
 abbrev pub section_entry_of : List ℕ → ℕ → SymbolRow ℕ → Option SectionEntry
 section_entry_of strings count row =
-    if is_of_section count row.section then option_map (λ e. record { section = row.section; entry = e }) (entry_of strings row.section row) else None
+    if is_of_section count row.section then option_map (λ e. record { section = row.section; entry = e }) (entry_of strings true row.section row) else None
 
 -- those of the rows numbered from k on, in table order
 abbrev pub section_entries_from : ElfClass → ByteOrder → List ℕ → ℕ → List ℕ → ℕ → List SectionEntry

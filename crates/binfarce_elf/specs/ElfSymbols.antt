@@ -1,5 +1,5 @@
 -- The function symbols of one section of an ELF file (System V gABI, "Symbol Table").
-use Rattle.std.specs.Prelude.{ℕ, ◌-◌, ◌*◌, ◌/◌, ◌%◌, Bool, false, ◌&&◌, List, length, Option, Some, None, Result, Ok, Err, nat_eq, not, if◌then◌else◌}
+use Rattle.std.specs.Prelude.{ℕ, ◌-◌, ◌*◌, ◌/◌, ◌%◌, Bool, false, ◌&&◌, ◌||◌, List, length, Option, Some, None, Result, Ok, Err, nat_eq, not, if◌then◌else◌}
 use Rattle.std.specs.Option.{option_map}
 use Rattle.std.specs.List.{range_with_len, filter_map}
 use Rattle.std.specs.Str.{bytes_eq}
@@ -9,7 +9,7 @@ use Rattle.binfarce_bytes.specs.Refusal.{◌>>=◌, Refusal, required, symbols_s
 use Rattle.binfarce_bytes.specs.Walk.{Walk, first}
 use Rattle.binfarce_bytes.specs.Field.{value_at}
 use Rattle.binfarce_elf.specs.Elf.{ElfClass, SectionTable, Section, SymbolRow, section_table, walk, names_bytes, name_among}
-use Rattle.binfarce_elf.specs.SymbolTables.{section_type, table_name, strings_name}
+use Rattle.binfarce_elf.specs.SymbolTables.{section_type, table_name, strings_name, has_indirect}
 use Rattle.binfarce_elf.specs.declared.symbol_table.SymbolTable.{SymbolTable}
 use Rattle.binfarce_bytes.specs.Entries.{Entry, Listed}
 
@@ -24,22 +24,26 @@ symbol_at class order rows start = record {
   section = value_at order rows start class.symbol.section;
 }
 
--- a function (STT_FUNC, the low four bits of info) of the section, with a size and a name offset
-abbrev pub is_function_of : ℕ → SymbolRow ℕ → Bool
-is_function_of index row = nat_eq row.section index && not (nat_eq row.size 0) && not (nat_eq row.name 0) && nat_eq (row.info % 16) 2
+-- a function: its type, the low four bits of info, is STT_FUNC (2) or, where indirect functions count, STT_GNU_IFUNC (10)
+abbrev pub is_function : Bool → SymbolRow ℕ → Bool
+is_function indirect row = nat_eq (row.info % 16) 2 || (indirect && nat_eq (row.info % 16) 10)
+
+-- such a function of the section, with a size and a name offset
+abbrev pub is_function_of : Bool → ℕ → SymbolRow ℕ → Bool
+is_function_of indirect index row = nat_eq row.section index && not (nat_eq row.size 0) && not (nat_eq row.name 0) && is_function indirect row
 
 -- the name of such a function, where it is valid
-unfoldable pub function_name : List ℕ → ℕ → SymbolRow ℕ → Option (List ℕ)
-function_name strings index row = if is_function_of index row then text_at strings row.name else None
+unfoldable pub function_name : List ℕ → Bool → ℕ → SymbolRow ℕ → Option (List ℕ)
+function_name strings indirect index row = if is_function_of indirect index row then text_at strings row.name else None
 
 -- the row's entry, where it has one
-abbrev pub entry_of : List ℕ → ℕ → SymbolRow ℕ → Option Entry
-entry_of strings index row = option_map (λ name. record { name = name; address = row.value; size = row.size }) (function_name strings index row)
+abbrev pub entry_of : List ℕ → Bool → ℕ → SymbolRow ℕ → Option Entry
+entry_of strings indirect index row = option_map (λ name. record { name = name; address = row.value; size = row.size }) (function_name strings indirect index row)
 
 -- the entries of the rows numbered from k on, in table order
-abbrev pub entries_from : ElfClass → ByteOrder → List ℕ → ℕ → List ℕ → ℕ → List Entry
-entries_from class order strings index rows k =
-    filter_map (λ row. entry_of strings index (symbol_at class order rows (row * class.symbol_length))) (range_with_len k (length rows / class.symbol_length - k))
+abbrev pub entries_from : ElfClass → ByteOrder → List ℕ → Bool → ℕ → List ℕ → ℕ → List Entry
+entries_from class order strings indirect index rows k =
+    filter_map (λ row. entry_of strings indirect index (symbol_at class order rows (row * class.symbol_length))) (range_with_len k (length rows / class.symbol_length - k))
 
 -- a name is this one
 abbrev pub is_named : List ℕ → Option (List ℕ) → Bool
@@ -100,17 +104,17 @@ rows_at class file sections = do
   rows ← whole_rows class bytes
   Ok (record { strings = strings; rows = rows })
 
--- the entries of all rows, and the size of the requested section
-abbrev pub listed_of : ElfClass → ByteOrder → Section → TableRows → Listed
-listed_of class order section found =
-    record { entries = entries_from class order found.strings section.index found.rows 0; section_size = section.size }
+-- the entries of all rows by this symbol table, and the size of the requested section
+abbrev pub listed_of : SymbolTable → ElfClass → ByteOrder → Section → TableRows → Listed
+listed_of which class order section found =
+    record { entries = entries_from class order found.strings (has_indirect which) section.index found.rows 0; section_size = section.size }
 
 -- the answer by this symbol table: the refusals in order, else the list
 unfoldable pub elf_answer : SymbolTable → ElfClass → SectionTable → List ℕ → Result Listed Refusal
 elf_answer which class table name = do
   sections ← needed which (walk class table) (names_bytes class table) name
   found ← rows_at class table.file sections.table
-  Ok (listed_of class table.order sections.section found)
+  Ok (listed_of which class table.order sections.section found)
 
 -- the answer of a file that has a header
 abbrev pub elf_file_answer : SymbolTable → ElfClass → ByteOrder → List ℕ → List ℕ → Result Listed Refusal

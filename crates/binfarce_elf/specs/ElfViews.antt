@@ -17,7 +17,7 @@ header_view number h = record { elf_type = h.elf_type; machine = h.machine; vers
 
 -- the entries that an iterator of function symbols has left
 abbrev pub functions_left : {C : Type 0} → elf.ElfClass → Functions C → List Entry
-functions_left class f = entries_from class f.byte_order f.strings.now f.index f.rows.now f.next
+functions_left class f = entries_from class f.byte_order f.strings.now f.indirect f.index f.rows.now f.next
 
 -- such an iterator, and the size of the section
 abbrev pub functions_view : {C : Type 0} → elf.ElfClass → Functions C × ℕ → Listed

@@ -1,5 +1,5 @@
 -- The symbol tables that a file may have (System V gABI, "Sections").
-use Rattle.std.specs.Prelude.{ℕ, List, codes}
+use Rattle.std.specs.Prelude.{ℕ, Bool, true, false, List, codes}
 use Rattle.binfarce_elf.specs.declared.symbol_table.SymbolTable.{SymbolTable}
 use Rattle.binfarce_elf.specs.declared.symbol_table.SymbolTable.TheVariants.{Symtab, Dynsym}
 
@@ -17,3 +17,8 @@ table_name Dynsym = codes ".dynsym"
 abbrev pub strings_name : SymbolTable → List ℕ
 strings_name Symtab = codes ".strtab"
 strings_name Dynsym = codes ".dynstr"
+
+-- whether indirect functions count among the functions of one section; among those of all sections they always do
+abbrev pub has_indirect : SymbolTable → Bool
+has_indirect Symtab = false
+has_indirect Dynsym = true

@@ -8,7 +8,7 @@ ghost use Rattle.binfarce_bytes.specs.SymbolViews.{function_view};
 ghost use Rattle.binfarce_bytes.specs.Found.{entry_at};
 ghost use Rattle.binfarce_elf.specs.Elf.{walk, name_among};
 ghost use Rattle.binfarce_elf.specs.ElfParts.{needed_view, table_sections_view};
-ghost use Rattle.binfarce_elf.specs.ElfSymbols.{is_named, sought, string_table_kind, whole_rows, table_sections, needed, rows_at, listed_of, elf_answer, entries_from, function_name};
+ghost use Rattle.binfarce_elf.specs.ElfSymbols.{is_named, sought, string_table_kind, whole_rows, table_sections, needed, rows_at, listed_of, elf_answer, entries_from, is_function, function_name};
 ghost use Rattle.binfarce_elf.specs.SymbolTables.{section_type, table_name, strings_name};
 ghost use Rattle.binfarce_elf.specs.ElfViews.{section_view, functions_left, functions_view};
 ghost use Rattle.binfarce_elf.specs.machine.RawElf.{symbol_view, table_view, rows_view};
@@ -55,20 +55,28 @@ pub fn section_functions<'a, C: Class>(
     let names = names_bytes::<C>(table);
     let needed = needed_of::<C>(table, names, which, section_name)?;
     let Rows { strings, rows } = rows_at::<C>(table.data, needed.table)?;
-    Ok(functions_in(rows, strings, table.byte_order, needed.section))
+    Ok(functions_in(rows, strings, table.byte_order, which, needed.section))
 }
 
-/// The function symbols of this section in whole rows, whose names are in these strings, and the section's size.
+/// The function symbols of this section in whole rows of this symbol table, whose names are in these strings, and the
+/// section's size.
 pub fn functions_in<'a, C: Class>(
     rows: &'a [u8],
     strings: &'a [u8],
     byte_order: ByteOrder,
+    which: SymbolTable,
     section: Section<C>,
 ) -> (Functions<'a, C>, u64)
-    ensures { functions_view C.table result ≡ listed_of C.table byte_order (section_view C.number_of section)
+    ensures { functions_view C.table result ≡ listed_of which C.table byte_order (section_view C.number_of section)
         (record { strings = strings.entry.now; rows = rows.entry.now }) }
 {
-    let functions = Functions::new(rows, strings, byte_order, section.index);
+    let functions = Functions::new(
+        rows,
+        strings,
+        byte_order,
+        which.has_indirect(),
+        section.index,
+    );
     (functions, section.size.widened())
 }
 
@@ -211,6 +219,7 @@ pub struct Functions<'a, C> {
     rows: &'a [u8],
     strings: &'a [u8],
     byte_order: ByteOrder,
+    indirect: bool,
     index: Half,
     next: usize,
     class: PhantomData<C>,
@@ -234,14 +243,21 @@ impl<'a, C: Class> Functions<'a, C> {
     }
 
     // The functions of the section `index` in whole rows.
-    pub(crate) fn new(rows: &'a [u8], strings: &'a [u8], byte_order: ByteOrder, index: Half) -> Self
+    pub(crate) fn new(
+        rows: &'a [u8],
+        strings: &'a [u8],
+        byte_order: ByteOrder,
+        indirect: bool,
+        index: Half,
+    ) -> Self
         ensures { functions_left C.table result
-            ≡ entries_from C.table byte_order strings.entry.now index rows.entry.now 0 }
+            ≡ entries_from C.table byte_order strings.entry.now indirect index rows.entry.now 0 }
     {
         Functions {
             rows,
             strings,
             byte_order,
+            indirect,
             index,
             next: 0,
             class: PhantomData,
@@ -258,7 +274,7 @@ impl<'a, C: Class> Functions<'a, C> {
     {
         for k in self.next..self.rows.len() / C::SYMBOL_LENGTH {
             let row = C::symbol(self.rows, k * C::SYMBOL_LENGTH, self.byte_order).unwrap();
-            match function_name(self.strings, self.index, row) {
+            match function_name(self.strings, self.indirect, self.index, row) {
                 None => continue,
                 Some(name) => {
                     let function = FunctionSymbol {
@@ -293,15 +309,30 @@ impl<'a, C: Class> Iterator for Functions<'a, C> {
     }
 }
 
-// The name of a function of the section `index`, with a size and a name offset.
+// The name of a function of the section `index`, with a size and a name offset; of an indirect one where these count.
 #[tactic(auto, unfolding(crate::specs::ElfSymbols::function_name))]
-pub(crate) fn function_name(strings: &[u8], index: Half, row: SymbolRow) -> Option<&str>
-    ensures { option_map (λ t. t.now) result ≡ function_name strings.now index (symbol_view row) }
+pub(crate) fn function_name(
+    strings: &[u8],
+    indirect: bool,
+    index: Half,
+    row: SymbolRow,
+) -> Option<&str>
+    ensures { option_map (λ t. t.now) result ≡ function_name strings.now indirect index (symbol_view row) }
 {
-    const STT_FUNC: u8 = 2;
-    if row.section == index && row.size != 0 && row.name != 0 && row.info & 0xf == STT_FUNC {
+    if row.section == index && row.size != 0 && row.name != 0 && is_function(indirect, row) {
         parse_null_string(strings, row.name as usize)
     } else {
         None
     }
+}
+
+// Whether a row's type is that of a function; of an indirect one where these count.
+#[inline]
+fn is_function(indirect: bool, row: SymbolRow) -> bool
+    ensures { result ≡ is_function indirect (symbol_view row) }
+{
+    const STT_FUNC: u8 = 2;
+    const STT_GNU_IFUNC: u8 = 10;
+    let kind = row.info & 0xf;
+    kind == STT_FUNC || indirect && kind == STT_GNU_IFUNC
 }

@@ -1,5 +1,5 @@
 -- The rows of a symbol table read back, each where it was written.
-use Rattle.std.proofs.Common.{◌≡◌, ℕ, ◌+◌, ◌*◌, ◌^◌, ◌<◌, List, [], ◌∷◌, ◌++◌, length, replicate, refl, sym, ap, ◌∙◌, append_assoc, arith}
+use Rattle.std.proofs.Common.{◌≡◌, ℕ, ◌+◌, ◌*◌, ◌^◌, ◌<◌, List, [], ◌∷◌, ◌++◌, length, replicate, refl, sym, ap, ◌∙◌, append_assoc, arith, false}
 use Rattle.std.specs.List.{range_with_len, AllByRecursion, filter_map, cons_option, flat_map}
 use Rattle.std.proofs.lemmas.List.{length-append, length-replicate}
 use Rattle.binfarce.specs.declared.ByteOrder.{ByteOrder}
@@ -53,7 +53,7 @@ module _ (layout : ElfLayout) where
   -- the entries of the rows that are found from this index on are those of the rows that were written
   pub rows_back : (strings : List ℕ) (index : ℕ) (bytes front : List ℕ) (i : ℕ) (rows : List Row) → bytes ≡ front ++ flat_map (symbol_bytes class order) rows → length front ≡ i * class.symbol_length
       → AllByRecursion RowFits rows
-      → filter_map (λ k. entry_of strings index (symbol_at class order bytes (k * class.symbol_length))) (range_with_len i (length rows)) ≡ filter_map (λ row. entry_of strings index (symbol_of row)) rows
+      → filter_map (λ k. entry_of strings false index (symbol_at class order bytes (k * class.symbol_length))) (range_with_len i (length rows)) ≡ filter_map (λ row. entry_of strings false index (symbol_of row)) rows
   rows_back strings index bytes front i [] split_is at fits = refl
   rows_back strings index bytes front i (row ∷ rows) split_is at fits =
       let start = i * class.symbol_length in
@@ -63,5 +63,5 @@ module _ (layout : ElfLayout) where
       let further : length (front ++ written) ≡ (i + 1) * class.symbol_length =
       length-append front written ∙ ap (λ (n : ℕ). n + length written) at ∙ ap (λ (n : ℕ). start + n) (length-symbol_bytes layout order row) ∙ next_row i class.symbol_length in
       let others = rows_back strings index bytes (front ++ written) (i + 1) rows (split_is ∙ sym (append_assoc front written rest)) further fits.1 in
-      ap (λ (s : SymbolRow ℕ). cons_option (entry_of strings index s) (filter_map (λ k. entry_of strings index (symbol_at class order bytes (k * class.symbol_length))) (range_with_len (i + 1) (length rows)))) here
-      ∙ ap (λ (xs : List Entry). cons_option (entry_of strings index (symbol_of row)) xs) others
+      ap (λ (s : SymbolRow ℕ). cons_option (entry_of strings false index s) (filter_map (λ k. entry_of strings false index (symbol_at class order bytes (k * class.symbol_length))) (range_with_len (i + 1) (length rows)))) here
+      ∙ ap (λ (xs : List Entry). cons_option (entry_of strings false index (symbol_of row)) xs) others

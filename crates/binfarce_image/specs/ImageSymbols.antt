@@ -8,6 +8,7 @@ use Rattle.binfarce.specs.Elf.{SymbolRow, section_table}
 use Rattle.binfarce.specs.ElfSymbols.{entry_of, is_named, elf_answer}
 use Rattle.binfarce.specs.Symbol.{Entry, Listed}
 use Rattle.binfarce.specs.declared.SymbolTable.TheVariants.{Symtab}
+use Rattle.binfarce.specs.SymbolTables.{has_indirect}
 use Rattle.binfarce_image.specs.declared.image.ElfLayout.{ElfLayout}
 use Rattle.binfarce_image.specs.declared.image.Image.{Image}
 use Rattle.binfarce_image.specs.declared.image.Part.{Part}
@@ -45,7 +46,7 @@ symbol_of row = record { name = row.name; value = row.address; size = row.size; 
 
 -- the entries of the rows, in table order
 abbrev pub entries_of : List ℕ → ℕ → List Row → List Entry
-entries_of strings index rows = filter_map (λ row. entry_of strings index (symbol_of row)) rows
+entries_of strings index rows = filter_map (λ row. entry_of strings (has_indirect Symtab) index (symbol_of row)) rows
 
 -- the refusals in order; else the entries of the table's rows, and the size of the requested part
 unfoldable pub symbols_of : Image → List ℕ → Result Listed Refusal

@@ -106,9 +106,9 @@ module _ (class : ElfClass) (within : HasWithin class) (some : 0 < class.section
           let sections = walk class here in
           let section_names = names_bytes class here in
           answer_from which class there wanted
-          ∙ ap₂ (λ (w : Walk Section) (n : Option (List ℕ)). needed which w n wanted >>= after_needed class order other) walks names
-          ∙ after_same (needed which sections section_names wanted) (after_needed class order other) (after_needed class order file)
-          (λ n is. ap (λ (a : Result TableRows Refusal). a >>= λ rows. Ok (listed_of class order n.section rows)) (found_same n.table (needed_table which sections section_names wanted n is)))
+          ∙ ap₂ (λ (w : Walk Section) (n : Option (List ℕ)). needed which w n wanted >>= after_needed which class order other) walks names
+          ∙ after_same (needed which sections section_names wanted) (after_needed which class order other) (after_needed which class order file)
+          (λ n is. ap (λ (a : Result TableRows Refusal). a >>= λ rows. Ok (listed_of which class order n.section rows)) (found_same n.table (needed_table which sections section_names wanted n is)))
           ∙ sym (answer_from which class here wanted)
 
       symbols_same : (elf_type : ℕ) → all_symbols which class there elf_type ≡ all_symbols which class here elf_type

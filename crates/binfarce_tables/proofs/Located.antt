@@ -79,10 +79,10 @@ module _ (class : ElfClass) (file : List ℕ) (sections : TableSections) where
       rows_read rows whole = from_rows ∙ ap (λ (a : Result (List ℕ) Refusal). a >>= λ r. Ok (record { strings = strings; rows = r })) (rows_are class bytes rows whole)
 
 -- what follows what is needed, up to the answer
-abbrev pub after_needed : ElfClass → ByteOrder → List ℕ → NeededSections → Result Listed Refusal
-after_needed class order file sections = rows_at class file sections.table >>= λ found. Ok (listed_of class order sections.section found)
+abbrev pub after_needed : SymbolTable → ElfClass → ByteOrder → List ℕ → NeededSections → Result Listed Refusal
+after_needed which class order file sections = rows_at class file sections.table >>= λ found. Ok (listed_of which class order sections.section found)
 
-pub answer_from : (which : SymbolTable) (class : ElfClass) (table : SectionTable) (wanted : List ℕ) → elf_answer which class table wanted ≡ (needed which (walk class table) (names_bytes class table) wanted >>= after_needed class table.order table.file)
+pub answer_from : (which : SymbolTable) (class : ElfClass) (table : SectionTable) (wanted : List ℕ) → elf_answer which class table wanted ≡ (needed which (walk class table) (names_bytes class table) wanted >>= after_needed which class table.order table.file)
 unfolding elf_answer
 answer_from which class table wanted = refl
 
@@ -97,11 +97,11 @@ file_answer_from which class order file wanted = by_test (ltb (length file) clas
 
 -- a file's answer from a step on, where those before it were taken
 module _ (which : SymbolTable) (class : ElfClass) (order : ByteOrder) (file wanted : List ℕ) (table : SectionTable) (placed : table_step class order file ≡ Ok table) where
-  pub from_table : elf_file_answer which class order file wanted ≡ (needed which (walk class table) (names_bytes class table) wanted >>= after_needed class table.order table.file)
+  pub from_table : elf_file_answer which class order file wanted ≡ (needed which (walk class table) (names_bytes class table) wanted >>= after_needed which class table.order table.file)
   from_table =
       file_answer_from which class order file wanted
       ∙ ap (λ (a : Result SectionTable Refusal). a >>= λ t. elf_answer which class t wanted) placed
       ∙ answer_from which class table wanted
 
-  pub from_needed : (found : NeededSections) → needed which (walk class table) (names_bytes class table) wanted ≡ Ok found → elf_file_answer which class order file wanted ≡ after_needed class table.order table.file found
-  from_needed found needs = from_table ∙ ap (λ (a : Result NeededSections Refusal). a >>= after_needed class table.order table.file) needs
+  pub from_needed : (found : NeededSections) → needed which (walk class table) (names_bytes class table) wanted ≡ Ok found → elf_file_answer which class order file wanted ≡ after_needed which class table.order table.file found
+  from_needed found needs = from_table ∙ ap (λ (a : Result NeededSections Refusal). a >>= after_needed which class table.order table.file) needs

@@ -22,4 +22,4 @@ Known bytes len file = (bytes ≡ Some file) × (len ≡ length file)
 
 -- the content of a file's parts: its entries, and the size of the requested section
 abbrev pub parts_view : {C : Type 0} → ElfClass → (C → ℕ) → Parts C → Listed
-parts_view class number p = listed_of class p.byte_order (section_view number p.section) (record { strings = p.strings.items; rows = p.rows.items })
+parts_view class number p = listed_of p.which class p.byte_order (section_view number p.section) (record { strings = p.strings.items; rows = p.rows.items })

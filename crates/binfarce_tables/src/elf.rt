@@ -32,6 +32,7 @@ pub struct Parts<C> {
     rows: Vec<u8>,
     strings: Vec<u8>,
     byte_order: ByteOrder,
+    which: SymbolTable,
     section: Section<C>,
 }
 
@@ -41,7 +42,13 @@ impl<C: Class> Parts<C> {
     pub fn functions(&self) -> (Functions<'_, C>, u64)
         ensures { functions_view C.table result ≡ parts_view C.table C.number_of self.now }
     {
-        functions_in::<C>(&self.rows, &self.strings, self.byte_order, self.section)
+        functions_in::<C>(
+            &self.rows,
+            &self.strings,
+            self.byte_order,
+            self.which,
+            self.section,
+        )
     }
 }
 
@@ -79,6 +86,7 @@ pub(crate) fn read_parts<C: Class, S: Source>(
         rows: table.rows,
         strings: table.strings,
         byte_order: place.byte_order,
+        which,
         section: needed.section,
     })
 }

@@ -98,7 +98,7 @@ fn section_function(strings: &[u8], count: Half, row: SymbolRow) -> Option<Secti
     if !is_of_section(count, row.section) {
         return None;
     }
-    let name = function_name(strings, row.section, row)?;
+    let name = function_name(strings, true, row.section, row)?;
     Some(SectionFunction {
         section: u32::from(row.section),
         function: FunctionSymbol {

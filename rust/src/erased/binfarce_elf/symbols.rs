@@ -42,17 +42,25 @@ pub fn section_functions<'a, C: Class>(
     let names = names_bytes::<C>(table);
     let needed = needed_of::<C>(table, names, which, section_name)?;
     let Rows { strings, rows } = rows_at::<C>(table.data, needed.table)?;
-    Ok(functions_in(rows, strings, table.byte_order, needed.section))
+    Ok(functions_in(rows, strings, table.byte_order, which, needed.section))
 }
 
-/// The function symbols of this section in whole rows, whose names are in these strings, and the section's size.
+/// The function symbols of this section in whole rows of this symbol table, whose names are in these strings, and the
+/// section's size.
 pub fn functions_in<'a, C: Class>(
     rows: &'a [u8],
     strings: &'a [u8],
     byte_order: ByteOrder,
+    which: SymbolTable,
     section: Section<C>,
 ) -> (Functions<'a, C>, u64) {
-    let functions = Functions::new(rows, strings, byte_order, section.index);
+    let functions = Functions::new(
+        rows,
+        strings,
+        byte_order,
+        which.has_indirect(),
+        section.index,
+    );
     (functions, section.size.widened())
 }
 
@@ -158,6 +166,7 @@ pub struct Functions<'a, C> {
     rows: &'a [u8],
     strings: &'a [u8],
     byte_order: ByteOrder,
+    indirect: bool,
     index: Half,
     next: usize,
     class: PhantomData<C>,
@@ -178,11 +187,18 @@ impl<'a, C: Class> Functions<'a, C> {
     }
 
     // The functions of the section `index` in whole rows.
-    pub(crate) fn new(rows: &'a [u8], strings: &'a [u8], byte_order: ByteOrder, index: Half) -> Self {
+    pub(crate) fn new(
+        rows: &'a [u8],
+        strings: &'a [u8],
+        byte_order: ByteOrder,
+        indirect: bool,
+        index: Half,
+    ) -> Self {
         Functions {
             rows,
             strings,
             byte_order,
+            indirect,
             index,
             next: 0,
             class: PhantomData,
@@ -194,7 +210,7 @@ impl<'a, C: Class> Functions<'a, C> {
     fn first_left(&self) -> Option<(FunctionSymbol<'a>, usize)> {
         for k in self.next..self.rows.len() / C::SYMBOL_LENGTH {
             let row = C::symbol(self.rows, k * C::SYMBOL_LENGTH, self.byte_order).unwrap();
-            match function_name(self.strings, self.index, row) {
+            match function_name(self.strings, self.indirect, self.index, row) {
                 None => continue,
                 Some(name) => {
                     let function = FunctionSymbol {
@@ -221,12 +237,25 @@ impl<'a, C: Class> Iterator for Functions<'a, C> {
     }
 }
 
-// The name of a function of the section `index`, with a size and a name offset.
-pub(crate) fn function_name(strings: &[u8], index: Half, row: SymbolRow) -> Option<&str> {
-    const STT_FUNC: u8 = 2;
-    if row.section == index && row.size != 0 && row.name != 0 && row.info & 0xf == STT_FUNC {
+// The name of a function of the section `index`, with a size and a name offset; of an indirect one where these count.
+pub(crate) fn function_name(
+    strings: &[u8],
+    indirect: bool,
+    index: Half,
+    row: SymbolRow,
+) -> Option<&str> {
+    if row.section == index && row.size != 0 && row.name != 0 && is_function(indirect, row) {
         parse_null_string(strings, row.name as usize)
     } else {
         None
     }
+}
+
+// Whether a row's type is that of a function; of an indirect one where these count.
+#[inline]
+fn is_function(indirect: bool, row: SymbolRow) -> bool {
+    const STT_FUNC: u8 = 2;
+    const STT_GNU_IFUNC: u8 = 10;
+    let kind = row.info & 0xf;
+    kind == STT_FUNC || indirect && kind == STT_GNU_IFUNC
 }

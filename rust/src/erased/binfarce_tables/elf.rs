@@ -21,6 +21,7 @@ pub struct Parts<C> {
     rows: Vec<u8>,
     strings: Vec<u8>,
     byte_order: ByteOrder,
+    which: SymbolTable,
     section: Section<C>,
 }
 
@@ -28,7 +29,13 @@ impl<C: Class> Parts<C> {
     /// The function symbols of the section as the file stores them, in the order of the symbol table, and the section's
     /// size in bytes. Nothing is read or allocated: names are slices of the parts.
     pub fn functions(&self) -> (Functions<'_, C>, u64) {
-        functions_in::<C>(&self.rows, &self.strings, self.byte_order, self.section)
+        functions_in::<C>(
+            &self.rows,
+            &self.strings,
+            self.byte_order,
+            self.which,
+            self.section,
+        )
     }
 }
 
@@ -59,6 +66,7 @@ pub(crate) fn read_parts<C: Class, S: Source>(
         rows: table.rows,
         strings: table.strings,
         byte_order: place.byte_order,
+        which,
         section: needed.section,
     })
 }

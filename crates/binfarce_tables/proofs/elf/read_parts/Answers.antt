@@ -23,7 +23,7 @@ returns-in_err-needed-clause-answer g c = λ file known.
     let e = c.in_err-needed.field-0.0 in
     passed fails next _ e c.from_residual-in_err-needed.result c.from_residual-in_err-needed.ensures
     (instead fails next (elf_file_answer c.args.which class c.args.byte_order file name) _ (Err e) (from_table c.args.which class c.args.byte_order file name table (c.in_ok-place.ensures.table file is_known))
-    (after_err fails (needed_view g.C.Class.number_of) next (needed c.args.which (walk class table) (names_bytes class table) name) (after_needed class table.order file) e (c.in_err-needed.ensures.answer file is_known)))
+    (after_err fails (needed_view g.C.Class.number_of) next (needed c.args.which (walk class table) (names_bytes class table) name) (after_needed c.args.which class table.order file) e (c.in_err-needed.ensures.answer file is_known)))
 
 pub returns-in_err-table-clause-answer : goal.returns-in_err-table-clause-answer
 returns-in_err-table-clause-answer g c = λ file known.
@@ -36,9 +36,9 @@ returns-in_err-table-clause-answer g c = λ file known.
     let n = needed_view g.C.Class.number_of c.in_ok-needed.needed in
     let e = c.in_err-table.field-0.0 in
     passed fails next _ e c.from_residual-in_err-table.result c.from_residual-in_err-table.ensures
-    (instead fails next (elf_file_answer c.args.which class c.args.byte_order file name) (after_needed class table.order file n) (Err e)
+    (instead fails next (elf_file_answer c.args.which class c.args.byte_order file name) (after_needed c.args.which class table.order file n) (Err e)
     (from_needed c.args.which class c.args.byte_order file name table (c.in_ok-place.ensures.table file is_known) n (c.in_ok-needed.ensures.answer file is_known))
-    (after_err fails rows_view next (rows_at class file n.table) (λ found. Ok (listed_of class table.order n.section found)) e (c.in_err-table.ensures.answer file is_known)))
+    (after_err fails rows_view next (rows_at class file n.table) (λ found. Ok (listed_of c.args.which class table.order n.section found)) e (c.in_err-table.ensures.answer file is_known)))
 
 pub returns-clause-answer : goal.returns-clause-answer
 returns-clause-answer g c = λ file known.
@@ -48,7 +48,7 @@ returns-clause-answer g c = λ file known.
     let table = table_at file c.in_ok-place.place in
     let n = needed_view g.C.Class.number_of c.in_ok-needed.needed in
     from_needed c.args.which class c.args.byte_order file name table (c.in_ok-place.ensures.table file is_known) n (c.in_ok-needed.ensures.answer file is_known)
-    ∙ ap (λ (a : Result TableRows Refusal). a >>= λ found. Ok (listed_of class table.order n.section found)) (c.in_ok-table.ensures.answer file is_known)
+    ∙ ap (λ (a : Result TableRows Refusal). a >>= λ found. Ok (listed_of c.args.which class table.order n.section found)) (c.in_ok-table.ensures.answer file is_known)
 
 pub returns-in_err-len-clause-nothing_else : goal.returns-in_err-len-clause-nothing_else
 returns-in_err-len-clause-nothing_else g c = λ file known sure.

@@ -83,9 +83,9 @@ def readobj(file):
 
 
 def blocks(text, head):
-    """The fields of each `Head { .. }` that LLVM's reader prints."""
+    """The fields of each `Head { .. }` that LLVM's reader prints, of a list `[ (0x1)` its number."""
     for block in re.findall(rb"^  %s \{\n(.*?)^  \}$" % head, text, re.S | re.M):
-        yield dict(re.findall(rb"^    (\w+): ?(.*)$", block, re.M))
+        yield dict(re.findall(rb"^    (\w+)(?::| \[) ?(.*)$", block, re.M))
 
 
 def number(field):

@@ -166,15 +166,15 @@ impl<'a> Macho<'a> {
         Ok((functions.into_std(), size))
     }
 
-    /// Returns the function symbols of all sections, each with its section's number: by section, and in each by address and at
-    /// equal addresses in table order. A size ends at the least greater address in the whole table, or with the symbol's own
-    /// section where none is greater. Sections are numbered from 1 on, also those whose names aren't valid.
+    /// Returns the function symbols of all sections that hold instructions, each with its section's number: by section, and in
+    /// each by address and at equal addresses in table order. Kept are the rows that are defined in such a section and lie in it,
+    /// but for labels of the assembler, whose names begin with `ltmp` or `L`. A size ends at the next greater address of these in
+    /// the section, or with the section. Sections are numbered from 1 on, also those whose names aren't valid.
     ///
     /// # Errors
     ///
     /// Those of [`Macho::find_section`]; [`ParseError::UnexpectedEof`] where the symbol table's command, the string table or the
-    /// symbol table are truncated; [`ParseError::MalformedInput`] where a symbol lies past its section's end with no address
-    /// above it, or that end passes an address; [`Error::OutOfMemory`] where an allocation failed.
+    /// symbol table are truncated; [`Error::OutOfMemory`] where an allocation failed.
     pub fn all_functions(&self) -> Result<Vec<SectionFunction<'a>>, Error> {
         Ok(self.0.all_functions(Global)?.into_std())
     }

@@ -5,7 +5,7 @@ ghost use Rattle.std.specs.Option.{option_map};
 ghost use Rattle.binfarce_bytes.specs.Refusal.{Gives, refusal_of, unexpected_eof};
 ghost use Rattle.binfarce_bytes.specs.Walk.{MayBeAsked, FirstAccepted, first};
 ghost use Rattle.binfarce_macho.specs.Macho.{header_of, section_data, walk, is_named, least_length};
-ghost use Rattle.binfarce_macho.specs.MachoAll.{all_answer, HasSection, AllHasText};
+ghost use Rattle.binfarce_macho.specs.MachoAll.{all_answer, HasSection};
 ghost use Rattle.binfarce_macho.specs.MachoSymbols.{ArrangesRows, SizesEntries, HasAddress, macho_answer};
 ghost use Rattle.binfarce_bytes.specs.Entries.{Answers};
 ghost use Rattle.binfarce_bytes.specs.SectionEntries.{AnswersAll};
@@ -168,24 +168,23 @@ impl<'a> Macho<'a> {
         functions_of_file(alloc, self.data, self.header)
     }
 
-    /// The function symbols of all sections, each with its section's number: by section, and in each by address and at equal
-    /// addresses in table order. Without a symbol table the list is empty.
+    /// The function symbols of all sections that hold instructions, each with its section's number: by section, and in
+    /// each by address and at equal addresses in table order. Without a symbol table the list is empty.
     ///
-    /// `functions` keeps rows of section 1; this keeps rows of each section, by the same rule. A symbol's size is the
-    /// distance to the next greater address in the whole table, or to the end of its own section where there is none.
-    /// Sections are numbered from 1 on, segment by segment, also those whose names aren't valid. A row's section number
-    /// is at most 255; a row whose section doesn't exist isn't kept.
+    /// A section holds instructions if its flags have `S_ATTR_PURE_INSTRUCTIONS` or `S_ATTR_SOME_INSTRUCTIONS`; one
+    /// whose flags are truncated holds none. Sections are numbered from 1 on, segment by segment, also those whose names
+    /// aren't valid; a row's section number is at most 255. It keeps rows that are defined in such a section (`N_SECT`,
+    /// and no bit of `N_STAB`) with a value in it, a name offset and a valid name, unless that is a label of the
+    /// assembler: one that begins with `ltmp` or `L`. A symbol's size is the distance to the next greater address of
+    /// such a row of its section, or to the section's end where there is none.
     ///
     /// # Errors
     ///
     /// In this order: those of `find_section` with a callback that accepts no section; `UnexpectedEof` where the symbol
-    /// table's command, the string table or the rows are truncated; `MalformedInput` where the end of a section with a
-    /// row to keep exceeds 64 bits, or where such a row lies past its section's end with no address above it.
-    /// `OutOfMemory` only where the file has a section; it may replace another error.
-    #[tactic(auto, using(binfarce_macho::proofs::AllLaw::all_has_text))]
+    /// table's command, the string table or the rows are truncated. `OutOfMemory` only where the file has a section; it
+    /// may replace another error.
     pub fn all_functions(&self, alloc: Global) -> Result<Vec<SectionFunction<'a>>, ParseError>
-        ensures functions { AnswersAll HoldsSectionFunctions (HasSection self.now) (all_answer self.now) result }
-        ensures text { AllHasText self.now }
+        ensures { AnswersAll HoldsSectionFunctions (HasSection self.now) (all_answer self.now) result }
     {
         functions_of_sections(alloc, self.data, self.header)
     }

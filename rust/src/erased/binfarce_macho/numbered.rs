@@ -5,14 +5,13 @@
 use crate::shim::{String, Vec};
 use crate::erased::binfarce_macho::commands::{LC_SEGMENT_64, commands};
 use crate::erased::binfarce_macho::header::MachoHeader;
-use crate::erased::binfarce_macho::parts::holds_sections;
 use crate::erased::binfarce_macho::sections::{SECTION_LENGTH, Section, section_at};
 use crate::erased::binfarce_bytes::parser::number_at;
 use crate::erased::binfarce_bytes::{ByteOrder, ParseError};
 use crate::shim::alloc::{AllocError, Global};
 
 // The greatest number of a section that a row can state (`MAX_SECT`).
-const MAX_SECT: usize = 255;
+pub(crate) const MAX_SECT: u8 = 255;
 
 /// Where the structures of a file's sections begin, in the order of the sections' numbers, up to number 255. Refused as
 /// `find_section` of a reader is with a callback that accepts none; `OutOfMemory` comes only where the file has a section.
@@ -37,9 +36,18 @@ fn push_sections(starts: &mut Vec<usize>, file: &[u8], body: usize) -> Result<()
         return Err(ParseError::UnexpectedEof);
     }
     let count: u32 = number_at(file, body + 56, ByteOrder::LittleEndian)?;
-    let room = MAX_SECT - starts.len();
+    let room = usize::from(MAX_SECT) - starts.len();
     push_starts(starts, body, room.min(count as usize))?;
     Ok(())
+}
+
+// Whether no section of a segment command is truncated.
+fn holds_sections(bytes: &[u8], body: usize) -> bool {
+    match number_at::<u32>(bytes, body + 56, ByteOrder::LittleEndian) {
+        Err(_) => false,
+        Ok(count) => count as usize
+            <= (bytes.len() + 28).saturating_sub(body + 64) / SECTION_LENGTH,
+    }
 }
 
 // Adds as many sections of a segment command.

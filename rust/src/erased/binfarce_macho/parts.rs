@@ -78,18 +78,17 @@ pub fn holds_commands(file: &[u8], header: MachoHeader) -> bool {
 
 fn holds_body(bytes: &[u8], command: Command) -> bool {
     let body = command.offset + 8;
-    if command.kind == LC_SEGMENT_64 {
-        holds_sections(bytes, body)
-    } else {
-        command.kind != LC_SYMTAB || body + 16 <= bytes.len()
+    match command.kind {
+        LC_SEGMENT_64 => holds_sections(bytes, body),
+        LC_SYMTAB => body + 16 <= bytes.len(),
+        _ => true,
     }
 }
 
-// Whether all sections of a segment command lie in the bytes.
-pub(crate) fn holds_sections(bytes: &[u8], body: usize) -> bool {
+// Whether all section structures of a segment command lie in the bytes.
+fn holds_sections(bytes: &[u8], body: usize) -> bool {
     match number_at::<u32>(bytes, body + 56, ByteOrder::LittleEndian) {
         Err(_) => false,
-        Ok(count) => count as usize
-            <= (bytes.len() + 28).saturating_sub(body + 64) / SECTION_LENGTH,
+        Ok(count) => body + 64 + count as usize * SECTION_LENGTH <= bytes.len(),
     }
 }

@@ -133,9 +133,9 @@ pub fn text_end(text: Section<'_>) -> Result<u64, ParseError> {
 #[derive(Clone, Copy)]
 pub(crate) struct SymbolRow {
     pub(crate) name: u32,
-    kind: u8,
+    pub(crate) kind: u8,
     pub(crate) section: u8,
-    value: u64,
+    pub(crate) value: u64,
 }
 
 #[inline]
@@ -169,7 +169,7 @@ pub fn functions_of<'a>(
 }
 
 // The addresses of the rows that have one.
-pub(crate) fn row_addresses(alloc: Global, rows: &[u8]) -> Result<Vec<RowAddress>, AllocError> {
+fn row_addresses(alloc: Global, rows: &[u8]) -> Result<Vec<RowAddress>, AllocError> {
     let mut addresses = Vec::new(alloc);
     for k in 0..rows.len() / SYMBOL_LENGTH {
         let row = symbol_at(rows, k * SYMBOL_LENGTH).unwrap();
@@ -220,19 +220,10 @@ fn has_address(row: SymbolRow) -> bool {
 }
 
 fn is_candidate(row: SymbolRow) -> bool {
-    is_defined(row) && row.section == 1
+    row.name != 0 && row.kind & 0x0A != 0 && row.section == 1
 }
 
-// Whether a row may be a function symbol of its section, whatever section that is.
-pub(crate) fn is_defined(row: SymbolRow) -> bool {
-    row.name != 0 && row.kind & 0x0A != 0
-}
-
-pub(crate) fn size_up_to(
-    above: Option<u64>,
-    text_end: u64,
-    address: u64,
-) -> Result<Option<u64>, ParseError> {
+fn size_up_to(above: Option<u64>, text_end: u64, address: u64) -> Result<Option<u64>, ParseError> {
     match above {
         Some(above) => Ok(Some(above - address)),
         None => {
@@ -247,11 +238,7 @@ pub(crate) fn size_up_to(
     }
 }
 
-pub(crate) fn sized_entry(
-    address: u64,
-    size: Option<u64>,
-    name: Option<&str>,
-) -> Option<FunctionSymbol<'_>> {
+fn sized_entry(address: u64, size: Option<u64>, name: Option<&str>) -> Option<FunctionSymbol<'_>> {
     let size = size?;
     let name = name?;
     Some(FunctionSymbol {

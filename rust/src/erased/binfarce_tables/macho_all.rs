@@ -15,7 +15,7 @@ use crate::shim::alloc::Global;
 
 /// The parts of a file that have the function symbols of all sections, and the sections' names.
 pub struct AllParts {
-    extents: Vec<Extent>,
+    sections: Vec<Extent>,
     names: Vec<Option<String>>,
     symbols: Option<SymbolParts>,
     shares_addresses: bool,
@@ -33,14 +33,10 @@ impl AllParts {
     ///
     /// # Errors
     ///
-    /// `MalformedInput` where the end of a section with a row to keep exceeds 64 bits, or where such a row lies past
-    /// its section's end with no address above it. `OutOfMemory` only where the file has a section; it may replace that
-    /// error.
+    /// `OutOfMemory`, only where the file has a section.
     pub fn functions(&self, alloc: Global) -> Result<Vec<SectionFunction<'_>>, ParseError> {
-        match &self.symbols {
-            None => Ok(Vec::new(alloc)),
-            Some(symbols) => functions_of_extents(alloc, &self.extents, bytes_of(symbols)),
-        }
+        let symbols = self.symbols.as_ref().map(bytes_of);
+        Ok(functions_of_extents(alloc, &self.sections, symbols)?)
     }
 
     /// The name of the section of this number, `SEGMENT,SECTION`; nothing is copied. `None` where there is no such section,
@@ -86,7 +82,7 @@ pub fn read_all<S: Source>(alloc: Global, source: &S) -> Result<AllParts, ReadEr
     let found = found_in(alloc, &commands)?;
     let symbols = read_symbols(alloc, source, len, found.table)?;
     Ok(AllParts {
-        extents: found.extents,
+        sections: found.sections,
         names: found.names,
         symbols,
         shares_addresses: found.shares_addresses,
@@ -95,7 +91,7 @@ pub fn read_all<S: Source>(alloc: Global, source: &S) -> Result<AllParts, ReadEr
 
 // The content of the load commands: where the sections are in memory, their names, and where the symbol table is.
 struct Found {
-    extents: Vec<Extent>,
+    sections: Vec<Extent>,
     names: Vec<Option<String>>,
     table: Option<SymbolTable>,
     shares_addresses: bool,
@@ -109,10 +105,10 @@ fn found_in(alloc: Global, commands: &[u8]) -> Result<Found, ReadError> {
         Err(e) => return Err(error_of(e)),
     };
     let table = symbol_table(commands, header)?;
-    let extents = extents_at(alloc, commands, &starts)?;
+    let sections = extents_at(alloc, commands, &starts)?;
     let names = section_names(alloc, commands, &starts)?;
     Ok(Found {
-        extents,
+        sections,
         names,
         table,
         shares_addresses: is_object(header),

@@ -42,11 +42,11 @@ static ELF64: [Field; 25] = [
 ];
 
 // loader.h: `mach_header_64`, `segment_command_64`, `section_64`, `symtab_command`; nlist.h: `nlist_64`.
-static MACHO: [Field; 21] = [
+static MACHO: [Field; 22] = [
     ("cputype", 4, 0, 4), ("cpusubtype", 8, 0, 4), ("filetype", 12, 0, 4), ("ncmds", 16, 0, 4),
     ("sizeofcmds", 20, 0, 4), ("flags", 24, 0, 4), ("nsects", 96, 0, 4), ("sectname", 104, 0, 16),
-    ("segname", 120, 0, 16), ("addr", 136, 0, 8), ("size", 144, 0, 8), ("offset", 152, 0, 4), ("cmdsize", 188, 0, 4),
-    ("symoff", 192, 0, 4), ("nsyms", 196, 0, 4), ("stroff", 200, 0, 4), ("strsize", 204, 0, 4),
+    ("segname", 120, 0, 16), ("addr", 136, 0, 8), ("size", 144, 0, 8), ("offset", 152, 0, 4), ("s_flags", 168, 0, 4),
+    ("cmdsize", 188, 0, 4), ("symoff", 192, 0, 4), ("nsyms", 196, 0, 4), ("stroff", 200, 0, 4), ("strsize", 204, 0, 4),
     ("n_strx", 208, 16, 4), ("n_type", 212, 16, 1), ("n_sect", 213, 16, 1), ("n_value", 216, 16, 8),
 ];
 

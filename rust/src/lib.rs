@@ -5,6 +5,13 @@
 //! `erased`, is plain Rust made from the proved sources in `crates/` by erasing their contracts: those sources are proved for
 //! every byte string, and this crate is safe Rust without dependencies.
 //!
+//! - Names: [`demangle`], and [`filter()`] and [`filter_stream`] for those in a text.
+//! - A file in memory, of any format: [`functions`], [`sections`], [`section_bytes`]; of one format: [`elf32`], [`elf64`],
+//!   [`macho`], [`pe`].
+//! - Function symbols of all sections, dynamic ones, sums of their sizes, and files that are read at offsets: [`Tables`] and
+//!   [`read_section`].
+//! - The function at an address: [`Symbolizer`].
+//!
 //! # Examples
 //!
 //! The functions of a program, whatever its format:

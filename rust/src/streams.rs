@@ -21,11 +21,13 @@ impl<S> Kept<S> {
         self.error.unwrap_or_else(|| kind.into())
     }
 
-    /// Keeps the error, and returns one of its kind.
+    /// Keeps the error, unless its call will be repeated, and returns one of its kind.
     fn keep<T>(&mut self, result: io::Result<T>) -> io::Result<T> {
         result.map_err(|e| {
             let kind = e.kind();
-            self.error = Some(e);
+            if kind != ErrorKind::Interrupted {
+                self.error = Some(e);
+            }
             kind.into()
         })
     }
@@ -67,10 +69,7 @@ impl<W: Write> Sink for Kept<W> {
             match Write::write(self, bytes) {
                 Ok(0) => self.error = Some(ErrorKind::WriteZero.into()),
                 Ok(count) => return Some(count),
-                Err(e) if e.kind() == ErrorKind::Interrupted => {
-                    self.error = None;
-                    continue;
-                }
+                Err(e) if e.kind() == ErrorKind::Interrupted => continue,
                 Err(_) => {}
             }
             return None;
@@ -91,7 +90,8 @@ impl<S: Read + Seek> Source for RefCell<Kept<S>> {
 
     fn fill_at(&self, offset: u64, buffer: &mut [u8]) -> io::Result<()> {
         let mut kept = self.borrow_mut();
-        let result = kept.stream.seek(SeekFrom::Start(offset)).and_then(|_| kept.stream.read_exact(buffer));
-        kept.keep(result)
+        let result = kept.stream.seek(SeekFrom::Start(offset));
+        kept.keep(result)?;
+        kept.read_exact(buffer)
     }
 }

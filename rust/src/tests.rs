@@ -397,10 +397,38 @@ impl Seek for Broken {
     }
 }
 
+impl Seek for Counting {
+    fn seek(&mut self, _: SeekFrom) -> io::Result<u64> {
+        Ok(64)
+    }
+}
+
+/// A file that becomes shorter when its length was asked for.
+struct Shrinking(Cursor<Vec<u8>>);
+
+impl Seek for Shrinking {
+    fn seek(&mut self, to: SeekFrom) -> io::Result<u64> {
+        let place = self.0.seek(to);
+        if to == SeekFrom::End(0) {
+            self.0.get_mut().truncate(99);
+        }
+        place
+    }
+}
+
+impl Read for Shrinking {
+    fn read(&mut self, buffer: &mut [u8]) -> io::Result<usize> {
+        self.0.read(buffer)
+    }
+}
+
 #[test]
 fn tables_give_the_error_of_their_stream() {
     let read = |calls| Tables::read(Broken { calls }, Selection::All, SymbolTable::Symtab).unwrap_err().to_string();
     assert_eq!(read(0), "cable pulled");
+    assert_eq!(read_section(Counting, ".text").unwrap_err().kind(), ErrorKind::InvalidData);
+    let shrinking = Shrinking(Cursor::new(ELF64_LITTLE.to_vec()));
+    assert_eq!(read_section(shrinking, ".text").unwrap_err().kind(), ErrorKind::UnexpectedEof);
     let tables = Tables::new(ELF64_LITTLE, Selection::All, SymbolTable::Symtab).unwrap();
     assert_eq!(tables.list_to(Broken { calls: 0 }).unwrap_err().to_string(), "cable pulled");
     assert_eq!(tables.report_to(&mut [0; 1][..]).unwrap_err().kind(), ErrorKind::WriteZero);

@@ -1,15 +1,14 @@
 //! Symbolizes addresses in an executable, a line for each.
 
-ghost use Rattle.std.specs.Prelude.{◌≡◌, ◌≢◌, ◌++◌, ◌-◌, ◌<◌, ℕ, List, length, Some, None, Ok, true, map, IfErr, IfOk, IfSome, MatchOption, OnOk};
+ghost use Rattle.std.specs.Prelude.{◌≡◌, ◌≢◌, ◌++◌, ◌-◌, ◌<◌, ℕ, List, Option, length, Some, None, Ok, true, map, IfErr, IfOk, IfSome, MatchOption, OnOk};
 ghost use Rattle.std.specs.String.{string_bytes};
 ghost use Rattle.binfarce.specs.Symbol.{Entry, Listed};
 ghost use Rattle.binfarce.specs.SymbolViews.{function_view};
-ghost use Rattle.binfarce_tools.specs.AllAnswer.{all_answer_of, AllNeedsMemory, one_answer};
-ghost use Rattle.binfarce_tools.specs.AllTables.{AreAllTablesOf};
-ghost use Rattle.binfarce_tools.specs.Answer.{answer_of, file_answer, FileNeedsMemory};
+ghost use Rattle.binfarce_tools.specs.Answer.{file_answer, FileNeedsMemory};
 ghost use Rattle.binfarce_tools.specs.Entries.{functions_left};
 ghost use Rattle.binfarce_tools.specs.Listing.{ListingFits};
 ghost use Rattle.binfarce_tools.specs.ListWords.{outcome_of};
+ghost use Rattle.binfarce_tools.specs.Selection.{answer_in, MemoryIn};
 ghost use Rattle.binfarce_tools.specs.Tables.{AreTablesOf};
 ghost use Rattle.binfarce_tools.specs.declared.SymbolTable.{SymbolTable};
 ghost use Rattle.binfarce_tools.specs.declared.list.ListError.TheVariants.{Write};
@@ -25,7 +24,6 @@ use crate::digits::{push_address, push_offset};
 use crate::names::{Names, name_of, names_of};
 use crate::ranges::{AddressRange, Found, Ranges};
 use binfarce::FunctionSymbol;
-use binfarce_tools::all::AllTables;
 use binfarce_tools::functions::{Functions, functions_of_file};
 use binfarce_tools::list::{ListError, Sink};
 use binfarce_tools::tables::Tables;
@@ -68,34 +66,21 @@ impl<'a> Places<'a> {
         Ok(places)
     }
 
-    /// The places of the function symbols of a file's tables: for the section that they were read for.
+    /// The places of the function symbols of a file's tables: for the selection that they were read for. The sections of
+    /// an object file share addresses (`Tables::shares_addresses`), so with all of them an address may symbolize to another
+    /// section's symbol.
     ///
     /// # Errors
     ///
     /// As `of_file`.
     pub fn of_tables(alloc: Global, tables: &'a Tables<'_>) -> Result<Places<'a>, ListError>
-        ensures made { (which : SymbolTable) (file section : List ℕ) → AreTablesOf which file section tables.entry.now
-            → IsMadeOf (FileNeedsMemory file) (answer_of which file section) result }
+        ensures made { (which : SymbolTable) (file : List ℕ) (section : Option (List ℕ))
+            → AreTablesOf which file section tables.entry.now
+            → IsMadeOf (MemoryIn file section) (answer_in which file section) result }
         ensures unwritten { IfErr result (λ e. e ≢ Write) }
     {
-        let (functions, _) = tables.functions(alloc)?;
+        let (functions, _) = tables.functions(alloc)?.into_list();
         let places = places_of(alloc, functions)?;
-        Ok(places)
-    }
-
-    /// The places of the function symbols of all sections of a file. The sections of an object file share addresses
-    /// (`AllTables::shares_addresses`), so an address may symbolize to another section's symbol.
-    ///
-    /// # Errors
-    ///
-    /// As `AllTables::functions`; `OutOfMemory` where any other allocation failed.
-    pub fn of_all(alloc: Global, tables: &'a AllTables) -> Result<Places<'a>, ListError>
-        ensures made { (which : SymbolTable) (file : List ℕ) → AreAllTablesOf which file tables.entry.now
-            → IsMadeOf (AllNeedsMemory file) (one_answer (all_answer_of which file)) result }
-        ensures unwritten { IfErr result (λ e. e ≢ Write) }
-    {
-        let functions = tables.functions(alloc)?;
-        let places = places_of(alloc, Functions::All(functions))?;
         Ok(places)
     }
 
@@ -363,6 +348,7 @@ fn places_of(alloc: Global, functions: Functions<'_>) -> Result<Places<'_>, Allo
 /// # Errors
 ///
 /// Those of `list`. Only after `Write` a beginning of the lines may be written.
+#[tactic(auto, unfolding(binfarce_tools::specs::Selection::answer_in, binfarce_tools::specs::Selection::MemoryIn))]
 pub fn at<S: Sink>(
     alloc: Global,
     file: &[u8],
@@ -381,7 +367,7 @@ pub fn at<S: Sink>(
     at_tables(alloc, &Tables::whole(file, section), base, addresses, out)
 }
 
-/// As `at`, from the tables of a file: for the section that they were read for.
+/// As `at`, from the tables of a file: for the selection that they were read for.
 ///
 /// # Errors
 ///
@@ -393,11 +379,12 @@ pub fn at_tables<S: Sink>(
     addresses: &[u64],
     out: &mut S,
 ) -> Result<(), ListError>
-    ensures outcome { (which : SymbolTable) (file section : List ℕ) → AreTablesOf which file section tables.now
-        → EndsAs ListingFits (FileNeedsMemory file) (answer_of which file section) (outcome_of result) }
-    ensures takes { (which : SymbolTable) (file section : List ℕ) → AreTablesOf which file section tables.now
-        → Takes (AreLinesAt base addresses.now) (answer_of which file section) (S.taken out.old) (S.taken out.new)
-        (outcome_of result) }
+    ensures outcome { (which : SymbolTable) (file : List ℕ) (section : Option (List ℕ))
+        → AreTablesOf which file section tables.now
+        → EndsAs ListingFits (MemoryIn file section) (answer_in which file section) (outcome_of result) }
+    ensures takes { (which : SymbolTable) (file : List ℕ) (section : Option (List ℕ))
+        → AreTablesOf which file section tables.now → Takes (AreLinesAt base addresses.now)
+        (answer_in which file section) (S.taken out.old) (S.taken out.new) (outcome_of result) }
     ensures fails { Fails (S.has_failed out.old) (S.has_failed out.new) (outcome_of result) }
     ensures leaves { Leaves out.old out.new (outcome_of result) }
 {

@@ -22,15 +22,17 @@ use Rattle.binfarce.specs.ElfAll.{all_file_answer}
 use Rattle.binfarce.specs.PeAll as pe_all
 use Rattle.binfarce_tables.specs.MachoAllReading as macho
 use Rattle.binfarce_tables.specs.PeAllReading as pe
-use Rattle.binfarce_tools.specs.declared.all.AllTables.{AllTables}
-use Rattle.binfarce_tools.specs.declared.all.AllTables.TheVariants as tables
-use Rattle.binfarce_tools.specs.declared.all.AllFunctions.{AllFunctions}
+use Rattle.binfarce_tools.specs.declared.tables.Tables.{Tables}
+use Rattle.binfarce_tools.specs.declared.tables.Tables.TheVariants as tables
+use Rattle.binfarce_tools.specs.declared.functions.AllFunctions.{AllFunctions}
+use Rattle.binfarce_tools.specs.declared.functions.Selected.{Selected}
+use Rattle.binfarce_tools.specs.declared.functions.Selected.TheVariants.{All}
 use Rattle.binfarce_tools.specs.declared.list.ListError.{ListError}
 use Rattle.binfarce_tools.specs.declared.list.ListError.TheVariants as errors
 use Rattle.binfarce_tools.specs.AllAnswer.{all_symbols_answer, all_answer_of, HasSections, AllNeedsMemory}
 use Rattle.binfarce_tools.specs.Answer.{by_symbol_table}
 use Rattle.binfarce_tools.specs.AllListing.{IsLineIn, IsAllListingOf}
-use Rattle.binfarce_tools.specs.AllTables.{AreAllTablesOf, section_names, shares_addresses_of}
+use Rattle.binfarce_tools.specs.Tables.{AreTablesOfAll, section_names, shares_addresses_of}
 use Rattle.binfarce_tools.specs.Entries.{GetsAs, HoldsAll, all_left}
 use Rattle.binfarce_tools.specs.ListWords.{list_error_of}
 use Rattle.binfarce_tools.proofs.Lines.{AreLines}
@@ -69,11 +71,11 @@ module _ (A B : Type 0) (names : ℕ → Option (List ℕ)) (shares_addresses : 
   with_entries entries = entries >>= λ e. Ok (record { entries = e; section_name = names; shares_addresses = shares_addresses })
 
   pub listed : (entries : Result (List SectionEntry) Refusal) (functions : Vec SectionFunction Global) (value : AllFunctions)
-      → AnswersAll HoldsSectionFunctions A entries (Ok functions) → all_left value ≡ map section_function_view functions.items → GetsAs HoldsAll (λ _. B) (Some (with_entries entries)) (Ok value)
+      → AnswersAll HoldsSectionFunctions A entries (Ok functions) → all_left value ≡ map section_function_view functions.items → GetsAs HoldsAll (λ _. B) (Some (with_entries entries)) (Ok (All value))
   listed (Ok entries) functions value answers is = is ∙ answers
   listed (Err refusal) functions value answers is = absurd answers
 
-  pub not_listed : (entries : Result (List SectionEntry) Refusal) (e : ParseError) (result : Result AllFunctions ListError) → Reported entries → (A → B)
+  pub not_listed : (entries : Result (List SectionEntry) Refusal) (e : ParseError) (result : Result Selected ListError) → Reported entries → (A → B)
       → AnswersAll HoldsSectionFunctions A entries (Err e) → IsErrAnd result (λ f. f ≡ list_error_of e) → GetsAs HoldsAll (λ _. B) (Some (with_entries entries)) result
   not_listed entries e (Ok value) reported_is needs answers is = absurd is
   not_listed entries e (Err f) reported_is needs answers is =
@@ -85,7 +87,7 @@ module _ (A B : Type 0) (names : ℕ → Option (List ℕ)) (shares_addresses : 
       by_entries (Err refusal) reported_is (inr h) = inr (needs h.1, as_memory e h.0)
 
 -- what is got of a file of this format
-got : (which : SymbolTable) (file : List ℕ) (format : Format) (answer : Result AllSymbols Refusal) (result : Result AllFunctions ListError) → format_of file ≡ format → all_answer_of which file ≡ Some answer
+got : (which : SymbolTable) (file : List ℕ) (format : Format) (answer : Result AllSymbols Refusal) (result : Result Selected ListError) → format_of file ≡ format → all_answer_of which file ≡ Some answer
     → GetsAs HoldsAll (λ _. HasSections format file) (Some answer) result → GetsAs HoldsAll (AllNeedsMemory file) (all_answer_of which file) result
 got which file format answer result is answered gets =
     subst (λ (a : Option (Result AllSymbols Refusal)). GetsAs HoldsAll (AllNeedsMemory file) a result) (sym answered)
@@ -100,12 +102,12 @@ module _ (which : SymbolTable) (file : List ℕ) (found : macho_all.AllLocated)
   SomeEnd = found.ends ≢ []
 
   pub given_macho : (functions : Vec SectionFunction Global) (value : AllFunctions) → AnswersAll HoldsSectionFunctions SomeEnd (macho_all.all_entries found) (Ok functions) → all_left value ≡ map section_function_view functions.items
-      → GetsAs HoldsAll (AllNeedsMemory file) (all_answer_of which file) (Ok value)
+      → GetsAs HoldsAll (AllNeedsMemory file) (all_answer_of which file) (Ok (All value))
   given_macho functions value answers left =
-      got which file formats.Macho (macho_all.all_symbols found) (Ok value) is.0 (is.1 ∙ ap Some same)
+      got which file formats.Macho (macho_all.all_symbols found) (Ok (All value)) is.0 (is.1 ∙ ap Some same)
       (listed SomeEnd (HasSections formats.Macho file) (macho_all.name_of found.names) found.shares_addresses (macho_all.all_entries found) functions value answers left)
 
-  pub not_given_macho : (e : ParseError) (result : Result AllFunctions ListError) → (SomeEnd → HasSections formats.Macho file) → AnswersAll HoldsSectionFunctions SomeEnd (macho_all.all_entries found) (Err e) → IsErrAnd result (λ f. f ≡ list_error_of e)
+  pub not_given_macho : (e : ParseError) (result : Result Selected ListError) → (SomeEnd → HasSections formats.Macho file) → AnswersAll HoldsSectionFunctions SomeEnd (macho_all.all_entries found) (Err e) → IsErrAnd result (λ f. f ≡ list_error_of e)
       → GetsAs HoldsAll (AllNeedsMemory file) (all_answer_of which file) result
   not_given_macho e result needs answers err =
       got which file formats.Macho (macho_all.all_symbols found) result is.0 (is.1 ∙ ap Some same)
@@ -138,14 +140,14 @@ macho_needs file found is some = by_length (ltb (length file) least_length) is
 module _ (which : SymbolTable) (file : List ℕ) (read : pe.AllTables)
     (is : (format_of file ≡ formats.PE) × (all_answer_of which file ≡ Some (Ok (pe.all_view read))) × (read.sections.count ≡ (pe_file.header_of file).number_of_sections)) where
   pub given_pe : (functions : Vec SectionFunction Global) (value : AllFunctions) → AnswersAll HoldsSectionFunctions (read.sections.count ≢ 0) (Ok (pe.all_view read).entries) (Ok functions) → all_left value ≡ map section_function_view functions.items
-      → GetsAs HoldsAll (AllNeedsMemory file) (all_answer_of which file) (Ok value)
-  given_pe functions value answers left = got which file formats.PE (Ok (pe.all_view read)) (Ok value) is.0 is.1 (left ∙ answers)
+      → GetsAs HoldsAll (AllNeedsMemory file) (all_answer_of which file) (Ok (All value))
+  given_pe functions value answers left = got which file formats.PE (Ok (pe.all_view read)) (Ok (All value)) is.0 is.1 (left ∙ answers)
 
   needs : read.sections.count ≢ 0 → HasSections formats.PE file
   unfolding HasSections
   needs some none = some (is.2 ∙ none)
 
-  pub not_given_pe : (e : ParseError) (result : Result AllFunctions ListError) → AnswersAll HoldsSectionFunctions (read.sections.count ≢ 0) (Ok (pe.all_view read).entries) (Err e) → IsErrAnd result (λ f. f ≡ list_error_of e)
+  pub not_given_pe : (e : ParseError) (result : Result Selected ListError) → AnswersAll HoldsSectionFunctions (read.sections.count ≢ 0) (Ok (pe.all_view read).entries) (Err e) → IsErrAnd result (λ f. f ≡ list_error_of e)
       → GetsAs HoldsAll (AllNeedsMemory file) (all_answer_of which file) result
   not_given_pe e result answers err =
       got which file formats.PE (Ok (pe.all_view read)) result is.0 is.1
@@ -168,23 +170,28 @@ macho_all_is (Ok entries) names shares_addresses all is = let same : (record { e
 macho_all_is (Err refusal) names shares_addresses all is = absurd cc
 
 -- and so for any file: the names, and whether it is an object file
-all_is : (which : SymbolTable) (file : List ℕ) (read : AllTables) (all : AllSymbols) → AreAllTablesOf which file read → all_answer_of which file ≡ Some (Ok all)
+all_is : (which : SymbolTable) (file : List ℕ) (read : Tables) (all : AllSymbols) → AreTablesOfAll which file read → all_answer_of which file ≡ Some (Ok all)
     → (section_names read ≡ all.section_name) × (shares_addresses_of read ≡ all.shares_addresses)
-unfolding AreAllTablesOf all_symbols_answer
-all_is which file (tables.Elf32 parts) all are is = (ap (λ (a : AllSymbols). a.section_name) (some_ok (sym are ∙ is)), ap (λ (a : AllSymbols). a.shares_addresses) (some_ok (sym are ∙ is)))
-all_is which file (tables.Elf64 parts) all are is = (ap (λ (a : AllSymbols). a.section_name) (some_ok (sym are ∙ is)), ap (λ (a : AllSymbols). a.shares_addresses) (some_ok (sym are ∙ is)))
-all_is which file (tables.Macho parts) all are is =
+unfolding all_symbols_answer
+all_is which file (tables.AllElf32 parts) all are is = (ap (λ (a : AllSymbols). a.section_name) (some_ok (sym are ∙ is)), ap (λ (a : AllSymbols). a.shares_addresses) (some_ok (sym are ∙ is)))
+all_is which file (tables.AllElf64 parts) all are is = (ap (λ (a : AllSymbols). a.section_name) (some_ok (sym are ∙ is)), ap (λ (a : AllSymbols). a.shares_addresses) (some_ok (sym are ∙ is)))
+all_is which file (tables.AllMacho parts) all are is =
     let found = macho.all_view parts in
     macho_all_is (macho_all.all_entries found) (macho_all.name_of found.names) found.shares_addresses all
     (sym (ap (λ (l : Result macho_all.AllLocated Refusal). l >>= macho_all.all_symbols) are.2) ∙ some_same (sym are.1 ∙ is))
-all_is which file (tables.Pe parts) all are is = (ap (λ (a : AllSymbols). a.section_name) (some_ok (sym are.1 ∙ is)), ap (λ (a : AllSymbols). a.shares_addresses) (some_ok (sym are.1 ∙ is)))
+all_is which file (tables.AllPe parts) all are is = (ap (λ (a : AllSymbols). a.section_name) (some_ok (sym are.1 ∙ is)), ap (λ (a : AllSymbols). a.shares_addresses) (some_ok (sym are.1 ∙ is)))
+all_is which file (tables.Elf32 parts) all are is = absurd are
+all_is which file (tables.Elf64 parts) all are is = absurd are
+all_is which file (tables.Macho parts) all are is = absurd are
+all_is which file (tables.Pe parts) all are is = absurd are
+all_is which file (tables.Whole whole named) all are is = absurd are
 all_is which file tables.Unknown all are is =
     let e : Path (Option (Result AllSymbols Refusal)) None (Some (Ok all)) = sym (ap (λ (f : Format). all_symbols_answer which f file) are) ∙ is in absurd cc
 
-pub names_are : (which : SymbolTable) (file : List ℕ) (read : AllTables) (all : AllSymbols) → AreAllTablesOf which file read → all_answer_of which file ≡ Some (Ok all) → section_names read ≡ all.section_name
+pub names_are : (which : SymbolTable) (file : List ℕ) (read : Tables) (all : AllSymbols) → AreTablesOfAll which file read → all_answer_of which file ≡ Some (Ok all) → section_names read ≡ all.section_name
 names_are which file read all are is = (all_is which file read all are is).0
 
-pub object_is : (which : SymbolTable) (file : List ℕ) (read : AllTables) (all : AllSymbols) → AreAllTablesOf which file read → all_answer_of which file ≡ Some (Ok all) → shares_addresses_of read ≡ all.shares_addresses
+pub object_is : (which : SymbolTable) (file : List ℕ) (read : Tables) (all : AllSymbols) → AreTablesOfAll which file read → all_answer_of which file ≡ Some (Ok all) → shares_addresses_of read ≡ all.shares_addresses
 object_is which file read all are is = (all_is which file read all are is).1
 
 -- the lines of what a file holds are its listing

@@ -12,6 +12,6 @@ pub mod TablesGive
 pub mod Totals
 pub mod Maps
 pub mod AllGiven
-pub mod AllSums
+pub mod Selections
 mod Decided
 mod SymbolLaws

@@ -1,19 +1,22 @@
 -- How a call ended that makes a text of the sums of a file and writes it, and what was taken: whatever the text is.
-use Rattle.std.proofs.Common.{◌≡◌, ℕ, ◌<◌, ◌≤◌, ◌^◌, List, Option, Some, None, Result, Ok, Err, String, string_bytes, refl, sym, subst, ◌∙◌, inl, inr, ◌⊎◌, arith}
+use Rattle.std.proofs.Common.{◌≡◌, ℕ, ◌<◌, ◌≤◌, ◌^◌, List, Option, Some, None, Result, Ok, Err, String, string_bytes, refl, sym, ap, subst, ◌∙◌, inl, inr, ◌⊎◌, arith}
 use Rattle.std.specs.Prelude.{IfOk, MatchResult}
 use Rattle.std.specs.List.{AllZip, sum_by}
+use Rattle.std.specs.Result.{IsErrAnd}
+use Rattle.std.specs.Option.{unwrap_or}
 use Rattle.binfarce.specs.Refusal.{Refusal}
 use Rattle.binfarce.specs.Symbol.{Entry, Listed}
-use Rattle.binfarce_tools.specs.declared.functions.Functions.{Functions}
 use Rattle.binfarce_tools.specs.declared.report.CrateSums.{CrateSums}
 use Rattle.binfarce_tools.specs.declared.report.ReportError.{ReportError}
 use Rattle.binfarce_tools.specs.declared.report.ReportError.TheVariants.{OutOfMemory, TooLarge}
 use Rattle.binfarce_tools.specs.Report.{Share, IsShareOf, ReportFits}
+use Rattle.binfarce_tools.specs.ReportWords.{outcome_of}
 use Rattle.binfarce_tools.specs.Sums.{AreSumsOf, AreSumsOfFile, GetsSums}
 use Rattle.binfarce_tools.specs.Writing.{Outcome, EndsAs, Takes, written, write_failed, no_memory}
-use Rattle.binfarce_tools.specs.Entries.{functions_left, Gets}
+use Rattle.binfarce_tools.specs.Entries.{GetsAs}
 use Rattle.binfarce_tools.specs.machine.Shares.{WritesMade}
 use Rattle.binfarce_tools.proofs.CrateSums.{total_is}
+use Rattle.binfarce_tools.proofs.Lines.{nothing}
 
 abbrev pub size_of_all : List Entry → ℕ
 size_of_all entries = sum_by (λ (e : Entry). e.size) entries
@@ -21,34 +24,52 @@ size_of_all entries = sum_by (λ (e : Entry). e.size) entries
 too_large : (n : ℕ) → 2 ^ 64 ≤ n → ¬ (n < 2 ^ 64)
 too_large n le lt = omega arith
 
+-- these are the entries, with this size, or without one with the sum of theirs
+abbrev pub HoldsList : Listed → List Entry × Option ℕ → Type 0
+HoldsList listed got = (got.0 ≡ listed.entries) × (unwrap_or got.1 (size_of_all listed.entries) ≡ listed.section_size)
+
 -- where the sums of what was got weren't made
-pub none_summed : (memory : Result Listed Refusal → Type 0) (answer : Option (Result Listed Refusal)) (functions : Functions) (size : ℕ) (e : ReportError)
-    → Gets memory answer (Ok (functions, size)) → (e ≡ OutOfMemory) ⊎ ((e ≡ TooLarge) × (2 ^ 64 ≤ size_of_all (functions_left functions))) → GetsSums memory answer (Err e)
-none_summed memory None functions size e gets is = absurd gets
-none_summed memory (Some (Err refusal)) functions size e gets is = absurd gets
-none_summed memory (Some (Ok listed)) functions size e gets (inl is) = let P : ReportError → Type 0 = λ e. GetsSums memory (Some (Ok listed)) (Err e) in
+none_summed : (memory : Result Listed Refusal → Type 0) (answer : Option (Result Listed Refusal)) (entries : List Entry) (size : Option ℕ) (e : ReportError)
+    → GetsAs HoldsList memory answer (Ok (entries, size)) → (e ≡ OutOfMemory) ⊎ ((e ≡ TooLarge) × (2 ^ 64 ≤ size_of_all entries)) → GetsSums memory answer (Err e)
+none_summed memory None entries size e gets is = absurd gets
+none_summed memory (Some (Err refusal)) entries size e gets is = absurd gets
+none_summed memory (Some (Ok listed)) entries size e gets (inl is) = let P : ReportError → Type 0 = λ e. GetsSums memory (Some (Ok listed)) (Err e) in
     subst P (sym is) ((λ no. absurd cc), inl refl)
-none_summed memory (Some (Ok listed)) functions size e gets (inr is) =
+none_summed memory (Some (Ok listed)) entries size e gets (inr is) =
     let P : ReportError → Type 0 = λ e. GetsSums memory (Some (Ok listed)) (Err e) in
     let Q : List Entry → Type 0 = λ es. 2 ^ 64 ≤ size_of_all es in
     subst P (sym is.0) ((λ no. absurd cc), inr (inr (too_large (size_of_all listed.entries) (subst Q gets.0 is.1), refl)))
 
 -- where they were made
-pub summed : (memory : Result Listed Refusal → Type 0) (answer : Option (Result Listed Refusal)) (functions : Functions) (size : ℕ) (sums : CrateSums)
-    → Gets memory answer (Ok (functions, size)) → sums.section_size ≡ size → (shares : List Share) × AllZip IsShareOf (functions_left functions) shares × AreSumsOf shares sums → GetsSums memory answer (Ok sums)
-summed memory None functions size sums gets same are = absurd gets
-summed memory (Some (Err refusal)) functions size sums gets same are = absurd gets
-summed memory (Some (Ok listed)) functions size sums gets same are =
+summed : (memory : Result Listed Refusal → Type 0) (answer : Option (Result Listed Refusal)) (entries : List Entry) (size : Option ℕ) (sums : CrateSums)
+    → GetsAs HoldsList memory answer (Ok (entries, size)) → sums.section_size ≡ unwrap_or size sums.total → (shares : List Share) × AllZip IsShareOf entries shares × AreSumsOf shares sums → GetsSums memory answer (Ok sums)
+summed memory None entries size sums gets same are = absurd gets
+summed memory (Some (Err refusal)) entries size sums gets same are = absurd gets
+summed memory (Some (Ok listed)) entries size sums gets same are =
     let P : List Entry → Type 0 = λ es. (shares : List Share) × AllZip IsShareOf es shares × AreSumsOf shares sums in
-    (listed, refl, (same ∙ gets.1, subst P gets.0 are))
+    let total : sums.total ≡ size_of_all listed.entries = sym are.2.total_is ∙ total_is entries are.0 are.1 ∙ ap size_of_all gets.0 in
+    (listed, refl, (same ∙ ap (λ (n : ℕ). unwrap_or size n) total ∙ gets.1, subst P gets.0 are))
 
 -- whether or not they were made
-pub summed_or_not : (memory : Result Listed Refusal → Type 0) (answer : Option (Result Listed Refusal)) (functions : Functions) (size : ℕ) (result : Result CrateSums ReportError)
-    → Gets memory answer (Ok (functions, size))
-    → MatchResult result (λ s. (s.section_size ≡ size) × ((shares : List Share) × AllZip IsShareOf (functions_left functions) shares × AreSumsOf shares s)) (λ e. (e ≡ OutOfMemory) ⊎ ((e ≡ TooLarge) × (2 ^ 64 ≤ size_of_all (functions_left functions))))
+pub summed_or_not : (memory : Result Listed Refusal → Type 0) (answer : Option (Result Listed Refusal)) (entries : List Entry) (size : Option ℕ) (result : Result CrateSums ReportError)
+    → GetsAs HoldsList memory answer (Ok (entries, size))
+    → MatchResult result (λ s. (s.section_size ≡ unwrap_or size s.total) × ((shares : List Share) × AllZip IsShareOf entries shares × AreSumsOf shares s)) (λ e. (e ≡ OutOfMemory) ⊎ ((e ≡ TooLarge) × (2 ^ 64 ≤ size_of_all entries)))
     → GetsSums memory answer result
-summed_or_not memory answer functions size (Ok sums) gets is = summed memory answer functions size sums gets is.0 is.1
-summed_or_not memory answer functions size (Err e) gets is = none_summed memory answer functions size e gets is
+summed_or_not memory answer entries size (Ok sums) gets is = summed memory answer entries size sums gets is.0 is.1
+summed_or_not memory answer entries size (Err e) gets is = none_summed memory answer entries size e gets is
+
+-- then nothing was reported
+pub none_reported : (memory : Result Listed Refusal → Type 0) (answer : Option (Result Listed Refusal)) (entries : List Entry) (size : Option ℕ) (e : ReportError) (result : Result (Unit {0}) ReportError)
+    → GetsAs HoldsList memory answer (Ok (entries, size)) → (e ≡ OutOfMemory) ⊎ ((e ≡ TooLarge) × (2 ^ 64 ≤ size_of_all entries)) → IsErrAnd result (λ f. f ≡ e) → EndsAs ReportFits memory answer (outcome_of result)
+none_reported memory answer entries size e (Ok x) gets why is = absurd is
+none_reported memory answer entries size e (Err f) gets why is =
+    subst (λ (f : ReportError). EndsAs ReportFits memory answer (outcome_of (Err f))) (sym is) (none_summed memory answer entries size e gets why).1
+
+pub none_taken : (IsText : Listed → List ℕ → Type 0) (answer : Option (Result Listed Refusal)) (n : ℕ) (e : ReportError) (old : Option (List ℕ)) (result : Result (Unit {0}) ReportError)
+    → (e ≡ OutOfMemory) ⊎ ((e ≡ TooLarge) × (2 ^ 64 ≤ n)) → IsErrAnd result (λ f. f ≡ e) → Takes IsText answer old old (outcome_of result)
+none_taken IsText answer n e old (Ok x) why is = absurd is
+none_taken IsText answer n e old (Err f) (inl why) is = subst (λ (f : ReportError). Takes IsText answer old old (outcome_of (Err f))) (sym (is ∙ why)) (nothing old)
+none_taken IsText answer n e old (Err f) (inr why) is = subst (λ (f : ReportError). Takes IsText answer old old (outcome_of (Err f))) (sym (is ∙ why.0)) (nothing old)
 
 -- the sum of all sizes fits
 fits : (listed : Listed) (sums : CrateSums) → AreSumsOfFile listed sums → ReportFits listed

@@ -30,11 +30,14 @@ use Rattle.binfarce_tools.proofs.Reported.{reported_macho}
 arranged_left : (listed : Listed) (functions : Vec FunctionSymbol Global × ℕ) (value : Functions × ℕ) → HoldsFunctions listed functions → IsArranged functions value → HoldsLeft listed value
 arranged_left listed functions value holds is = (is.0 ∙ holds.0, is.1 ∙ holds.1)
 
+-- entries that are left of what the file answers
+pub held : (memory : Result Listed Refusal → Type 0) (answer : Option (Result Listed Refusal)) (listed : Listed) (value : Functions × ℕ) → answer ≡ Some (Ok listed) → HoldsLeft listed value → Gets memory answer (Ok value)
+held memory answer listed value is holds = subst (λ (a : Option (Result Listed Refusal)). Gets memory a (Ok value)) (sym is) holds
+
 -- parts that hold what the file answers
 pub given : (memory needs : Result Listed Refusal → Type 0) (answer : Option (Result Listed Refusal)) (listed : Listed) (functions : Vec FunctionSymbol Global × ℕ) (value : Functions × ℕ)
     → answer ≡ Some (Ok listed) → Answers HoldsFunctions needs (Ok listed) (Ok functions) → IsArranged functions value → Gets memory answer (Ok value)
-given memory needs answer listed functions value is answers arranged =
-    subst (λ (a : Option (Result Listed Refusal)). Gets memory a (Ok value)) (sym is) (arranged_left listed functions value answers arranged)
+given memory needs answer listed functions value is answers arranged = held memory answer listed value is (arranged_left listed functions value answers arranged)
 
 pub not_given : (memory needs : Result Listed Refusal → Type 0) (answer : Option (Result Listed Refusal)) (listed : Listed) (e : ParseError) (result : Result (Functions × ℕ) ListError)
     → answer ≡ Some (Ok listed) → (needs (Ok listed) → memory (Ok listed)) → Answers HoldsFunctions needs (Ok listed) (Err e) → IsErrAnd result (λ f. f ≡ list_error_of e) → Gets memory answer result

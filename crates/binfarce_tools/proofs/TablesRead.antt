@@ -26,7 +26,7 @@ use Rattle.binfarce_tools.specs.declared.list.ListError.TheVariants as errors
 use Rattle.binfarce_tools.specs.declared.tables.Tables.{Tables}
 use Rattle.binfarce_tools.specs.Answer.{symbols_answer, answer_of as answer, NeedsMemory}
 use Rattle.binfarce_tools.specs.Entries.{Gets}
-use Rattle.binfarce_tools.specs.Tables.{AreTablesOf, ReadsAs, ReadsTables}
+use Rattle.binfarce_tools.specs.Tables.{AreTablesOfSection, ReadsAs}
 
 -- the first eight bytes name the format
 pub format_of_first : (file : List ℕ) → format_of (take 8 file) ≡ format_of file
@@ -88,8 +88,8 @@ module _ {L T : Type 0} (AreTables : T → Type 0) (may_fail : Bool) (answered :
       subst (λ (error : ReadError). ReadsAs AreTables (may_fail ≡ true) answered (Err error)) (sym err.1) (not_read view given e is reads)
 
 pub unread : {X : Type 0} (may_fail : Bool) (view : X → Listed) (given : Result Listed Refusal) (which : SymbolTable) (file section : List ℕ) (e : ReadError) (r : Result Tables ReadError)
-    → answer which file section ≡ Some given → Reads may_fail view given (Err e) → (IsErr r × IsErrAnd r (λ x. x ≡ e)) → ReadsTables (may_fail ≡ true) which file section r
-unread may_fail view given which file section e r is reads err = unread_as (AreTablesOf which file section) may_fail (answer which file section) view given e r is reads err
+    → answer which file section ≡ Some given → Reads may_fail view given (Err e) → (IsErr r × IsErrAnd r (λ x. x ≡ e)) → ReadsAs (AreTablesOfSection which file section) (may_fail ≡ true) (answer which file section) r
+unread may_fail view given which file section e r is reads err = unread_as (AreTablesOfSection which file section) may_fail (answer which file section) view given e r is reads err
 
 -- so for a Mach-O file, of which it is read where its symbols are
 pub of_answer : {X Y L : Type 0} (may_fail : Bool) (view : X → Y) (found : Result Y Refusal) (f : Y → Result L Refusal) (e : ReadError) → Reads may_fail view found (Err e) → Reads may_fail (λ (l : L). l) (found >>= f) (Err e)
@@ -98,7 +98,7 @@ of_answer may_fail view found f Unreadable reads = reads
 of_answer may_fail view found f OutOfMemory reads = tt
 
 pub unread_macho : (may_fail : Bool) (which : SymbolTable) (file section : List ℕ) (e : ReadError) (r : Result Tables ReadError)
-    → which ≡ Symtab → format_of file ≡ formats.Macho → Reads may_fail macho.parts_view (located_answer file) (Err e) → (IsErr r × IsErrAnd r (λ x. x ≡ e)) → ReadsTables (may_fail ≡ true) which file section r
+    → which ≡ Symtab → format_of file ≡ formats.Macho → Reads may_fail macho.parts_view (located_answer file) (Err e) → (IsErr r × IsErrAnd r (λ x. x ≡ e)) → ReadsAs (AreTablesOfSection which file section) (may_fail ≡ true) (answer which file section) r
 unread_macho may_fail which file section e r table format reads err =
     unread may_fail (λ (l : Listed). l) (located_answer file >>= answer_of) which file section e r (answer_macho which file section (located_answer file >>= answer_of) table format (macho_is file))
     (of_answer may_fail macho.parts_view (located_answer file) answer_of e reads) err
@@ -122,9 +122,9 @@ refused_as AreTables may answered p (Ok x) is err = let never : false ≡ true =
 refused_as AreTables may answered p (Err x) is err = subst (λ (e : ReadError). ReadsAs AreTables may answered (Err e)) (sym err.1) is
 
 pub no_table : (may : Type 0) (which : SymbolTable) (file section : List ℕ) (p : ParseError) (r : Result Tables ReadError)
-    → IsWithout file section → (which ≡ Dynsym) × (refusal_of p ≡ section_is_missing (codes ".dynsym")) → (IsErr r × IsErrAnd r (λ x. x ≡ Refused p)) → ReadsTables may which file section r
+    → IsWithout file section → (which ≡ Dynsym) × (refusal_of p ≡ section_is_missing (codes ".dynsym")) → (IsErr r × IsErrAnd r (λ x. x ≡ Refused p)) → ReadsAs (AreTablesOfSection which file section) may (answer which file section) r
 no_table may which file section p r without reported_is err =
-    refused_as (AreTablesOf which file section) may (answer which file section) p r
+    refused_as (AreTablesOfSection which file section) may (answer which file section) p r
     (ap (λ (w : SymbolTable). answer w file section) reported_is.0 ∙ without ∙ ap (λ (r : Refusal). Some (Err r)) (sym reported_is.1)) err
 
 -- a file of an unknown format

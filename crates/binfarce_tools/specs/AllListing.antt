@@ -1,11 +1,14 @@
--- The text of a listing of all sections: a line for each entry, with the name of its section.
-use Rattle.std.specs.Prelude.{◌≡◌, ℕ, List, [], ◌∷◌, ◌++◌, codes, Option, Some, None}
+-- The text of a listing of all sections, with the name of each entry's section, and that of a selection.
+use Rattle.std.specs.Prelude.{◌≡◌, ℕ, List, [], ◌∷◌, ◌++◌, codes, Option, Some, None, Ok}
 use Rattle.std.specs.Fmt.{decimal}
 use Rattle.std.specs.List.{AllZip, concat}
 use Rattle.binfarce_names.specs.Name.{Name}
 use Rattle.binfarce_names.specs.Named.{IsNamed}
 use Rattle.binfarce.specs.SectionEntries.{SectionEntry, AllSymbols}
-use Rattle.binfarce_tools.specs.Listing.{line_head}
+use Rattle.binfarce.specs.Symbol.{Listed}
+use Rattle.binfarce.specs.declared.SymbolTable.{SymbolTable}
+use Rattle.binfarce_tools.specs.AllAnswer.{all_answer_of}
+use Rattle.binfarce_tools.specs.Listing.{IsListingOf, line_head}
 
 -- a section in a line: its name as it is stored, or where it has none its number in brackets
 abbrev pub section_text : Option (List ℕ) → ℕ → List ℕ
@@ -24,6 +27,7 @@ IsLineIn section_name e line = (name : Name) × IsNamed e.entry.name name × (li
 abbrev pub IsAllListingOf : AllSymbols → List ℕ → Type 0
 IsAllListingOf all text = (lines : List (List ℕ)) × AllZip (IsLineIn all.section_name) all.entries lines × (text ≡ concat lines)
 
--- it can always be made
-abbrev pub AllListingFits : AllSymbols → Type 0
-AllListingFits all = Unit {0}
+-- text is the listing of a file's answer for a selection
+abbrev pub IsListingIn : SymbolTable → (file : List ℕ) → (section : Option (List ℕ)) → Listed → List ℕ → Type 0
+IsListingIn which file (Some section) listed text = IsListingOf listed text
+IsListingIn which file None listed text = (all : AllSymbols) × (all_answer_of which file ≡ Some (Ok all)) × IsAllListingOf all text

@@ -10,12 +10,17 @@ use Rattle.binfarce.specs.Refusal.{Refusal, refusal_of}
 use Rattle.binfarce.specs.Symbol.{Entry, Listed}
 use Rattle.binfarce.specs.SectionEntries.{SectionEntry, AllSymbols}
 use Rattle.binfarce.specs.SymbolViews.{function_view, section_function_view}
-use Rattle.binfarce_tools.specs.declared.all.AllFunctions.{AllFunctions}
-use Rattle.binfarce_tools.specs.declared.all.AllArranged.{AllArranged}
-use Rattle.binfarce_tools.specs.declared.all.AllFunctions.TheVariants as all_variants
+use Rattle.binfarce.specs.declared.SymbolTable.{SymbolTable}
+use Rattle.binfarce_tools.specs.AllAnswer.{all_answer_of}
+use Rattle.binfarce_tools.specs.Selection.{answer_in, MemoryIn}
+use Rattle.binfarce_tools.specs.declared.functions.AllFunctions.{AllFunctions}
+use Rattle.binfarce_tools.specs.declared.functions.AllArranged.{AllArranged}
+use Rattle.binfarce_tools.specs.declared.functions.AllFunctions.TheVariants as all_variants
 use Rattle.binfarce_tools.specs.declared.functions.Functions.{Functions}
 use Rattle.binfarce_tools.specs.declared.functions.Arranged.{Arranged}
 use Rattle.binfarce_tools.specs.declared.functions.Functions.TheVariants as variants
+use Rattle.binfarce_tools.specs.declared.functions.Selected.{Selected}
+use Rattle.binfarce_tools.specs.declared.functions.Selected.TheVariants.{Section, All}
 use Rattle.binfarce_tools.specs.declared.list.ListError.{ListError}
 use Rattle.binfarce_tools.specs.declared.list.ListError.TheVariants.{Unknown, Parse, OutOfMemory}
 
@@ -48,9 +53,30 @@ HoldsLeft listed answer = (functions_left answer.0 ≡ listed.entries) × (answe
 abbrev pub IsArranged : Vec FunctionSymbol × ℕ → Functions × ℕ → Type 0
 IsArranged listed answer = (functions_left answer.0 ≡ map function_view listed.0.items) × (answer.1 ≡ listed.1)
 
--- what is left are the entries of all sections
-abbrev pub HoldsAll : AllSymbols → AllFunctions → Type 0
-HoldsAll all functions = all_left functions ≡ all.entries
+-- the entries of a selection that are left, as one list
+abbrev pub selected_left : Selected → List Entry
+selected_left (Section functions size) = functions_left functions
+selected_left (All functions) = map (λ e. e.entry) (all_left functions)
+
+-- the size of the selected section; none for all sections
+abbrev pub size_of : Selected → Option ℕ
+size_of (Section functions size) = Some size
+size_of (All functions) = None
+
+-- these entries of all sections are left
+abbrev pub HoldsAll : AllSymbols → Selected → Type 0
+HoldsAll all (Section functions size) = ⊥
+HoldsAll all (All functions) = all_left functions ≡ all.entries
+
+-- those of one section, and the size is that of the section
+abbrev pub HoldsOne : Listed → Selected → Type 0
+HoldsOne listed (Section functions size) = HoldsLeft listed (functions, size)
+HoldsOne listed (All functions) = ⊥
+
+-- what is left is what a file answers for a selection
+abbrev pub HoldsIn : SymbolTable → (file : List ℕ) → (section : Option (List ℕ)) → Listed → Selected → Type 0
+HoldsIn which file (Some section) listed selected = HoldsOne listed selected
+HoldsIn which file None listed selected = (all : AllSymbols) × (all_answer_of which file ≡ Some (Ok all)) × HoldsAll all selected
 
 -- what reading the functions of a file returns where its answer is this: a value that holds what the answer does, or why it can't be had. In place of an answer that needs memory, and of no other, it may return that an allocation failed
 abbrev pub GetsAs : {L X : Type 0} → (L → X → Type 0) → (Result L Refusal → Type 0) → Option (Result L Refusal) → Result X ListError → Type 0
@@ -64,3 +90,7 @@ GetsAs Holds NeedsMemory None (Err e) = e ≡ Unknown
 -- so for the functions of a section and its size
 abbrev pub Gets : (Result Listed Refusal → Type 0) → Option (Result Listed Refusal) → Result (Functions × ℕ) ListError → Type 0
 Gets NeedsMemory answer result = GetsAs HoldsLeft NeedsMemory answer result
+
+-- so for the functions of a selection
+abbrev pub GetsIn : SymbolTable → (file : List ℕ) → (section : Option (List ℕ)) → Result Selected ListError → Type 0
+GetsIn which file section result = GetsAs (HoldsIn which file section) (MemoryIn file section) (answer_in which file section) result

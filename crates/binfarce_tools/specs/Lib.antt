@@ -1,6 +1,6 @@
 pub mod AllAnswer
 pub mod AllListing
-pub mod AllTables
+pub mod Selection
 pub mod Answer
 pub mod Entries
 pub mod Writing

@@ -1,5 +1,5 @@
 -- The text of a report: a line for each crate, and two lines for the whole.
-use Rattle.std.specs.Prelude.{◌≡◌, ◌<◌, ◌^◌, ℕ, List, [], ◌∷◌, ◌++◌, map, filter, All, Contains, unwrap_or, codes}
+use Rattle.std.specs.Prelude.{◌≡◌, ◌<◌, ◌^◌, ℕ, List, [], ◌∷◌, ◌++◌, map, filter, All, Contains, Option, Some, None, unwrap_or, codes}
 use Rattle.std.specs.Cmp.Lexicographic.{slice_cmp}
 use Rattle.std.specs.Fmt.{decimal}
 use Rattle.std.specs.List.{AllZip, flat_map, sum_by}
@@ -77,6 +77,11 @@ IsReportOfShares shares size text = (names : List (List ℕ)) × AreCratesOf sha
 -- text is the report of a file's answer: each entry adds its share
 abbrev pub IsReportOf : Listed → List ℕ → Type 0
 IsReportOf listed text = (shares : List Share) × AllZip IsShareOf listed.entries shares × IsReportOfShares shares listed.section_size text
+
+-- text is the report of a selection's answer: that of all sections doesn't end with a section's size
+abbrev pub IsReportIn : (section : Option (List ℕ)) → Listed → List ℕ → Type 0
+IsReportIn (Some section) = IsReportOf
+IsReportIn None = IsSumsOf
 
 -- a report can be made where the sum of all sizes is a number of 64 bits
 abbrev pub ReportFits : Listed → Type 0

@@ -1,20 +1,21 @@
 //! The function symbols of a file of any format.
 
+ghost use Rattle.std.specs.Prelude.{◌≡◌, map};
 ghost use Rattle.std.specs.Iterator.{YieldsFirstBy};
 ghost use Rattle.binfarce.specs.Elf.{elf32, elf64};
 ghost use Rattle.binfarce.specs.ElfSymbols.{elf_file_answer};
 ghost use Rattle.binfarce.specs.MachoSymbols.{macho_file_answer, HasAddress};
 ghost use Rattle.binfarce.specs.PeSymbols.{pe_file_answer};
 ghost use Rattle.binfarce.specs.Symbol.{ListsSome, Answers};
-ghost use Rattle.binfarce.specs.SymbolViews.{function_view};
+ghost use Rattle.binfarce.specs.SymbolViews.{function_view, section_function_view};
 ghost use Rattle.binfarce.specs.declared.SymbolTable.TheVariants.{Symtab};
 ghost use Rattle.binfarce_tools.specs.Answer.{file_answer, FileNeedsMemory};
-ghost use Rattle.binfarce_tools.specs.Entries.{arranged_left, HoldsLeft, IsArranged, Gets};
+ghost use Rattle.binfarce_tools.specs.Entries.{all_arranged_left, all_left, arranged_left, functions_left, selected_left, size_of, HoldsLeft, IsArranged, Gets};
 
-use crate::all::AllFunctions;
 use crate::list::ListError;
 use binfarce::{
-    ByteOrder, Format, FunctionSymbol, ParseError, detect_format, elf32, elf64, macho, pe,
+    ByteOrder, Format, FunctionSymbol, ParseError, SectionFunction, detect_format, elf32, elf64,
+    macho, pe,
 };
 use std::alloc::Global;
 
@@ -63,6 +64,74 @@ impl<'a> Arranged<'a> {
         let function = *self.functions.get(self.next)?;
         self.next += 1;
         Some(function)
+    }
+}
+
+/// An iterator over the function symbols of all sections of a file, in the order of its listing.
+#[derive(Drop)]
+pub enum AllFunctions<'a> {
+    Elf32(elf32::AllFunctions<'a>),
+    Elf64(elf64::AllFunctions<'a>),
+    Arranged(AllArranged<'a>),
+}
+
+/// The function symbols of a list with their sections, from an index on.
+#[derive(Drop)]
+pub struct AllArranged<'a> {
+    functions: Vec<SectionFunction<'a>>,
+    next: usize,
+}
+
+impl<'a> Iterator for AllFunctions<'a> {
+    ghost use Rattle.std.specs.Iterator.{YieldsFirstBy, item_count};
+    ghost use Rattle.binfarce.specs.SymbolViews.{section_function_view};
+    ghost use Rattle.binfarce_tools.specs.Entries.{all_left};
+
+    type Item = SectionFunction<'a>;
+
+    ghost next_gives = { YieldsFirstBy section_function_view all_left };
+
+    ghost remaining = { item_count all_left };
+
+    fn next(&mut self) -> Option<SectionFunction<'a>> {
+        match self {
+            AllFunctions::Elf32(functions) => functions.next(),
+            AllFunctions::Elf64(functions) => functions.next(),
+            AllFunctions::Arranged(functions) => functions.next(),
+        }
+    }
+}
+
+impl<'a> AllArranged<'a> {
+    // The first of those that are left, which the others follow.
+    fn next(&mut self) -> Option<SectionFunction<'a>>
+        ensures { YieldsFirstBy section_function_view all_arranged_left self.old result self.new }
+    {
+        let function = *self.functions.get(self.next)?;
+        self.next += 1;
+        Some(function)
+    }
+}
+
+/// The function symbols of a selection.
+#[derive(Drop)]
+pub enum Selected<'a> {
+    /// Those of a section, and the section's size.
+    Section(Functions<'a>, u64),
+    /// Those of all sections.
+    All(AllFunctions<'a>),
+}
+
+impl<'a> Selected<'a> {
+    /// The function symbols as one list, and the section's size: `None` for all sections.
+    pub fn into_list(self) -> (Functions<'a>, Option<u64>)
+        ensures functions { functions_left result.0 ≡ selected_left self.entry }
+        ensures size { result.1 ≡ size_of self.entry }
+    {
+        match self {
+            Selected::Section(functions, size) => (functions, Some(size)),
+            Selected::All(functions) => (Functions::All(functions), None),
+        }
     }
 }
 
@@ -133,4 +202,11 @@ pub(crate) fn all_of<'a>(listed: (Vec<FunctionSymbol<'a>>, u64)) -> (Functions<'
 {
     let (functions, size) = listed;
     (Functions::Arranged(Arranged { functions, next: 0 }), size)
+}
+
+// All functions of a list with their sections.
+pub(crate) fn all_in_sections(functions: Vec<SectionFunction<'_>>) -> AllFunctions<'_>
+    ensures { all_left result ≡ map section_function_view functions.entry.items }
+{
+    AllFunctions::Arranged(AllArranged { functions, next: 0 })
 }

@@ -1,7 +1,6 @@
 //! Listings of the function symbols of executables, and reports and pictures of their sizes by crate.
 #![tactic(auto)]
 
-pub mod all;
 pub mod functions;
 mod head;
 pub mod laws;

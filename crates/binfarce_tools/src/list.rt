@@ -1,23 +1,26 @@
 //! Lists the function symbols of an executable, a line each.
 
-ghost use Rattle.std.specs.Prelude.{◌≡◌, ◌++◌, ◌<◌, ◌≤◌, ℕ, List, Bool, true, false, length, take, Option, Some, None, IfSome, IfNone, IfOk, OnOk};
+ghost use Rattle.std.specs.Prelude.{◌≡◌, ◌++◌, ◌<◌, ◌≤◌, ℕ, List, Bool, true, false, length, take, Option, Ok, Some, None, IfSome, IfNone, IfOk, OnOk};
 ghost use Rattle.std.specs.String.{string_bytes};
 ghost use Rattle.std.specs.Io.KnownBytes.{Keeps, Appends};
+ghost use Rattle.binfarce.specs.SectionEntries.{AllSymbols};
 ghost use Rattle.binfarce.specs.Symbol.{Listed};
-ghost use Rattle.binfarce.specs.SymbolViews.{function_view};
+ghost use Rattle.binfarce.specs.SymbolViews.{function_view, section_function_view};
 ghost use Rattle.binfarce.specs.declared.SymbolTable.{SymbolTable};
-ghost use Rattle.binfarce_tools.specs.Answer.{answer_of, file_answer, FileNeedsMemory};
+ghost use Rattle.binfarce_tools.specs.AllListing.{section_text, IsLineIn, IsAllListingOf, IsListingIn};
+ghost use Rattle.binfarce_tools.specs.Answer.{file_answer, FileNeedsMemory};
 ghost use Rattle.binfarce_tools.specs.Listing.{IsLineOf, IsListingOf, ListingFits};
 ghost use Rattle.binfarce_tools.specs.ListWords.{outcome_of};
 ghost use Rattle.binfarce_tools.specs.Writing.{EndsAs, Takes, Fails, Leaves};
-ghost use Rattle.binfarce_tools.specs.Entries.{HoldsLeft};
-ghost use Rattle.binfarce_tools.specs.Tables.{AreTablesOf};
+ghost use Rattle.binfarce_tools.specs.Entries.{all_left, HoldsIn, HoldsLeft};
+ghost use Rattle.binfarce_tools.specs.Selection.{answer_in, MemoryIn};
+ghost use Rattle.binfarce_tools.specs.Tables.{AreTablesOf, section_names};
 
-use crate::functions::Functions;
+use crate::functions::{AllFunctions, Functions, Selected};
 use crate::head::push_head;
 use crate::tables::Tables;
 use crate::writing::write_whole;
-use binfarce::{FunctionSymbol, ParseError};
+use binfarce::{FunctionSymbol, ParseError, SectionFunction};
 use binfarce_names::demangle::Demangler;
 use std::alloc::{AllocError, Global};
 use std::error::Error;
@@ -166,6 +169,7 @@ impl From<ParseError> for ListError {
 /// `Unknown` where the format isn't supported; `Parse` where its reader refuses the file; `OutOfMemory` where an
 /// allocation failed. Nothing is written then. `Write` where a write failed: a beginning of the listing may then be
 /// written.
+#[tactic(auto, unfolding(crate::specs::Selection::answer_in, crate::specs::Selection::MemoryIn))]
 pub fn list<S: Sink>(
     alloc: Global,
     file: &[u8],
@@ -182,7 +186,9 @@ pub fn list<S: Sink>(
     list_tables(alloc, &Tables::whole(file, section), out)
 }
 
-/// As `list`, from the tables of a file: for the section that they were read for.
+/// As `list`, from the tables of a file: for the selection that they were read for. Of all sections a line is
+/// `{address:016x} {size:>10} {section} {trimmed}`, with the section's name, or its number in brackets where it has none;
+/// and there is no last line.
 ///
 /// # Errors
 ///
@@ -192,20 +198,34 @@ pub fn list_tables<S: Sink>(
     tables: &Tables<'_>,
     out: &mut S,
 ) -> Result<(), ListError>
-    ensures outcome { (which : SymbolTable) (file section : List ℕ) → AreTablesOf which file section tables.now
-        → EndsAs ListingFits (FileNeedsMemory file) (answer_of which file section) (outcome_of result) }
-    ensures takes { (which : SymbolTable) (file section : List ℕ) → AreTablesOf which file section tables.now
-        → Takes IsListingOf (answer_of which file section) (S.taken out.old) (S.taken out.new) (outcome_of result) }
+    ensures outcome { (which : SymbolTable) (file : List ℕ) (section : Option (List ℕ))
+        → AreTablesOf which file section tables.now
+        → EndsAs ListingFits (MemoryIn file section) (answer_in which file section) (outcome_of result) }
+    ensures takes { (which : SymbolTable) (file : List ℕ) (section : Option (List ℕ))
+        → AreTablesOf which file section tables.now → Takes (IsListingIn which file section)
+        (answer_in which file section) (S.taken out.old) (S.taken out.new) (outcome_of result) }
     ensures fails { Fails (S.has_failed out.old) (S.has_failed out.new) (outcome_of result) }
     ensures leaves { Leaves out.old out.new (outcome_of result) }
 {
-    let (functions, size) = tables.functions(alloc)?;
-    let text = listing(alloc, functions, size)?;
+    let selected = tables.functions(alloc)?;
+    let text = listing(alloc, tables, selected)?;
     write_whole(out, text.as_bytes())
 }
 
-// The whole listing.
-fn listing(alloc: Global, functions: Functions<'_>, size: u64) -> Result<String, AllocError>
+// The whole listing of a selection.
+fn listing(alloc: Global, tables: &Tables<'_>, selected: Selected<'_>) -> Result<String, AllocError>
+    ensures { (which : SymbolTable) (file : List ℕ) (section : Option (List ℕ)) (listed : Listed)
+        → AreTablesOf which file section tables.now → HoldsIn which file section listed selected.entry
+        → IfOk result (λ t. IsListingIn which file section listed (string_bytes t)) }
+{
+    match selected {
+        Selected::Section(functions, size) => section_listing(alloc, functions, size),
+        Selected::All(functions) => sections_listing(alloc, functions, tables),
+    }
+}
+
+// The whole listing of a section.
+fn section_listing(alloc: Global, functions: Functions<'_>, size: u64) -> Result<String, AllocError>
     ensures { IfOk result
         (λ t. (listed : Listed) → HoldsLeft listed (functions.entry, size) → IsListingOf listed (string_bytes t)) }
 {
@@ -231,4 +251,54 @@ fn push_line(
     push_head(text, function.address, function.size)?;
     demangler.push_trimmed(text, function.name)?;
     text.push_str("\n")
+}
+
+// The whole listing of all sections.
+fn sections_listing(
+    alloc: Global,
+    functions: AllFunctions<'_>,
+    tables: &Tables<'_>,
+) -> Result<String, AllocError>
+    ensures { IfOk result
+        (λ t. (all : AllSymbols) → all_left functions.entry ≡ all.entries → section_names tables.now ≡ all.section_name
+        → IsAllListingOf all (string_bytes t)) }
+{
+    let mut text = String::new(alloc);
+    let mut demangler = Demangler::new(alloc);
+    for function in functions {
+        push_section_line(&mut demangler, &mut text, tables, function)?;
+    }
+    Ok(text)
+}
+
+// Appends the line of a function symbol, with its section, to the text.
+fn push_section_line(
+    demangler: &mut Demangler,
+    text: &mut String,
+    tables: &Tables<'_>,
+    function: SectionFunction<'_>,
+) -> Result<(), AllocError>
+    ensures { OnOk result
+        ((line : List ℕ) × IsLineIn (section_names tables.now) (section_function_view function.entry) line
+        × (string_bytes text.new ≡ string_bytes text.old ++ line)) }
+{
+    push_head(text, function.function.address, function.function.size)?;
+    push_section(text, tables, function.section)?;
+    text.push_str(" ")?;
+    demangler.push_trimmed(text, function.function.name)?;
+    text.push_str("\n")
+}
+
+// Appends a section's name, or its number in brackets where it has none, to the text.
+fn push_section(text: &mut String, tables: &Tables<'_>, number: u32) -> Result<(), AllocError>
+    ensures { OnOk result
+        (string_bytes text.new ≡ string_bytes text.old ++ section_text (section_names tables.now number) number) }
+{
+    match tables.section_name(number) {
+        Some(name) => text.push_str(name),
+        None => {
+            write!(text, "[{number}]")?;
+            Ok(())
+        }
+    }
 }

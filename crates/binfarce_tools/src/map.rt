@@ -1,11 +1,12 @@
 //! How much of an executable's code each crate takes, as a picture.
 
-ghost use Rattle.std.specs.Prelude.{◌≡◌, ℕ, List, map, IfOk};
+ghost use Rattle.std.specs.Prelude.{◌≡◌, ℕ, List, Option, map, IfOk};
 ghost use Rattle.std.specs.String.{string_bytes};
 ghost use Rattle.binfarce_chart.specs.Views.{bar_view};
-ghost use Rattle.binfarce_tools.specs.Answer.{answer_of, file_answer, FileNeedsMemory};
+ghost use Rattle.binfarce_tools.specs.Answer.{file_answer, FileNeedsMemory};
 ghost use Rattle.binfarce_tools.specs.Report.{Share, AreCratesOf, ReportFits};
 ghost use Rattle.binfarce_tools.specs.ReportWords.{outcome_of};
+ghost use Rattle.binfarce_tools.specs.Selection.{answer_in, MemoryIn};
 ghost use Rattle.binfarce_tools.specs.Sums.{AreSumsOf};
 ghost use Rattle.binfarce_tools.specs.Tables.{AreTablesOf};
 ghost use Rattle.binfarce.specs.declared.SymbolTable.{SymbolTable};
@@ -28,6 +29,7 @@ use std::alloc::{AllocError, Global};
 /// # Errors
 ///
 /// Those of `report`. Only after `Write` a beginning of the picture may be written.
+#[tactic(auto, unfolding(crate::specs::Selection::answer_in, crate::specs::Selection::MemoryIn))]
 pub fn map<S: Sink>(
     alloc: Global,
     file: &[u8],
@@ -44,7 +46,8 @@ pub fn map<S: Sink>(
     map_tables(alloc, &Tables::whole(file, section), out)
 }
 
-/// As `map`, from the tables of a file: for the section that they were read for.
+/// As `map`, from the tables of a file: for the selection that they were read for. The whole of all sections is the sum of
+/// all sizes.
 ///
 /// # Errors
 ///
@@ -54,10 +57,12 @@ pub fn map_tables<S: Sink>(
     tables: &Tables<'_>,
     out: &mut S,
 ) -> Result<(), ReportError>
-    ensures outcome { (which : SymbolTable) (file section : List ℕ) → AreTablesOf which file section tables.now
-        → EndsAs ReportFits (FileNeedsMemory file) (answer_of which file section) (outcome_of result) }
-    ensures takes { (which : SymbolTable) (file section : List ℕ) → AreTablesOf which file section tables.now
-        → Takes IsMapOf (answer_of which file section) (S.taken out.old) (S.taken out.new) (outcome_of result) }
+    ensures outcome { (which : SymbolTable) (file : List ℕ) (section : Option (List ℕ))
+        → AreTablesOf which file section tables.now
+        → EndsAs ReportFits (MemoryIn file section) (answer_in which file section) (outcome_of result) }
+    ensures takes { (which : SymbolTable) (file : List ℕ) (section : Option (List ℕ))
+        → AreTablesOf which file section tables.now → Takes IsMapOf
+        (answer_in which file section) (S.taken out.old) (S.taken out.new) (outcome_of result) }
     ensures fails { Fails (S.has_failed out.old) (S.has_failed out.new) (outcome_of result) }
     ensures leaves { Leaves out.old out.new (outcome_of result) }
 {
@@ -66,7 +71,7 @@ pub fn map_tables<S: Sink>(
 }
 
 // The whole picture.
-pub(crate) fn picture(alloc: Global, sums: &CrateSums) -> Result<String, AllocError>
+fn picture(alloc: Global, sums: &CrateSums) -> Result<String, AllocError>
     requires { (shares : List Share) × AreSumsOf shares sums.now }
     ensures { IfOk result
         (λ t. (shares : List Share) → AreSumsOf shares sums.now

@@ -1,21 +1,22 @@
 //! Reports how much of an executable's code each crate takes.
 
-ghost use Rattle.std.specs.Prelude.{◌≡◌, ◌≢◌, ◌⊎◌, ◌+◌, ◌^◌, ◌<◌, ◌≤◌, ◌++◌, ℕ, List, Some, MatchResult, IfOk, IfErr, OnOk};
+ghost use Rattle.std.specs.Prelude.{◌≡◌, ◌≢◌, ◌⊎◌, ◌+◌, ◌^◌, ◌<◌, ◌≤◌, ◌++◌, ℕ, List, Option, Some, unwrap_or, MatchResult, IfOk, IfErr, OnOk};
 ghost use Rattle.std.specs.List.{AllZip, sum_by};
 ghost use Rattle.std.specs.String.{string_bytes};
 ghost use Rattle.binfarce_names.specs.Name.{Name};
 ghost use Rattle.binfarce_names.specs.Named.{IsNamed};
 ghost use Rattle.binfarce.specs.SymbolViews.{function_view};
 ghost use Rattle.binfarce.specs.declared.SymbolTable.{SymbolTable};
-ghost use Rattle.binfarce_tools.specs.Answer.{answer_of, file_answer, FileNeedsMemory};
-ghost use Rattle.binfarce_tools.specs.Report.{Share, IsShareOf, IsReportOf, IsReportOfShares, IsSumsOfShares, ReportFits, crate_text, crate_line};
+ghost use Rattle.binfarce_tools.specs.Answer.{file_answer, FileNeedsMemory};
+ghost use Rattle.binfarce_tools.specs.Report.{Share, IsShareOf, IsReportIn, IsReportOf, IsSumsOfShares, ReportFits, crate_text, crate_line};
 ghost use Rattle.binfarce_tools.specs.ReportWords.{outcome_of};
 ghost use Rattle.binfarce_tools.specs.Writing.{EndsAs, Takes, Fails, Leaves};
 ghost use Rattle.binfarce_tools.specs.declared.report.ReportError.TheVariants.{OutOfMemory, TooLarge, Write};
 ghost use Rattle.binfarce_tools.specs.Entries.{functions_left};
+ghost use Rattle.binfarce_tools.specs.Selection.{answer_in, MemoryIn};
 ghost use Rattle.binfarce_tools.specs.Tables.{AreTablesOf};
 ghost use Rattle.binfarce_tools.specs.Sums.{AreSumsOf, GetsSums, sum_at};
-ghost use Rattle.binfarce_tools.specs.machine.Shares.{Adds, WritesMade};
+ghost use Rattle.binfarce_tools.specs.machine.Shares.{Adds, IsReportWith, WritesMade};
 
 use crate::functions::Functions;
 use crate::list::{ListError, Sink};
@@ -103,6 +104,7 @@ impl From<ListError> for ReportError {
 ///
 /// Those of `list`; `TooLarge` where the sum of all sizes is 2^64 or more. Only after `Write` a beginning of the report
 /// may be written.
+#[tactic(auto, unfolding(crate::specs::Selection::answer_in, crate::specs::Selection::MemoryIn))]
 pub fn report<S: Sink>(
     alloc: Global,
     file: &[u8],
@@ -119,7 +121,8 @@ pub fn report<S: Sink>(
     report_tables(alloc, &Tables::whole(file, section), out)
 }
 
-/// As `report`, from the tables of a file: for the section that they were read for.
+/// As `report`, from the tables of a file: for the selection that they were read for. Of all sections there is no last
+/// line.
 ///
 /// # Errors
 ///
@@ -129,25 +132,28 @@ pub fn report_tables<S: Sink>(
     tables: &Tables<'_>,
     out: &mut S,
 ) -> Result<(), ReportError>
-    ensures outcome { (which : SymbolTable) (file section : List ℕ) → AreTablesOf which file section tables.now
-        → EndsAs ReportFits (FileNeedsMemory file) (answer_of which file section) (outcome_of result) }
-    ensures takes { (which : SymbolTable) (file section : List ℕ) → AreTablesOf which file section tables.now
-        → Takes IsReportOf (answer_of which file section) (S.taken out.old) (S.taken out.new) (outcome_of result) }
+    ensures outcome { (which : SymbolTable) (file : List ℕ) (section : Option (List ℕ))
+        → AreTablesOf which file section tables.now
+        → EndsAs ReportFits (MemoryIn file section) (answer_in which file section) (outcome_of result) }
+    ensures takes { (which : SymbolTable) (file : List ℕ) (section : Option (List ℕ))
+        → AreTablesOf which file section tables.now → Takes (IsReportIn section)
+        (answer_in which file section) (S.taken out.old) (S.taken out.new) (outcome_of result) }
     ensures fails { Fails (S.has_failed out.old) (S.has_failed out.new) (outcome_of result) }
     ensures leaves { Leaves out.old out.new (outcome_of result) }
 {
-    let sums = sums_of_tables(alloc, tables)?;
-    write_made(out, report_text(alloc, &sums))
+    let (functions, size) = tables.functions(alloc)?.into_list();
+    let sums = crate_sums(alloc, functions, size)?;
+    write_made(out, report_text(alloc, &sums, size))
 }
 
-/// How many bytes the function symbols of a file's section take, by crate.
+/// How many bytes the function symbols of a selection take, by crate.
 #[derive(Drop)]
 pub struct CrateSums {
     /// The sum of the sizes of each crate's symbols, by the crate's name.
     pub crates: BTreeMap<String, u64>,
     /// The sum of all sizes.
     pub total: u64,
-    /// The section's size.
+    /// The section's size, or for all sections the sum of all sizes.
     pub section_size: u64,
 }
 
@@ -156,6 +162,7 @@ pub struct CrateSums {
 /// # Errors
 ///
 /// As `report`, but for `Write`.
+#[tactic(auto, unfolding(crate::specs::Selection::answer_in, crate::specs::Selection::MemoryIn))]
 pub fn sums_of_file(alloc: Global, file: &[u8], section: &str) -> Result<CrateSums, ReportError>
     ensures { GetsSums (FileNeedsMemory file.now)
         (file_answer file.now section.now) result }
@@ -169,23 +176,25 @@ pub fn sums_of_file(alloc: Global, file: &[u8], section: &str) -> Result<CrateSu
 ///
 /// As `report_tables`, but for `Write`.
 pub fn sums_of_tables(alloc: Global, tables: &Tables<'_>) -> Result<CrateSums, ReportError>
-    ensures sums { (which : SymbolTable) (file section : List ℕ) → AreTablesOf which file section tables.now
-        → GetsSums (FileNeedsMemory file) (answer_of which file section) result }
+    ensures sums { (which : SymbolTable) (file : List ℕ) (section : Option (List ℕ))
+        → AreTablesOf which file section tables.now
+        → GetsSums (MemoryIn file section) (answer_in which file section) result }
     ensures made { IfOk result (λ s. (shares : List Share) × AreSumsOf shares s) }
     ensures unwritten { IfErr result (λ e. e ≢ Write) }
 {
-    let (functions, size) = tables.functions(alloc)?;
+    let (functions, size) = tables.functions(alloc)?.into_list();
     crate_sums(alloc, functions, size)
 }
 
-// The sums of the functions, with the section's size. `TooLarge` where the sum of all exceeds 64 bits.
-pub(crate) fn crate_sums(
+// The sums of the functions, with the section's size, or without one the sum of all sizes. `TooLarge` where the sum of all
+// exceeds 64 bits.
+fn crate_sums(
     alloc: Global,
     functions: Functions<'_>,
-    section_size: u64,
+    section_size: Option<u64>,
 ) -> Result<CrateSums, ReportError>
     ensures { MatchResult result
-        (λ s. (s.section_size ≡ section_size) × ((shares : List Share)
+        (λ s. (s.section_size ≡ unwrap_or section_size s.total) × ((shares : List Share)
         × AllZip IsShareOf (functions_left functions.entry) shares × AreSumsOf shares s))
         (λ e. (e ≡ OutOfMemory) ⊎ ((e ≡ TooLarge) × (2 ^ 64 ≤ sum_by (λ f. f.size) (functions_left functions.entry)))) }
 {
@@ -201,7 +210,7 @@ pub(crate) fn crate_sums(
     Ok(CrateSums {
         crates,
         total,
-        section_size,
+        section_size: section_size.unwrap_or(total),
     })
 }
 
@@ -266,19 +275,20 @@ pub(crate) fn write_made<S: Sink>(
     Ok(())
 }
 
-// The whole report.
-fn report_text(alloc: Global, sums: &CrateSums) -> Result<String, AllocError>
+// The whole report, with the section's size, or of all sections without one.
+fn report_text(alloc: Global, sums: &CrateSums, size: Option<u64>) -> Result<String, AllocError>
     ensures { IfOk result
-        (λ t. (shares : List Share) → AreSumsOf shares sums.now
-        → IsReportOfShares shares sums.now.section_size (string_bytes t)) }
+        (λ t. (shares : List Share) → AreSumsOf shares sums.now → IsReportWith size shares (string_bytes t)) }
 {
     let mut text = sums_text(alloc, sums)?;
-    writeln!(text, "text {}", sums.section_size)?;
+    if let Some(size) = size {
+        writeln!(text, "text {size}")?;
+    }
     Ok(text)
 }
 
 // The lines of the crates, and that of the sum of all sizes.
-pub(crate) fn sums_text(alloc: Global, sums: &CrateSums) -> Result<String, AllocError>
+fn sums_text(alloc: Global, sums: &CrateSums) -> Result<String, AllocError>
     ensures { IfOk result
         (λ t. (shares : List Share) → AreSumsOf shares sums.now → IsSumsOfShares shares (string_bytes t)) }
 {

@@ -1,19 +1,25 @@
 //! The tables of a file's function symbols, read from a source.
 
-ghost use Rattle.std.specs.Prelude.{◌≡◌, ◌≢◌, ℕ, List, true, Some, IfErr, MatchResult, codes};
+ghost use Rattle.std.specs.Prelude.{◌≡◌, ◌≢◌, ℕ, List, true, Option, Ok, Some, None, IfErr, MatchResult, codes};
+ghost use Rattle.std.specs.Option.{option_map};
 ghost use Rattle.binfarce.specs.Refusal.{refusal_of, section_is_missing};
+ghost use Rattle.binfarce.specs.SectionEntries.{AllSymbols};
+ghost use Rattle.binfarce.specs.Symbol.{Listed};
 ghost use Rattle.binfarce.specs.declared.SymbolTable.{SymbolTable};
 ghost use Rattle.binfarce.specs.declared.SymbolTable.TheVariants.{Symtab, Dynsym};
 ghost use Rattle.binfarce.specs.Format.{format_of};
 ghost use Rattle.binfarce_bytes.specs.Part.{AreSure};
 ghost use Rattle.binfarce_tables.specs.declared.error.ReadError.TheVariants.{Unreadable};
-ghost use Rattle.binfarce_tools.specs.Answer.{answer_of, FileNeedsMemory};
-ghost use Rattle.binfarce_tools.specs.Entries.{Gets};
+ghost use Rattle.binfarce_tools.specs.AllAnswer.{all_answer_of};
+ghost use Rattle.binfarce_tools.specs.Entries.{GetsIn};
 ghost use Rattle.binfarce_tools.specs.Parts.{format_parts, parts_of};
+ghost use Rattle.binfarce_tools.specs.Selection.{answer_in, section_of, share_in};
 ghost use Rattle.binfarce_tools.specs.declared.list.ListError.TheVariants.{Write};
-ghost use Rattle.binfarce_tools.specs.Tables.{AreTablesOf, ReadsTables};
+ghost use Rattle.binfarce_tools.specs.Tables.{AreTablesOf, ReadsTables, section_names, shares_addresses_of};
 
-use crate::functions::{Functions, all_of, functions_of_file};
+use crate::functions::{
+    AllFunctions, Functions, Selected, all_in_sections, all_of, functions_of_file,
+};
 use crate::list::ListError;
 use binfarce::{Format, ParseError, SymbolTable, detect_format};
 use binfarce_bytes::source::Source;
@@ -21,7 +27,16 @@ use binfarce_tables::begun::Begun;
 use binfarce_tables::{ReadError, elf32, elf64, macho, pe};
 use std::alloc::Global;
 
-/// The tables of a file for the function symbols of a section: those that were read, or a whole file in memory.
+/// Which function symbols of a file are taken.
+#[derive(Debug, Clone, Copy)]
+pub enum Selection<'a> {
+    /// Those of a section of an ELF file; of a Mach-O or PE file those of the text.
+    Section(&'a str),
+    /// Those of all sections.
+    All,
+}
+
+/// The tables of a file for the function symbols of a selection: those that were read, or a whole file in memory.
 #[derive(Drop)]
 pub enum Tables<'a> {
     /// The parts of an ELF file of 32 bits.
@@ -32,6 +47,14 @@ pub enum Tables<'a> {
     Macho(macho::Parts),
     /// The parts of a PE file.
     Pe(pe::Parts),
+    /// The parts of an ELF file of 32 bits, for all sections.
+    AllElf32(elf32::AllParts),
+    /// The parts of an ELF file of 64 bits, for all sections.
+    AllElf64(elf64::AllParts),
+    /// The parts of a Mach-O file, for all sections.
+    AllMacho(macho::AllParts),
+    /// The parts of a PE file, for all sections.
+    AllPe(pe::AllParts),
     /// Nothing: the file's first bytes name no supported format.
     Unknown,
     /// All bytes of a file, and the section.
@@ -42,93 +65,136 @@ impl<'a> Tables<'a> {
     /// The tables of a file in memory for a section, by the symbol table. Nothing is read yet.
     #[tactic(auto, unfolding(crate::specs::Tables::AreTablesOf))]
     pub fn whole(file: &'a [u8], section: &'a str) -> Tables<'a>
-        ensures { AreTablesOf Symtab file.entry.now section.entry.now result }
+        ensures { AreTablesOf Symtab file.entry.now (Some section.entry.now) result }
     {
         Self::Whole { file, section }
     }
 
-    /// The function symbols of the section and the symbol table that the tables were read for, and the section's size.
-    /// For the symbol table these are the answer of `functions_of_file`.
+    /// The function symbols that the tables were read for, by the symbol table that they were read by. Those of a section
+    /// are, for the symbol table, the answer of `functions_of_file`, and those of all sections that of `all_functions` of
+    /// a reader.
     ///
     /// # Errors
     ///
-    /// As `functions_of_file`.
+    /// As `functions_of_file`: for all sections, `Parse` where a Mach-O file's rows are refused.
     #[tactic(auto, unfolding(crate::specs::Tables::AreTablesOf))]
-    pub fn functions(&self, alloc: Global) -> Result<(Functions<'_>, u64), ListError>
-        ensures gets { (which : SymbolTable) (file section : List ℕ) → AreTablesOf which file section self.entry.now
-            → Gets (FileNeedsMemory file) (answer_of which file section) result }
+    pub fn functions(&self, alloc: Global) -> Result<Selected<'_>, ListError>
+        ensures gets { (which : SymbolTable) (file : List ℕ) (section : Option (List ℕ))
+            → AreTablesOf which file section self.entry.now → GetsIn which file section result }
         ensures unwritten { IfErr result (λ e. e ≢ Write) }
     {
         match self {
             Tables::Elf32(parts) => {
                 let (functions, size) = parts.functions();
-                Ok((Functions::Elf32(functions), size))
+                Ok(Selected::Section(Functions::Elf32(functions), size))
             }
             Tables::Elf64(parts) => {
                 let (functions, size) = parts.functions();
-                Ok((Functions::Elf64(functions), size))
+                Ok(Selected::Section(Functions::Elf64(functions), size))
             }
             Tables::Macho(parts) => {
-                let listed = parts.functions(alloc)?;
-                Ok(all_of(listed))
+                let (functions, size) = all_of(parts.functions(alloc)?);
+                Ok(Selected::Section(functions, size))
             }
             Tables::Pe(parts) => {
-                let listed = parts.functions(alloc)?;
-                Ok(all_of(listed))
+                let (functions, size) = all_of(parts.functions(alloc)?);
+                Ok(Selected::Section(functions, size))
+            }
+            Tables::AllElf32(parts) => Ok(Selected::All(AllFunctions::Elf32(parts.functions()))),
+            Tables::AllElf64(parts) => Ok(Selected::All(AllFunctions::Elf64(parts.functions()))),
+            Tables::AllMacho(parts) => {
+                let functions = parts.functions(alloc)?;
+                Ok(Selected::All(all_in_sections(functions)))
+            }
+            Tables::AllPe(parts) => {
+                let functions = parts.functions(alloc)?;
+                Ok(Selected::All(all_in_sections(functions)))
             }
             Tables::Unknown => Err(ListError::Unknown),
-            Tables::Whole { file, section } => functions_of_file(alloc, file, section),
+            Tables::Whole { file, section } => {
+                let (functions, size) = functions_of_file(alloc, file, section)?;
+                Ok(Selected::Section(functions, size))
+            }
+        }
+    }
+
+    /// The name of the section of this number, a slice of the tables. `None` where there is no such section, where it has
+    /// no valid name, and where the tables are those of one section.
+    pub fn section_name(&self, number: u32) -> Option<&str>
+        ensures read { option_map (λ t. t.now) result ≡ section_names self.entry.now number }
+        ensures file { (which : SymbolTable) (file : List ℕ) (all : AllSymbols)
+            → AreTablesOf which file None self.entry.now → all_answer_of which file ≡ Some (Ok all)
+            → option_map (λ t. t.now) result ≡ all.section_name number }
+    {
+        self.name_read(number)
+    }
+
+    fn name_read(&self, number: u32) -> Option<&str>
+        ensures { option_map (λ t. t.now) result ≡ section_names self.entry.now number }
+    {
+        match self {
+            Tables::AllElf32(parts) => parts.section_name(number),
+            Tables::AllElf64(parts) => parts.section_name(number),
+            Tables::AllMacho(parts) => parts.section_name(number),
+            Tables::AllPe(parts) => parts.section_name(number),
+            _ => None,
+        }
+    }
+
+    /// Whether the sections that the tables were read for share addresses: all sections of an object file do (in ELF
+    /// `ET_REL`, in Mach-O `MH_OBJECT`), and those of a PE file, whose addresses are offsets in a section.
+    pub fn shares_addresses(&self) -> bool
+        ensures { (which : SymbolTable) (file : List ℕ) (section : Option (List ℕ)) (listed : Listed)
+            → AreTablesOf which file section self.now → answer_in which file section ≡ Some (Ok listed)
+            → result ≡ share_in which file section }
+    {
+        self.sharing_read()
+    }
+
+    fn sharing_read(&self) -> bool
+        ensures { result ≡ shares_addresses_of self.now }
+    {
+        match self {
+            Tables::AllElf32(parts) => parts.shares_addresses(),
+            Tables::AllElf64(parts) => parts.shares_addresses(),
+            Tables::AllMacho(parts) => parts.shares_addresses(),
+            Tables::AllPe(_) => true,
+            _ => false,
         }
     }
 }
 
-/// Reads the tables of a file for the function symbols of a section: its first 64 bytes, which name its format, and the
-/// parts that `binfarce_tables` reads of a file of that format. Of a file of an unknown format no other byte is read.
-/// Each part that is kept takes no more memory than the file has bytes of it.
+/// Reads the tables of a file for the function symbols of a selection, by this symbol table: its first 64 bytes, which
+/// name its format, and the parts that `binfarce_tables` reads of a file of that format. Of a file of an unknown format
+/// no other byte is read. Each part that is kept takes no more memory than the file has bytes of it.
 ///
 /// # Errors
 ///
-/// `Refused` with the error of the format's reader; `Unreadable` where the source can't be read at offsets, or a read
-/// of it fails, and never for a source that can't fail, such as bytes in memory; `OutOfMemory` where an allocation
-/// fails.
+/// `Refused` with the error of the format's reader, and `SectionIsMissing` of `.dynsym` for the dynamic symbol table of
+/// a Mach-O or PE file; `Unreadable` where the source can't be read at offsets, or a read of it fails, and never for a
+/// source that can't fail, such as bytes in memory; `OutOfMemory` where an allocation fails.
 pub fn read<S: Source>(
     alloc: Global,
     source: &S,
-    section: &str,
-) -> Result<Tables<'static>, ReadError>
-    ensures answer { (file : List ℕ) → S.bytes source.now ≡ Some file
-        → ReadsTables (S.may_fail source.now ≡ true) Symtab file section.now result }
-    ensures nothing_else { (file : List ℕ) → S.bytes source.now ≡ Some file
-        → AreSure (S.is_sure source.now) (parts_of Symtab file) → IfErr result (λ e. e ≢ Unreadable) }
-{
-    read_by(alloc, source, SymbolTable::Symtab, section)
-}
-
-/// As `read`, but of an ELF file it reads this symbol table and its strings.
-///
-/// # Errors
-///
-/// Those of `read`. For the dynamic symbol table, `Refused` has the error of `dynamic_functions` of an ELF reader, and
-/// `SectionIsMissing` of `.dynsym` for a Mach-O or PE file.
-pub fn read_by<S: Source>(
-    alloc: Global,
-    source: &S,
     which: SymbolTable,
-    section: &str,
+    selection: Selection<'_>,
 ) -> Result<Tables<'static>, ReadError>
     ensures answer { (file : List ℕ) → S.bytes source.now ≡ Some file
-        → ReadsTables (S.may_fail source.now ≡ true) which file section.now result }
+        → ReadsTables (S.may_fail source.now ≡ true) which file (section_of selection.entry) result }
     ensures nothing_else { (file : List ℕ) → S.bytes source.now ≡ Some file
         → AreSure (S.is_sure source.now) (parts_of which file) → IfErr result (λ e. e ≢ Unreadable) }
 {
     let begun = Begun::new(alloc, source)?;
     let format = detect_format(begun.head());
-    read_as(alloc, &begun, format, which, section)
+    match selection {
+        Selection::Section(section) => read_section(alloc, &begun, format, which, section),
+        Selection::All => read_sections(alloc, &begun, format, which),
+    }
 }
 
-// The tables of a file of this format.
+// The tables of a file of this format for a section.
 #[tactic(auto, unfolding(crate::specs::Tables::AreTablesOf))]
-fn read_as<S: Source>(
+fn read_section<S: Source>(
     alloc: Global,
     source: &S,
     format: Format,
@@ -136,7 +202,7 @@ fn read_as<S: Source>(
     section: &str,
 ) -> Result<Tables<'static>, ReadError>
     ensures answer { (file : List ℕ) → S.bytes source.now ≡ Some file → format ≡ format_of file
-        → ReadsTables (S.may_fail source.now ≡ true) which file section.now result }
+        → ReadsTables (S.may_fail source.now ≡ true) which file (Some section.now) result }
     ensures nothing_else { (file : List ℕ) → S.bytes source.now ≡ Some file
         → AreSure (S.is_sure source.now) (format_parts which format file) → IfErr result (λ e. e ≢ Unreadable) }
 {
@@ -163,8 +229,44 @@ fn read_as<S: Source>(
     }
 }
 
+// The tables of a file of this format for all sections.
+#[tactic(auto, unfolding(crate::specs::Tables::AreTablesOf))]
+fn read_sections<S: Source>(
+    alloc: Global,
+    source: &S,
+    format: Format,
+    which: SymbolTable,
+) -> Result<Tables<'static>, ReadError>
+    ensures answer { (file : List ℕ) → S.bytes source.now ≡ Some file → format ≡ format_of file
+        → ReadsTables (S.may_fail source.now ≡ true) which file None result }
+    ensures nothing_else { (file : List ℕ) → S.bytes source.now ≡ Some file
+        → AreSure (S.is_sure source.now) (format_parts which format file) → IfErr result (λ e. e ≢ Unreadable) }
+{
+    match format {
+        Format::Elf32 { byte_order } => {
+            let parts = elf32::read_all(alloc, source, byte_order, which)?;
+            Ok(Tables::AllElf32(parts))
+        }
+        Format::Elf64 { byte_order } => {
+            let parts = elf64::read_all(alloc, source, byte_order, which)?;
+            Ok(Tables::AllElf64(parts))
+        }
+        Format::Macho => {
+            has_table(which)?;
+            let parts = macho::read_all(alloc, source)?;
+            Ok(Tables::AllMacho(parts))
+        }
+        Format::PE => {
+            has_table(which)?;
+            let parts = pe::read_all(alloc, source)?;
+            Ok(Tables::AllPe(parts))
+        }
+        Format::Unknown => Ok(Tables::Unknown),
+    }
+}
+
 // Whether a Mach-O or PE file has this symbol table: none has a dynamic one.
-pub(crate) fn has_table(which: SymbolTable) -> Result<(), ParseError>
+fn has_table(which: SymbolTable) -> Result<(), ParseError>
     ensures { MatchResult result
         (λ _. which ≡ Symtab)
         (λ e. (which ≡ Dynsym) × (refusal_of e ≡ section_is_missing (codes ".dynsym"))) }

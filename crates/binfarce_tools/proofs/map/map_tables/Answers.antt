@@ -1,4 +1,4 @@
-use Rattle.binfarce_tools.specs.Answer.{answer_of, FileNeedsMemory}
+use Rattle.binfarce_tools.specs.Selection.{answer_in, MemoryIn}
 use Rattle.binfarce_tools.specs.Map.{IsMapOfShares}
 use Rattle.binfarce_tools.specs.ReportWords.{outcome_of}
 use Rattle.binfarce_tools.proofs.Reports.{ends, takes}
@@ -6,8 +6,8 @@ use Rattle.binfarce_tools.proofs.map.map_tables.Goals as goal
 
 pub returns-clause-outcome : goal.returns-clause-outcome
 returns-clause-outcome g c = λ which file section are.
-    ends (FileNeedsMemory file) (answer_of which file section) c.in_ok-sums.sums c.picture.result _ _ (outcome_of c.write_made.result) (c.in_ok-sums.ensures.sums which file section are) c.write_made.ensures.takes
+    ends (MemoryIn file section) (answer_in which file section) c.in_ok-sums.sums c.picture.result _ _ (outcome_of c.write_made.result) (c.in_ok-sums.ensures.sums which file section are) c.write_made.ensures.takes
 
 pub returns-clause-takes : goal.returns-clause-takes
 returns-clause-takes g c = λ which file section are.
-    takes IsMapOfShares (FileNeedsMemory file) (answer_of which file section) c.in_ok-sums.sums c.picture.result _ _ (outcome_of c.write_made.result) (c.in_ok-sums.ensures.sums which file section are) c.picture.ensures c.write_made.ensures.takes
+    takes IsMapOfShares (MemoryIn file section) (answer_in which file section) c.in_ok-sums.sums c.picture.result _ _ (outcome_of c.write_made.result) (c.in_ok-sums.ensures.sums which file section are) c.picture.ensures c.write_made.ensures.takes

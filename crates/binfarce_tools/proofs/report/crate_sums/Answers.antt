@@ -1,4 +1,4 @@
-use Rattle.std.proofs.Common.{◌≡◌, ℕ, ◌+◌, refl, sym, ap, ◌∙◌}
+use Rattle.std.proofs.Common.{◌≡◌, ℕ, ◌+◌, sym, ap, ◌∙◌}
 use Rattle.std.specs.List.{sum_by}
 use Rattle.binfarce.specs.Symbol.{Entry}
 use Rattle.binfarce.specs.SymbolViews.{function_view}
@@ -27,7 +27,7 @@ returns c =
     let all = functions_left c.args.functions in
     let left = functions_left c.loop-function.function-iterator in
     let shares = all_added all left c.loop-function.crates c.in-None.ensures.steps.0 c.loop-function.invariant.sums in (
-      refl,
+      c.unwrap_or.ensures,
       (
         shares.0,
         shares.1,

@@ -41,6 +41,11 @@ parts_of which file = head_part file ∷ format_parts which (format_of file) fil
 abbrev pub all_parts_of : SymbolTable → List ℕ → List Part
 all_parts_of which file = head_part file ∷ all_format_parts which (format_of file) file
 
+-- all that the reading of a selection reads
+abbrev pub parts_in : SymbolTable → Option (List ℕ) → List ℕ → List Part
+parts_in which (Some section) file = parts_of which file
+parts_in which None file = all_parts_of which file
+
 -- files of one length that agree in the parts of the first, for a symbol table, have one format, one answer for each section, and the same answers that need memory;
 -- those that agree in the parts for all sections have one answer for these
 abbrev pub PartsDecide : List ℕ → List ℕ → Type 0

@@ -1,5 +1,5 @@
 -- The tables of a file's function symbols, and the result of reading them.
-use Rattle.std.specs.Prelude.{◌≡◌, ℕ, Bool, true, false, List, Option, Some, None, Result, Ok, Err}
+use Rattle.std.specs.Prelude.{◌≡◌, ℕ, Bool, false, List, Option, Some, None, Result, Ok, Err}
 use Rattle.binfarce.specs.declared.Format.TheVariants as formats
 use Rattle.binfarce.specs.Elf.{elf32, elf64}
 use Rattle.binfarce.specs.Format.{format_of}
@@ -80,5 +80,5 @@ abbrev pub shares_addresses_of : Tables → Bool
 shares_addresses_of (AllElf32 parts) = (all_view elf32 parts).shares_addresses
 shares_addresses_of (AllElf64 parts) = (all_view elf64 parts).shares_addresses
 shares_addresses_of (AllMacho parts) = (macho_tables.all_view parts).shares_addresses
-shares_addresses_of (AllPe parts) = true
+shares_addresses_of (AllPe parts) = (pe_tables.all_view parts).shares_addresses
 shares_addresses_of tables = false

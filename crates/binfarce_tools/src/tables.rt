@@ -12,7 +12,7 @@ ghost use Rattle.binfarce_bytes.specs.Part.{AreSure};
 ghost use Rattle.binfarce_tables.specs.declared.error.ReadError.TheVariants.{Unreadable};
 ghost use Rattle.binfarce_tools.specs.AllAnswer.{all_answer_of};
 ghost use Rattle.binfarce_tools.specs.Entries.{GetsIn};
-ghost use Rattle.binfarce_tools.specs.Parts.{format_parts, parts_of};
+ghost use Rattle.binfarce_tools.specs.Parts.{all_format_parts, format_parts, parts_in};
 ghost use Rattle.binfarce_tools.specs.Selection.{answer_in, section_of, share_in};
 ghost use Rattle.binfarce_tools.specs.declared.list.ListError.TheVariants.{Write};
 ghost use Rattle.binfarce_tools.specs.Tables.{AreTablesOf, ReadsTables, section_names, shares_addresses_of};
@@ -158,7 +158,7 @@ impl<'a> Tables<'a> {
             Tables::AllElf32(parts) => parts.shares_addresses(),
             Tables::AllElf64(parts) => parts.shares_addresses(),
             Tables::AllMacho(parts) => parts.shares_addresses(),
-            Tables::AllPe(_) => true,
+            Tables::AllPe(parts) => parts.shares_addresses(),
             _ => false,
         }
     }
@@ -182,7 +182,8 @@ pub fn read<S: Source>(
     ensures answer { (file : List ℕ) → S.bytes source.now ≡ Some file
         → ReadsTables (S.may_fail source.now ≡ true) which file (section_of selection.entry) result }
     ensures nothing_else { (file : List ℕ) → S.bytes source.now ≡ Some file
-        → AreSure (S.is_sure source.now) (parts_of which file) → IfErr result (λ e. e ≢ Unreadable) }
+        → AreSure (S.is_sure source.now) (parts_in which (section_of selection.entry) file)
+        → IfErr result (λ e. e ≢ Unreadable) }
 {
     let begun = Begun::new(alloc, source)?;
     let format = detect_format(begun.head());
@@ -240,7 +241,7 @@ fn read_sections<S: Source>(
     ensures answer { (file : List ℕ) → S.bytes source.now ≡ Some file → format ≡ format_of file
         → ReadsTables (S.may_fail source.now ≡ true) which file None result }
     ensures nothing_else { (file : List ℕ) → S.bytes source.now ≡ Some file
-        → AreSure (S.is_sure source.now) (format_parts which format file) → IfErr result (λ e. e ≢ Unreadable) }
+        → AreSure (S.is_sure source.now) (all_format_parts which format file) → IfErr result (λ e. e ≢ Unreadable) }
 {
     match format {
         Format::Elf32 { byte_order } => {

@@ -27,7 +27,8 @@ pub fn functions<'a>(file: &'a [u8], section: &str) -> Result<(Functions<'a>, u6
     Ok((Functions(functions), size))
 }
 
-/// An iterator over the function symbols of a file: the answer of [`functions`].
+/// An iterator over the function symbols of a file: the answer of [`functions`] and of
+/// [`Tables::functions`](crate::Tables::functions).
 #[must_use = "iterators are lazy and do nothing unless consumed"]
 pub struct Functions<'a>(pub(crate) functions_of::Functions<'a>);
 
@@ -113,7 +114,7 @@ pub fn read_section<R: Read + Seek>(file: R, name: &str) -> io::Result<Vec<u8>> 
 }
 
 /// Returns the listing of a file's function symbols: a line `{address:016x} {size:>10} {trimmed name}` for each, and last
-/// `text {size of the section}`. The section is as in [`functions`].
+/// `text {size of the section}`. The section is as in [`functions`]; [`Tables`](crate::Tables) has the listing of all sections.
 ///
 /// # Errors
 ///

@@ -132,6 +132,9 @@ ends(2, lines, "binfarce: 2 lines without an address", "binfarce", "at", sample,
 answers(f"{0x1000:016x} foo+0x0\n", b"1000\n", "at", sample)
 ends(1, "", "binfarce: standard input: Is a directory", "binfarce", "at", sample, given=scratch)
 ends(1, "", lost, "binfarce", "at", missing, "1000")
+back = f"{0x401010:016x} foo+0x10\n{0x401001:016x} foo+0x1\n{0x401000:016x} ??\n{0x400000:016x} ??\n"
+ends(0, back, "", "binfarce", "at", "--return", "--base=400000", sample, "401010", "401001", "401000", "400000")
+ends(0, back, "", "binfarce", "at", "--return", "--base=400000", sample, given=b"401010\n401001\n401000\n400000\n")
 ends(2, "", "binfarce: not an address: 10g", "binfarce", "at", sample, "1000", "10g")
 ends(2, "", f"binfarce: not an address: {sample}", "binfarce", "at", "--base", sample, "1000")
 

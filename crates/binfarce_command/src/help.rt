@@ -81,6 +81,8 @@ usage: binfarce at [OPTION..] FILE [ADDRESS..]
 Writes a line for each address: the function symbol that holds it, and the offset in
 it. Without an ADDRESS the addresses are the lines of standard input.
 
+  --return         the addresses are return addresses, as RUST_BACKTRACE=full prints:
+                   the call before each is looked up
   --dynamic        by the dynamic symbol table of an ELF file (.dynsym)
   --section=NAME   the section of an ELF file, by default .text; of Mach-O and PE
                    files the code section is taken

@@ -25,6 +25,7 @@ use crate::input::{Noted, Opened};
 use crate::report::{ended, refuse, report};
 use crate::section::write_or_list;
 use crate::show::{Asked, Kind, Symbols};
+use binfarce_addresses::Lookup;
 use binfarce_bytes::source::Source;
 use binfarce_filtering::stream::{StreamError, filter_stream};
 use binfarce_tools::SymbolTable;
@@ -184,13 +185,17 @@ fn symbolize<W: Write>(
 ) -> Result<bool, Fault> {
     let path = first(given);
     let symbols = symbols_of(given);
+    let lookup = Lookup {
+        base: given.base,
+        is_return: given.is_return,
+    };
     let mut system = rt;
     match open_held(rt.alloc(), &mut system, path) {
         Some(held) => {
             let done = if addresses.is_empty() {
-                answer_lines(rt, &held, &symbols, given.base, out)
+                answer_lines(rt, &held, &symbols, lookup, out)
             } else {
-                answer_all(rt.alloc(), &held, &symbols, given.base, addresses, out)
+                answer_all(rt.alloc(), &held, &symbols, lookup, addresses, out)
             };
             reported(&mut system, path, &held, done)
         }
@@ -203,11 +208,11 @@ fn answer_lines<S: Source, W: Write>(
     rt: &HostRuntime,
     source: &S,
     symbols: &Symbols<'_>,
-    base: u64,
+    lookup: Lookup,
     out: &mut Headed<W>,
 ) -> Result<(), Fault> {
     let mut input = Noted::new(rt.reader());
-    match answer_input(rt.alloc(), source, symbols, base, &mut input, out) {
+    match answer_input(rt.alloc(), source, symbols, lookup, &mut input, out) {
         Ok(0) => Ok(()),
         Ok(missing) => Err(Fault::Missing(missing)),
         Err(Fault::Input) => {

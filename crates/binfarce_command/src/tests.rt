@@ -5,6 +5,7 @@ use crate::fault::Fault;
 use crate::files::{System, show_files};
 use crate::headed::Headed;
 use crate::show::{Asked, Kind, Symbols};
+use binfarce_addresses::Lookup;
 use binfarce_tools::SymbolTable;
 use std::alloc::Global;
 use std::fmt::Write;
@@ -15,6 +16,11 @@ use test_samples::streams::{Held, Opened, Source, Target};
 const TABLES: Symbols<'static> = Symbols {
     which: SymbolTable::Symtab,
     section: Some(".text"),
+};
+
+const LOADED: Lookup = Lookup {
+    base: 0x400000,
+    is_return: false,
 };
 
 // The path of each file, its bytes, and how it ends.
@@ -139,7 +145,7 @@ fn answers_addresses(rt: HostRuntime) {
     let mut out = Headed::new(rt.alloc(), Vec::new(rt.alloc()));
     let file: &[u8] = &ELF64_LITTLE;
     let given = [0x401000, 0x401010];
-    let ended = answer_all(rt.alloc(), &file, &TABLES, 0x400000, &given, &mut out);
+    let ended = answer_all(rt.alloc(), &file, &TABLES, LOADED, &given, &mut out);
     assert!(&rt; ended == Ok(()));
     assert!(&rt; out.into_parts().0.as_slice() == ANSWERS.as_bytes());
 }
@@ -161,7 +167,7 @@ fn answered(alloc: Global, lines: &str) -> (Result<u64, Fault>, Vec<u8>) {
     let mut out = Headed::new(alloc, Vec::new(alloc));
     let mut input = Source::of(lines.as_bytes());
     let file: &[u8] = &ELF64_LITTLE;
-    let ended = answer_input(alloc, &file, &TABLES, 0x400000, &mut input, &mut out);
+    let ended = answer_input(alloc, &file, &TABLES, LOADED, &mut input, &mut out);
     (ended, out.into_parts().0)
 }
 

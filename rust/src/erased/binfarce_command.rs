@@ -27,6 +27,7 @@ use crate::erased::binfarce_command::input::{Noted, Opened};
 use crate::erased::binfarce_command::report::{ended, refuse, report};
 use crate::erased::binfarce_command::section::write_or_list;
 use crate::erased::binfarce_command::show::{Asked, Kind, Symbols};
+use crate::erased::binfarce_addresses::Lookup;
 use crate::erased::binfarce_bytes::source::Source;
 use crate::erased::binfarce_filtering::stream::{StreamError, filter_stream};
 use crate::erased::binfarce_tools::SymbolTable;
@@ -186,13 +187,17 @@ fn symbolize<W: Write>(
 ) -> Result<bool, Fault> {
     let path = first(given);
     let symbols = symbols_of(given);
+    let lookup = Lookup {
+        base: given.base,
+        is_return: given.is_return,
+    };
     let mut system = rt;
     match open_held(rt.alloc(), &mut system, path) {
         Some(held) => {
             let done = if addresses.is_empty() {
-                answer_lines(rt, &held, &symbols, given.base, out)
+                answer_lines(rt, &held, &symbols, lookup, out)
             } else {
-                answer_all(rt.alloc(), &held, &symbols, given.base, addresses, out)
+                answer_all(rt.alloc(), &held, &symbols, lookup, addresses, out)
             };
             reported(&mut system, path, &held, done)
         }
@@ -205,11 +210,11 @@ fn answer_lines<S: Source, W: Write>(
     rt: &HostRuntime,
     source: &S,
     symbols: &Symbols<'_>,
-    base: u64,
+    lookup: Lookup,
     out: &mut Headed<W>,
 ) -> Result<(), Fault> {
     let mut input = Noted::new(rt.reader());
-    match answer_input(rt.alloc(), source, symbols, base, &mut input, out) {
+    match answer_input(rt.alloc(), source, symbols, lookup, &mut input, out) {
         Ok(0) => Ok(()),
         Ok(missing) => Err(Fault::Missing(missing)),
         Err(Fault::Input) => {

@@ -8,6 +8,7 @@ use crate::erased::binfarce_command::fault::Fault;
 use crate::erased::binfarce_command::files::{System, show_files};
 use crate::erased::binfarce_command::headed::Headed;
 use crate::erased::binfarce_command::show::{Asked, Kind, Symbols};
+use crate::erased::binfarce_addresses::Lookup;
 use crate::erased::binfarce_tools::SymbolTable;
 use crate::shim::alloc::Global;
 use crate::shim::io::{self, Error, ErrorKind};
@@ -17,6 +18,11 @@ use crate::erased::test_samples::streams::{Held, Opened, Source, Target};
 const TABLES: Symbols<'static> = Symbols {
     which: SymbolTable::Symtab,
     section: Some(".text"),
+};
+
+const LOADED: Lookup = Lookup {
+    base: 0x400000,
+    is_return: false,
 };
 
 // The path of each file, its bytes, and how it ends.
@@ -143,7 +149,7 @@ fn answers_addresses() {
     let mut out = Headed::new(rt.alloc(), Vec::new(rt.alloc()));
     let file: &[u8] = &ELF64_LITTLE;
     let given = [0x401000, 0x401010];
-    let ended = answer_all(rt.alloc(), &file, &TABLES, 0x400000, &given, &mut out);
+    let ended = answer_all(rt.alloc(), &file, &TABLES, LOADED, &given, &mut out);
     assert!(ended == Ok(()));
     assert!(out.into_parts().0.as_slice() == ANSWERS.as_bytes());
 }
@@ -165,7 +171,7 @@ fn answered(alloc: Global, lines: &str) -> (Result<u64, Fault>, Vec<u8>) {
     let mut out = Headed::new(alloc, Vec::new(alloc));
     let mut input = Source::of(lines.as_bytes());
     let file: &[u8] = &ELF64_LITTLE;
-    let ended = answer_input(alloc, &file, &TABLES, 0x400000, &mut input, &mut out);
+    let ended = answer_input(alloc, &file, &TABLES, LOADED, &mut input, &mut out);
     (ended, out.into_parts().0)
 }
 

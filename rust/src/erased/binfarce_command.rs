@@ -136,7 +136,7 @@ fn show_all<W: Write>(
 ) -> Result<bool, Fault> {
     let asked = Asked {
         kind,
-        symbols: symbols_of(given),
+        symbols: symbols_of(given, Some(".text")),
     };
     let mut system = rt;
     show_files(
@@ -186,7 +186,7 @@ fn symbolize<W: Write>(
     out: &mut Headed<W>,
 ) -> Result<bool, Fault> {
     let path = first(given);
-    let symbols = symbols_of(given);
+    let symbols = symbols_of(given, None);
     let lookup = Lookup {
         base: given.base,
         is_return: given.is_return,
@@ -243,8 +243,8 @@ fn write_section<W: Write>(
     }
 }
 
-// The function symbols that are asked for.
-fn symbols_of<'a>(given: &Given<'a>) -> Symbols<'a> {
+// The function symbols that are asked for: of the section that is named, or of this one, or of all.
+fn symbols_of<'a>(given: &Given<'a>, section: Option<&'a str>) -> Symbols<'a> {
     let which = if given.dynamic {
         SymbolTable::Dynsym
     } else {
@@ -253,7 +253,7 @@ fn symbols_of<'a>(given: &Given<'a>) -> Symbols<'a> {
     let section = if given.all {
         None
     } else {
-        Some(given.section.unwrap_or(".text"))
+        given.section.or(section)
     };
     Symbols { which, section }
 }

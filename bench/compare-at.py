@@ -61,7 +61,7 @@ def main():
         low, high = min(row[0] for row in rows), max(row[0] + row[1] for row in rows)
         addresses = [random.randrange(max(low - 8, 0), high + 8) for _ in range(COUNT)]
         asked = b"".join(b"%x\n" % address for address in addresses)
-        got = subprocess.run([PROGRAM, "at", file], input=asked, stdout=subprocess.PIPE).stdout.split(b"\n")[:-1]
+        got = subprocess.run([PROGRAM, "at", f"--section={args.section}", file], input=asked, stdout=subprocess.PIPE).stdout.split(b"\n")[:-1]
         find = finder(rows)
         places = [find(address) for address in addresses]
         want = [

@@ -46,7 +46,7 @@ def on_files(paths):
     addresses = rng.choices(["1000", "0x1005", "100f", "1010", "fff", "0", "180", "1040", "ffffffffffffffff"], k=4)
     yield [rng.choice(["binfarce-list", "binfarce-size"]), paths[0], *rng.choice([[], [section]])],
     yield ["section", paths[0], *rng.choice([[], [section]])],
-    yield ["at", *rng.choice([option, ["--base", "40"]]), paths[0], *addresses],
+    yield ["at", *rng.choice([option, ["--base", "40"], ["--return", "--base=1"]]), paths[0], *addresses],
     yield [rng.choice(["list", "size", "map"]), *option, *paths],
 
 scratch = pathlib.Path(temporary.name)

@@ -166,24 +166,27 @@ answers("in a::b\n", b"in _RNvC1a1b\n", "filter")
 # Addresses as arguments, and on standard input.
 found = ((0x1000, "foo+0x0"), (0x1005, "foo+0x5"), (0x100f, "foo+0xf"), (0x1010, "??"), (0xfff, "??"))
 output, moved = ("".join(f"{base + address:016x} {answer}\n" for address, answer in found) for base in (0, 0x400000))
-fails(full, 0, "", "binfarce", "at", sample, "1000")
+fails(full, 0, "", "binfarce", "at", "--section=.text", sample, "1000")
 for path in (*same, "-"):
-    ends(0, output, "", "binfarce", "at", path, "1000", "0x1005", "100f", "1010", "0fff", given=sample)
+    ends(0, output, "", "binfarce", "at", "--section=.text", path, "1000", "0x1005", "100f", "1010", "0fff", given=sample)
 for path in same:
-    ends(0, output, "", "binfarce", "at", path, given=b"1000\n0X1005\r\n 100f\n1010\n0fff")
-ends(0, moved, "", "binfarce", "at", "--base", "400000", sample, "401000", "401005", "40100f", "401010", "400fff")
-ends(0, moved, "", "binfarce", "at", "--base=400000", sample, given=b"401000\n401005\n40100f\n401010\n400fff\n")
-base = ("binfarce", "at", "--base", "400000", sample)
+    ends(0, output, "", "binfarce", "at", "--section=.text", path, given=b"1000\n0X1005\r\n 100f\n1010\n0fff")
+ends(0, moved, "", "binfarce", "at", "--section=.text", "--base", "400000", sample, "401000", "401005", "40100f", "401010", "400fff")
+ends(0, moved, "", "binfarce", "at", "--section=.text", "--base=400000", sample, given=b"401000\n401005\n40100f\n401010\n400fff\n")
+base = ("binfarce", "at", "--section=.text", "--base", "400000", sample)
 ends(0, "", "", *base, given=b"")
 lines = f"??\n{0x401000:016x} foo+0x0\n??\n{0x400fff:016x} ??\n??\n"
 ends(2, lines, "binfarce: 3 lines without an address", *base, given=b"\n401000\n10g\n0x400fff\nno")
 lines, bad = f"{0x1000:016x} foo+0x0\n??\n{0x1005:016x} foo+0x5\n??\n", b"1000\nno\n1005\n" + bytes(100_000)
-ends(2, lines, "binfarce: 2 lines without an address", "binfarce", "at", sample, given=bad)
-answers(f"{0x1000:016x} foo+0x0\n", b"1000\n", "at", sample)
-ends(1, "", "binfarce: standard input: Is a directory", "binfarce", "at", sample, given=scratch)
+ends(2, lines, "binfarce: 2 lines without an address", "binfarce", "at", "--section=.text", sample, given=bad)
+answers(f"{0x1000:016x} foo+0x0\n", b"1000\n", "at", "--section=.text", sample)
+ends(1, "", "binfarce: standard input: Is a directory", "binfarce", "at", "--section=.text", sample, given=scratch)
 ends(1, "", lost, "binfarce", "at", missing, "1000")
-ends(2, "", "binfarce: not an address: 10g", "binfarce", "at", sample, "1000", "10g")
-ends(2, "", f"binfarce: not an address: {sample}", "binfarce", "at", "--base", sample, "1000")
+back = f"{0x401010:016x} foo+0x10\n{0x401001:016x} foo+0x1\n{0x401000:016x} ??\n{0x400000:016x} ??\n"
+ends(0, back, "", "binfarce", "at", "--section=.text", "--return", "--base=400000", sample, "401010", "401001", "401000", "400000")
+ends(0, back, "", "binfarce", "at", "--section=.text", "--return", "--base=400000", sample, given=b"401010\n401001\n401000\n400000\n")
+ends(2, "", "binfarce: not an address: 10g", "binfarce", "at", "--section=.text", sample, "1000", "10g")
+ends(2, "", f"binfarce: not an address: {sample}", "binfarce", "at", "--section=.text", "--base", sample, "1000")
 
 # The dynamic symbols of a library, as readelf has them; stripped, it has no others.
 library, stripped = printed("gcc", "-print-file-name=libc.so.6").strip(), f"{scratch}/stripped"
@@ -207,9 +210,10 @@ total = sum(int(row[1]) for row in rows)
 ends(0, lines, "", "binfarce", "list", "--all", file)
 ends(0, f"{total:10} [unknown]\nsum {total}\n", "", "binfarce", "size", "--all", file)
 ends(0, f"{2:016x} g+0x2\n", "", "binfarce", "at", "--section=.text.g", file, "2")
-shared = f"binfarce: {file}: its sections share addresses; use --section in place of --all"
-ends(1, "", shared, "binfarce", "at", "--all", file, "2")
-ends(1, "", shared, "binfarce", "at", "--all", file, given=b"2\n")
+shared = f"binfarce: {file}: its sections share addresses; --section=NAME takes one of them"
+for option in ((), ("--all",)):
+    ends(1, "", shared, "binfarce", "at", *option, file, "2")
+    ends(1, "", shared, "binfarce", "at", *option, file, given=b"2\n")
 ends(2, "", "binfarce: --all and --section exclude each other", "binfarce", "list", "--all", "--section=.text", file)
 
 # A PE image, of PE32+ at 0x140000000 with `.text` at 0x1000: an external and a static function, at their addresses in memory.

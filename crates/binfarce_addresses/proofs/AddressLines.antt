@@ -14,7 +14,9 @@ use Rattle.binfarce_tools.specs.declared.list.ListError.{ListError}
 use Rattle.binfarce_tools.specs.declared.list.ListError.TheVariants.{Unknown, Parse, OutOfMemory, Write}
 use Rattle.binfarce_tools.specs.ListWords.{Writes, outcome_of}
 use Rattle.binfarce_tools.specs.Writing.{Outcome, EndsAs, Takes}
-use Rattle.binfarce_addresses.specs.Lines.{in_file, found_at, IsTextOf, address_line, IsLineAt, AreLinesOf, AreLinesAt}
+use Rattle.binfarce_addresses.specs.Lookup.{looked_up}
+use Rattle.binfarce_addresses.specs.declared.lookup.Lookup.{Lookup}
+use Rattle.binfarce_addresses.specs.Lines.{found_at, IsTextOf, address_line, IsLineAt, AreLinesOf, AreLinesAt}
 use Rattle.binfarce_addresses.specs.PlacesViews.{IsMadeOf}
 use Rattle.binfarce_addresses.specs.Stream.{AreAnswersOf, IsAnswerOf}
 
@@ -29,40 +31,40 @@ concat_push [] line = append-nil line
 concat_push (first ∷ lines) line = ap (λ (xs : List ℕ). first ++ xs) (concat_push lines line) ∙ sym (append_assoc first (concat lines) line)
 
 -- the line of one address more
-pub one_line : (entries : List Entry) (base : ℕ) (addresses : List ℕ) (i : ℕ) (line text new : List ℕ) → i < length addresses → AreLinesOf entries base (take i addresses) text → IsLineAt entries base (get_or addresses i 0) line → new ≡ text ++ line
-    → AreLinesOf entries base (take (i + 1) addresses) new
-one_line entries base addresses i line text new lt are is grown =
-    let P : List ℕ → Type 0 = λ xs. AreLinesOf entries base xs new in
+pub one_line : (entries : List Entry) (lookup : Lookup) (addresses : List ℕ) (i : ℕ) (line text new : List ℕ) → i < length addresses → AreLinesOf entries lookup (take i addresses) text → IsLineAt entries lookup (get_or addresses i 0) line → new ≡ text ++ line
+    → AreLinesOf entries lookup (take (i + 1) addresses) new
+one_line entries lookup addresses i line text new lt are is grown =
+    let P : List ℕ → Type 0 = λ xs. AreLinesOf entries lookup xs new in
     subst P (sym (take_more addresses i 0 lt))
-    (are.0 ++ line ∷ [], all_zip_push (IsLineAt entries base) (take i addresses) are.0 (get_or addresses i 0) line are.1 is, grown ∙ ap (λ (xs : List ℕ). xs ++ line) are.2 ∙ sym (concat_push are.0 line))
+    (are.0 ++ line ∷ [], all_zip_push (IsLineAt entries lookup) (take i addresses) are.0 (get_or addresses i 0) line are.1 is, grown ∙ ap (λ (xs : List ℕ). xs ++ line) are.2 ∙ sym (concat_push are.0 line))
 
 -- all addresses
-pub whole : (entries : List Entry) (base : ℕ) (addresses : List ℕ) (i : ℕ) (text : List ℕ) → length addresses ≤ i → AreLinesOf entries base (take i addresses) text → AreLinesOf entries base addresses text
-whole entries base addresses i text le are = let P : List ℕ → Type 0 = λ xs. AreLinesOf entries base xs text in subst P (take_all i addresses le) are
+pub whole : (entries : List Entry) (lookup : Lookup) (addresses : List ℕ) (i : ℕ) (text : List ℕ) → length addresses ≤ i → AreLinesOf entries lookup (take i addresses) text → AreLinesOf entries lookup addresses text
+whole entries lookup addresses i text le are = let P : List ℕ → Type 0 = λ xs. AreLinesOf entries lookup xs text in subst P (take_all i addresses le) are
 
 -- the answers of lines follow a text
-abbrev pub AreBehind : List Entry → ℕ → List (Option ℕ) → List ℕ → List ℕ → Type 0
-AreBehind entries base addresses old new = (answers : List ℕ) × AreAnswersOf entries base addresses answers × (new ≡ old ++ answers)
+abbrev pub AreBehind : List Entry → Lookup → List (Option ℕ) → List ℕ → List ℕ → Type 0
+AreBehind entries lookup addresses old new = (answers : List ℕ) × AreAnswersOf entries lookup addresses answers × (new ≡ old ++ answers)
 
-pub none_behind : (entries : List Entry) (base : ℕ) (addresses : List (Option ℕ)) (old : List ℕ) → AreBehind entries base (take 0 addresses) old old
-none_behind entries base addresses old = ([], ([], tt, refl), sym (append-nil old))
+pub none_behind : (entries : List Entry) (lookup : Lookup) (addresses : List (Option ℕ)) (old : List ℕ) → AreBehind entries lookup (take 0 addresses) old old
+none_behind entries lookup addresses old = ([], ([], tt, refl), sym (append-nil old))
 
-pub one_behind : (entries : List Entry) (base : ℕ) (addresses : List (Option ℕ)) (i : ℕ) (address : Option ℕ) (answer old mid new : List ℕ) → i < length addresses → AreBehind entries base (take i addresses) old mid → address ≡ get_or addresses i None → IsAnswerOf entries base address answer
-    → new ≡ mid ++ answer → AreBehind entries base (take (i + 1) addresses) old new
-one_behind entries base addresses i address answer old mid new lt are here is grown =
+pub one_behind : (entries : List Entry) (lookup : Lookup) (addresses : List (Option ℕ)) (i : ℕ) (address : Option ℕ) (answer old mid new : List ℕ) → i < length addresses → AreBehind entries lookup (take i addresses) old mid → address ≡ get_or addresses i None → IsAnswerOf entries lookup address answer
+    → new ≡ mid ++ answer → AreBehind entries lookup (take (i + 1) addresses) old new
+one_behind entries lookup addresses i address answer old mid new lt are here is grown =
     let so_far = are.1 in
-    subst (λ (xs : List (Option ℕ)). AreBehind entries base xs old new) (sym (take_more addresses i None lt ∙ ap (λ (o : Option ℕ). take i addresses ++ o ∷ []) (sym here))) (
+    subst (λ (xs : List (Option ℕ)). AreBehind entries lookup xs old new) (sym (take_more addresses i None lt ∙ ap (λ (o : Option ℕ). take i addresses ++ o ∷ []) (sym here))) (
       are.0 ++ answer,
       (
         so_far.0 ++ answer ∷ [],
-        all_zip_push (IsAnswerOf entries base) (take i addresses) so_far.0 address answer so_far.1 is,
+        all_zip_push (IsAnswerOf entries lookup) (take i addresses) so_far.0 address answer so_far.1 is,
         ap (λ (xs : List ℕ). xs ++ answer) so_far.2 ∙ sym (concat_push so_far.0 answer),
       ),
       grown ∙ ap (λ (xs : List ℕ). xs ++ answer) are.2 ∙ append_assoc old are.0 answer,
     )
 
-pub whole_behind : (entries : List Entry) (base : ℕ) (addresses : List (Option ℕ)) (i : ℕ) (old new : List ℕ) → length addresses ≤ i → AreBehind entries base (take i addresses) old new → AreBehind entries base addresses old new
-whole_behind entries base addresses i old new le are = subst (λ (xs : List (Option ℕ)). AreBehind entries base xs old new) (take_all i addresses le) are
+pub whole_behind : (entries : List Entry) (lookup : Lookup) (addresses : List (Option ℕ)) (i : ℕ) (old new : List ℕ) → length addresses ≤ i → AreBehind entries lookup (take i addresses) old new → AreBehind entries lookup addresses old new
+whole_behind entries lookup addresses i old new le are = subst (λ (xs : List (Option ℕ)). AreBehind entries lookup xs old new) (take_all i addresses le) are
 
 -- how the writing of the lines of what a file lists ended
 pub outcome : (memory : Result Listed Refusal → Type 0) (listed : Listed) (text : List ℕ) (old new : Option (List ℕ)) (result : Result (Unit {0}) ListError) → Writes old new text result → EndsAs ListingFits memory (Some (Ok listed)) (outcome_of result)
@@ -85,11 +87,11 @@ ends_of memory None entries o made ends = absurd made
 ends_of memory (Some (Err refusal)) entries o made ends = absurd made
 ends_of memory (Some (Ok listed)) entries o made ends = ends listed made
 
-pub takes_of : (memory : Result Listed Refusal → Type 0) (answer : Option (Result Listed Refusal)) (entries : List Entry) (base : ℕ) (addresses : List ℕ) (old new : Option (List ℕ)) (o : Outcome) → IsMadeOf memory answer (Ok entries)
-    → ((listed : Listed) → entries ≡ listed.entries → Takes (AreLinesAt base addresses) (Some (Ok listed)) old new o) → Takes (AreLinesAt base addresses) answer old new o
-takes_of memory None entries base addresses old new o made takes = absurd made
-takes_of memory (Some (Err refusal)) entries base addresses old new o made takes = absurd made
-takes_of memory (Some (Ok listed)) entries base addresses old new o made takes = takes listed made
+pub takes_of : (memory : Result Listed Refusal → Type 0) (answer : Option (Result Listed Refusal)) (entries : List Entry) (lookup : Lookup) (addresses : List ℕ) (old new : Option (List ℕ)) (o : Outcome) → IsMadeOf memory answer (Ok entries)
+    → ((listed : Listed) → entries ≡ listed.entries → Takes (AreLinesAt lookup addresses) (Some (Ok listed)) old new o) → Takes (AreLinesAt lookup addresses) answer old new o
+takes_of memory None entries lookup addresses old new o made takes = absurd made
+takes_of memory (Some (Err refusal)) entries lookup addresses old new o made takes = absurd made
+takes_of memory (Some (Ok listed)) entries lookup addresses old new o made takes = takes listed made
 
 regroup : (t a b n p d e : List ℕ) → ((t ++ (a ++ b)) ++ n) ++ (p ++ (d ++ e)) ≡ t ++ (a ++ (b ++ ((n ++ (p ++ d)) ++ e)))
 regroup t a b n p d e = simp append_assoc
@@ -98,24 +100,24 @@ regroup_unknown : (t a b u : List ℕ) → (t ++ (a ++ b)) ++ u ≡ t ++ (a ++ (
 regroup_unknown t a b u = simp append_assoc
 
 -- the line of an address that an entry holds
-pub shown_line : (entries : List Entry) (base address offset : ℕ) (entry : Entry) (name : Name) (text addressed named new : List ℕ) → found_at entries (in_file base address) ≡ Some entry → offset ≡ address - base - entry.address → IsNamed entry.name name
+pub shown_line : (entries : List Entry) (lookup : Lookup) (address offset : ℕ) (entry : Entry) (name : Name) (text addressed named new : List ℕ) → found_at entries (looked_up lookup address) ≡ Some entry → offset ≡ address - lookup.base - entry.address → IsNamed entry.name name
     → addressed ≡ text ++ (address_text address ++ codes " ") → named ≡ addressed ++ name.trimmed → new ≡ named ++ (codes "+0x" ++ (digits 16 false offset ++ codes "\n"))
-    → (line : List ℕ) × IsLineAt entries base address line × (new ≡ text ++ line)
-shown_line entries base address offset entry name text addressed named new found is names a b c =
-    let shown = name.trimmed ++ (codes "+0x" ++ digits 16 false (address - base - entry.address)) in
-    let P : Option Entry → Type 0 = λ o. IsTextOf o (address - base) shown in (
+    → (line : List ℕ) × IsLineAt entries lookup address line × (new ≡ text ++ line)
+shown_line entries lookup address offset entry name text addressed named new found is names a b c =
+    let shown = name.trimmed ++ (codes "+0x" ++ digits 16 false (address - lookup.base - entry.address)) in
+    let P : Option Entry → Type 0 = λ o. IsTextOf o (address - lookup.base) shown in (
       address_line address shown,
       (shown, subst P (sym found) (name, names, refl), refl),
       c ∙ ap (λ (xs : List ℕ). xs ++ (codes "+0x" ++ (digits 16 false offset ++ codes "\n"))) (b ∙ ap (λ (xs : List ℕ). xs ++ name.trimmed) a)
           ∙ ap (λ (n : ℕ). ((text ++ (address_text address ++ codes " ")) ++ name.trimmed) ++ (codes "+0x" ++ (digits 16 false n ++ codes "\n"))) is
-          ∙ regroup text (address_text address) (codes " ") name.trimmed (codes "+0x") (digits 16 false (address - base - entry.address)) (codes "\n"),
+          ∙ regroup text (address_text address) (codes " ") name.trimmed (codes "+0x") (digits 16 false (address - lookup.base - entry.address)) (codes "\n"),
     )
 
 -- and of one that none holds
-pub unknown_line : (entries : List Entry) (base address : ℕ) (text addressed new : List ℕ) → found_at entries (in_file base address) ≡ None → addressed ≡ text ++ (address_text address ++ codes " ") → new ≡ addressed ++ codes "??\n"
-    → (line : List ℕ) × IsLineAt entries base address line × (new ≡ text ++ line)
-unknown_line entries base address text addressed new found a b =
-    let P : Option Entry → Type 0 = λ o. IsTextOf o (address - base) (codes "??") in (
+pub unknown_line : (entries : List Entry) (lookup : Lookup) (address : ℕ) (text addressed new : List ℕ) → found_at entries (looked_up lookup address) ≡ None → addressed ≡ text ++ (address_text address ++ codes " ") → new ≡ addressed ++ codes "??\n"
+    → (line : List ℕ) × IsLineAt entries lookup address line × (new ≡ text ++ line)
+unknown_line entries lookup address text addressed new found a b =
+    let P : Option Entry → Type 0 = λ o. IsTextOf o (address - lookup.base) (codes "??") in (
       address_line address (codes "??"),
       (codes "??", subst P (sym found) refl, refl),
       b ∙ ap (λ (xs : List ℕ). xs ++ codes "??\n") a ∙ regroup_unknown text (address_text address) (codes " ") (codes "??\n"),

@@ -9,10 +9,11 @@ use Rattle.binfarce.specs.Symbol.{Entry}
 use Rattle.binfarce.specs.SymbolViews.{function_view}
 use Rattle.binfarce.specs.declared.FunctionSymbol.{FunctionSymbol}
 use Rattle.binfarce_addresses.specs.declared.ranges.AddressRange.{AddressRange}
-use Rattle.binfarce_addresses.specs.declared.ranges.Found.{Found}
 use Rattle.binfarce_addresses.specs.declared.ranges.Span.{Span}
 use Rattle.binfarce_addresses.specs.Range.{IsSpanOf}
-use Rattle.binfarce_addresses.specs.Lines.{in_file, found_at}
+use Rattle.binfarce_addresses.specs.Lines.{found_at}
+use Rattle.binfarce_addresses.specs.Lookup.{looked_up}
+use Rattle.binfarce_addresses.specs.declared.lookup.Lookup.{Lookup}
 use Rattle.binfarce_addresses.specs.declared.cells.Cell.{Cell}
 use Rattle.binfarce_addresses.specs.machine.Cells.{AreCellsOf, IsCellOf, IsNameAt, cell_at, no_cell}
 use Rattle.binfarce_addresses.specs.machine.Places.{AreNamesOf, ranges_of}
@@ -25,17 +26,17 @@ cell_is ranges bounds cells k cell are lt is = subst (λ (x : Cell). IsCellOf ra
 
 module _ (functions : List FunctionSymbol) (ranges : List AddressRange) (entries : List Entry) (text bounds : List ℕ) (are : ranges ≡ ranges_of functions) (named : AreNamesOf (map function_view functions) text bounds) (seen : map function_view functions ≡ entries) (cell : Cell) (is : IsCellOf ranges bounds cell) where
   -- and is that of the entry that the address symbolizes to
-  pub name_at : (base address x stop : ℕ) (shown : List ℕ) → in_file base address ≡ Some x → x ≡ address - base → shown ≡ text → stop ≡ cell.start + cell.len → cell.address ≤ x → x - cell.address < cell.size → IsNameAt entries base address (take (stop - cell.start) (drop cell.start shown)) (x - cell.address)
-  name_at base address x stop shown inside left same ends low high =
-      let found : Found = record { place = is.place; offset = x - cell.address } in
-      let by = shown_by functions ranges entries are seen base address x inside (Some found) left (is.span.found x low (omega arith), λ d. ap (λ n. x - n) (sym (is.span.address d))) in
+  pub name_at : (lookup : Lookup) (address x stop : ℕ) (shown : List ℕ) → looked_up lookup address ≡ Some x → shown ≡ text → stop ≡ cell.start + cell.len → cell.address ≤ x → x - cell.address < cell.size → IsNameAt entries lookup address (take (stop - cell.start) (drop cell.start shown)) (address - lookup.base - cell.address)
+  name_at lookup address x stop shown inside same ends low high =
+      let by = shown_by functions ranges entries are seen lookup address x inside is.place (is.span.found x low (omega arith)) in
+      let d : AddressRange = record { address = 0; size = 0 } in
       let starts : cell.start ≡ get_or bounds is.place cell.start = is.starts ∙ get_or_default bounds is.place 0 cell.start (omega (arith, is.kept)) in
       let stops : stop ≡ get_or bounds (is.place + 1) stop = ends ∙ is.stops ∙ get_or_default bounds (is.place + 1) 0 stop is.kept in
-      (by.0, by.1, by.2, kept (map function_view functions) entries text shown bounds is.place cell.start stop named seen is.kept same starts stops by.0 by.3)
+      (by.0, by.1, ap (λ n. address - lookup.base - n) (sym (is.span.address d) ∙ by.2 d), kept (map function_view functions) entries text shown bounds is.place cell.start stop named seen is.kept same starts stops by.0 by.3)
 
   -- behind the entry none shows the address
-  pub free_at : (base address x : ℕ) → in_file base address ≡ Some x → cell.address ≤ x → cell.size ≤ x - cell.address → x - cell.address < cell.until → found_at entries (in_file base address) ≡ None
-  free_at base address x inside above low high = found_none functions ranges entries are seen base address x inside (is.span.none x (omega arith) (omega arith))
+  pub free_at : (lookup : Lookup) (address x : ℕ) → looked_up lookup address ≡ Some x → cell.address ≤ x → cell.size ≤ x - cell.address → x - cell.address < cell.until → found_at entries (looked_up lookup address) ≡ None
+  free_at lookup address x inside above low high = found_none functions ranges entries are seen lookup address x inside (is.span.none x (omega arith) (omega arith))
 
 -- a cell of a span: it may cover less of the gap after the range
 pub made_cell : (ranges : List AddressRange) (bounds : List ℕ) (span : Span) (cell : Cell) → IsSpanOf ranges span → span.place + 1 < length bounds → cell.address ≡ span.address → cell.address + cell.size ≡ span.end → cell.address + cell.until ≤ max span.until span.address → cell.start ≡ get_or bounds span.place 0 → cell.start + cell.len ≡ get_or bounds (span.place + 1) 0 → IsCellOf ranges bounds cell

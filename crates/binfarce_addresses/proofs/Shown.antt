@@ -9,7 +9,9 @@ use Rattle.binfarce.specs.declared.FunctionSymbol.{FunctionSymbol}
 use Rattle.binfarce_addresses.specs.declared.ranges.AddressRange.{AddressRange}
 use Rattle.binfarce_addresses.specs.Range.{Holds, NoneHolds, IsFoundAt}
 use Rattle.binfarce.specs.Found.{holds, higher_of, highest, entry_at}
-use Rattle.binfarce_addresses.specs.Lines.{in_file, found_at}
+use Rattle.binfarce_addresses.specs.Lines.{found_at}
+use Rattle.binfarce_addresses.specs.Lookup.{looked_up}
+use Rattle.binfarce_addresses.specs.declared.lookup.Lookup.{Lookup}
 use Rattle.binfarce_addresses.specs.declared.ranges.Found.{Found}
 use Rattle.binfarce_addresses.specs.Range.{Finds}
 use Rattle.binfarce_addresses.specs.machine.Places.{range_of, ranges_of, IsShownAt, IsAtPlace}
@@ -140,36 +142,17 @@ pub ranges_view : (functions : List FunctionSymbol) → ranges_of functions ≡ 
 ranges_view [] = refl
 ranges_view (f ∷ functions) = ap (λ (rs : List AddressRange). range_of (function_view f) ∷ rs) (ranges_view functions)
 
--- an address from the base on is in the file
-pub is_in_file : (base address x : ℕ) → base ≤ address → x ≡ address - base → in_file base address ≡ Some x
-is_in_file base address x le is = rw (not_less base address le) (ap Some (sym is))
-  where
-    not_less : (a b : ℕ) → a ≤ b → nat_lt b a ≡ false
-    not_less a b le = grind (arith, nat_tests)
-
 -- what holds where nothing is found
 pub at_none : {T : Type 0} (r : Option T) (P : Type 0) (Q : T → Type 0) → r ≡ None → P → MatchOption r P Q
 at_none None P Q is p = p
 at_none (Some x) P Q is p = absurd cc
 
--- the rest after the base is subtracted
-pub without_base : (base address x : ℕ) (r : Option ℕ) → SomeIff r (base ≤ address) (address - base) → r ≡ Some x → in_file base address ≡ Some x
-without_base base address x r left is =
-    let P : Option ℕ → Type 0 = λ o. SomeIff o (base ≤ address) (address - base) in
-    let holds = subst P is left in
-    is_in_file base address x holds.0 holds.1
-
-pub taken_off : (base address x : ℕ) (r : Option ℕ) → SomeIff r (base ≤ address) (address - base) → r ≡ Some x → x ≡ address - base
-taken_off base address x r left is =
-    let P : Option ℕ → Type 0 = λ o. SomeIff o (base ≤ address) (address - base) in
-    (subst P is left).1
-
-module _ (functions : List FunctionSymbol) (ranges : List AddressRange) (entries : List Entry) (are : ranges ≡ ranges_of functions) (seen : map function_view functions ≡ entries) (base address x : ℕ) (inside : in_file base address ≡ Some x) where
+module _ (functions : List FunctionSymbol) (ranges : List AddressRange) (entries : List Entry) (are : ranges ≡ ranges_of functions) (seen : map function_view functions ≡ entries) (lookup : Lookup) (address x : ℕ) (inside : looked_up lookup address ≡ Some x) where
   same : ranges ≡ map range_of entries
   same = are ∙ ranges_view functions ∙ ap (map range_of) seen
 
   -- where no range holds what is left of the address
-  pub found_none : NoneHolds ranges x → found_at entries (in_file base address) ≡ None
+  pub found_none : NoneHolds ranges x → found_at entries (looked_up lookup address) ≡ None
   found_none none = let P : List AddressRange → Type 0 = λ rs. NoneHolds rs x in ap (found_at entries) inside ∙ not_shown entries x (subst P same none)
 
   -- the range that is found is that of the function symbol at its place
@@ -184,7 +167,7 @@ module _ (functions : List FunctionSymbol) (ranges : List AddressRange) (entries
   begins_before place f found is = omega (arith, (found.holds (range_of (function_view f))).0, ap (λ (r : AddressRange). r.address) (range_is place f found is))
 
   -- the address symbolizes to that function symbol
-  pub found_some : (place : ℕ) (f : FunctionSymbol) → IsFoundAt ranges x place → f ≡ get_or functions place f → found_at entries (in_file base address) ≡ Some (function_view f)
+  pub found_some : (place : ℕ) (f : FunctionSymbol) → IsFoundAt ranges x place → f ≡ get_or functions place f → found_at entries (looked_up lookup address) ≡ Some (function_view f)
   found_some place f found is =
       let P : List AddressRange → Type 0 = λ rs. IsFoundAt rs x place in
       let lt : place < length functions = omega (arith, found.within, ap (length {A = AddressRange}) are, length-map functions (λ (g : FunctionSymbol). range_of (function_view g))) in
@@ -200,25 +183,22 @@ module _ (functions : List FunctionSymbol) (ranges : List AddressRange) (entries
       )
 
   -- the address symbolizes to the entry at the place that is found
-  pub shown_by : (found : Option Found) → x ≡ address - base → Finds ranges x found → IsShownAt entries base address found
-  shown_by None left finds = found_none finds
-  shown_by (Some f) left finds =
+  pub shown_by : (place : ℕ) → IsFoundAt ranges x place → (entry : Entry) × (found_at entries (looked_up lookup address) ≡ Some entry) × ((d : AddressRange) → (get_or ranges place d).address ≡ entry.address) × IsAtPlace entries place entry
+  shown_by place found =
       let d : Entry = record { name = []; address = 0; size = 0 } in
-      let entry : Entry = get_or entries f.place d in
-      let P : List AddressRange → Type 0 = λ rs. IsFoundAt rs x f.place in
-      let lt : f.place < length entries = omega (arith, finds.0.within, ap (length {A = AddressRange}) same, length_ranges entries) in
-      let begins : (get_or ranges f.place (range_of d)).address ≡ entry.address =
-      ap (λ (rs : List AddressRange). (get_or rs f.place (range_of d)).address) same ∙ ap (λ (r : AddressRange). r.address) (get_or-map range_of entries f.place d (range_of d) lt) in (
+      let entry : Entry = get_or entries place d in
+      let P : List AddressRange → Type 0 = λ rs. IsFoundAt rs x place in
+      let lt : place < length entries = omega (arith, found.within, ap (length {A = AddressRange}) same, length_ranges entries) in (
         entry,
-        ap (found_at entries) inside ∙ shown entries x f.place d (subst P same finds.0),
-        finds.1 (range_of d) ∙ ap (λ n. x - n) begins ∙ ap (λ n. n - entry.address) left,
-        (lt, get_or_default entries f.place entry d lt),
+        ap (found_at entries) inside ∙ shown entries x place d (subst P same found),
+        λ e. ap (λ (rs : List AddressRange). (get_or rs place e).address) same ∙ ap (λ (r : AddressRange). r.address) (get_or-map range_of entries place d e lt),
+        (lt, get_or_default entries place entry d lt),
       )
 
 -- what holds where something is found, and where nothing is
-pub where_found : (entries : List Entry) (base address : ℕ) (shown : Option Found) (f : Found) → IsShownAt entries base address shown → shown ≡ Some f
-    → (entry : Entry) × (found_at entries (in_file base address) ≡ Some entry) × (f.offset ≡ address - base - entry.address) × IsAtPlace entries f.place entry
-where_found entries base address shown f is found = let P : Option Found → Type 0 = λ o. IsShownAt entries base address o in subst P found is
+pub where_found : (entries : List Entry) (lookup : Lookup) (address : ℕ) (shown : Option Found) (f : Found) → IsShownAt entries lookup address shown → shown ≡ Some f
+    → (entry : Entry) × (found_at entries (looked_up lookup address) ≡ Some entry) × (f.offset ≡ address - lookup.base - entry.address) × IsAtPlace entries f.place entry
+where_found entries lookup address shown f is found = let P : Option Found → Type 0 = λ o. IsShownAt entries lookup address o in subst P found is
 
-pub where_none : (entries : List Entry) (base address : ℕ) (shown : Option Found) → IsShownAt entries base address shown → shown ≡ None → found_at entries (in_file base address) ≡ None
-where_none entries base address shown is found = let P : Option Found → Type 0 = λ o. IsShownAt entries base address o in subst P found is
+pub where_none : (entries : List Entry) (lookup : Lookup) (address : ℕ) (shown : Option Found) → IsShownAt entries lookup address shown → shown ≡ None → found_at entries (looked_up lookup address) ≡ None
+where_none entries lookup address shown is found = let P : Option Found → Type 0 = λ o. IsShownAt entries lookup address o in subst P found is

@@ -1,3 +1,4 @@
+pub mod Lookup
 pub mod Lines
 pub mod PlacesViews
 pub mod Stream

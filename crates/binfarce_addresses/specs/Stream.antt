@@ -5,6 +5,7 @@ use Rattle.std.specs.Io.KnownBytes.{Appends, Consumes, IsAtEnd}
 use Rattle.std.specs.List.{AllZip, concat, count_by, flat_map, prefix_len, suffix_len}
 use Rattle.binfarce.specs.Symbol.{Entry}
 use Rattle.binfarce_tools.specs.Writing.{AppendsBeginning}
+use Rattle.binfarce_addresses.specs.declared.lookup.Lookup.{Lookup}
 use Rattle.binfarce_addresses.specs.Address.{address_of}
 use Rattle.binfarce_addresses.specs.Lines.{IsLineAt}
 use Rattle.binfarce_addresses.specs.declared.stream.LinesError.{LinesError}
@@ -56,41 +57,41 @@ abbrev pub Reads : List ℕ → List (Option ℕ) → List ℕ → Type 0
 Reads text addresses left = Begins text addresses left ⊎ (EndsIn text addresses × (left ≡ []))
 
 -- the answer to a line: the line of its address, or `??` where it has none
-abbrev pub IsAnswerOf : List Entry → ℕ → Option ℕ → List ℕ → Type 0
-IsAnswerOf entries base None answer = answer ≡ codes "??\n"
-IsAnswerOf entries base (Some address) answer = IsLineAt entries base address answer
+abbrev pub IsAnswerOf : List Entry → Lookup → Option ℕ → List ℕ → Type 0
+IsAnswerOf entries lookup None answer = answer ≡ codes "??\n"
+IsAnswerOf entries lookup (Some address) answer = IsLineAt entries lookup address answer
 
 -- text is the answers to lines with these addresses, in their order
-abbrev pub AreAnswersOf : List Entry → ℕ → List (Option ℕ) → List ℕ → Type 0
-AreAnswersOf entries base addresses text = (answers : List (List ℕ)) × AllZip (IsAnswerOf entries base) addresses answers × (text ≡ concat answers)
+abbrev pub AreAnswersOf : List Entry → Lookup → List (Option ℕ) → List ℕ → Type 0
+AreAnswersOf entries lookup addresses text = (answers : List (List ℕ)) × AllZip (IsAnswerOf entries lookup) addresses answers × (text ≡ concat answers)
 
 -- how many lines have no address
 abbrev pub missing : List (Option ℕ) → ℕ
 missing addresses = count_by is_none addresses
 
 -- all lines were answered
-abbrev pub AreAnswered : List Entry → ℕ → List (Option ℕ) → Option (List ℕ) → Option (List ℕ) → Type 0
-AreAnswered entries base addresses old new = (answers : List ℕ) × AreAnswersOf entries base addresses answers × Appends old new answers
+abbrev pub AreAnswered : List Entry → Lookup → List (Option ℕ) → Option (List ℕ) → Option (List ℕ) → Type 0
+AreAnswered entries lookup addresses old new = (answers : List ℕ) × AreAnswersOf entries lookup addresses answers × Appends old new answers
 
 -- a beginning of the answers was written
-abbrev pub BreaksOff : List Entry → ℕ → List (Option ℕ) → Option (List ℕ) → Option (List ℕ) → Type 0
-BreaksOff entries base addresses old new = (answers : List ℕ) × AreAnswersOf entries base addresses answers × AppendsBeginning old new answers
+abbrev pub BreaksOff : List Entry → Lookup → List (Option ℕ) → Option (List ℕ) → Option (List ℕ) → Type 0
+BreaksOff entries lookup addresses old new = (answers : List ℕ) × AreAnswersOf entries lookup addresses answers × AppendsBeginning old new answers
 
 -- a beginning of the answers to some lines of the input was written
-abbrev pub StopsWithin : List Entry → ℕ → Option (List ℕ) → Option (List ℕ) → Option (List ℕ) → Option (List ℕ) → Type 0
-StopsWithin entries base given left old new =
-    (came : List ℕ) × (addresses : List (Option ℕ)) × (rest : List ℕ) × Consumes given left came × Reads came addresses rest × BreaksOff entries base addresses old new
+abbrev pub StopsWithin : List Entry → Lookup → Option (List ℕ) → Option (List ℕ) → Option (List ℕ) → Option (List ℕ) → Type 0
+StopsWithin entries lookup given left old new =
+    (came : List ℕ) × (addresses : List (Option ℕ)) × (rest : List ℕ) × Consumes given left came × Reads came addresses rest × BreaksOff entries lookup addresses old new
 
 -- what was read and written. The reader had the bytes `given`, and now has `left`; the sink had `old`, and now has `new`; each may be unknown. Either
 -- all lines were answered, and the count is that of those without an address, at most 2^64 - 1; or the reader failed, and the whole lines before were
 -- answered; or a write or an allocation failed, and a beginning was written
-abbrev pub Streams : List Entry → ℕ → Option (List ℕ) → Option (List ℕ) → Option (List ℕ) → Option (List ℕ) → Result ℕ LinesError → Type 0
-Streams entries base given left old new (Ok count) =
-    IsAtEnd left × ((came : List ℕ) × (addresses : List (Option ℕ)) × Consumes given left came × Reads came addresses [] × AreAnswered entries base addresses old new × (count ≡ min (missing addresses) (2 ^ 64 - 1)))
-Streams entries base given left old new (Err Read) =
-    (came : List ℕ) × (addresses : List (Option ℕ)) × (rest : List ℕ) × Consumes given left came × Begins came addresses rest × HasNoLineFeed rest × AreAnswered entries base addresses old new
-Streams entries base given left old new (Err OutOfMemory) = StopsWithin entries base given left old new
-Streams entries base given left old new (Err Write) = StopsWithin entries base given left old new
+abbrev pub Streams : List Entry → Lookup → Option (List ℕ) → Option (List ℕ) → Option (List ℕ) → Option (List ℕ) → Result ℕ LinesError → Type 0
+Streams entries lookup given left old new (Ok count) =
+    IsAtEnd left × ((came : List ℕ) × (addresses : List (Option ℕ)) × Consumes given left came × Reads came addresses [] × AreAnswered entries lookup addresses old new × (count ≡ min (missing addresses) (2 ^ 64 - 1)))
+Streams entries lookup given left old new (Err Read) =
+    (came : List ℕ) × (addresses : List (Option ℕ)) × (rest : List ℕ) × Consumes given left came × Begins came addresses rest × HasNoLineFeed rest × AreAnswered entries lookup addresses old new
+Streams entries lookup given left old new (Err OutOfMemory) = StopsWithin entries lookup given left old new
+Streams entries lookup given left old new (Err Write) = StopsWithin entries lookup given left old new
 
 -- whether the sink has failed afterwards: where a write failed; anything else leaves it as it was
 abbrev pub Fails : {X : Type 0} → Bool → Bool → Result X LinesError → Type 0

@@ -13,7 +13,8 @@ ghost use Rattle.binfarce_tools.specs.Tables.{AreTablesOf};
 ghost use Rattle.binfarce_tools.specs.declared.SymbolTable.{SymbolTable};
 ghost use Rattle.binfarce_tools.specs.declared.list.ListError.TheVariants.{Write};
 ghost use Rattle.binfarce_tools.specs.Writing.{EndsAs, Takes, Fails, Leaves};
-ghost use Rattle.binfarce_addresses.specs.Lines.{in_file, found_at, IsLineAt, AreLinesOf, AreLinesAt};
+ghost use Rattle.binfarce_addresses.specs.Lookup.{looked_up};
+ghost use Rattle.binfarce_addresses.specs.Lines.{found_at, IsLineAt, AreLinesOf, AreLinesAt};
 ghost use Rattle.binfarce_addresses.specs.PlacesViews.{IsMadeOf};
 ghost use Rattle.binfarce_addresses.specs.Stream.{AreAnswersOf, IsAnswerOf};
 ghost use Rattle.binfarce_addresses.specs.machine.Cells.{IsNameAt};
@@ -21,6 +22,7 @@ ghost use Rattle.binfarce_addresses.specs.machine.Places.{ArePlacesOf, IsNamedAt
 
 use crate::cells::Cells;
 use crate::digits::{push_address, push_offset};
+use crate::lookup::Lookup;
 use crate::names::{Names, name_of, names_of};
 use crate::ranges::{AddressRange, Found, Ranges};
 use binfarce::FunctionSymbol;
@@ -98,30 +100,30 @@ impl<'a> Places<'a> {
         Ok(())
     }
 
-    /// The function symbol that an address minus the base symbolizes to, and the offset into it.
-    pub fn find(&self, base: u64, address: u64) -> Option<(FunctionSymbol<'a>, u64)>
-        ensures { MatchOption result (found_at self.now (in_file base address) ≡ None)
-            (λ f. (found_at self.now (in_file base address) ≡ Some (function_view f.0))
-            × (f.1 ≡ address - base - f.0.address)) }
+    /// The function symbol that an address symbolizes to by this lookup, and the offset of the address into it.
+    pub fn find(&self, lookup: Lookup, address: u64) -> Option<(FunctionSymbol<'a>, u64)>
+        ensures { MatchOption result (found_at self.now (looked_up lookup address) ≡ None)
+            (λ f. (found_at self.now (looked_up lookup address) ≡ Some (function_view f.0))
+            × (f.1 ≡ address - lookup.base - f.0.address)) }
     {
-        let (_, function, offset) = self.find_place(base, address)?;
+        let (_, function, offset) = self.find_place(lookup, address)?;
         Some((function, offset))
     }
 
     // Its place, itself, and the offset into it.
-    fn find_place(&self, base: u64, address: u64) -> Option<(usize, FunctionSymbol<'a>, u64)>
-        ensures { MatchOption result (found_at self.now (in_file base address) ≡ None)
-            (λ f. (found_at self.now (in_file base address) ≡ Some (function_view f.1))
-            × (f.2 ≡ address - base - f.1.address) × IsAtPlace self.now f.0 (function_view f.1)) }
+    fn find_place(&self, lookup: Lookup, address: u64) -> Option<(usize, FunctionSymbol<'a>, u64)>
+        ensures { MatchOption result (found_at self.now (looked_up lookup address) ≡ None)
+            (λ f. (found_at self.now (looked_up lookup address) ≡ Some (function_view f.1))
+            × (f.2 ≡ address - lookup.base - f.1.address) × IsAtPlace self.now f.0 (function_view f.1)) }
     {
-        let in_file = address.checked_sub(base)?;
+        let in_file = lookup.in_file(address)?;
         let place = self.ranges.find(in_file)?;
         let function = self.functions[place];
-        Some((place, function, in_file - function.address))
+        Some((place, function, address - lookup.base - function.address))
     }
 
-    /// Appends the line of an address to the text: the address, the symbol that the address minus the base symbolizes
-    /// to, and the offset into it; or `??` where there is none.
+    /// Appends the line of an address to the text: the address, the symbol that it symbolizes to by this lookup, and the
+    /// offset of the address into it; or `??` where there is none.
     ///
     /// # Errors
     ///
@@ -130,14 +132,14 @@ impl<'a> Places<'a> {
         &self,
         alloc: Global,
         text: &mut Vec<u8>,
-        base: u64,
+        lookup: Lookup,
         address: u64,
     ) -> Result<(), AllocError>
         ensures { OnOk result
-            ((line : List ℕ) × IsLineAt self.now base address line × (text.new.items ≡ text.old.items ++ line)) }
+            ((line : List ℕ) × IsLineAt self.now lookup address line × (text.new.items ≡ text.old.items ++ line)) }
     {
-        let shown = self.find_shown(base, address);
-        self.push_shown(alloc, text, base, address, shown)
+        let shown = self.find_shown(lookup, address);
+        self.push_shown(alloc, text, lookup, address, shown)
     }
 
     // Appends the answers of lines with these addresses, or none, to the text. The memory of all is read before the
@@ -146,18 +148,18 @@ impl<'a> Places<'a> {
         &self,
         alloc: Global,
         text: &mut Vec<u8>,
-        base: u64,
+        lookup: Lookup,
         addresses: &[Option<u64>],
     ) -> Result<(), AllocError>
         ensures { OnOk result
-            ((answers : List ℕ) × AreAnswersOf self.now base addresses.now answers
+            ((answers : List ℕ) × AreAnswersOf self.now lookup addresses.now answers
             × (text.new.items ≡ text.old.items ++ answers)) }
     {
-        let nears = self.cells.nears(alloc, base, addresses)?;
+        let nears = self.cells.nears(alloc, lookup, addresses)?;
         let names = self.names.text.as_bytes();
         self.cells.ends_of_names(alloc, &nears, names)?;
         for k in 0..addresses.len() {
-            self.push_answer(alloc, text, base, addresses[k], nears[k])?;
+            self.push_answer(alloc, text, lookup, addresses[k], nears[k])?;
         }
         Ok(())
     }
@@ -167,16 +169,16 @@ impl<'a> Places<'a> {
         &self,
         alloc: Global,
         text: &mut Vec<u8>,
-        base: u64,
+        lookup: Lookup,
         address: Option<u64>,
         near: usize,
     ) -> Result<(), AllocError>
         ensures { OnOk result
-            ((answer : List ℕ) × IsAnswerOf self.now base address answer
+            ((answer : List ℕ) × IsAnswerOf self.now lookup address answer
             × (text.new.items ≡ text.old.items ++ answer)) }
     {
         match address {
-            Some(address) => self.push_near(alloc, text, base, address, near),
+            Some(address) => self.push_near(alloc, text, lookup, address, near),
             None => Ok(text.extend_from_slice(b"??\n")?),
         }
     }
@@ -186,53 +188,53 @@ impl<'a> Places<'a> {
         &self,
         alloc: Global,
         text: &mut Vec<u8>,
-        base: u64,
+        lookup: Lookup,
         address: u64,
         near: usize,
     ) -> Result<(), AllocError>
         ensures { OnOk result
-            ((line : List ℕ) × IsLineAt self.now base address line × (text.new.items ≡ text.old.items ++ line)) }
+            ((line : List ℕ) × IsLineAt self.now lookup address line × (text.new.items ≡ text.old.items ++ line)) }
     {
-        if let Some((name, offset)) = self.near_name(base, address, near) {
+        if let Some((name, offset)) = self.near_name(lookup, address, near) {
             push_address(text, address)?;
             text.extend_from_slice(name)?;
             push_offset(text, offset)?;
             return Ok(());
         }
-        if self.is_free(base, address, near) {
-            return self.push_shown(alloc, text, base, address, None);
+        if self.is_free(lookup, address, near) {
+            return self.push_shown(alloc, text, lookup, address, None);
         }
-        self.push_line(alloc, text, base, address)
+        self.push_line(alloc, text, lookup, address)
     }
 
     // The kept name of the function symbol that an address symbolizes to, and the offset into it, if the cell at this
     // place has it.
     #[inline(always)]
-    fn near_name(&self, base: u64, address: u64, near: usize) -> Option<(&[u8], u64)>
-        ensures { IfSome result (λ s. IsNameAt self.now base address s.0.now s.1) }
+    fn near_name(&self, lookup: Lookup, address: u64, near: usize) -> Option<(&[u8], u64)>
+        ensures { IfSome result (λ s. IsNameAt self.now lookup address s.0.now s.1) }
     {
         let cell = *self.cells.cells.get(near)?;
-        if address < base {
-            return None;
-        }
-        let in_file = address - base;
+        let in_file = lookup.in_file(address)?;
         if in_file < cell.address || in_file - cell.address >= u64::from(cell.size) {
             return None;
         }
         let text = self.names.text.as_bytes();
         let start = cell.start as usize;
         let stop = start + cell.len as usize;
-        Some((&text[start..stop], in_file - cell.address))
+        Some((&text[start..stop], address - lookup.base - cell.address))
     }
 
     // Whether the cell at this place shows that the address has no symbol.
     #[inline(always)]
-    fn is_free(&self, base: u64, address: u64, near: usize) -> bool
-        ensures { result ≡ true → found_at self.now (in_file base address) ≡ None }
+    fn is_free(&self, lookup: Lookup, address: u64, near: usize) -> bool
+        ensures { result ≡ true → found_at self.now (looked_up lookup address) ≡ None }
     {
+        let Some(in_file) = lookup.in_file(address) else {
+            return false;
+        };
         match self.cells.cells.get(near) {
-            Some(cell) if address >= base && address - base >= cell.address => {
-                let offset = address - base - cell.address;
+            Some(cell) if in_file >= cell.address => {
+                let offset = in_file - cell.address;
                 u64::from(cell.size) <= offset && offset < u64::from(cell.until)
             }
             _ => false,
@@ -240,10 +242,10 @@ impl<'a> Places<'a> {
     }
 
     // The symbol of an address: the place of a function symbol, and the offset into it.
-    fn find_shown(&self, base: u64, address: u64) -> Option<Found>
-        ensures { IsShownAt self.now base address result }
+    fn find_shown(&self, lookup: Lookup, address: u64) -> Option<Found>
+        ensures { IsShownAt self.now lookup address result }
     {
-        match self.find_place(base, address) {
+        match self.find_place(lookup, address) {
             Some(found) => Some(Found {
                 place: found.0,
                 offset: found.2,
@@ -257,13 +259,13 @@ impl<'a> Places<'a> {
         &self,
         alloc: Global,
         text: &mut Vec<u8>,
-        base: u64,
+        lookup: Lookup,
         address: u64,
         shown: Option<Found>,
     ) -> Result<(), AllocError>
-        requires { IsShownAt self.now base address shown }
+        requires { IsShownAt self.now lookup address shown }
         ensures { OnOk result
-            ((line : List ℕ) × IsLineAt self.now base address line × (text.new.items ≡ text.old.items ++ line)) }
+            ((line : List ℕ) × IsLineAt self.now lookup address line × (text.new.items ≡ text.old.items ++ line)) }
     {
         push_address(text, address)?;
         match shown {
@@ -340,10 +342,11 @@ fn places_of(alloc: Global, functions: Functions<'_>) -> Result<Places<'_>, Allo
 /// Symbolizes addresses in an executable: a line for each, in their order.
 ///
 /// The format and the section are as in `list`. A line is `{address:016x} {trimmed}+0x{offset:x}`: the address, the
-/// trimmed name of its function symbol, and the offset into it. The base is subtracted first. A symbol holds the
-/// addresses of its range, or of size 0 its own. Of several that hold an address, it is the one of greatest address,
-/// and of several there the first in the order of the listing. The line is `{address:016x} ??` for an address that none
-/// holds, and for one below the base.
+/// trimmed name of its function symbol, and the offset into it. The base is subtracted first, and from a return address
+/// 1 more for the lookup, but not for the offset. A symbol holds the addresses of its range, or of size 0 its own. Of
+/// several that hold an address, it is the one of greatest address, and of several there the first in the order of the
+/// listing. The line is `{address:016x} ??` for an address that none holds, for one below the base, and for a return
+/// address at the base.
 ///
 /// # Errors
 ///
@@ -353,18 +356,18 @@ pub fn at<S: Sink>(
     alloc: Global,
     file: &[u8],
     section: &str,
-    base: u64,
+    lookup: Lookup,
     addresses: &[u64],
     out: &mut S,
 ) -> Result<(), ListError>
     ensures outcome { EndsAs ListingFits (FileNeedsMemory file.now)
         (file_answer file.now section.now) (outcome_of result) }
-    ensures takes { Takes (AreLinesAt base addresses.now) (file_answer file.now section.now)
+    ensures takes { Takes (AreLinesAt lookup addresses.now) (file_answer file.now section.now)
         (S.taken out.old) (S.taken out.new) (outcome_of result) }
     ensures fails { Fails (S.has_failed out.old) (S.has_failed out.new) (outcome_of result) }
     ensures leaves { Leaves out.old out.new (outcome_of result) }
 {
-    at_tables(alloc, &Tables::whole(file, section), base, addresses, out)
+    at_tables(alloc, &Tables::whole(file, section), lookup, addresses, out)
 }
 
 /// As `at`, from the tables of a file: for the selection that they were read for.
@@ -375,7 +378,7 @@ pub fn at<S: Sink>(
 pub fn at_tables<S: Sink>(
     alloc: Global,
     tables: &Tables<'_>,
-    base: u64,
+    lookup: Lookup,
     addresses: &[u64],
     out: &mut S,
 ) -> Result<(), ListError>
@@ -383,13 +386,13 @@ pub fn at_tables<S: Sink>(
         → AreTablesOf which file section tables.now
         → EndsAs ListingFits (MemoryIn file section) (answer_in which file section) (outcome_of result) }
     ensures takes { (which : SymbolTable) (file : List ℕ) (section : Option (List ℕ))
-        → AreTablesOf which file section tables.now → Takes (AreLinesAt base addresses.now)
+        → AreTablesOf which file section tables.now → Takes (AreLinesAt lookup addresses.now)
         (answer_in which file section) (S.taken out.old) (S.taken out.new) (outcome_of result) }
     ensures fails { Fails (S.has_failed out.old) (S.has_failed out.new) (outcome_of result) }
     ensures leaves { Leaves out.old out.new (outcome_of result) }
 {
     let places = Places::of_tables(alloc, tables)?;
-    write_lines(alloc, &places, base, addresses, out)
+    write_lines(alloc, &places, lookup, addresses, out)
 }
 
 /// Writes a line for each address, as `at` does, by the places of a file.
@@ -401,18 +404,18 @@ pub fn at_tables<S: Sink>(
 pub fn write_lines<S: Sink>(
     alloc: Global,
     places: &Places<'_>,
-    base: u64,
+    lookup: Lookup,
     addresses: &[u64],
     out: &mut S,
 ) -> Result<(), ListError>
     ensures outcome { (listed : Listed) → places.now ≡ listed.entries
         → EndsAs ListingFits (λ _. ⊥) (Some (Ok listed)) (outcome_of result) }
-    ensures takes { (listed : Listed) → places.now ≡ listed.entries → Takes (AreLinesAt base addresses.now)
+    ensures takes { (listed : Listed) → places.now ≡ listed.entries → Takes (AreLinesAt lookup addresses.now)
         (Some (Ok listed)) (S.taken out.old) (S.taken out.new) (outcome_of result) }
     ensures fails { Fails (S.has_failed out.old) (S.has_failed out.new) (outcome_of result) }
     ensures leaves { Leaves out.old out.new (outcome_of result) }
 {
-    let text = lines(alloc, places, base, addresses)?;
+    let text = lines(alloc, places, lookup, addresses)?;
     write_whole(out, text.as_slice())
 }
 
@@ -420,14 +423,14 @@ pub fn write_lines<S: Sink>(
 fn lines(
     alloc: Global,
     places: &Places<'_>,
-    base: u64,
+    lookup: Lookup,
     addresses: &[u64],
 ) -> Result<Vec<u8>, AllocError>
-    ensures { IfOk result (λ t. AreLinesOf places.now base addresses.now t.items) }
+    ensures { IfOk result (λ t. AreLinesOf places.now lookup addresses.now t.items) }
 {
     let mut text = Vec::new(alloc);
     for address in addresses {
-        places.push_line(alloc, &mut text, base, *address)?;
+        places.push_line(alloc, &mut text, lookup, *address)?;
     }
     Ok(text)
 }

@@ -3,6 +3,7 @@
 ghost use Rattle.std.specs.Prelude.{◌≡◌, ◌+◌, ◌≤◌, max, length, IfOk, IfSome};
 ghost use Rattle.binfarce_addresses.specs.machine.Cells.{AreCellsOf, IsCellOf};
 
+use crate::lookup::Lookup;
 use crate::marks::Marks;
 use crate::ranges::Ranges;
 use std::alloc::{AllocError, Global};
@@ -47,20 +48,19 @@ impl Cells {
         Ok(Cells { cells, marks })
     }
 
-    /// The probable index of each address's cell, after the base is subtracted; the cell has to be checked. All cells
+    /// The probable index of each address's cell, by this lookup; the cell has to be checked. All cells
     /// are read before the first is used, so that cache misses overlap. A line without an address has the cell of 0.
     pub(crate) fn nears(
         &self,
         alloc: Global,
-        base: u64,
+        lookup: Lookup,
         addresses: &[Option<u64>],
     ) -> Result<Vec<usize>, AllocError>
         ensures { IfOk result (λ v. length v.items ≡ length addresses.now) }
     {
-        let mut nears = self.marked(alloc, base, addresses)?;
+        let mut nears = self.marked(alloc, lookup, addresses)?;
         for k in 0..addresses.len() {
-            let address = addresses[k].unwrap_or(0);
-            nears[k] = self.not_behind(nears[k], address.saturating_sub(base));
+            nears[k] = self.not_behind(nears[k], in_file_or_0(lookup, addresses[k]));
         }
         Ok(nears)
     }
@@ -69,14 +69,14 @@ impl Cells {
     fn marked(
         &self,
         alloc: Global,
-        base: u64,
+        lookup: Lookup,
         addresses: &[Option<u64>],
     ) -> Result<Vec<usize>, AllocError>
         ensures { IfOk result (λ v. length v.items ≡ length addresses.now) }
     {
         let mut nears = Vec::with_capacity(alloc, addresses.len())?;
         for address in addresses {
-            let near = self.marks.near(address.unwrap_or(0).saturating_sub(base));
+            let near = self.marks.near(in_file_or_0(lookup, *address));
             nears.push(near)?;
         }
         Ok(nears)
@@ -126,6 +126,15 @@ impl Cells {
             ends.push(end)?;
         }
         Ok(ends)
+    }
+}
+
+// The address in the file that is looked up, or 0 where there is none.
+#[inline(always)]
+fn in_file_or_0(lookup: Lookup, address: Option<u64>) -> u64 {
+    match address {
+        Some(address) => lookup.in_file(address).unwrap_or(0),
+        None => 0,
     }
 }
 

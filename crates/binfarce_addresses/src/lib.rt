@@ -5,9 +5,11 @@ pub mod address;
 pub mod at;
 mod cells;
 mod digits;
+pub mod lookup;
 pub mod marks;
 mod names;
 pub mod ranges;
 pub mod stream;
 
 pub use crate::address::parse_address;
+pub use crate::lookup::Lookup;

@@ -7,6 +7,7 @@ ghost use Rattle.binfarce_addresses.specs.machine.Answering.{AreAddressesOf, Ans
 
 use crate::address::{hex_line, parse_address};
 use crate::at::Places;
+use crate::lookup::Lookup;
 use binfarce_tools::list::Sink;
 use binfarce_tools::writing::write_whole;
 use std::alloc::{AllocError, Global};
@@ -80,14 +81,14 @@ pub struct Answered {
 pub fn push_lines(
     alloc: Global,
     places: &Places<'_>,
-    base: u64,
+    lookup: Lookup,
     bytes: &[u8],
     text: &mut Vec<u8>,
 ) -> Result<Answered, AllocError>
-    ensures { IfOk result (AnswersOf places.now base bytes.now text.old.items text.new.items) }
+    ensures { IfOk result (AnswersOf places.now lookup bytes.now text.old.items text.new.items) }
 {
     let (addresses, answered) = addresses_of(alloc, bytes)?;
-    places.push_all(alloc, text, base, &addresses)?;
+    places.push_all(alloc, text, lookup, &addresses)?;
     Ok(answered)
 }
 
@@ -148,11 +149,11 @@ fn first_line(bytes: &[u8]) -> Option<&[u8]>
 pub fn answer_lines<R: Read, S: Sink>(
     alloc: Global,
     places: &Places<'_>,
-    base: u64,
+    lookup: Lookup,
     input: &mut R,
     out: &mut S,
 ) -> Result<u64, LinesError>
-    ensures answers { Streams places.now base (R.remaining input.old) (R.remaining input.new) (S.taken out.old)
+    ensures answers { Streams places.now lookup (R.remaining input.old) (R.remaining input.new) (S.taken out.old)
         (S.taken out.new) result }
     ensures fails { Fails (S.has_failed out.old) (S.has_failed out.new) result }
 {
@@ -161,13 +162,13 @@ pub fn answer_lines<R: Read, S: Sink>(
     let missing = answer_whole(
         alloc,
         places,
-        base,
+        lookup,
         &mut line,
         chunk.as_mut_slice(),
         input,
         out,
     )?;
-    answer_last(alloc, places, base, &mut line, missing, out)
+    answer_last(alloc, places, lookup, &mut line, missing, out)
 }
 
 // Room for the bytes of a read.
@@ -181,7 +182,7 @@ fn new_chunk(alloc: Global) -> Result<Vec<u8>, AllocError>
 fn answer_whole<R: Read, S: Sink>(
     alloc: Global,
     places: &Places<'_>,
-    base: u64,
+    lookup: Lookup,
     line: &mut Vec<u8>,
     chunk: &mut [u8],
     input: &mut R,
@@ -189,7 +190,7 @@ fn answer_whole<R: Read, S: Sink>(
 ) -> Result<u64, LinesError>
     requires empty { line.old.items ≡ [] }
     requires room { 0 < length chunk.now }
-    ensures answers { AnswersAll places.now base line.new.items (R.remaining input.old) (R.remaining input.new)
+    ensures answers { AnswersAll places.now lookup line.new.items (R.remaining input.old) (R.remaining input.new)
         (S.taken out.old) (S.taken out.new) result }
     ensures fails { Fails (S.has_failed out.old) (S.has_failed out.new) result }
 {
@@ -198,7 +199,7 @@ fn answer_whole<R: Read, S: Sink>(
         match input.read(chunk) {
             Ok(0) => return Ok(missing),
             Ok(n) => {
-                let more = answer_part(alloc, places, base, line, &chunk[..n], out)?;
+                let more = answer_part(alloc, places, lookup, line, &chunk[..n], out)?;
                 missing = u64::saturating_add(missing, more);
             }
             Err(e) => {
@@ -215,17 +216,17 @@ fn answer_whole<R: Read, S: Sink>(
 fn answer_part<S: Sink>(
     alloc: Global,
     places: &Places<'_>,
-    base: u64,
+    lookup: Lookup,
     line: &mut Vec<u8>,
     part: &[u8],
     out: &mut S,
 ) -> Result<u64, LinesError>
-    ensures answers { AnswersPart places.now base (line.old.items ++ part.now) line.new.items (S.taken out.old)
+    ensures answers { AnswersPart places.now lookup (line.old.items ++ part.now) line.new.items (S.taken out.old)
         (S.taken out.new) result }
     ensures fails { Fails (S.has_failed out.old) (S.has_failed out.new) result }
 {
     line.extend_from_slice(part)?;
-    let answered = answer(alloc, places, base, line.as_slice(), out)?;
+    let answered = answer(alloc, places, lookup, line.as_slice(), out)?;
     let kept = kept_of(alloc, &line[answered.len..])?;
     *line = kept;
     Ok(answered.missing)
@@ -252,15 +253,15 @@ fn kept_of(alloc: Global, line: &[u8]) -> Result<Vec<u8>, AllocError>
 fn answer<S: Sink>(
     alloc: Global,
     places: &Places<'_>,
-    base: u64,
+    lookup: Lookup,
     bytes: &[u8],
     out: &mut S,
 ) -> Result<Answered, LinesError>
-    ensures answers { AnswersUpTo places.now base bytes.now (S.taken out.old) (S.taken out.new) result }
+    ensures answers { AnswersUpTo places.now lookup bytes.now (S.taken out.old) (S.taken out.new) result }
     ensures fails { Fails (S.has_failed out.old) (S.has_failed out.new) result }
 {
     let mut text = Vec::with_capacity(alloc, bytes.len().saturating_mul(GROWTH))?;
-    let answered = push_lines(alloc, places, base, bytes, &mut text)?;
+    let answered = push_lines(alloc, places, lookup, bytes, &mut text)?;
     write_all(out, text.as_slice())?;
     Ok(answered)
 }
@@ -269,18 +270,18 @@ fn answer<S: Sink>(
 fn answer_last<S: Sink>(
     alloc: Global,
     places: &Places<'_>,
-    base: u64,
+    lookup: Lookup,
     line: &mut Vec<u8>,
     missing: u64,
     out: &mut S,
 ) -> Result<u64, LinesError>
-    ensures answers { AnswersLast places.now base line.old.items missing (S.taken out.old) (S.taken out.new) result }
+    ensures answers { AnswersLast places.now lookup line.old.items missing (S.taken out.old) (S.taken out.new) result }
     ensures fails { Fails (S.has_failed out.old) (S.has_failed out.new) result }
 {
     if line.as_slice().is_empty() {
         return Ok(missing);
     }
-    let more = answer_part(alloc, places, base, line, b"\n", out)?;
+    let more = answer_part(alloc, places, lookup, line, b"\n", out)?;
     Ok(missing.saturating_add(more))
 }
 

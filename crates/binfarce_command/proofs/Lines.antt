@@ -5,6 +5,7 @@ use Rattle.binfarce.specs.Format.{format_of}
 use Rattle.binfarce.specs.Refusal.{Refusal, refusal_of}
 use Rattle.binfarce.specs.SectionEntries.{AllSymbols}
 use Rattle.binfarce.specs.Symbol.{Entry, Listed}
+use Rattle.binfarce_addresses.specs.declared.lookup.Lookup.{Lookup}
 use Rattle.binfarce_addresses.specs.PlacesViews.{IsMadeOf}
 use Rattle.binfarce_addresses.specs.Stream.{Streams}
 use Rattle.binfarce_addresses.specs.declared.stream.LinesError.{LinesError}
@@ -21,18 +22,18 @@ use Rattle.binfarce_command.specs.Faults.{lines_fault, read_fault}
 use Rattle.binfarce_command.specs.declared.fault.Fault.{Fault}
 use Rattle.binfarce_command.specs.declared.fault.Fault.TheVariants.{OutOfMemory as Full}
 
-pub answered_lines : (may : Type 0) (share : Bool) (memory : Result Listed Refusal → Type 0) (answer : Option (Result Listed Refusal)) (entries : List Entry) (base : ℕ) (given left old new : Option (List ℕ)) (ended : Result ℕ LinesError) → share ≡ false → IsMadeOf memory answer (Ok entries)
-    → Streams entries base given left old new ended → AnswersLines may share memory answer base given left old new (lines_end ended)
-answered_lines may share memory None entries base given left old new ended alone made streams = absurd made
-answered_lines may share memory (Some (Err refusal)) entries base given left old new ended alone made streams = absurd made
-answered_lines may share memory (Some (Ok listed)) entries base given left old new ended alone made streams =
-    let P : List Entry → Type 0 = λ es. Streams es base given left old new ended in inr (inr (inr (alone, listed, ended, refl, subst P made streams, refl)))
+pub answered_lines : (may : Type 0) (share : Bool) (memory : Result Listed Refusal → Type 0) (answer : Option (Result Listed Refusal)) (entries : List Entry) (lookup : Lookup) (given left old new : Option (List ℕ)) (ended : Result ℕ LinesError) → share ≡ false → IsMadeOf memory answer (Ok entries)
+    → Streams entries lookup given left old new ended → AnswersLines may share memory answer lookup given left old new (lines_end ended)
+answered_lines may share memory None entries lookup given left old new ended alone made streams = absurd made
+answered_lines may share memory (Some (Err refusal)) entries lookup given left old new ended alone made streams = absurd made
+answered_lines may share memory (Some (Ok listed)) entries lookup given left old new ended alone made streams =
+    let P : List Entry → Type 0 = λ es. Streams es lookup given left old new ended in inr (inr (inr (alone, listed, ended, refl, subst P made streams, refl)))
 
-pub answered_less : (may : Type 0) (share : Bool) (memory : Result Listed Refusal → Type 0) (answer : Option (Result Listed Refusal)) (entries : List Entry) (base : ℕ) (given left old new : Option (List ℕ)) (e : LinesError) (result : Result ℕ Fault) → share ≡ false → IsMadeOf memory answer (Ok entries)
-    → Streams entries base given left old new (Err e) → IsErrAnd result (λ x. x ≡ lines_fault e) → AnswersLines may share memory answer base given left old new result
-answered_less may share memory answer entries base given left old new e (Ok x) alone made streams is = absurd is
-answered_less may share memory answer entries base given left old new e (Err x) alone made streams is =
-    let P : Fault → Type 0 = λ f. AnswersLines may share memory answer base given left old new (Err f) in subst P (sym is) (answered_lines may share memory answer entries base given left old new (Err e) alone made streams)
+pub answered_less : (may : Type 0) (share : Bool) (memory : Result Listed Refusal → Type 0) (answer : Option (Result Listed Refusal)) (entries : List Entry) (lookup : Lookup) (given left old new : Option (List ℕ)) (e : LinesError) (result : Result ℕ Fault) → share ≡ false → IsMadeOf memory answer (Ok entries)
+    → Streams entries lookup given left old new (Err e) → IsErrAnd result (λ x. x ≡ lines_fault e) → AnswersLines may share memory answer lookup given left old new result
+answered_less may share memory answer entries lookup given left old new e (Ok x) alone made streams is = absurd is
+answered_less may share memory answer entries lookup given left old new e (Err x) alone made streams is =
+    let P : Fault → Type 0 = λ f. AnswersLines may share memory answer lookup given left old new (Err f) in subst P (sym is) (answered_lines may share memory answer entries lookup given left old new (Err e) alone made streams)
 
 untouched : (given old : Option (List ℕ)) → IsUntouched given given old old
 untouched given old = (none_read given, none_written old)
@@ -45,65 +46,65 @@ untouched given old = (none_read given, none_written old)
     none_written None = tt
     none_written (Some taken) = sym (append-nil taken)
 
-not_read : (which : SymbolTable) (may : Type 0) (share : Bool) (bytes section : List ℕ) (base : ℕ) (given old : Option (List ℕ)) (e : ReadError) → ReadsTables may which bytes section (Err e)
-    → AnswersLines may share (NeedsMemory (format_of bytes) bytes) (answer_of which bytes section) base given given old old (Err (read_fault e))
-not_read which may share bytes section base given old (Refused p) reads =
+not_read : (which : SymbolTable) (may : Type 0) (share : Bool) (bytes section : List ℕ) (lookup : Lookup) (given old : Option (List ℕ)) (e : ReadError) → ReadsTables may which bytes section (Err e)
+    → AnswersLines may share (NeedsMemory (format_of bytes) bytes) (answer_of which bytes section) lookup given given old old (Err (read_fault e))
+not_read which may share bytes section lookup given old (Refused p) reads =
     let P : Option (Result Listed Refusal) → Type 0 = λ answer. IsMadeOf (NeedsMemory (format_of bytes) bytes) answer (Err (errors.Parse p)) in
     let refused : P (Some (Err (refusal_of p))) = inl (p, refl, refl) in
     inr (inr (inl (errors.Parse p, subst P (sym reads) refused, refl, untouched given old)))
-not_read which may share bytes section base given old Unreadable reads = inl (inl (reads, refl), untouched given old)
-not_read which may share bytes section base given old OutOfMemory reads = inl (inr refl, untouched given old)
+not_read which may share bytes section lookup given old Unreadable reads = inl (inl (reads, refl), untouched given old)
+not_read which may share bytes section lookup given old OutOfMemory reads = inl (inr refl, untouched given old)
 
 -- nothing was answered where the file isn't read
-pub unread : (which : SymbolTable) (may : Type 0) (share : Bool) (bytes section : List ℕ) (base : ℕ) (given old : Option (List ℕ)) (e : ReadError) (result : Result ℕ Fault) → ReadsTables may which bytes section (Err e) → IsErrAnd result (λ x. x ≡ read_fault e)
-    → AnswersLines may share (NeedsMemory (format_of bytes) bytes) (answer_of which bytes section) base given given old old result
-unread which may share bytes section base given old e (Ok x) reads is = absurd is
-unread which may share bytes section base given old e (Err x) reads is =
-    let P : Fault → Type 0 = λ f. AnswersLines may share (NeedsMemory (format_of bytes) bytes) (answer_of which bytes section) base given given old old (Err f) in
-    subst P (sym is) (not_read which may share bytes section base given old e reads)
+pub unread : (which : SymbolTable) (may : Type 0) (share : Bool) (bytes section : List ℕ) (lookup : Lookup) (given old : Option (List ℕ)) (e : ReadError) (result : Result ℕ Fault) → ReadsTables may which bytes section (Err e) → IsErrAnd result (λ x. x ≡ read_fault e)
+    → AnswersLines may share (NeedsMemory (format_of bytes) bytes) (answer_of which bytes section) lookup given given old old result
+unread which may share bytes section lookup given old e (Ok x) reads is = absurd is
+unread which may share bytes section lookup given old e (Err x) reads is =
+    let P : Fault → Type 0 = λ f. AnswersLines may share (NeedsMemory (format_of bytes) bytes) (answer_of which bytes section) lookup given given old old (Err f) in
+    subst P (sym is) (not_read which may share bytes section lookup given old e reads)
 
 -- lines that are answered of a file that may be unreadable in some cases are answered of one that may be so in more
-pub answers_as_well : (P Q : Type 0) → (P → Q) → (share : Bool) (memory : Result Listed Refusal → Type 0) (answer : Option (Result Listed Refusal)) (base : ℕ) (given left old new : Option (List ℕ)) (result : Result ℕ Fault)
-    → AnswersLines P share memory answer base given left old new result → AnswersLines Q share memory answer base given left old new result
-answers_as_well P Q more share memory answer base given left old new result (inl (inl (may, is), rest)) = inl (inl (more may, is), rest)
-answers_as_well P Q more share memory answer base given left old new result (inl (inr is, rest)) = inl (inr is, rest)
-answers_as_well P Q more share memory answer base given left old new result (inr answers) = inr answers
+pub answers_as_well : (P Q : Type 0) → (P → Q) → (share : Bool) (memory : Result Listed Refusal → Type 0) (answer : Option (Result Listed Refusal)) (lookup : Lookup) (given left old new : Option (List ℕ)) (result : Result ℕ Fault)
+    → AnswersLines P share memory answer lookup given left old new result → AnswersLines Q share memory answer lookup given left old new result
+answers_as_well P Q more share memory answer lookup given left old new result (inl (inl (may, is), rest)) = inl (inl (more may, is), rest)
+answers_as_well P Q more share memory answer lookup given left old new result (inl (inr is, rest)) = inl (inr is, rest)
+answers_as_well P Q more share memory answer lookup given left old new result (inr answers) = inr answers
 
 -- so of all sections
-not_read_all : (which : SymbolTable) (may : Type 0) (share : Bool) (bytes : List ℕ) (base : ℕ) (given old : Option (List ℕ)) (e : ReadError) → ReadsAllTables may which bytes (Err e)
-    → AnswersLines may share (AllNeedsMemory bytes) (one_answer (all_answer_of which bytes)) base given given old old (Err (read_fault e))
-not_read_all which may share bytes base given old (Refused p) reads =
+not_read_all : (which : SymbolTable) (may : Type 0) (share : Bool) (bytes : List ℕ) (lookup : Lookup) (given old : Option (List ℕ)) (e : ReadError) → ReadsAllTables may which bytes (Err e)
+    → AnswersLines may share (AllNeedsMemory bytes) (one_answer (all_answer_of which bytes)) lookup given given old old (Err (read_fault e))
+not_read_all which may share bytes lookup given old (Refused p) reads =
     let P : Option (Result AllSymbols Refusal) → Type 0 = λ answer. IsMadeOf (AllNeedsMemory bytes) (one_answer answer) (Err (errors.Parse p)) in
     let refused : P (Some (Err (refusal_of p))) = inl (p, refl, refl) in
     inr (inr (inl (errors.Parse p, subst P (sym reads) refused, refl, untouched given old)))
-not_read_all which may share bytes base given old Unreadable reads = inl (inl (reads, refl), untouched given old)
-not_read_all which may share bytes base given old OutOfMemory reads = inl (inr refl, untouched given old)
+not_read_all which may share bytes lookup given old Unreadable reads = inl (inl (reads, refl), untouched given old)
+not_read_all which may share bytes lookup given old OutOfMemory reads = inl (inr refl, untouched given old)
 
-pub unread_all : (which : SymbolTable) (may : Type 0) (share : Bool) (bytes : List ℕ) (base : ℕ) (given old : Option (List ℕ)) (e : ReadError) (result : Result ℕ Fault) → ReadsAllTables may which bytes (Err e) → IsErrAnd result (λ x. x ≡ read_fault e)
-    → AnswersLines may share (AllNeedsMemory bytes) (one_answer (all_answer_of which bytes)) base given given old old result
-unread_all which may share bytes base given old e (Ok x) reads is = absurd is
-unread_all which may share bytes base given old e (Err x) reads is =
-    let P : Fault → Type 0 = λ f. AnswersLines may share (AllNeedsMemory bytes) (one_answer (all_answer_of which bytes)) base given given old old (Err f) in
-    subst P (sym is) (not_read_all which may share bytes base given old e reads)
+pub unread_all : (which : SymbolTable) (may : Type 0) (share : Bool) (bytes : List ℕ) (lookup : Lookup) (given old : Option (List ℕ)) (e : ReadError) (result : Result ℕ Fault) → ReadsAllTables may which bytes (Err e) → IsErrAnd result (λ x. x ≡ read_fault e)
+    → AnswersLines may share (AllNeedsMemory bytes) (one_answer (all_answer_of which bytes)) lookup given given old old result
+unread_all which may share bytes lookup given old e (Ok x) reads is = absurd is
+unread_all which may share bytes lookup given old e (Err x) reads is =
+    let P : Fault → Type 0 = λ f. AnswersLines may share (AllNeedsMemory bytes) (one_answer (all_answer_of which bytes)) lookup given given old old (Err f) in
+    subst P (sym is) (not_read_all which may share bytes lookup given old e reads)
 
 -- the answering failed
 abbrev failed : Fault → Result ℕ Fault
 failed fault = Err fault
 
 -- nothing was answered of a file whose places can't be had
-no_places : (may : Type 0) (memory : Result Listed Refusal → Type 0) (answer : Option (Result AllSymbols Refusal)) (base : ℕ) (given old : Option (List ℕ)) (e : Fault) → HasPlaces memory answer (Err e)
-    → AnswersLines may (addresses_are_shared answer) memory (one_answer answer) base given given old old (Err e)
-no_places may memory answer base given old e (inl (shared, is)) = inr (inl (shared, ap failed is, untouched given old))
-no_places may memory answer base given old e (inr (error, made, is)) = inr (inr (inl (error, made, ap failed is, untouched given old)))
+no_places : (may : Type 0) (memory : Result Listed Refusal → Type 0) (answer : Option (Result AllSymbols Refusal)) (lookup : Lookup) (given old : Option (List ℕ)) (e : Fault) → HasPlaces memory answer (Err e)
+    → AnswersLines may (addresses_are_shared answer) memory (one_answer answer) lookup given given old old (Err e)
+no_places may memory answer lookup given old e (inl (shared, is)) = inr (inl (shared, ap failed is, untouched given old))
+no_places may memory answer lookup given old e (inr (error, made, is)) = inr (inr (inl (error, made, ap failed is, untouched given old)))
 
-pub without_places : (may : Type 0) (memory : Result Listed Refusal → Type 0) (answer : Option (Result AllSymbols Refusal)) (base : ℕ) (given old : Option (List ℕ)) (e : Fault) (result : Result ℕ Fault) → HasPlaces memory answer (Err e) → IsErrAnd result (λ x. x ≡ e)
-    → AnswersLines may (addresses_are_shared answer) memory (one_answer answer) base given given old old result
-without_places may memory answer base given old e (Ok x) has is = absurd is
-without_places may memory answer base given old e (Err x) has is =
-    let P : Fault → Type 0 = λ f. AnswersLines may (addresses_are_shared answer) memory (one_answer answer) base given given old old (Err f) in subst P (sym is) (no_places may memory answer base given old e has)
+pub without_places : (may : Type 0) (memory : Result Listed Refusal → Type 0) (answer : Option (Result AllSymbols Refusal)) (lookup : Lookup) (given old : Option (List ℕ)) (e : Fault) (result : Result ℕ Fault) → HasPlaces memory answer (Err e) → IsErrAnd result (λ x. x ≡ e)
+    → AnswersLines may (addresses_are_shared answer) memory (one_answer answer) lookup given given old old result
+without_places may memory answer lookup given old e (Ok x) has is = absurd is
+without_places may memory answer lookup given old e (Err x) has is =
+    let P : Fault → Type 0 = λ f. AnswersLines may (addresses_are_shared answer) memory (one_answer answer) lookup given given old old (Err f) in subst P (sym is) (no_places may memory answer lookup given old e has)
 
 -- nothing was answered where an allocation failed
-pub no_memory : (may : Type 0) (share : Bool) (memory : Result Listed Refusal → Type 0) (answer : Option (Result Listed Refusal)) (base : ℕ) (given old : Option (List ℕ)) (result : Result ℕ Fault) → IsErrAnd result (λ x. x ≡ Full)
-    → AnswersLines may share memory answer base given given old old result
-no_memory may share memory answer base given old (Ok x) is = absurd is
-no_memory may share memory answer base given old (Err x) is = inl (inr (ap failed is), untouched given old)
+pub no_memory : (may : Type 0) (share : Bool) (memory : Result Listed Refusal → Type 0) (answer : Option (Result Listed Refusal)) (lookup : Lookup) (given old : Option (List ℕ)) (result : Result ℕ Fault) → IsErrAnd result (λ x. x ≡ Full)
+    → AnswersLines may share memory answer lookup given given old old result
+no_memory may share memory answer lookup given old (Ok x) is = absurd is
+no_memory may share memory answer lookup given old (Err x) is = inl (inr (ap failed is), untouched given old)

@@ -7,6 +7,7 @@ use Rattle.binfarce.specs.Symbol.{Entry, Listed}
 use Rattle.binfarce_addresses.specs.Address.{address_of}
 use Rattle.binfarce_addresses.specs.PlacesViews.{IsMadeOf}
 use Rattle.binfarce_addresses.specs.Stream.{Streams}
+use Rattle.binfarce_addresses.specs.declared.lookup.Lookup.{Lookup}
 use Rattle.binfarce_addresses.specs.declared.stream.LinesError.{LinesError}
 use Rattle.binfarce_tools.specs.declared.list.ListError.{ListError}
 use Rattle.binfarce_tools.specs.AllAnswer.{all_answer_of, one_answer}
@@ -72,9 +73,9 @@ HasPlaces NeedsMemory answer (Ok entries) = (addresses_are_shared answer ≡ fal
 HasPlaces NeedsMemory answer (Err e) = ((addresses_are_shared answer ≡ true) × (e ≡ SharedAddresses)) ⊎ ((error : ListError) × IsMadeOf NeedsMemory (one_answer answer) (Err error) × (e ≡ list_fault error))
 
 -- how the lines of standard input are answered, of a file whose answer is this: the file can't be read, which is reported only where MayFail says so, or an allocation failed; its function symbols share addresses; the file is refused; or its entries answer the lines
-abbrev pub AnswersLines : Type 0 → (share : Bool) → (Result Listed Refusal → Type 0) → Option (Result Listed Refusal) → ℕ → Option (List ℕ) → Option (List ℕ) → Option (List ℕ) → Option (List ℕ) → Result ℕ Fault → Type 0
-AnswersLines MayFail share NeedsMemory answer base given left old new result =
+abbrev pub AnswersLines : Type 0 → (share : Bool) → (Result Listed Refusal → Type 0) → Option (Result Listed Refusal) → Lookup → Option (List ℕ) → Option (List ℕ) → Option (List ℕ) → Option (List ℕ) → Result ℕ Fault → Type 0
+AnswersLines MayFail share NeedsMemory answer lookup given left old new result =
     (((MayFail × (result ≡ Err Unreadable)) ⊎ (result ≡ Err OutOfMemory)) × IsUntouched given left old new)
     ⊎ ((share ≡ true) × (result ≡ Err SharedAddresses) × IsUntouched given left old new)
     ⊎ ((e : ListError) × IsMadeOf NeedsMemory answer (Err e) × (result ≡ Err (list_fault e)) × IsUntouched given left old new)
-    ⊎ ((share ≡ false) × (listed : Listed) × (ended : Result ℕ LinesError) × (answer ≡ Some (Ok listed)) × Streams listed.entries base given left old new ended × (result ≡ lines_end ended))
+    ⊎ ((share ≡ false) × (listed : Listed) × (ended : Result ℕ LinesError) × (answer ≡ Some (Ok listed)) × Streams listed.entries lookup given left old new ended × (result ≡ lines_end ended))

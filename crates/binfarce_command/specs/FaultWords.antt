@@ -30,5 +30,5 @@ fault_words TooLarge = codes "sizes are too large"
 fault_words NoSection = codes "no section of this name"
 fault_words NoBytes = codes "section has no bytes in the file"
 fault_words PastEnd = codes "section reaches past the end of the file"
-fault_words SharedAddresses = codes "its sections share addresses; use --section in place of --all"
+fault_words SharedAddresses = codes "its sections share addresses; --section=NAME takes one of them"
 fault_words (Missing count) = missing_words count

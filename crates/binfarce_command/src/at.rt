@@ -20,8 +20,8 @@ ghost use Rattle.binfarce_words.specs.WordViews.{Gives};
 use crate::fault::Fault;
 use crate::show::Symbols;
 use binfarce_addresses::at::{Places, at_tables, write_lines};
-use binfarce_addresses::parse_address;
 use binfarce_addresses::stream::answer_lines;
+use binfarce_addresses::{Lookup, parse_address};
 use binfarce_bytes::source::Source;
 use binfarce_tools::all::{AllTables, read_all};
 use binfarce_tools::list::{ListError, Sink};
@@ -51,7 +51,7 @@ pub fn read_addresses<'a>(alloc: Global, words: &[&'a str]) -> Result<Vec<u64>, 
     Ok(addresses)
 }
 
-/// Symbolizes the addresses, once the base is subtracted, by these function symbols. Of the source it reads the headers, the symbol
+/// Symbolizes the addresses, by this lookup and these function symbols. Of the source it reads the headers, the symbol
 /// table and the names alone.
 ///
 /// # Errors
@@ -62,7 +62,7 @@ pub fn answer_all<S: Source, K: Sink>(
     alloc: Global,
     source: &S,
     symbols: &Symbols<'_>,
-    base: u64,
+    lookup: Lookup,
     addresses: &[u64],
     out: &mut K,
 ) -> Result<(), Fault>
@@ -71,7 +71,7 @@ pub fn answer_all<S: Source, K: Sink>(
         (MemoryFor symbols.now file) (answer_for symbols.now file) (outcome_of result) }
     ensures shared { (file : List ℕ) → S.bytes source.now ≡ Some file → share_addresses symbols.now file ≡ true
         → IsShared (S.may_fail source.now ≡ true) result }
-    ensures takes { (file : List ℕ) → S.bytes source.now ≡ Some file → Takes (AreLinesAt base addresses.now)
+    ensures takes { (file : List ℕ) → S.bytes source.now ≡ Some file → Takes (AreLinesAt lookup addresses.now)
         (answer_for symbols.now file) (K.taken out.old) (K.taken out.new) (outcome_of result) }
     ensures of_file { result ≢ Err Input }
     ensures fails { Fails (K.has_failed out.old) (K.has_failed out.new) (outcome_of result) }
@@ -80,11 +80,11 @@ pub fn answer_all<S: Source, K: Sink>(
     match symbols.section {
         Some(section) => {
             let tables = read_by(alloc, source, symbols.which, section)?;
-            answer_tables(alloc, &tables, base, addresses, out)
+            answer_tables(alloc, &tables, lookup, addresses, out)
         }
         None => {
             let tables = read_all(alloc, source, symbols.which)?;
-            answer_all_tables(alloc, &tables, base, addresses, out)
+            answer_all_tables(alloc, &tables, lookup, addresses, out)
         }
     }
 }
@@ -93,7 +93,7 @@ pub fn answer_all<S: Source, K: Sink>(
 fn answer_tables<K: Sink>(
     alloc: Global,
     tables: &Tables<'_>,
-    base: u64,
+    lookup: Lookup,
     addresses: &[u64],
     out: &mut K,
 ) -> Result<(), Fault>
@@ -101,20 +101,20 @@ fn answer_tables<K: Sink>(
         → EndsAs ListingFits
         (FileNeedsMemory file) (answer_of which file section) (outcome_of result) }
     ensures takes { (which : SymbolTable) (file section : List ℕ) → AreTablesOf which file section tables.now
-        → Takes (AreLinesAt base addresses.now)
+        → Takes (AreLinesAt lookup addresses.now)
         (answer_of which file section) (K.taken out.old) (K.taken out.new) (outcome_of result) }
     ensures of_file { result ≢ Err Input }
     ensures fails { Fails (K.has_failed out.old) (K.has_failed out.new) (outcome_of result) }
     ensures leaves { Leaves out.old out.new (outcome_of result) }
 {
-    Ok(at_tables(alloc, tables, base, addresses, out)?)
+    Ok(at_tables(alloc, tables, lookup, addresses, out)?)
 }
 
 // The same of all sections.
 fn answer_all_tables<K: Sink>(
     alloc: Global,
     tables: &AllTables,
-    base: u64,
+    lookup: Lookup,
     addresses: &[u64],
     out: &mut K,
 ) -> Result<(), Fault>
@@ -124,14 +124,14 @@ fn answer_all_tables<K: Sink>(
     ensures shared { (which : SymbolTable) (file : List ℕ) → AreAllTablesOf which file tables.now
         → addresses_are_shared (all_answer_of which file) ≡ true → IsShared ⊥ result }
     ensures takes { (which : SymbolTable) (file : List ℕ) → AreAllTablesOf which file tables.now
-        → Takes (AreLinesAt base addresses.now)
+        → Takes (AreLinesAt lookup addresses.now)
         (one_answer (all_answer_of which file)) (K.taken out.old) (K.taken out.new) (outcome_of result) }
     ensures of_file { result ≢ Err Input }
     ensures fails { Fails (K.has_failed out.old) (K.has_failed out.new) (outcome_of result) }
     ensures leaves { Leaves out.old out.new (outcome_of result) }
 {
     let places = places_of_all(alloc, tables)?;
-    Ok(write_lines(alloc, &places, base, addresses, out)?)
+    Ok(write_lines(alloc, &places, lookup, addresses, out)?)
 }
 
 // The places of the function symbols of all sections.
@@ -158,23 +158,23 @@ pub fn answer_input<S: Source, I: Read, K: Sink>(
     alloc: Global,
     source: &S,
     symbols: &Symbols<'_>,
-    base: u64,
+    lookup: Lookup,
     input: &mut I,
     out: &mut K,
 ) -> Result<u64, Fault>
     ensures answers { (file : List ℕ) → S.bytes source.now ≡ Some file → AnswersLines (S.may_fail source.now ≡ true)
-        (share_addresses symbols.now file) (MemoryFor symbols.now file) (answer_for symbols.now file) base
+        (share_addresses symbols.now file) (MemoryFor symbols.now file) (answer_for symbols.now file) lookup
         (I.remaining input.old) (I.remaining input.new) (K.taken out.old) (K.taken out.new) result }
     ensures fails { Fails (K.has_failed out.old) (K.has_failed out.new) (lines_outcome result) }
 {
     match symbols.section {
         Some(section) => {
             let tables = read_by(alloc, source, symbols.which, section)?;
-            answer_in_tables(alloc, &tables, base, input, out)
+            answer_in_tables(alloc, &tables, lookup, input, out)
         }
         None => {
             let tables = read_all(alloc, source, symbols.which)?;
-            answer_in_all(alloc, &tables, base, input, out)
+            answer_in_all(alloc, &tables, lookup, input, out)
         }
     }
 }
@@ -183,17 +183,17 @@ pub fn answer_input<S: Source, I: Read, K: Sink>(
 fn answer_in_tables<I: Read, K: Sink>(
     alloc: Global,
     tables: &Tables<'_>,
-    base: u64,
+    lookup: Lookup,
     input: &mut I,
     out: &mut K,
 ) -> Result<u64, Fault>
     ensures answers { (which : SymbolTable) (file section : List ℕ) → AreTablesOf which file section tables.now
-        → AnswersLines ⊥ false (FileNeedsMemory file) (answer_of which file section) base
+        → AnswersLines ⊥ false (FileNeedsMemory file) (answer_of which file section) lookup
         (I.remaining input.old) (I.remaining input.new) (K.taken out.old) (K.taken out.new) result }
     ensures fails { Fails (K.has_failed out.old) (K.has_failed out.new) (lines_outcome result) }
 {
     let places = named_places(alloc, tables)?;
-    let missing = answer_lines(alloc, &places, base, input, out)?;
+    let missing = answer_lines(alloc, &places, lookup, input, out)?;
     Ok(missing)
 }
 
@@ -201,19 +201,19 @@ fn answer_in_tables<I: Read, K: Sink>(
 fn answer_in_all<I: Read, K: Sink>(
     alloc: Global,
     tables: &AllTables,
-    base: u64,
+    lookup: Lookup,
     input: &mut I,
     out: &mut K,
 ) -> Result<u64, Fault>
     ensures answers { (which : SymbolTable) (file : List ℕ) → AreAllTablesOf which file tables.now
         → AnswersLines ⊥ (addresses_are_shared (all_answer_of which file)) (AllNeedsMemory file)
-        (one_answer (all_answer_of which file)) base
+        (one_answer (all_answer_of which file)) lookup
         (I.remaining input.old) (I.remaining input.new) (K.taken out.old) (K.taken out.new) result }
     ensures fails { Fails (K.has_failed out.old) (K.has_failed out.new) (lines_outcome result) }
 {
     let mut places = places_of_all(alloc, tables)?;
     places.keep_names(alloc)?;
-    let missing = answer_lines(alloc, &places, base, input, out)?;
+    let missing = answer_lines(alloc, &places, lookup, input, out)?;
     Ok(missing)
 }
 

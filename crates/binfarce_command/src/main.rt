@@ -23,6 +23,7 @@ use crate::input::{Noted, Opened};
 use crate::report::{ended, refuse, report};
 use crate::section::write_or_list;
 use crate::show::{Asked, Kind, Symbols};
+use binfarce_addresses::Lookup;
 use binfarce_bytes::source::Source;
 use binfarce_filtering::stream::{StreamError, filter_stream};
 use binfarce_tools::SymbolTable;
@@ -131,7 +132,7 @@ fn show_all<W: Write>(
 ) -> Result<bool, Fault> {
     let asked = Asked {
         kind,
-        symbols: symbols_of(given),
+        symbols: symbols_of(given, Some(".text")),
     };
     let mut system = rt;
     show_files(
@@ -181,14 +182,18 @@ fn symbolize<W: Write>(
     out: &mut Headed<W>,
 ) -> Result<bool, Fault> {
     let path = first(given);
-    let symbols = symbols_of(given);
+    let symbols = symbols_of(given, None);
+    let lookup = Lookup {
+        base: given.base,
+        is_return: given.is_return,
+    };
     let mut system = rt;
     match open_held(rt.alloc(), &mut system, path) {
         Some(held) => {
             let done = if addresses.is_empty() {
-                answer_lines(rt, &held, &symbols, given.base, out)
+                answer_lines(rt, &held, &symbols, lookup, out)
             } else {
-                answer_all(rt.alloc(), &held, &symbols, given.base, addresses, out)
+                answer_all(rt.alloc(), &held, &symbols, lookup, addresses, out)
             };
             reported(&mut system, path, &held, done)
         }
@@ -201,11 +206,11 @@ fn answer_lines<S: Source, W: Write>(
     rt: &HostRuntime,
     source: &S,
     symbols: &Symbols<'_>,
-    base: u64,
+    lookup: Lookup,
     out: &mut Headed<W>,
 ) -> Result<(), Fault> {
     let mut input = Noted::new(rt.reader());
-    match answer_input(rt.alloc(), source, symbols, base, &mut input, out) {
+    match answer_input(rt.alloc(), source, symbols, lookup, &mut input, out) {
         Ok(0) => Ok(()),
         Ok(missing) => Err(Fault::Missing(missing)),
         Err(Fault::Input) => {
@@ -234,8 +239,8 @@ fn write_section<W: Write>(
     }
 }
 
-// The function symbols that are asked for.
-fn symbols_of<'a>(given: &Given<'a>) -> Symbols<'a> {
+// The function symbols that are asked for: of the section that is named, or of this one, or of all.
+fn symbols_of<'a>(given: &Given<'a>, section: Option<&'a str>) -> Symbols<'a> {
     let which = if given.dynamic {
         SymbolTable::Dynsym
     } else {
@@ -244,7 +249,7 @@ fn symbols_of<'a>(given: &Given<'a>) -> Symbols<'a> {
     let section = if given.all {
         None
     } else {
-        Some(given.section.unwrap_or(".text"))
+        given.section.or(section)
     };
     Symbols { which, section }
 }

@@ -12,7 +12,7 @@ use Rattle.binfarce_words.specs.declared.words.Wrong.{Wrong}
 use Rattle.binfarce_words.specs.declared.words.Wrong.TheVariants.{NoCommand, UnknownCommand, UnknownOption, NoValue, Exclusive, NoAddress, NoFile, TooMany, NotUtf8, OutOfMemory}
 
 abbrev pub given_view : Given → words.Given
-given_view g = record { help = g.help; section = option_map (λ t. t.now) g.section; full = g.full; base = g.base; dynamic = g.dynamic; all = g.all; operands = map (λ t. t.now) g.operands.items }
+given_view g = record { help = g.help; section = option_map (λ t. t.now) g.section; full = g.full; base = g.base; is_return = g.is_return; dynamic = g.dynamic; all = g.all; operands = map (λ t. t.now) g.operands.items }
 
 abbrev pub reading_view : Reading → words.Reading
 reading_view r = record { given = given_view r.given; waiting = r.waiting; are_operands = r.are_operands }

@@ -26,7 +26,7 @@ flags_of Listing = flags.Help ∷ flags.Section ∷ flags.Dynamic ∷ flags.All 
 flags_of Size = flags.Help ∷ flags.Section ∷ flags.Dynamic ∷ flags.All ∷ []
 flags_of Map = flags.Help ∷ flags.Section ∷ flags.Dynamic ∷ flags.All ∷ []
 flags_of Filter = flags.Help ∷ flags.Full ∷ []
-flags_of At = flags.Help ∷ flags.Section ∷ flags.Base ∷ flags.Dynamic ∷ flags.All ∷ []
+flags_of At = flags.Help ∷ flags.Section ∷ flags.Return ∷ flags.Base ∷ flags.Dynamic ∷ flags.All ∷ []
 flags_of Section = flags.Help ∷ []
 
 abbrev pub flag_name : Flag → List ℕ
@@ -34,6 +34,7 @@ flag_name flags.Help = codes "--help"
 flag_name flags.Section = codes "--section"
 flag_name flags.Full = codes "--full"
 flag_name flags.Base = codes "--base"
+flag_name flags.Return = codes "--return"
 flag_name flags.Dynamic = codes "--dynamic"
 flag_name flags.All = codes "--all"
 
@@ -43,6 +44,7 @@ takes_value flags.Help = false
 takes_value flags.Section = true
 takes_value flags.Full = false
 takes_value flags.Base = true
+takes_value flags.Return = false
 takes_value flags.Dynamic = false
 takes_value flags.All = false
 
@@ -63,13 +65,14 @@ pub record Given : Type 0 where
   pub section : Option (List ℕ)
   pub full : Bool
   pub base : ℕ
+  pub is_return : Bool
   pub dynamic : Bool
   pub all : Bool
   pub operands : List (List ℕ)
 
 -- no options and no operands
 abbrev pub nothing : Given
-nothing = record { help = false; section = None; full = false; base = 0; dynamic = false; all = false; operands = [] }
+nothing = record { help = false; section = None; full = false; base = 0; is_return = false; dynamic = false; all = false; operands = [] }
 
 -- the options with this base, if it is an address
 abbrev pub with_base : Given → (word : List ℕ) → Option ℕ → Result Given Wrong
@@ -82,6 +85,7 @@ with_flag given flags.Help value = Ok (record given { help = true })
 with_flag given flags.Section value = Ok (record given { section = Some value })
 with_flag given flags.Full value = Ok (record given { full = true })
 with_flag given flags.Base value = with_base given value (address_of value)
+with_flag given flags.Return value = Ok (record given { is_return = true })
 with_flag given flags.Dynamic value = Ok (record given { dynamic = true })
 with_flag given flags.All value = Ok (record given { all = true })
 

@@ -66,6 +66,8 @@ pub enum Flag {
     Full,
     /// Is subtracted from each address.
     Base,
+    /// The addresses are return addresses.
+    Return,
     /// Reads the dynamic symbol table of an ELF file.
     Dynamic,
     /// Takes the function symbols of all sections.
@@ -83,6 +85,7 @@ impl Named for Flag {
             Flag::Section => "--section",
             Flag::Full => "--full",
             Flag::Base => "--base",
+            Flag::Return => "--return",
             Flag::Dynamic => "--dynamic",
             Flag::All => "--all",
         }
@@ -99,6 +102,7 @@ impl Flag {
             Flag::Section => true,
             Flag::Full => false,
             Flag::Base => true,
+            Flag::Return => false,
             Flag::Dynamic => false,
             Flag::All => false,
         }
@@ -118,6 +122,7 @@ impl Command {
             Command::At => &[
                 Flag::Help,
                 Flag::Section,
+                Flag::Return,
                 Flag::Base,
                 Flag::Dynamic,
                 Flag::All,
@@ -212,6 +217,8 @@ pub struct Given<'a> {
     pub full: bool,
     /// The base, which is subtracted from each address.
     pub base: u64,
+    /// The addresses are return addresses.
+    pub is_return: bool,
     /// The dynamic symbol table is read.
     pub dynamic: bool,
     /// The function symbols of all sections are taken.
@@ -389,6 +396,7 @@ impl<'a> Reading<'a> {
             full: false,
             base: 0,
             dynamic: false,
+            is_return: false,
             all: false,
             operands: Vec::new(alloc),
         };
@@ -502,6 +510,7 @@ impl<'a> Given<'a> {
                 None => return Err(Wrong::NoAddress(value)),
             },
             Flag::Dynamic => self.dynamic = true,
+            Flag::Return => self.is_return = true,
             Flag::All => self.all = true,
         }
         Ok(())

@@ -3,8 +3,8 @@
 use crate::Asking;
 use crate::words::{known, number, push_hex, push_number, push_words};
 use binfarce_addresses::at::{Places, at, at_tables};
-use binfarce_addresses::parse_address;
 use binfarce_addresses::stream::{LinesError, answer_lines, push_lines as push_lines_of};
+use binfarce_addresses::{Lookup, parse_address};
 use binfarce_tools::list::Out;
 use binfarce_tools::tables::read;
 use std::alloc::Global;
@@ -30,15 +30,18 @@ pub(crate) fn push_address(words: &str, text: &mut Vec<u8>) -> io::Result<()> {
 }
 
 /// Adds the lines of addresses after a base is subtracted, from a file's bytes, and from the tables that are read of it.
-pub(crate) fn push_lines(of: &Asking<'_>, text: &mut Vec<u8>) -> io::Result<()> {
+pub(crate) fn push_lines(of: &Asking<'_>, is_return: bool, text: &mut Vec<u8>) -> io::Result<()> {
     let (base, words) = of.words.split_once(' ').unwrap_or((of.words, ""));
-    let base = number(base, true)?;
+    let lookup = Lookup {
+        base: number(base, true)?,
+        is_return,
+    };
     let mut addresses = Vec::new(of.alloc);
     for word in words.split_whitespace() {
         addresses.push(number(word, true)?)?;
     }
     let mut out = Out::new(Vec::new(of.alloc));
-    let ended = at(of.alloc, of.file, ".text", base, &addresses, &mut out);
+    let ended = at(of.alloc, of.file, ".text", lookup, &addresses, &mut out);
     let written = out.into_inner();
     text.extend_from_slice(&written)?;
     if let Err(e) = ended {
@@ -46,7 +49,7 @@ pub(crate) fn push_lines(of: &Asking<'_>, text: &mut Vec<u8>) -> io::Result<()> 
     }
     let mut out = Out::new(Vec::new(of.alloc));
     if let Ok(tables) = read(of.alloc, &of.file, ".text") {
-        let _ = at_tables(of.alloc, &tables, base, &addresses, &mut out);
+        let _ = at_tables(of.alloc, &tables, lookup, &addresses, &mut out);
     }
     if out.into_inner() != written {
         push_words(text, "otherwise from tables")?;
@@ -68,18 +71,23 @@ fn typed(alloc: Global, words: &str) -> io::Result<Vec<u8>> {
     Ok(text)
 }
 
-// Lines of addresses, the base that is subtracted from them, and where they are looked up.
+// Lines of addresses, how they are looked up, and where.
 #[derive(Clone, Copy)]
 struct Input<'a> {
     alloc: Global,
     places: &'a Places<'static>,
-    base: u64,
+    lookup: Lookup,
     text: &'a [u8],
 }
 
 /// Adds the answers to a text of addresses by the 64-bit sample, how many lines have none, and which way of reading or writing
 /// gives others.
-pub(crate) fn push_answers(alloc: Global, words: &str, text: &mut Vec<u8>) -> io::Result<()> {
+pub(crate) fn push_answers(
+    alloc: Global,
+    words: &str,
+    is_return: bool,
+    text: &mut Vec<u8>,
+) -> io::Result<()> {
     let (base, words) = known(words.split_once(' '))?;
     let lines = typed(alloc, quoted(words)?)?;
     let Ok(mut places) = Places::of_file(alloc, &ELF64_LITTLE, ".text") else {
@@ -89,7 +97,10 @@ pub(crate) fn push_answers(alloc: Global, words: &str, text: &mut Vec<u8>) -> io
     let input = Input {
         alloc,
         places: &places,
-        base: number(base, true)?,
+        lookup: Lookup {
+            base: number(base, true)?,
+            is_return,
+        },
         text: &lines,
     };
     let target = Target::taking(alloc, usize::MAX);
@@ -118,7 +129,13 @@ fn answered<R: Read + Drop>(
 ) -> (Result<u64, LinesError>, Vec<u8>) {
     let mut reader = reader;
     let mut out = Out::new(target);
-    let ended = answer_lines(input.alloc, input.places, input.base, &mut reader, &mut out);
+    let ended = answer_lines(
+        input.alloc,
+        input.places,
+        input.lookup,
+        &mut reader,
+        &mut out,
+    );
     (ended, out.into_inner().taken)
 }
 
@@ -183,9 +200,9 @@ fn are_parts_answered(input: &Input<'_>, answers: &[u8], missing: u64) -> io::Re
     for at in 0..=input.text.len() {
         let mut text = Vec::new(input.alloc);
         let part = first_bytes(input.text, at);
-        let first = push_lines_of(input.alloc, input.places, input.base, part, &mut text)?;
+        let first = push_lines_of(input.alloc, input.places, input.lookup, part, &mut text)?;
         let rest = input.text.get(first.len..).unwrap_or(&[]);
-        let second = push_lines_of(input.alloc, input.places, input.base, rest, &mut text)?;
+        let second = push_lines_of(input.alloc, input.places, input.lookup, rest, &mut text)?;
         let is_missing = first.missing.checked_add(second.missing) == Some(missing);
         if second.len != rest.len() || !is_missing || text.as_slice() != answers {
             return Ok(false);

@@ -1,5 +1,6 @@
 //! Symbolized addresses: all lines, or `OutOfMemory` and nothing or a beginning of them written.
 
+use binfarce_addresses::Lookup;
 use binfarce_addresses::at::{Places, at};
 use binfarce_addresses::stream::{LinesError, answer_lines};
 use binfarce_tools::list::{ListError, Out};
@@ -11,10 +12,23 @@ use test_samples::streams::Source;
 
 const LINES: &str = "0000000000001000 foo+0x0\n000000000000100f foo+0xf\n0000000000001010 ??\n";
 
+// Addresses of the file.
+const AS_THEY_ARE: Lookup = Lookup {
+    base: 0,
+    is_return: false,
+};
+
 fn are_lines(alloc: Global) -> Row {
     let mut out = Out::new(Expected::new(LINES.as_bytes()));
     let addresses = [0x1000, 0x100f, 0x1010];
-    let result = at(alloc, &ELF64_LITTLE, ".text", 0, &addresses, &mut out);
+    let result = at(
+        alloc,
+        &ELF64_LITTLE,
+        ".text",
+        AS_THEY_ARE,
+        &addresses,
+        &mut out,
+    );
     let written = out.into_inner();
     match result {
         Ok(()) => Ok(written.is_whole()),
@@ -32,7 +46,7 @@ fn is_answered(alloc: Global, text: &[u8]) -> Row {
     places.keep_names(alloc)?;
     let mut input = Source::of(text);
     let mut out = Out::new(Expected::new(LINES.as_bytes()));
-    let result = answer_lines(alloc, &places, 0, &mut input, &mut out);
+    let result = answer_lines(alloc, &places, AS_THEY_ARE, &mut input, &mut out);
     let written = out.into_inner();
     match result {
         Ok(missing) => Ok(missing == 0 && written.is_whole()),

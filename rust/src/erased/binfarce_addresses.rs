@@ -6,9 +6,11 @@ pub mod address;
 pub mod at;
 mod cells;
 mod digits;
+pub mod lookup;
 pub mod marks;
 mod names;
 pub mod ranges;
 pub mod stream;
 
 pub use crate::erased::binfarce_addresses::address::parse_address;
+pub use crate::erased::binfarce_addresses::lookup::Lookup;

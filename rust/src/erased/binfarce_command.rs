@@ -25,6 +25,7 @@ use crate::erased::binfarce_command::input::{Noted, Opened};
 use crate::erased::binfarce_command::report::{ended, refuse, report};
 use crate::erased::binfarce_command::section::write_or_list;
 use crate::erased::binfarce_command::show::{Asked, Kind, Symbols};
+use crate::erased::binfarce_addresses::Lookup;
 use crate::erased::binfarce_bytes::source::Source;
 use crate::erased::binfarce_filtering::stream::{StreamError, filter_stream};
 use crate::erased::binfarce_tools::SymbolTable;
@@ -133,7 +134,7 @@ fn show_all<W: Write>(
 ) -> Result<bool, Fault> {
     let asked = Asked {
         kind,
-        symbols: symbols_of(given),
+        symbols: symbols_of(given, Some(".text")),
     };
     let mut system = rt;
     show_files(
@@ -183,14 +184,18 @@ fn symbolize<W: Write>(
     out: &mut Headed<W>,
 ) -> Result<bool, Fault> {
     let path = first(given);
-    let symbols = symbols_of(given);
+    let symbols = symbols_of(given, None);
+    let lookup = Lookup {
+        base: given.base,
+        is_return: given.is_return,
+    };
     let mut system = rt;
     match open_held(rt.alloc(), &mut system, path) {
         Some(held) => {
             let done = if addresses.is_empty() {
-                answer_lines(rt, &held, &symbols, given.base, out)
+                answer_lines(rt, &held, &symbols, lookup, out)
             } else {
-                answer_all(rt.alloc(), &held, &symbols, given.base, addresses, out)
+                answer_all(rt.alloc(), &held, &symbols, lookup, addresses, out)
             };
             reported(&mut system, path, &held, done)
         }
@@ -203,11 +208,11 @@ fn answer_lines<S: Source, W: Write>(
     rt: &HostRuntime,
     source: &S,
     symbols: &Symbols<'_>,
-    base: u64,
+    lookup: Lookup,
     out: &mut Headed<W>,
 ) -> Result<(), Fault> {
     let mut input = Noted::new(rt.reader());
-    match answer_input(rt.alloc(), source, symbols, base, &mut input, out) {
+    match answer_input(rt.alloc(), source, symbols, lookup, &mut input, out) {
         Ok(0) => Ok(()),
         Ok(missing) => Err(Fault::Missing(missing)),
         Err(Fault::Input) => {
@@ -236,8 +241,8 @@ fn write_section<W: Write>(
     }
 }
 
-// The function symbols that are asked for.
-fn symbols_of<'a>(given: &Given<'a>) -> Symbols<'a> {
+// The function symbols that are asked for: of the section that is named, or of this one, or of all.
+fn symbols_of<'a>(given: &Given<'a>, section: Option<&'a str>) -> Symbols<'a> {
     let which = if given.dynamic {
         SymbolTable::Dynsym
     } else {
@@ -246,7 +251,7 @@ fn symbols_of<'a>(given: &Given<'a>) -> Symbols<'a> {
     let section = if given.all {
         None
     } else {
-        Some(given.section.unwrap_or(".text"))
+        given.section.or(section)
     };
     Symbols { which, section }
 }

@@ -61,7 +61,8 @@ fn answer(alloc: Global, question: &str, text: &mut Vec<u8>) -> io::Result<()> {
     let (verb, words) = question.split_once(' ').unwrap_or((question, ""));
     match verb {
         "address" => addresses::push_address(words, text)?,
-        "input" => addresses::push_answers(alloc, words, text)?,
+        "input" => addresses::push_answers(alloc, words, false, text)?,
+        "return-input" => addresses::push_answers(alloc, words, true, text)?,
         _ => ranges::answer(alloc, verb, words, text)?,
     }
     end_line(text, 0)
@@ -99,7 +100,8 @@ fn answer_of_files(
         };
         let start = text.len();
         match verb {
-            "at" => addresses::push_lines(&asking, text)?,
+            "at" => addresses::push_lines(&asking, false, text)?,
+            "return" => addresses::push_lines(&asking, true, text)?,
             "names" => sections::push_names(&asking, text)?,
             "cut" => sections::push_cut(&asking, text)?,
             "each" => sections::push_each(&asking, text)?,

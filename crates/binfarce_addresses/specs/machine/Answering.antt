@@ -3,6 +3,7 @@ use Rattle.std.specs.Prelude.{◌≡◌, ◌≢◌, ◌⊎◌, ◌≤◌, ℕ, �
 use Rattle.std.specs.Io.KnownBytes.{Appends, Consumes, IsAtEnd}
 use Rattle.binfarce.specs.Symbol.{Entry}
 use Rattle.binfarce_tools.specs.Writing.{AppendsBeginning}
+use Rattle.binfarce_addresses.specs.declared.lookup.Lookup.{Lookup}
 use Rattle.binfarce_addresses.specs.Stream.{line_address, missing, Begins, HasNoLineFeed, AreAnswered, BreaksOff}
 use Rattle.binfarce_addresses.specs.declared.stream.Answered.{Answered}
 use Rattle.binfarce_addresses.specs.declared.stream.LinesError.{LinesError}
@@ -30,18 +31,18 @@ pub record AreAddressesOf (text : List ℕ) (addresses : List (Option ℕ)) (ans
   pub count : answered.missing ≡ missing addresses
 
 -- the whole lines of a text were answered, so many of which have no address; the rest has no line feed
-abbrev pub Goes : List Entry → ℕ → List ℕ → List ℕ → ℕ → Option (List ℕ) → Option (List ℕ) → Type 0
-Goes entries base text left count old new =
-    (addresses : List (Option ℕ)) × Begins text addresses left × HasNoLineFeed left × AreAnswered entries base addresses old new × (count ≡ missing addresses)
+abbrev pub Goes : List Entry → Lookup → List ℕ → List ℕ → ℕ → Option (List ℕ) → Option (List ℕ) → Type 0
+Goes entries lookup text left count old new =
+    (addresses : List (Option ℕ)) × Begins text addresses left × HasNoLineFeed left × AreAnswered entries lookup addresses old new × (count ≡ missing addresses)
 
 -- a beginning of the answers to some lines of a text was written
-abbrev pub Breaks : List Entry → ℕ → List ℕ → Option (List ℕ) → Option (List ℕ) → Type 0
-Breaks entries base text old new = (addresses : List (Option ℕ)) × (rest : List ℕ) × Begins text addresses rest × BreaksOff entries base addresses old new
+abbrev pub Breaks : List Entry → Lookup → List ℕ → Option (List ℕ) → Option (List ℕ) → Type 0
+Breaks entries lookup text old new = (addresses : List (Option ℕ)) × (rest : List ℕ) × Begins text addresses rest × BreaksOff entries lookup addresses old new
 
 -- the answers to a text, up to a position
-abbrev pub AnswersUpTo : List Entry → ℕ → List ℕ → Option (List ℕ) → Option (List ℕ) → Result Answered LinesError → Type 0
-AnswersUpTo entries base text old new (Ok answered) = (answered.len ≤ length text) × Goes entries base text (drop answered.len text) answered.missing old new
-AnswersUpTo entries base text old new (Err e) = (e ≢ Read) × Breaks entries base text old new
+abbrev pub AnswersUpTo : List Entry → Lookup → List ℕ → Option (List ℕ) → Option (List ℕ) → Result Answered LinesError → Type 0
+AnswersUpTo entries lookup text old new (Ok answered) = (answered.len ≤ length text) × Goes entries lookup text (drop answered.len text) answered.missing old new
+AnswersUpTo entries lookup text old new (Err e) = (e ≢ Read) × Breaks entries lookup text old new
 
 -- the first part of a line is kept as another text, without a line feed if the part has none: whatever follows, both have the same address; and both
 -- are empty, or neither is
@@ -52,29 +53,29 @@ pub record IsKeptOf (line kept : List ℕ) : Type 0 where
   pub some : line ≡ [] → kept ≡ []
 
 -- the answers to a text, and the text that is kept of its last line
-abbrev pub AnswersPart : List Entry → ℕ → List ℕ → List ℕ → Option (List ℕ) → Option (List ℕ) → Result ℕ LinesError → Type 0
-AnswersPart entries base text kept old new (Ok count) = (left : List ℕ) × IsKeptOf left kept × Goes entries base text left count old new
-AnswersPart entries base text kept old new (Err e) = (e ≢ Read) × Breaks entries base text old new
+abbrev pub AnswersPart : List Entry → Lookup → List ℕ → List ℕ → Option (List ℕ) → Option (List ℕ) → Result ℕ LinesError → Type 0
+AnswersPart entries lookup text kept old new (Ok count) = (left : List ℕ) × IsKeptOf left kept × Goes entries lookup text left count old new
+AnswersPart entries lookup text kept old new (Err e) = (e ≢ Read) × Breaks entries lookup text old new
 
 -- the whole lines of the input were answered, and this is kept of the rest
-abbrev pub HasAnswered : List Entry → ℕ → List ℕ → ℕ → Option (List ℕ) → Option (List ℕ) → Option (List ℕ) → Option (List ℕ) → Type 0
-HasAnswered entries base kept count given left old new =
-    (came : List ℕ) × (rest : List ℕ) × (all : ℕ) × Consumes given left came × IsKeptOf rest kept × Goes entries base came rest all old new × (count ≡ min all (2 ^ 64 - 1))
+abbrev pub HasAnswered : List Entry → Lookup → List ℕ → ℕ → Option (List ℕ) → Option (List ℕ) → Option (List ℕ) → Option (List ℕ) → Type 0
+HasAnswered entries lookup kept count given left old new =
+    (came : List ℕ) × (rest : List ℕ) × (all : ℕ) × Consumes given left came × IsKeptOf rest kept × Goes entries lookup came rest all old new × (count ≡ min all (2 ^ 64 - 1))
 
 -- why no more of the input was answered
-abbrev pub Stops : List Entry → ℕ → List ℕ → Option (List ℕ) → Option (List ℕ) → LinesError → Type 0
-Stops entries base came old new Read = (rest : List ℕ) × (all : ℕ) × Goes entries base came rest all old new
-Stops entries base came old new OutOfMemory = Breaks entries base came old new
-Stops entries base came old new Write = Breaks entries base came old new
+abbrev pub Stops : List Entry → Lookup → List ℕ → Option (List ℕ) → Option (List ℕ) → LinesError → Type 0
+Stops entries lookup came old new Read = (rest : List ℕ) × (all : ℕ) × Goes entries lookup came rest all old new
+Stops entries lookup came old new OutOfMemory = Breaks entries lookup came old new
+Stops entries lookup came old new Write = Breaks entries lookup came old new
 
 -- the answers to all that a reader gives, and the text that is kept of its last line
-abbrev pub AnswersAll : List Entry → ℕ → List ℕ → Option (List ℕ) → Option (List ℕ) → Option (List ℕ) → Option (List ℕ) → Result ℕ LinesError → Type 0
-AnswersAll entries base kept given left old new (Ok count) = IsAtEnd left × HasAnswered entries base kept count given left old new
-AnswersAll entries base kept given left old new (Err e) = (came : List ℕ) × Consumes given left came × Stops entries base came old new e
+abbrev pub AnswersAll : List Entry → Lookup → List ℕ → Option (List ℕ) → Option (List ℕ) → Option (List ℕ) → Option (List ℕ) → Result ℕ LinesError → Type 0
+AnswersAll entries lookup kept given left old new (Ok count) = IsAtEnd left × HasAnswered entries lookup kept count given left old new
+AnswersAll entries lookup kept given left old new (Err e) = (came : List ℕ) × Consumes given left came × Stops entries lookup came old new e
 
 -- a last line is answered, if it isn't empty, after lines of which so many have no address
-abbrev pub AnswersLast : List Entry → ℕ → List ℕ → ℕ → Option (List ℕ) → Option (List ℕ) → Result ℕ LinesError → Type 0
-AnswersLast entries base line before old new (Ok count) =
+abbrev pub AnswersLast : List Entry → Lookup → List ℕ → ℕ → Option (List ℕ) → Option (List ℕ) → Result ℕ LinesError → Type 0
+AnswersLast entries lookup line before old new (Ok count) =
     ((line ≡ []) × Appends old new [] × (count ≡ before))
-    ⊎ ((line ≢ []) × (left : List ℕ) × (all : ℕ) × Goes entries base (line ++ 10 ∷ []) left all old new × (count ≡ min (before + all) (2 ^ 64 - 1)))
-AnswersLast entries base line before old new (Err e) = (line ≢ []) × (e ≢ Read) × Breaks entries base (line ++ 10 ∷ []) old new
+    ⊎ ((line ≢ []) × (left : List ℕ) × (all : ℕ) × Goes entries lookup (line ++ 10 ∷ []) left all old new × (count ≡ min (before + all) (2 ^ 64 - 1)))
+AnswersLast entries lookup line before old new (Err e) = (line ≢ []) × (e ≢ Read) × Breaks entries lookup (line ++ 10 ∷ []) old new

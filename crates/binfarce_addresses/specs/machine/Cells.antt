@@ -5,7 +5,9 @@ use Rattle.binfarce.specs.Named.{IsNamed}
 use Rattle.binfarce.specs.Symbol.{Entry}
 use Rattle.binfarce_addresses.specs.declared.ranges.AddressRange.{AddressRange}
 use Rattle.binfarce_addresses.specs.Range.{IsSpanOf}
-use Rattle.binfarce_addresses.specs.Lines.{in_file, found_at}
+use Rattle.binfarce_addresses.specs.Lines.{found_at}
+use Rattle.binfarce_addresses.specs.Lookup.{looked_up}
+use Rattle.binfarce_addresses.specs.declared.lookup.Lookup.{Lookup}
 use Rattle.binfarce_addresses.specs.declared.cells.Cell.{Cell}
 
 -- the cell that is read past the end
@@ -27,6 +29,6 @@ pub record AreCellsOf (ranges : List AddressRange) (bounds : List ℕ) (cells : 
   pub each : (k : ℕ) → k < length cells → IsCellOf ranges bounds (cell_at cells k)
 
 -- the address symbolizes to an entry of this trimmed name, with this offset into it
-abbrev pub IsNameAt : List Entry → ℕ → ℕ → List ℕ → ℕ → Type 0
-IsNameAt entries base address text offset =
-    (entry : Entry) × (found_at entries (in_file base address) ≡ Some entry) × (offset ≡ address - base - entry.address) × ((name : Name) × IsNamed entry.name name × (text ≡ name.trimmed))
+abbrev pub IsNameAt : List Entry → Lookup → ℕ → List ℕ → ℕ → Type 0
+IsNameAt entries lookup address text offset =
+    (entry : Entry) × (found_at entries (looked_up lookup address) ≡ Some entry) × (offset ≡ address - lookup.base - entry.address) × ((name : Name) × IsNamed entry.name name × (text ≡ name.trimmed))

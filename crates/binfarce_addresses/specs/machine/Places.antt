@@ -7,7 +7,9 @@ use Rattle.binfarce.specs.Named.{IsNamed}
 use Rattle.binfarce.specs.Symbol.{Entry}
 use Rattle.binfarce.specs.SymbolViews.{function_view}
 use Rattle.binfarce.specs.declared.FunctionSymbol.{FunctionSymbol}
-use Rattle.binfarce_addresses.specs.Lines.{in_file, found_at}
+use Rattle.binfarce_addresses.specs.Lines.{found_at}
+use Rattle.binfarce_addresses.specs.Lookup.{looked_up}
+use Rattle.binfarce_addresses.specs.declared.lookup.Lookup.{Lookup}
 use Rattle.binfarce_addresses.specs.declared.cells.Cell.{Cell}
 use Rattle.binfarce_addresses.specs.machine.Cells.{AreCellsOf}
 use Rattle.binfarce_addresses.specs.declared.ranges.AddressRange.{AddressRange}
@@ -42,7 +44,7 @@ pub record ArePlacesOf (functions : List FunctionSymbol) (ranges : List AddressR
   pub cells_are : AreCellsOf ranges bounds cells
 
 -- the address symbolizes to this: the place of an entry, and the offset into it
-abbrev pub IsShownAt : List Entry → ℕ → ℕ → Option Found → Type 0
-IsShownAt entries base address shown =
-    MatchOption shown (found_at entries (in_file base address) ≡ None)
-    (λ f. (entry : Entry) × (found_at entries (in_file base address) ≡ Some entry) × (f.offset ≡ address - base - entry.address) × IsAtPlace entries f.place entry)
+abbrev pub IsShownAt : List Entry → Lookup → ℕ → Option Found → Type 0
+IsShownAt entries lookup address shown =
+    MatchOption shown (found_at entries (looked_up lookup address) ≡ None)
+    (λ f. (entry : Entry) × (found_at entries (looked_up lookup address) ≡ Some entry) × (f.offset ≡ address - lookup.base - entry.address) × IsAtPlace entries f.place entry)

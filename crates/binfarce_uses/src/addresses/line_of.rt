@@ -3,20 +3,26 @@ ghost use Rattle.binfarce.specs.Symbol.{Listed};
 ghost use Rattle.binfarce_addresses.specs.Lines.{IsLineAt};
 ghost use Rattle.binfarce_tools.specs.Answer.{file_answer};
 
+use binfarce_addresses::Lookup;
 use binfarce_addresses::at::Places;
 use binfarce_tools::list::ListError;
 use std::alloc::Global;
 
 /// The line of an address.
-pub fn line_of(alloc: Global, file: &[u8], address: u64) -> Result<Vec<u8>, ListError>
+pub fn line_of(
+    alloc: Global,
+    file: &[u8],
+    lookup: Lookup,
+    address: u64,
+) -> Result<Vec<u8>, ListError>
     ensures { IfOk result
         (λ line. (listed : Listed) × (file_answer file.now (codes ".text") ≡ Some (Ok listed))
-        × IsLineAt listed.entries 0 address line.items) }
+        × IsLineAt listed.entries lookup address line.items) }
 {
     let mut places = places_of(alloc, file)?;
     places.keep_names(alloc)?;
     let mut line = Vec::new(alloc);
-    places.push_line(alloc, &mut line, 0, address)?;
+    places.push_line(alloc, &mut line, lookup, address)?;
     Ok(line)
 }
 

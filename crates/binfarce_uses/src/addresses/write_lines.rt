@@ -1,4 +1,4 @@
-ghost use Rattle.std.specs.Prelude.{List, ℕ};
+ghost use Rattle.std.specs.Prelude.{List, ℕ, true};
 ghost use Rattle.binfarce_addresses.specs.Lines.{AreLinesAt};
 ghost use Rattle.binfarce_tools.specs.Answer.{answer_of};
 ghost use Rattle.binfarce_tools.specs.ListWords.{outcome_of};
@@ -6,12 +6,13 @@ ghost use Rattle.binfarce_tools.specs.Tables.{AreTablesOf};
 ghost use Rattle.binfarce_tools.specs.declared.SymbolTable.{SymbolTable};
 ghost use Rattle.binfarce_tools.specs.Writing.{Takes};
 
+use binfarce_addresses::Lookup;
 use binfarce_addresses::at::at_tables;
 use binfarce_tools::list::{ListError, Sink};
 use binfarce_tools::tables::Tables;
 use std::alloc::Global;
 
-/// Symbolizes addresses by the tables that were read of a file.
+/// Symbolizes the return addresses of a backtrace by the tables that were read of a file.
 pub fn write_lines<S: Sink>(
     alloc: Global,
     tables: &Tables<'_>,
@@ -19,8 +20,12 @@ pub fn write_lines<S: Sink>(
     out: &mut S,
 ) -> Result<(), ListError>
     ensures { (which : SymbolTable) (file section : List ℕ) → AreTablesOf which file section tables.now
-        → Takes (AreLinesAt 0x555555554000 frames.now) (answer_of which file section) (S.taken out.old)
+        → Takes (AreLinesAt (record { base = 0x555555554000; is_return = true }) frames.now) (answer_of which file section) (S.taken out.old)
         (S.taken out.new) (outcome_of result) }
 {
-    at_tables(alloc, tables, 0x5555_5555_4000, frames, out)
+    let lookup = Lookup {
+        base: 0x5555_5555_4000,
+        is_return: true,
+    };
+    at_tables(alloc, tables, lookup, frames, out)
 }

@@ -5,6 +5,7 @@
 use crate::shim::{String, Vec};
 use crate::erased::binfarce_addresses::cells::Cells;
 use crate::erased::binfarce_addresses::digits::{push_address, push_offset};
+use crate::erased::binfarce_addresses::lookup::Lookup;
 use crate::erased::binfarce_addresses::names::{Names, name_of, names_of};
 use crate::erased::binfarce_addresses::ranges::{AddressRange, Found, Ranges};
 use crate::erased::binfarce::FunctionSymbol;
@@ -72,22 +73,22 @@ impl<'a> Places<'a> {
         Ok(())
     }
 
-    /// The function symbol that an address minus the base symbolizes to, and the offset into it.
-    pub fn find(&self, base: u64, address: u64) -> Option<(FunctionSymbol<'a>, u64)> {
-        let (_, function, offset) = self.find_place(base, address)?;
+    /// The function symbol that an address symbolizes to by this lookup, and the offset of the address into it.
+    pub fn find(&self, lookup: Lookup, address: u64) -> Option<(FunctionSymbol<'a>, u64)> {
+        let (_, function, offset) = self.find_place(lookup, address)?;
         Some((function, offset))
     }
 
     // Its place, itself, and the offset into it.
-    fn find_place(&self, base: u64, address: u64) -> Option<(usize, FunctionSymbol<'a>, u64)> {
-        let in_file = address.checked_sub(base)?;
+    fn find_place(&self, lookup: Lookup, address: u64) -> Option<(usize, FunctionSymbol<'a>, u64)> {
+        let in_file = lookup.in_file(address)?;
         let place = self.ranges.find(in_file)?;
         let function = self.functions[place];
-        Some((place, function, in_file - function.address))
+        Some((place, function, address - lookup.base - function.address))
     }
 
-    /// Appends the line of an address to the text: the address, the symbol that the address minus the base symbolizes
-    /// to, and the offset into it; or `??` where there is none.
+    /// Appends the line of an address to the text: the address, the symbol that it symbolizes to by this lookup, and the
+    /// offset of the address into it; or `??` where there is none.
     ///
     /// # Errors
     ///
@@ -96,11 +97,11 @@ impl<'a> Places<'a> {
         &self,
         alloc: Global,
         text: &mut Vec<u8>,
-        base: u64,
+        lookup: Lookup,
         address: u64,
     ) -> Result<(), AllocError> {
-        let shown = self.find_shown(base, address);
-        self.push_shown(alloc, text, base, address, shown)
+        let shown = self.find_shown(lookup, address);
+        self.push_shown(alloc, text, lookup, address, shown)
     }
 
     // Appends the answers of lines with these addresses, or none, to the text. The memory of all is read before the
@@ -109,14 +110,14 @@ impl<'a> Places<'a> {
         &self,
         alloc: Global,
         text: &mut Vec<u8>,
-        base: u64,
+        lookup: Lookup,
         addresses: &[Option<u64>],
     ) -> Result<(), AllocError> {
-        let nears = self.cells.nears(alloc, base, addresses)?;
+        let nears = self.cells.nears(alloc, lookup, addresses)?;
         let names = self.names.text.as_bytes();
         self.cells.ends_of_names(alloc, &nears, names)?;
         for k in 0..addresses.len() {
-            self.push_answer(alloc, text, base, addresses[k], nears[k])?;
+            self.push_answer(alloc, text, lookup, addresses[k], nears[k])?;
         }
         Ok(())
     }
@@ -126,12 +127,12 @@ impl<'a> Places<'a> {
         &self,
         alloc: Global,
         text: &mut Vec<u8>,
-        base: u64,
+        lookup: Lookup,
         address: Option<u64>,
         near: usize,
     ) -> Result<(), AllocError> {
         match address {
-            Some(address) => self.push_near(alloc, text, base, address, near),
+            Some(address) => self.push_near(alloc, text, lookup, address, near),
             None => Ok(text.extend_from_slice(b"??\n")?),
         }
     }
@@ -141,46 +142,46 @@ impl<'a> Places<'a> {
         &self,
         alloc: Global,
         text: &mut Vec<u8>,
-        base: u64,
+        lookup: Lookup,
         address: u64,
         near: usize,
     ) -> Result<(), AllocError> {
-        if let Some((name, offset)) = self.near_name(base, address, near) {
+        if let Some((name, offset)) = self.near_name(lookup, address, near) {
             push_address(text, address)?;
             text.extend_from_slice(name)?;
             push_offset(text, offset)?;
             return Ok(());
         }
-        if self.is_free(base, address, near) {
-            return self.push_shown(alloc, text, base, address, None);
+        if self.is_free(lookup, address, near) {
+            return self.push_shown(alloc, text, lookup, address, None);
         }
-        self.push_line(alloc, text, base, address)
+        self.push_line(alloc, text, lookup, address)
     }
 
     // The kept name of the function symbol that an address symbolizes to, and the offset into it, if the cell at this
     // place has it.
     #[cfg_attr(not(debug_assertions), inline(always))]
-    fn near_name(&self, base: u64, address: u64, near: usize) -> Option<(&[u8], u64)> {
+    fn near_name(&self, lookup: Lookup, address: u64, near: usize) -> Option<(&[u8], u64)> {
         let cell = *self.cells.cells.get(near)?;
-        if address < base {
-            return None;
-        }
-        let in_file = address - base;
+        let in_file = lookup.in_file(address)?;
         if in_file < cell.address || in_file - cell.address >= u64::from(cell.size) {
             return None;
         }
         let text = self.names.text.as_bytes();
         let start = cell.start as usize;
         let stop = start + cell.len as usize;
-        Some((&text[start..stop], in_file - cell.address))
+        Some((&text[start..stop], address - lookup.base - cell.address))
     }
 
     // Whether the cell at this place shows that the address has no symbol.
     #[cfg_attr(not(debug_assertions), inline(always))]
-    fn is_free(&self, base: u64, address: u64, near: usize) -> bool {
+    fn is_free(&self, lookup: Lookup, address: u64, near: usize) -> bool {
+        let Some(in_file) = lookup.in_file(address) else {
+            return false;
+        };
         match self.cells.cells.get(near) {
-            Some(cell) if address >= base && address - base >= cell.address => {
-                let offset = address - base - cell.address;
+            Some(cell) if in_file >= cell.address => {
+                let offset = in_file - cell.address;
                 u64::from(cell.size) <= offset && offset < u64::from(cell.until)
             }
             _ => false,
@@ -188,8 +189,8 @@ impl<'a> Places<'a> {
     }
 
     // The symbol of an address: the place of a function symbol, and the offset into it.
-    fn find_shown(&self, base: u64, address: u64) -> Option<Found> {
-        match self.find_place(base, address) {
+    fn find_shown(&self, lookup: Lookup, address: u64) -> Option<Found> {
+        match self.find_place(lookup, address) {
             Some(found) => Some(Found {
                 place: found.0,
                 offset: found.2,
@@ -203,7 +204,7 @@ impl<'a> Places<'a> {
         &self,
         alloc: Global,
         text: &mut Vec<u8>,
-        base: u64,
+        lookup: Lookup,
         address: u64,
         shown: Option<Found>,
     ) -> Result<(), AllocError> {
@@ -274,10 +275,11 @@ fn places_of(alloc: Global, functions: Functions<'_>) -> Result<Places<'_>, Allo
 /// Symbolizes addresses in an executable: a line for each, in their order.
 ///
 /// The format and the section are as in `list`. A line is `{address:016x} {trimmed}+0x{offset:x}`: the address, the
-/// trimmed name of its function symbol, and the offset into it. The base is subtracted first. A symbol holds the
-/// addresses of its range, or of size 0 its own. Of several that hold an address, it is the one of greatest address,
-/// and of several there the first in the order of the listing. The line is `{address:016x} ??` for an address that none
-/// holds, and for one below the base.
+/// trimmed name of its function symbol, and the offset into it. The base is subtracted first, and from a return address
+/// 1 more for the lookup, but not for the offset. A symbol holds the addresses of its range, or of size 0 its own. Of
+/// several that hold an address, it is the one of greatest address, and of several there the first in the order of the
+/// listing. The line is `{address:016x} ??` for an address that none holds, for one below the base, and for a return
+/// address at the base.
 ///
 /// # Errors
 ///
@@ -286,11 +288,11 @@ pub fn at<S: Sink>(
     alloc: Global,
     file: &[u8],
     section: &str,
-    base: u64,
+    lookup: Lookup,
     addresses: &[u64],
     out: &mut S,
 ) -> Result<(), ListError> {
-    at_tables(alloc, &Tables::whole(file, section), base, addresses, out)
+    at_tables(alloc, &Tables::whole(file, section), lookup, addresses, out)
 }
 
 /// As `at`, from the tables of a file: for the section that they were read for.
@@ -301,12 +303,12 @@ pub fn at<S: Sink>(
 pub fn at_tables<S: Sink>(
     alloc: Global,
     tables: &Tables<'_>,
-    base: u64,
+    lookup: Lookup,
     addresses: &[u64],
     out: &mut S,
 ) -> Result<(), ListError> {
     let places = Places::of_tables(alloc, tables)?;
-    write_lines(alloc, &places, base, addresses, out)
+    write_lines(alloc, &places, lookup, addresses, out)
 }
 
 /// Writes a line for each address, as `at` does, by the places of a file.
@@ -318,11 +320,11 @@ pub fn at_tables<S: Sink>(
 pub fn write_lines<S: Sink>(
     alloc: Global,
     places: &Places<'_>,
-    base: u64,
+    lookup: Lookup,
     addresses: &[u64],
     out: &mut S,
 ) -> Result<(), ListError> {
-    let text = lines(alloc, places, base, addresses)?;
+    let text = lines(alloc, places, lookup, addresses)?;
     write_whole(out, text.as_slice())
 }
 
@@ -330,12 +332,12 @@ pub fn write_lines<S: Sink>(
 fn lines(
     alloc: Global,
     places: &Places<'_>,
-    base: u64,
+    lookup: Lookup,
     addresses: &[u64],
 ) -> Result<Vec<u8>, AllocError> {
     let mut text = Vec::new(alloc);
     for address in addresses {
-        places.push_line(alloc, &mut text, base, *address)?;
+        places.push_line(alloc, &mut text, lookup, *address)?;
     }
     Ok(text)
 }

@@ -5,6 +5,7 @@
 use crate::shim::{TrimAscii, Vec};
 use crate::erased::binfarce_addresses::address::{hex_line, parse_address};
 use crate::erased::binfarce_addresses::at::Places;
+use crate::erased::binfarce_addresses::lookup::Lookup;
 use crate::erased::binfarce_tools::list::Sink;
 use crate::erased::binfarce_tools::writing::write_whole;
 use crate::shim::alloc::{AllocError, Global};
@@ -69,12 +70,12 @@ pub struct Answered {
 pub fn push_lines(
     alloc: Global,
     places: &Places<'_>,
-    base: u64,
+    lookup: Lookup,
     bytes: &[u8],
     text: &mut Vec<u8>,
 ) -> Result<Answered, AllocError> {
     let (addresses, answered) = addresses_of(alloc, bytes)?;
-    places.push_all(alloc, text, base, &addresses)?;
+    places.push_all(alloc, text, lookup, &addresses)?;
     Ok(answered)
 }
 
@@ -126,7 +127,7 @@ fn first_line(bytes: &[u8]) -> Option<&[u8]> {
 pub fn answer_lines<R: Read, S: Sink>(
     alloc: Global,
     places: &Places<'_>,
-    base: u64,
+    lookup: Lookup,
     input: &mut R,
     out: &mut S,
 ) -> Result<u64, LinesError> {
@@ -135,13 +136,13 @@ pub fn answer_lines<R: Read, S: Sink>(
     let missing = answer_whole(
         alloc,
         places,
-        base,
+        lookup,
         &mut line,
         chunk.as_mut_slice(),
         input,
         out,
     )?;
-    answer_last(alloc, places, base, &mut line, missing, out)
+    answer_last(alloc, places, lookup, &mut line, missing, out)
 }
 
 // Room for the bytes of a read.
@@ -153,7 +154,7 @@ fn new_chunk(alloc: Global) -> Result<Vec<u8>, AllocError> {
 fn answer_whole<R: Read, S: Sink>(
     alloc: Global,
     places: &Places<'_>,
-    base: u64,
+    lookup: Lookup,
     line: &mut Vec<u8>,
     chunk: &mut [u8],
     input: &mut R,
@@ -164,7 +165,7 @@ fn answer_whole<R: Read, S: Sink>(
         match input.read(chunk) {
             Ok(0) => return Ok(missing),
             Ok(n) => {
-                let more = answer_part(alloc, places, base, line, &chunk[..n], out)?;
+                let more = answer_part(alloc, places, lookup, line, &chunk[..n], out)?;
                 missing = u64::saturating_add(missing, more);
             }
             Err(e) => {
@@ -181,13 +182,13 @@ fn answer_whole<R: Read, S: Sink>(
 fn answer_part<S: Sink>(
     alloc: Global,
     places: &Places<'_>,
-    base: u64,
+    lookup: Lookup,
     line: &mut Vec<u8>,
     part: &[u8],
     out: &mut S,
 ) -> Result<u64, LinesError> {
     line.extend_from_slice(part)?;
-    let answered = answer(alloc, places, base, line.as_slice(), out)?;
+    let answered = answer(alloc, places, lookup, line.as_slice(), out)?;
     let kept = kept_of(alloc, &line[answered.len..])?;
     *line = kept;
     Ok(answered.missing)
@@ -211,12 +212,12 @@ fn kept_of(alloc: Global, line: &[u8]) -> Result<Vec<u8>, AllocError> {
 fn answer<S: Sink>(
     alloc: Global,
     places: &Places<'_>,
-    base: u64,
+    lookup: Lookup,
     bytes: &[u8],
     out: &mut S,
 ) -> Result<Answered, LinesError> {
     let mut text = Vec::with_capacity(alloc, bytes.len().saturating_mul(GROWTH))?;
-    let answered = push_lines(alloc, places, base, bytes, &mut text)?;
+    let answered = push_lines(alloc, places, lookup, bytes, &mut text)?;
     write_all(out, text.as_slice())?;
     Ok(answered)
 }
@@ -225,7 +226,7 @@ fn answer<S: Sink>(
 fn answer_last<S: Sink>(
     alloc: Global,
     places: &Places<'_>,
-    base: u64,
+    lookup: Lookup,
     line: &mut Vec<u8>,
     missing: u64,
     out: &mut S,
@@ -233,7 +234,7 @@ fn answer_last<S: Sink>(
     if line.as_slice().is_empty() {
         return Ok(missing);
     }
-    let more = answer_part(alloc, places, base, line, b"\n", out)?;
+    let more = answer_part(alloc, places, lookup, line, b"\n", out)?;
     Ok(missing.saturating_add(more))
 }
 

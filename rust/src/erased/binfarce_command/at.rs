@@ -6,8 +6,8 @@ use crate::shim::Vec;
 use crate::erased::binfarce_command::fault::Fault;
 use crate::erased::binfarce_command::show::Symbols;
 use crate::erased::binfarce_addresses::at::{Places, at_tables, write_lines};
-use crate::erased::binfarce_addresses::parse_address;
 use crate::erased::binfarce_addresses::stream::answer_lines;
+use crate::erased::binfarce_addresses::{Lookup, parse_address};
 use crate::erased::binfarce_bytes::source::Source;
 use crate::erased::binfarce_tools::all::{AllTables, read_all};
 use crate::erased::binfarce_tools::list::{ListError, Sink};
@@ -35,7 +35,7 @@ pub fn read_addresses<'a>(alloc: Global, words: &[&'a str]) -> Result<Vec<u64>, 
     Ok(addresses)
 }
 
-/// Symbolizes the addresses, once the base is subtracted, by these function symbols. Of the source it reads the headers, the symbol
+/// Symbolizes the addresses, by this lookup and these function symbols. Of the source it reads the headers, the symbol
 /// table and the names alone.
 ///
 /// # Errors
@@ -46,18 +46,18 @@ pub fn answer_all<S: Source, K: Sink>(
     alloc: Global,
     source: &S,
     symbols: &Symbols<'_>,
-    base: u64,
+    lookup: Lookup,
     addresses: &[u64],
     out: &mut K,
 ) -> Result<(), Fault> {
     match symbols.section {
         Some(section) => {
             let tables = read_by(alloc, source, symbols.which, section)?;
-            answer_tables(alloc, &tables, base, addresses, out)
+            answer_tables(alloc, &tables, lookup, addresses, out)
         }
         None => {
             let tables = read_all(alloc, source, symbols.which)?;
-            answer_all_tables(alloc, &tables, base, addresses, out)
+            answer_all_tables(alloc, &tables, lookup, addresses, out)
         }
     }
 }
@@ -66,23 +66,23 @@ pub fn answer_all<S: Source, K: Sink>(
 fn answer_tables<K: Sink>(
     alloc: Global,
     tables: &Tables<'_>,
-    base: u64,
+    lookup: Lookup,
     addresses: &[u64],
     out: &mut K,
 ) -> Result<(), Fault> {
-    Ok(at_tables(alloc, tables, base, addresses, out)?)
+    Ok(at_tables(alloc, tables, lookup, addresses, out)?)
 }
 
 // The same of all sections.
 fn answer_all_tables<K: Sink>(
     alloc: Global,
     tables: &AllTables,
-    base: u64,
+    lookup: Lookup,
     addresses: &[u64],
     out: &mut K,
 ) -> Result<(), Fault> {
     let places = places_of_all(alloc, tables)?;
-    Ok(write_lines(alloc, &places, base, addresses, out)?)
+    Ok(write_lines(alloc, &places, lookup, addresses, out)?)
 }
 
 // The places of the function symbols of all sections.
@@ -104,18 +104,18 @@ pub fn answer_input<S: Source, I: Read, K: Sink>(
     alloc: Global,
     source: &S,
     symbols: &Symbols<'_>,
-    base: u64,
+    lookup: Lookup,
     input: &mut I,
     out: &mut K,
 ) -> Result<u64, Fault> {
     match symbols.section {
         Some(section) => {
             let tables = read_by(alloc, source, symbols.which, section)?;
-            answer_in_tables(alloc, &tables, base, input, out)
+            answer_in_tables(alloc, &tables, lookup, input, out)
         }
         None => {
             let tables = read_all(alloc, source, symbols.which)?;
-            answer_in_all(alloc, &tables, base, input, out)
+            answer_in_all(alloc, &tables, lookup, input, out)
         }
     }
 }
@@ -124,12 +124,12 @@ pub fn answer_input<S: Source, I: Read, K: Sink>(
 fn answer_in_tables<I: Read, K: Sink>(
     alloc: Global,
     tables: &Tables<'_>,
-    base: u64,
+    lookup: Lookup,
     input: &mut I,
     out: &mut K,
 ) -> Result<u64, Fault> {
     let places = named_places(alloc, tables)?;
-    let missing = answer_lines(alloc, &places, base, input, out)?;
+    let missing = answer_lines(alloc, &places, lookup, input, out)?;
     Ok(missing)
 }
 
@@ -137,13 +137,13 @@ fn answer_in_tables<I: Read, K: Sink>(
 fn answer_in_all<I: Read, K: Sink>(
     alloc: Global,
     tables: &AllTables,
-    base: u64,
+    lookup: Lookup,
     input: &mut I,
     out: &mut K,
 ) -> Result<u64, Fault> {
     let mut places = places_of_all(alloc, tables)?;
     places.keep_names(alloc)?;
-    let missing = answer_lines(alloc, &places, base, input, out)?;
+    let missing = answer_lines(alloc, &places, lookup, input, out)?;
     Ok(missing)
 }
 

@@ -66,7 +66,7 @@ impl fmt::Display for Fault {
             Fault::PastEnd => write!(f, "section reaches past the end of the file"),
             Fault::SharedAddresses => write!(
                 f,
-                "its sections share addresses; use --section in place of --all"
+                "its sections share addresses; --section=NAME takes one of them"
             ),
             Fault::Missing(1) => write!(f, "1 line without an address"),
             Fault::Missing(count) => write!(f, "{count} lines without an address"),

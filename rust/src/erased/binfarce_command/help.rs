@@ -83,11 +83,13 @@ usage: binfarce at [OPTION..] FILE [ADDRESS..]
 Writes a line for each address: the function symbol that holds it, and the offset in
 it. Without an ADDRESS the addresses are the lines of standard input.
 
+  --return         the addresses are return addresses, as RUST_BACKTRACE=full prints:
+                   the call before each is looked up
   --dynamic        by the dynamic symbol table of an ELF file (.dynsym)
-  --section=NAME   the section of an ELF file, by default .text; of Mach-O and PE
-                   files the code section is taken
-  --all            the symbols of all sections; refused of an object file, whose
-                   sections share addresses
+  --section=NAME   the symbols of a section of an ELF file; of Mach-O and PE files
+                   those of the code section
+  --all            the symbols of all sections, as without --section; refused of an
+                   object file, whose sections share addresses
   --base=ADDRESS   is subtracted from each address: where the file is loaded
   --help           this text
 ";

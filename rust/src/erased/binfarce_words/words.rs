@@ -59,6 +59,8 @@ pub enum Flag {
     Full,
     /// Is subtracted from each address.
     Base,
+    /// The addresses are return addresses.
+    Return,
     /// Reads the dynamic symbol table of an ELF file.
     Dynamic,
     /// Takes the function symbols of all sections.
@@ -72,6 +74,7 @@ impl Named for Flag {
             Flag::Section => "--section",
             Flag::Full => "--full",
             Flag::Base => "--base",
+            Flag::Return => "--return",
             Flag::Dynamic => "--dynamic",
             Flag::All => "--all",
         }
@@ -86,6 +89,7 @@ impl Flag {
             Flag::Section => true,
             Flag::Full => false,
             Flag::Base => true,
+            Flag::Return => false,
             Flag::Dynamic => false,
             Flag::All => false,
         }
@@ -103,6 +107,7 @@ impl Command {
             Command::At => &[
                 Flag::Help,
                 Flag::Section,
+                Flag::Return,
                 Flag::Base,
                 Flag::Dynamic,
                 Flag::All,
@@ -193,6 +198,8 @@ pub struct Given<'a> {
     pub full: bool,
     /// The base, which is subtracted from each address.
     pub base: u64,
+    /// The addresses are return addresses.
+    pub is_return: bool,
     /// The dynamic symbol table is read.
     pub dynamic: bool,
     /// The function symbols of all sections are taken.
@@ -342,6 +349,7 @@ impl<'a> Reading<'a> {
             full: false,
             base: 0,
             dynamic: false,
+            is_return: false,
             all: false,
             operands: Vec::new(alloc),
         };
@@ -432,6 +440,7 @@ impl<'a> Given<'a> {
                 None => return Err(Wrong::NoAddress(value)),
             },
             Flag::Dynamic => self.dynamic = true,
+            Flag::Return => self.is_return = true,
             Flag::All => self.all = true,
         }
         Ok(())

@@ -9,4 +9,4 @@ returns-clause-outcome g c = λ which file section are.
 
 pub returns-clause-takes : goal.returns-clause-takes
 returns-clause-takes g c = λ which file section are.
-    takes_of (MemoryIn file section) (answer_in which file section) c.in_ok-places.places c.args.base c.args.addresses.now _ _ (outcome_of c.write_lines.result) (c.in_ok-places.ensures.made which file section are) c.write_lines.ensures.takes
+    takes_of (MemoryIn file section) (answer_in which file section) c.in_ok-places.places c.args.lookup c.args.addresses.now _ _ (outcome_of c.write_lines.result) (c.in_ok-places.ensures.made which file section are) c.write_lines.ensures.takes

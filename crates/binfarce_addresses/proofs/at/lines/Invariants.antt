@@ -4,4 +4,4 @@ use Rattle.binfarce_addresses.proofs.at.lines.Given as goal
 
 -- the lines of the addresses so far
 abbrev pub invariant-loop-address : goal.invariant-loop-address
-invariant-loop-address l = AreLinesOf l.places l.base (take l.address-index l.addresses) l.text.items
+invariant-loop-address l = AreLinesOf l.places l.lookup (take l.address-index l.addresses) l.text.items

@@ -23,9 +23,9 @@ returns-in_err-write_lines-clause-takes g c = λ which file are.
     let e = c.in_err-write_lines.field-0.0 in
     let old = g.K.Sink.taken c.args.out.now in
     let new = g.K.Sink.taken c.write_lines.new.out in
-    of_list e c.from_residual-in_err-write_lines.result (λ (o : Outcome). Takes (AreLinesAt c.args.base c.args.addresses.now) (one_answer (all_answer_of which file)) old new o) c.from_residual-in_err-write_lines.ensures.1
-    (takes_of (AllNeedsMemory file) (one_answer (all_answer_of which file)) c.in_ok-places.places c.args.base c.args.addresses.now old new (list.outcome_of (Err e)) (c.in_ok-places.ensures.has which file are).1 c.in_err-write_lines.ensures.takes)
+    of_list e c.from_residual-in_err-write_lines.result (λ (o : Outcome). Takes (AreLinesAt c.args.lookup c.args.addresses.now) (one_answer (all_answer_of which file)) old new o) c.from_residual-in_err-write_lines.ensures.1
+    (takes_of (AllNeedsMemory file) (one_answer (all_answer_of which file)) c.in_ok-places.places c.args.lookup c.args.addresses.now old new (list.outcome_of (Err e)) (c.in_ok-places.ensures.has which file are).1 c.in_err-write_lines.ensures.takes)
 
 pub returns-clause-takes : goal.returns-clause-takes
 returns-clause-takes g c = λ which file are.
-    takes_of (AllNeedsMemory file) (one_answer (all_answer_of which file)) c.in_ok-places.places c.args.base c.args.addresses.now (g.K.Sink.taken c.args.out.now) (g.K.Sink.taken c.write_lines.new.out) written (c.in_ok-places.ensures.has which file are).1 c.in_ok-write_lines.ensures.takes
+    takes_of (AllNeedsMemory file) (one_answer (all_answer_of which file)) c.in_ok-places.places c.args.lookup c.args.addresses.now (g.K.Sink.taken c.args.out.now) (g.K.Sink.taken c.write_lines.new.out) written (c.in_ok-places.ensures.has which file are).1 c.in_ok-write_lines.ensures.takes

@@ -4,4 +4,4 @@ use Rattle.binfarce_addresses.proofs.at.Places.push_all.Given as goal
 
 -- the lines of the addresses so far
 abbrev pub invariant-loop-k : goal.invariant-loop-k
-invariant-loop-k l = AreBehind l.self l.base (take l.k l.addresses) l.fn.text.items l.text.items
+invariant-loop-k l = AreBehind l.self l.lookup (take l.k l.addresses) l.fn.text.items l.text.items

@@ -1,5 +1,5 @@
 -- What the parts of a file give is what the file answers for all sections.
-use Rattle.std.proofs.Common.{◌≡◌, ℕ, Bool, true, false, cond, ltb, length, List, [], map, Vec, Global, Option, Some, None, Result, Ok, Err, refl, sym, ap, subst, ◌∙◌, inl, inr}
+use Rattle.std.proofs.Common.{◌≡◌, ℕ, Bool, true, false, cond, ltb, length, List, [], map, Vec, Global, Option, Some, None, Result, Ok, Err, refl, sym, ap, subst, ◌∙◌}
 use Rattle.std.specs.Prelude.{◌≢◌, codes, nat_eq}
 use Rattle.std.specs.Result.{IsErrAnd}
 use Rattle.binfarce.specs.declared.ParseError.{ParseError}
@@ -20,7 +20,6 @@ use Rattle.binfarce_macho.proofs.AllRows.{has_start}
 use Rattle.binfarce.specs.Pe as pe_file
 use Rattle.binfarce.specs.ElfAll.{all_file_answer}
 use Rattle.binfarce.specs.PeAll as pe_all
-use Rattle.binfarce_tables.specs.MachoAllReading as macho
 use Rattle.binfarce_tables.specs.PeAllReading as pe
 use Rattle.binfarce_tools.specs.declared.all.AllTables.{AllTables}
 use Rattle.binfarce_tools.specs.declared.all.AllTables.TheVariants as tables
@@ -34,8 +33,7 @@ use Rattle.binfarce_tools.specs.AllTables.{AreAllTablesOf, section_names, shares
 use Rattle.binfarce_tools.specs.Entries.{GetsAs, HoldsAll, all_left}
 use Rattle.binfarce_tools.specs.ListWords.{list_error_of}
 use Rattle.binfarce_tools.proofs.Lines.{AreLines}
-use Rattle.binfarce_tools.proofs.Listings.{as_memory, parse}
-use Rattle.binfarce_tools.proofs.Reported.{Reported, is_reported, reported_all_of}
+use Rattle.binfarce_tools.proofs.Listings.{as_memory}
 
 -- the answer of a file is that of its format
 pub answer_32 : (which : SymbolTable) (order : _) (file : List ℕ) (given : Result AllSymbols Refusal) → format_of file ≡ formats.Elf32 order → all_file_answer which elf32 order file ≡ given → all_answer_of which file ≡ Some given
@@ -63,26 +61,11 @@ pub of_unknown : (which : SymbolTable) (file : List ℕ) → format_of file ≡ 
 unfolding all_symbols_answer
 of_unknown which file is = subst (λ (f : Format). GetsAs HoldsAll (λ _. HasSections f file) (all_symbols_answer which f file) (Err errors.Unknown)) (sym is) refl
 
--- what is made of entries that a call lists
-module _ (A B : Type 0) (names : ℕ → Option (List ℕ)) (shares_addresses : Bool) where
-  abbrev pub with_entries : Result (List SectionEntry) Refusal → Result AllSymbols Refusal
-  with_entries entries = entries >>= λ e. Ok (record { entries = e; section_name = names; shares_addresses = shares_addresses })
-
-  pub listed : (entries : Result (List SectionEntry) Refusal) (functions : Vec SectionFunction Global) (value : AllFunctions)
-      → AnswersAll HoldsSectionFunctions A entries (Ok functions) → all_left value ≡ map section_function_view functions.items → GetsAs HoldsAll (λ _. B) (Some (with_entries entries)) (Ok value)
-  listed (Ok entries) functions value answers is = is ∙ answers
-  listed (Err refusal) functions value answers is = absurd answers
-
-  pub not_listed : (entries : Result (List SectionEntry) Refusal) (e : ParseError) (result : Result AllFunctions ListError) → Reported entries → (A → B)
-      → AnswersAll HoldsSectionFunctions A entries (Err e) → IsErrAnd result (λ f. f ≡ list_error_of e) → GetsAs HoldsAll (λ _. B) (Some (with_entries entries)) result
-  not_listed entries e (Ok value) reported_is needs answers is = absurd is
-  not_listed entries e (Err f) reported_is needs answers is =
-      subst (λ (f : ListError). GetsAs HoldsAll (λ _. B) (Some (with_entries entries)) (Err f)) (sym is) (by_entries entries reported_is answers)
-    where
-      by_entries : (entries : Result (List SectionEntry) Refusal) → Reported entries → AnswersAll HoldsSectionFunctions A entries (Err e) → GetsAs HoldsAll (λ _. B) (Some (with_entries entries)) (Err (list_error_of e))
-      by_entries (Ok entries) reported_is answers = (needs answers.1, as_memory e answers.0)
-      by_entries (Err refusal) reported_is (inl is) = inl (e, is, parse e (ap is_reported is ∙ reported_is))
-      by_entries (Err refusal) reported_is (inr h) = inr (needs h.1, as_memory e h.0)
+-- a call that lists no entries
+not_listed : (A B : Type 0) (all : AllSymbols) (e : ParseError) (result : Result AllFunctions ListError) → (A → B)
+    → AnswersAll {X = Vec SectionFunction Global} HoldsSectionFunctions A (Ok all.entries) (Err e) → IsErrAnd result (λ f. f ≡ list_error_of e) → GetsAs HoldsAll (λ _. B) (Some (Ok all)) result
+not_listed A B all e (Ok value) needs answers is = absurd is
+not_listed A B all e (Err f) needs answers is = subst (λ (f : ListError). GetsAs HoldsAll (λ _. B) (Some (Ok all)) (Err f)) (sym is) (needs answers.1, as_memory e answers.0)
 
 -- what is got of a file of this format
 got : (which : SymbolTable) (file : List ℕ) (format : Format) (answer : Result AllSymbols Refusal) (result : Result AllFunctions ListError) → format_of file ≡ format → all_answer_of which file ≡ Some answer
@@ -93,43 +76,41 @@ got which file format answer result is answered gets =
 
 module _ (which : SymbolTable) (file : List ℕ) (found : macho_all.AllLocated)
     (is : (format_of file ≡ formats.Macho) × (all_answer_of which file ≡ Some (macho_all.all_file_answer file)) × (macho_all.all_located_answer file ≡ Ok found)) where
-  same : macho_all.all_file_answer file ≡ macho_all.all_symbols found
-  same = ap (λ (l : Result macho_all.AllLocated Refusal). l >>= macho_all.all_symbols) is.2
+  same : macho_all.all_file_answer file ≡ Ok (macho_all.all_symbols found)
+  same = ap (λ (l : Result macho_all.AllLocated Refusal). l >>= λ found. Ok (macho_all.all_symbols found)) is.2
 
-  abbrev SomeEnd : Type 0
-  SomeEnd = found.ends ≢ []
+  abbrev SomeSection : Type 0
+  SomeSection = found.sections ≢ []
 
-  pub given_macho : (functions : Vec SectionFunction Global) (value : AllFunctions) → AnswersAll HoldsSectionFunctions SomeEnd (macho_all.all_entries found) (Ok functions) → all_left value ≡ map section_function_view functions.items
+  pub given_macho : (functions : Vec SectionFunction Global) (value : AllFunctions) → AnswersAll HoldsSectionFunctions SomeSection (Ok (macho_all.all_entries found)) (Ok functions) → all_left value ≡ map section_function_view functions.items
       → GetsAs HoldsAll (AllNeedsMemory file) (all_answer_of which file) (Ok value)
-  given_macho functions value answers left =
-      got which file formats.Macho (macho_all.all_symbols found) (Ok value) is.0 (is.1 ∙ ap Some same)
-      (listed SomeEnd (HasSections formats.Macho file) (macho_all.name_of found.names) found.shares_addresses (macho_all.all_entries found) functions value answers left)
+  given_macho functions value answers left = got which file formats.Macho (Ok (macho_all.all_symbols found)) (Ok value) is.0 (is.1 ∙ ap Some same) (left ∙ answers)
 
-  pub not_given_macho : (e : ParseError) (result : Result AllFunctions ListError) → (SomeEnd → HasSections formats.Macho file) → AnswersAll HoldsSectionFunctions SomeEnd (macho_all.all_entries found) (Err e) → IsErrAnd result (λ f. f ≡ list_error_of e)
+  pub not_given_macho : (e : ParseError) (result : Result AllFunctions ListError) → (SomeSection → HasSections formats.Macho file) → AnswersAll HoldsSectionFunctions SomeSection (Ok (macho_all.all_entries found)) (Err e) → IsErrAnd result (λ f. f ≡ list_error_of e)
       → GetsAs HoldsAll (AllNeedsMemory file) (all_answer_of which file) result
   not_given_macho e result needs answers err =
-      got which file formats.Macho (macho_all.all_symbols found) result is.0 (is.1 ∙ ap Some same)
-      (not_listed SomeEnd (HasSections formats.Macho file) (macho_all.name_of found.names) found.shares_addresses (macho_all.all_entries found) e result (reported_all_of found.ends found.symbols) needs answers err)
+      got which file formats.Macho (Ok (macho_all.all_symbols found)) result is.0 (is.1 ∙ ap Some same)
+      (not_listed SomeSection (HasSections formats.Macho file) (macho_all.all_symbols found) e result needs answers err)
 
 located_same : {a b : macho_all.AllLocated} → Path (Result macho_all.AllLocated Refusal) (Ok a) (Ok b) → b ≡ a
 located_same e = cc
 
--- a Mach-O file with an end of a section has a section
-pub macho_needs : (file : List ℕ) (found : macho_all.AllLocated) → macho_all.all_located_answer file ≡ Ok found → found.ends ≢ [] → HasSections formats.Macho file
+-- a Mach-O file of which a section is located has a section
+pub macho_needs : (file : List ℕ) (found : macho_all.AllLocated) → macho_all.all_located_answer file ≡ Ok found → found.sections ≢ [] → HasSections formats.Macho file
 unfolding HasSections
 macho_needs file found is some = by_length (ltb (length file) least_length) is
   where
     by_starts : (starts : Result (List ℕ) Refusal) → macho_all.section_starts file ≡ starts
-        → (starts >>= λ s. macho_all.symbols_of file >>= λ symbols. Ok (record { ends = map (macho_all.end_at file) s; names = map (macho_all.name_at file) s; symbols = symbols; shares_addresses = nat_eq (macho_file.header_of file).filetype 1 })) ≡ Ok found
+        → (starts >>= λ s. macho_all.symbols_of file >>= λ symbols. Ok (record { sections = map (macho_all.extent_at file) s; names = map (macho_all.name_at file) s; symbols = symbols; shares_addresses = nat_eq (macho_file.header_of file).filetype 1 })) ≡ Ok found
         → macho_all.HasSection file
     by_starts (Err refusal) at e = absurd cc
-    by_starts (Ok starts) at e = has_start file starts at (λ none. some (by_symbols (macho_all.symbols_of file) e ∙ ap (map (macho_all.end_at file)) none))
+    by_starts (Ok starts) at e = has_start file starts at (λ none. some (by_symbols (macho_all.symbols_of file) e ∙ ap (map (macho_all.extent_at file)) none))
       where
         by_symbols : (symbols : Result (Option macho_all.Symbols) Refusal)
-            → (symbols >>= λ symbols. Ok (record { ends = map (macho_all.end_at file) starts; names = map (macho_all.name_at file) starts; symbols = symbols; shares_addresses = nat_eq (macho_file.header_of file).filetype 1 })) ≡ Ok found
-            → found.ends ≡ map (macho_all.end_at file) starts
+            → (symbols >>= λ symbols. Ok (record { sections = map (macho_all.extent_at file) starts; names = map (macho_all.name_at file) starts; symbols = symbols; shares_addresses = nat_eq (macho_file.header_of file).filetype 1 })) ≡ Ok found
+            → found.sections ≡ map (macho_all.extent_at file) starts
         by_symbols (Err refusal) e = absurd cc
-        by_symbols (Ok symbols) e = ap (λ (l : macho_all.AllLocated). l.ends) (located_same e)
+        by_symbols (Ok symbols) e = ap (λ (l : macho_all.AllLocated). l.sections) (located_same e)
 
     by_length : (short : Bool) → cond short (Err unexpected_eof) (macho_all.all_located file) ≡ Ok found → macho_all.HasSection file
     by_length true e = absurd cc
@@ -149,34 +130,20 @@ module _ (which : SymbolTable) (file : List ℕ) (read : pe.AllTables)
       → GetsAs HoldsAll (AllNeedsMemory file) (all_answer_of which file) result
   not_given_pe e result answers err =
       got which file formats.PE (Ok (pe.all_view read)) result is.0 is.1
-      (not_listed (read.sections.count ≢ 0) (HasSections formats.PE file) (pe.all_view read).section_name false (Ok (pe.all_view read).entries) e result tt needs answers err)
+      (not_listed (read.sections.count ≢ 0) (HasSections formats.PE file) (pe.all_view read) e result needs answers err)
 
 some_ok : {a b : AllSymbols} → Path (Option (Result AllSymbols Refusal)) (Some (Ok a)) (Some (Ok b)) → a ≡ b
 some_ok e = cc
 
-some_same : {a b : Result AllSymbols Refusal} → Path (Option (Result AllSymbols Refusal)) (Some a) (Some b) → a ≡ b
-some_same e = cc
-
--- what was read beside the entries of a Mach-O file is the file's
-macho_all_is : (entries : Result (List SectionEntry) Refusal) (names : ℕ → Option (List ℕ)) (shares_addresses : Bool) (all : AllSymbols)
-    → (entries >>= λ e. Ok (record { entries = e; section_name = names; shares_addresses = shares_addresses })) ≡ Ok all → (names ≡ all.section_name) × (shares_addresses ≡ all.shares_addresses)
-macho_all_is (Ok entries) names shares_addresses all is = let same : (record { entries = entries; section_name = names; shares_addresses = shares_addresses }) ≡ all = of_ok is in
-    (ap (λ (a : AllSymbols). a.section_name) same, ap (λ (a : AllSymbols). a.shares_addresses) same)
-  where
-    of_ok : {a b : AllSymbols} → Path (Result AllSymbols Refusal) (Ok a) (Ok b) → a ≡ b
-    of_ok e = cc
-macho_all_is (Err refusal) names shares_addresses all is = absurd cc
-
--- and so for any file: the names, and whether it is an object file
+-- what was read beside the entries is the file's: the names, and whether it is an object file
 all_is : (which : SymbolTable) (file : List ℕ) (read : AllTables) (all : AllSymbols) → AreAllTablesOf which file read → all_answer_of which file ≡ Some (Ok all)
     → (section_names read ≡ all.section_name) × (shares_addresses_of read ≡ all.shares_addresses)
 unfolding AreAllTablesOf all_symbols_answer
 all_is which file (tables.Elf32 parts) all are is = (ap (λ (a : AllSymbols). a.section_name) (some_ok (sym are ∙ is)), ap (λ (a : AllSymbols). a.shares_addresses) (some_ok (sym are ∙ is)))
 all_is which file (tables.Elf64 parts) all are is = (ap (λ (a : AllSymbols). a.section_name) (some_ok (sym are ∙ is)), ap (λ (a : AllSymbols). a.shares_addresses) (some_ok (sym are ∙ is)))
 all_is which file (tables.Macho parts) all are is =
-    let found = macho.all_view parts in
-    macho_all_is (macho_all.all_entries found) (macho_all.name_of found.names) found.shares_addresses all
-    (sym (ap (λ (l : Result macho_all.AllLocated Refusal). l >>= macho_all.all_symbols) are.2) ∙ some_same (sym are.1 ∙ is))
+    let read = some_ok (ap (λ (l : Result macho_all.AllLocated Refusal). Some (l >>= λ found. Ok (macho_all.all_symbols found))) (sym are.2) ∙ sym are.1 ∙ is) in
+    (ap (λ (a : AllSymbols). a.section_name) read, ap (λ (a : AllSymbols). a.shares_addresses) read)
 all_is which file (tables.Pe parts) all are is = (ap (λ (a : AllSymbols). a.section_name) (some_ok (sym are.1 ∙ is)), ap (λ (a : AllSymbols). a.shares_addresses) (some_ok (sym are.1 ∙ is)))
 all_is which file tables.Unknown all are is =
     let e : Path (Option (Result AllSymbols Refusal)) None (Some (Ok all)) = sym (ap (λ (f : Format). all_symbols_answer which f file) are) ∙ is in absurd cc

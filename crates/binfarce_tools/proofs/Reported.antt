@@ -10,14 +10,13 @@ use Rattle.binfarce.specs.SymbolTables.{section_type, table_name, strings_name}
 use Rattle.binfarce.specs.declared.SymbolTable.{SymbolTable}
 use Rattle.std.specs.Str.{bytes_eq}
 use Rattle.binfarce.specs.Number.{bytes_at}
-use Rattle.binfarce.specs.Sizes.{RowAddress, arranged, least_above}
+use Rattle.binfarce.specs.Sizes.{arranged, least_above}
 use Rattle.binfarce.specs.Pe as pe_file
 use Rattle.binfarce.specs.Pe.{least_length, walk as pe_walk}
 use Rattle.binfarce.specs.PeSymbols as pe
 use Rattle.binfarce.specs.PeSymbols.{pe_answer, pe_file_answer}
 use Rattle.binfarce.specs.Macho as macho_file
 use Rattle.binfarce.specs.Macho.{Command, command_at, commands_from, commands, body_of, header_of, segment, is_segment, sections_of, walk as macho_walk}
-use Rattle.binfarce.specs.MachoAll as all
 use Rattle.binfarce.specs.MachoSymbols as macho
 use Rattle.binfarce.specs.MachoSymbols.{size_up_to, macho_size, whole_table, slice_at, text_end_of, symbol_table_at, some_size, symbol_command, named_table, needed as needed_tables, located_in, of_table, row_addresses, kept, answer_of, macho_answer, macho_file_answer}
 
@@ -217,17 +216,3 @@ reported_answer_of (Some found) = reported_step (kept (macho.entry_of found) (ar
 pub reported_macho : (file : List ℕ) → Reported (macho_file_answer file)
 unfolding macho_answer
 reported_macho file = reported_if (ltb (length file) 28) (Err unexpected_eof) _ refl (reported_step (macho.located file) answer_of (reported_macho_located file) reported_answer_of)
-
--- all sections of a Mach-O file
-reported_entry_in : (symbols : all.Symbols) (at : RowAddress) (row : macho.SymbolRow ℕ) (end : Option ℕ) → Reported (all.entry_in symbols at row end)
-reported_entry_in symbols at row None = tt
-reported_entry_in symbols at row (Some end) = reported_step _ _ (reported_if (ltb end (2 ^ 64)) (Ok end) (Err malformed_input) tt refl) (λ e. reported_step _ _ (reported_size _ e at.address) (λ size. tt))
-
-pub reported_all_of : (ends : List ℕ) (symbols : Option all.Symbols) → Reported (all.all_of ends symbols)
-unfolding all.all_of all.section_entry
-reported_all_of ends None = tt
-reported_all_of ends (Some symbols) =
-    reported_step (kept (all.section_entry ends symbols) (arranged (row_addresses symbols.rows))) _
-    (reported_kept (all.section_entry ends symbols) (arranged (row_addresses symbols.rows)) (λ at.
-    reported_if _ _ (Ok None) (reported_entry_in symbols at (macho.symbol_of symbols.rows at.row) (all.end_of ends (macho.symbol_of symbols.rows at.row).section)) tt))
-    (λ entries. tt)

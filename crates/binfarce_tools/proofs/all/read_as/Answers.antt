@@ -1,4 +1,4 @@
-use Rattle.std.proofs.Common.{◌≡◌, ℕ, true, Some, Result, refl, sym, ap, subst, ◌∙◌}
+use Rattle.std.proofs.Common.{◌≡◌, ℕ, true, Some, Result, Ok, refl, sym, ap, subst, ◌∙◌}
 use Rattle.binfarce_bytes.specs.Part.{AreSure}
 use Rattle.binfarce.specs.declared.Format.{Format}
 use Rattle.binfarce.specs.declared.Format.TheVariants.{Elf32, Elf64, Macho, PE}
@@ -62,7 +62,7 @@ returns-in_err-parts-in-Macho-clause-answer g c = λ file known is_format.
     let format : format_of file ≡ Macho = sym is_format ∙ c.in-Macho.is in
     let answered : all_answer_of c.args.which file ≡ Some (macho_all.all_file_answer file) = answer_macho c.args.which file format ∙ ap (λ (w : SymbolTable). Some (by_symbol_table w (macho_all.all_file_answer file))) c.in_ok-has_table-in-Macho.ensures in
     unread_as (AreAllTablesOf c.args.which file) (g.S.Source.may_fail c.args.source.now) (all_answer_of c.args.which file) (λ (all : AllSymbols). all) (macho_all.all_file_answer file) c.in_err-parts-in-Macho.field-0.0 c.from_residual-in_err-parts-in-Macho.result
-    answered (of_answer (g.S.Source.may_fail c.args.source.now) macho.all_view (macho_all.all_located_answer file) macho_all.all_symbols c.in_err-parts-in-Macho.field-0.0 (c.in_err-parts-in-Macho.ensures.answer file known)) c.from_residual-in_err-parts-in-Macho.ensures
+    answered (of_answer (g.S.Source.may_fail c.args.source.now) macho.all_view (macho_all.all_located_answer file) (λ found. Ok (macho_all.all_symbols found)) c.in_err-parts-in-Macho.field-0.0 (c.in_err-parts-in-Macho.ensures.answer file known)) c.from_residual-in_err-parts-in-Macho.ensures
 
 pub returns-in_err-has_table-in-Macho-clause-answer : goal.returns-in_err-has_table-in-Macho-clause-answer
 unfolding AreAllTablesOf

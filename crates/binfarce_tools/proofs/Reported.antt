@@ -10,7 +10,7 @@ use Rattle.binfarce.specs.SymbolTables.{section_type, table_name, strings_name}
 use Rattle.binfarce.specs.declared.SymbolTable.{SymbolTable}
 use Rattle.std.specs.Str.{bytes_eq}
 use Rattle.binfarce.specs.Number.{bytes_at}
-use Rattle.binfarce.specs.Sizes.{RowAddress, arranged, least_above}
+use Rattle.binfarce.specs.Sizes.{arranged, least_above}
 use Rattle.binfarce.specs.Pe as pe_file
 use Rattle.binfarce.specs.Pe.{least_length, walk as pe_walk}
 use Rattle.binfarce.specs.PeSymbols as pe

@@ -12,4 +12,3 @@ pub mod Above
 pub mod Sweeping
 pub mod Views
 pub mod AllAnswers
-pub mod OfSection

@@ -1,5 +1,5 @@
 -- Entries with their sections: the function symbols of all sections of a file, and the sections' names.
-use Rattle.std.specs.Prelude.{◌≡◌, ◌⊎◌, ℕ, Bool, List, map, filter, nat_eq, Option, Some, None, Result, Ok, Err}
+use Rattle.std.specs.Prelude.{◌≡◌, ◌⊎◌, ℕ, Bool, List, map, Option, Some, None, Result, Ok, Err}
 use Rattle.binfarce_bytes.specs.declared.error.ParseError.{ParseError}
 use Rattle.binfarce_bytes.specs.Refusal.{Refusal, refusal_of, out_of_memory}
 use Rattle.binfarce_bytes.specs.Entries.{Entry}
@@ -9,7 +9,7 @@ pub record SectionEntry : Type 0 where
   pub section : ℕ
   pub entry : Entry
 
--- the function symbols of all sections of a file; the name of the section of each number, where it has one; and whether its sections share addresses, as those of an object file and of a PE file do
+-- the function symbols of all sections of a file; the name of the section of each number, where it has one; and whether its sections share addresses, as those of an object file do
 pub record AllSymbols : Type 0 where
   pub entries : List SectionEntry
   pub section_name : ℕ → Option (List ℕ)
@@ -18,10 +18,6 @@ pub record AllSymbols : Type 0 where
 -- entries with the number of their section
 abbrev pub in_section : ℕ → List Entry → List SectionEntry
 in_section number entries = map (λ e. record { section = number; entry = e }) entries
-
--- the entries of the section of this number
-abbrev pub of_section : ℕ → List SectionEntry → List Entry
-of_section number entries = map (λ e. e.entry) (filter (λ e. nat_eq e.section number) entries)
 
 -- the value, unless there is a refusal
 abbrev pub unless : {A : Type 0} → Option Refusal → A → Result A Refusal

@@ -9,7 +9,7 @@ pub record SectionEntry : Type 0 where
   pub section : ℕ
   pub entry : Entry
 
--- the function symbols of all sections of a file; the name of the section of each number, where it has one; and whether its sections share addresses, as those of an object file and of a PE file do
+-- the function symbols of all sections of a file; the name of the section of each number, where it has one; and whether its sections share addresses, as those of an object file do
 pub record AllSymbols : Type 0 where
   pub entries : List SectionEntry
   pub section_name : ℕ → Option (List ℕ)

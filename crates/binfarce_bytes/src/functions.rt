@@ -11,7 +11,8 @@ ghost use Rattle.binfarce_bytes.specs.SymbolViews.{function_view};
 pub struct FunctionSymbol<'a> {
     /// The name as it is stored.
     pub name: &'a str,
-    /// The address, as the file stores it; in a PE file the offset in the section.
+    /// The address, as the file stores it; in a PE file the offset in the section, and among the functions of all sections a
+    /// virtual address.
     pub address: u64,
     /// The size in bytes.
     pub size: u64,
@@ -30,8 +31,7 @@ pub struct SectionFunction<'a> {
 /// address, and of several the first. `None` where no range holds it.
 ///
 /// A range begins at the symbol's address and has its size in bytes; a symbol of size 0 holds its own address alone.
-/// The address is as in the file: in a PE file, the offset in the section. The whole list is searched; nothing is
-/// allocated.
+/// The address is of the kind that the symbols have. The whole list is searched; nothing is allocated.
 #[tactic(auto, using(crate::proofs::FoundLaws::none_at_first))]
 pub fn symbol_at<'a>(functions: &[FunctionSymbol<'a>], address: u64) -> Option<FunctionSymbol<'a>>
     ensures { option_map function_view result ≡ entry_at (map function_view functions.now) address }

@@ -7,7 +7,8 @@
 pub struct FunctionSymbol<'a> {
     /// The name as it is stored.
     pub name: &'a str,
-    /// The address, as the file stores it; in a PE file the offset in the section.
+    /// The address, as the file stores it; in a PE file the offset in the section, and among the functions of all sections a
+    /// virtual address.
     pub address: u64,
     /// The size in bytes.
     pub size: u64,
@@ -26,8 +27,7 @@ pub struct SectionFunction<'a> {
 /// address, and of several the first. `None` where no range holds it.
 ///
 /// A range begins at the symbol's address and has its size in bytes; a symbol of size 0 holds its own address alone.
-/// The address is as in the file: in a PE file, the offset in the section. The whole list is searched; nothing is
-/// allocated.
+/// The address is of the kind that the symbols have. The whole list is searched; nothing is allocated.
 pub fn symbol_at<'a>(functions: &[FunctionSymbol<'a>], address: u64) -> Option<FunctionSymbol<'a>> {
     let mut found = None;
     for function in functions.iter().copied() {

@@ -1,4 +1,4 @@
--- Addresses by the function symbols of all sections.
+-- How a call ended that failed before its first write.
 use Rattle.std.proofs.Common.{◌≡◌, ◌≢◌, ℕ, Bool, Result, Ok, Err, IsErrAnd, refl, sym, subst}
 use Rattle.binfarce_tools.specs.Writing.{Fails}
 use Rattle.binfarce_command.specs.At.{lines_outcome}

@@ -29,6 +29,7 @@ use crate::erased::binfarce_addresses::Lookup;
 use crate::erased::binfarce_bytes::source::Source;
 use crate::erased::binfarce_filtering::stream::{StreamError, filter_stream};
 use crate::erased::binfarce_tools::SymbolTable;
+use crate::erased::binfarce_tools::tables::Selection;
 use crate::erased::binfarce_words::words::{Call, Command, Given, Wrong, read_call};
 use crate::shim::alloc::Global;
 use crate::shim::env;
@@ -134,7 +135,7 @@ fn show_all<W: Write>(
 ) -> Result<bool, Fault> {
     let asked = Asked {
         kind,
-        symbols: symbols_of(given, Some(".text")),
+        symbols: symbols_of(given, Selection::Section(".text")),
     };
     let mut system = rt;
     show_files(
@@ -184,7 +185,7 @@ fn symbolize<W: Write>(
     out: &mut Headed<W>,
 ) -> Result<bool, Fault> {
     let path = first(given);
-    let symbols = symbols_of(given, None);
+    let symbols = symbols_of(given, Selection::All);
     let lookup = Lookup {
         base: given.base,
         is_return: given.is_return,
@@ -242,18 +243,18 @@ fn write_section<W: Write>(
 }
 
 // The function symbols that are asked for: of the section that is named, or of this one, or of all.
-fn symbols_of<'a>(given: &Given<'a>, section: Option<&'a str>) -> Symbols<'a> {
+fn symbols_of<'a>(given: &Given<'a>, default: Selection<'a>) -> Symbols<'a> {
     let which = if given.dynamic {
         SymbolTable::Dynsym
     } else {
         SymbolTable::Symtab
     };
-    let section = if given.all {
-        None
-    } else {
-        given.section.or(section)
+    let selection = match given.section {
+        _ if given.all => Selection::All,
+        Some(section) => Selection::Section(section),
+        None => default,
     };
-    Symbols { which, section }
+    Symbols { which, selection }
 }
 
 // The first operand.

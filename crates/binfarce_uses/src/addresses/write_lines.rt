@@ -1,7 +1,7 @@
-ghost use Rattle.std.specs.Prelude.{List, ℕ, true};
+ghost use Rattle.std.specs.Prelude.{List, Option, ℕ, true};
 ghost use Rattle.binfarce_addresses.specs.Lines.{AreLinesAt};
-ghost use Rattle.binfarce_tools.specs.Answer.{answer_of};
 ghost use Rattle.binfarce_tools.specs.ListWords.{outcome_of};
+ghost use Rattle.binfarce_tools.specs.Selection.{answer_in};
 ghost use Rattle.binfarce_tools.specs.Tables.{AreTablesOf};
 ghost use Rattle.binfarce_tools.specs.declared.SymbolTable.{SymbolTable};
 ghost use Rattle.binfarce_tools.specs.Writing.{Takes};
@@ -19,9 +19,10 @@ pub fn write_lines<S: Sink>(
     frames: &[u64],
     out: &mut S,
 ) -> Result<(), ListError>
-    ensures { (which : SymbolTable) (file section : List ℕ) → AreTablesOf which file section tables.now
-        → Takes (AreLinesAt (record { base = 0x555555554000; is_return = true }) frames.now) (answer_of which file section) (S.taken out.old)
-        (S.taken out.new) (outcome_of result) }
+    ensures { (which : SymbolTable) (file : List ℕ) (section : Option (List ℕ))
+        → AreTablesOf which file section tables.now
+        → Takes (AreLinesAt (record { base = 0x555555554000; is_return = true }) frames.now)
+        (answer_in which file section) (S.taken out.old) (S.taken out.new) (outcome_of result) }
 {
     let lookup = Lookup {
         base: 0x5555_5555_4000,

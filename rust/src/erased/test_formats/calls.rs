@@ -9,11 +9,10 @@ use crate::erased::binfarce_bytes::parser::{Stream, number_at, slice_at};
 use crate::erased::binfarce_tables::begun::Begun;
 use crate::erased::binfarce_tables::part;
 use crate::erased::binfarce_tools::SymbolTable;
-use crate::erased::binfarce_tools::all::{read_all, sums_of_all};
 use crate::erased::binfarce_tools::functions::functions_of_file;
 use crate::erased::binfarce_tools::list::Out;
 use crate::erased::binfarce_tools::report::{CrateSums, sums_of_file, sums_of_tables};
-use crate::erased::binfarce_tools::tables::read;
+use crate::erased::binfarce_tools::tables::{Selection, read};
 use crate::erased::binfarce_tools::writing::write_whole;
 use crate::shim::alloc::{AllocError, Global};
 
@@ -69,21 +68,23 @@ pub fn parts(alloc: Global, file: &[u8]) -> Result<String, AllocError> {
     Ok(text)
 }
 
-/// The sum of the sizes, and the size of the section: of the file, of the tables that are read of it, and of all sections; and where
-/// the first function is.
+/// The sum of the sizes, and the size of the section: of the file, of the tables that are read of it, and of those of all sections;
+/// and where the first function is.
 pub fn sums(alloc: Global, section: &str, file: &[u8]) -> Result<String, AllocError> {
     let mut text = String::new(alloc);
     if let Ok(sums) = sums_of_file(alloc, file, section) {
         push_sums(&mut text, &sums)?;
     }
-    if let Ok(tables) = read(alloc, &file, section) {
-        if let Ok(sums) = sums_of_tables(alloc, &tables) {
-            push_sums(&mut text, &sums)?;
-        }
-    }
-    if let Ok(tables) = read_all(alloc, &file, SymbolTable::Symtab) {
-        if let Ok(sums) = sums_of_all(alloc, &tables) {
-            push_sums(&mut text, &sums)?;
+    for selection in [Selection::Section(section), Selection::All] {
+        if let Ok(tables) = read(alloc, &file, SymbolTable::Symtab, selection) {
+            if let Ok(sums) = sums_of_tables(alloc, &tables) {
+                push_sums(&mut text, &sums)?;
+            }
+            if let Ok(selected) = tables.functions(alloc) {
+                let (mut functions, size) = selected.into_list();
+                let first = functions.next().map(|f| f.address);
+                write!(text, "{first:?} of {size:?}, ")?;
+            }
         }
     }
     if let Ok((mut functions, size)) = functions_of_file(alloc, file, section) {

@@ -2,11 +2,10 @@
 
 use crate::any::Functions;
 use crate::erased::binfarce_addresses::at::Places;
-use crate::erased::binfarce_bytes::source::Source;
+use crate::erased::binfarce_addresses::lookup::Lookup;
 use crate::erased::binfarce_tables::ReadError;
-use crate::erased::binfarce_tools::all::{self, AllTables};
-use crate::erased::binfarce_tools::functions as functions_of;
-use crate::erased::binfarce_tools::list::{ListError, list_tables};
+use crate::erased::binfarce_tools::functions::{self as functions_of, Selected};
+use crate::erased::binfarce_tools::list::list_tables;
 use crate::erased::binfarce_tools::map::map_tables;
 use crate::erased::binfarce_tools::report::{ReportError, report_tables, sums_of_tables};
 use crate::erased::binfarce_tools::tables;
@@ -48,18 +47,15 @@ pub enum Selection<'a> {
 /// # Ok(())
 /// # }
 /// ```
-pub struct Tables<'a>(Kind<'a>);
+pub struct Tables<'a>(tables::Tables<'a>);
 
-enum Kind<'a> {
-    Section(tables::Tables<'a>),
-    All(AllTables),
-}
-
-fn read<S: Source>(source: &S, selection: Selection<'_>, table: SymbolTable) -> Result<Kind<'static>, ReadError> {
-    Ok(match selection {
-        Selection::Section(section) => Kind::Section(tables::read_by(Global, source, table, section)?),
-        Selection::All => Kind::All(all::read_all(Global, source, table)?),
-    })
+impl<'a> From<Selection<'a>> for tables::Selection<'a> {
+    fn from(selection: Selection<'a>) -> Self {
+        match selection {
+            Selection::Section(section) => tables::Selection::Section(section),
+            Selection::All => tables::Selection::All,
+        }
+    }
 }
 
 impl<'a> Tables<'a> {
@@ -74,8 +70,8 @@ impl<'a> Tables<'a> {
     /// the function symbols.
     pub fn new(file: &'a [u8], selection: Selection<'a>, table: SymbolTable) -> Result<Self, Error> {
         Ok(Tables(match (selection, table) {
-            (Selection::Section(section), SymbolTable::Symtab) => Kind::Section(tables::Tables::whole(file, section)),
-            _ => read(&file, selection, table)?,
+            (Selection::Section(section), SymbolTable::Symtab) => tables::Tables::whole(file, section),
+            _ => tables::read(Global, &file, table, selection.into())?,
         }))
     }
 
@@ -87,7 +83,7 @@ impl<'a> Tables<'a> {
     /// [`Error::UnknownFormat`]; [`Error::Parse`] where the reader of the file's format refuses it; [`Error::OutOfMemory`]
     /// where an allocation failed.
     pub fn functions(&self) -> Result<Functions<'_>, Error> {
-        Ok(Functions(self.functions_and_size()?.0))
+        Ok(Functions(self.0.functions(Global)?.into_list().0))
     }
 
     /// Returns the function symbols of all sections, each with its section's number; `None` where the tables are of one
@@ -111,39 +107,22 @@ impl<'a> Tables<'a> {
     /// # Ok::<(), Box<dyn std::error::Error>>(())
     /// ```
     pub fn all_functions(&self) -> Result<Option<AllFunctions<'_>>, Error> {
-        match &self.0 {
-            Kind::Section(_) => Ok(None),
-            Kind::All(tables) => Ok(Some(AllFunctions(tables.functions(Global)?))),
+        match self.0.functions(Global)? {
+            Selected::Section(..) => Ok(None),
+            Selected::All(functions) => Ok(Some(AllFunctions(functions))),
         }
     }
 
     /// Returns the name of the section of this number. `None` where there is none, where it has no valid name, and where the
     /// tables are of one section.
     pub fn section_name(&self, number: u32) -> Option<&str> {
-        match &self.0 {
-            Kind::Section(_) => None,
-            Kind::All(tables) => tables.section_name(number),
-        }
+        self.0.section_name(number)
     }
 
     /// Returns whether the selected sections share addresses, so that an address may be that of symbols in several: all
-    /// sections of an object file do, and those of a PE file, where an address is an offset in the section.
+    /// sections of an object file do.
     pub fn shares_addresses(&self) -> bool {
-        match &self.0 {
-            Kind::Section(_) => false,
-            Kind::All(tables) => tables.shares_addresses(),
-        }
-    }
-
-    /// The function symbols, and the size of the section, if it is one.
-    fn functions_and_size(&self) -> Result<(functions_of::Functions<'_>, Option<u64>), ListError> {
-        Ok(match &self.0 {
-            Kind::Section(tables) => {
-                let (functions, size) = tables.functions(Global)?;
-                (functions, Some(size))
-            }
-            Kind::All(tables) => (functions_of::Functions::All(tables.functions(Global)?), None),
-        })
+        self.0.shares_addresses()
     }
 
     /// Writes the text of [`list`](crate::list). For [`Selection::All`] each line has the name of the symbol's section
@@ -154,10 +133,7 @@ impl<'a> Tables<'a> {
     /// That of `output`; [`ErrorKind::WriteZero`] where it takes no more bytes; otherwise that of [`Tables::functions`], as an
     /// [`io::Error`]: then nothing is written.
     pub fn list_to<W: Write>(&self, output: W) -> io::Result<()> {
-        write_to(output, |sink| match &self.0 {
-            Kind::Section(tables) => Ok(list_tables(Global, tables, sink)?),
-            Kind::All(tables) => Ok(all::list_all(Global, tables, sink)?),
-        })
+        write_to(output, |sink| Ok(list_tables(Global, &self.0, sink)?))
     }
 
     /// Writes the text of [`report`](crate::report). For [`Selection::All`] its last line is that of the sum.
@@ -166,10 +142,7 @@ impl<'a> Tables<'a> {
     ///
     /// Those of [`Tables::list_to`]; [`Error::TooLarge`], as an [`io::Error`], where the sum of all sizes is 2^64 or more.
     pub fn report_to<W: Write>(&self, output: W) -> io::Result<()> {
-        write_to(output, |sink| match &self.0 {
-            Kind::Section(tables) => report_tables(Global, tables, sink),
-            Kind::All(tables) => all::report_all(Global, tables, sink),
-        })
+        write_to(output, |sink| report_tables(Global, &self.0, sink))
     }
 
     /// Writes the sums of [`Tables::sums_by_crate`] as a picture: an SVG document with a bar for each crate, the greatest
@@ -179,10 +152,7 @@ impl<'a> Tables<'a> {
     ///
     /// Those of [`Tables::report_to`].
     pub fn map_to<W: Write>(&self, output: W) -> io::Result<()> {
-        write_to(output, |sink| match &self.0 {
-            Kind::Section(tables) => map_tables(Global, tables, sink),
-            Kind::All(tables) => all::map_all(Global, tables, sink),
-        })
+        write_to(output, |sink| map_tables(Global, &self.0, sink))
     }
 
     /// Returns how many bytes each crate takes: the sums of [`report`](crate::report).
@@ -204,10 +174,7 @@ impl<'a> Tables<'a> {
     /// # Ok::<(), Box<dyn std::error::Error>>(())
     /// ```
     pub fn sums_by_crate(&self) -> Result<Sums<String>, Error> {
-        let sums = match &self.0 {
-            Kind::Section(tables) => sums_of_tables(Global, tables)?,
-            Kind::All(tables) => all::sums_of_all(Global, tables)?,
-        };
+        let sums = sums_of_tables(Global, &self.0)?;
         let mut rows = shim::Vec::new(Global);
         for (name, size) in sums.crates {
             rows.push((name.into_std(), size))?;
@@ -238,7 +205,7 @@ impl<'a> Tables<'a> {
         K: Ord,
         F: FnMut(FunctionSymbol<'t>) -> Result<K, Error>,
     {
-        let (functions, section_size) = self.functions_and_size()?;
+        let (functions, section_size) = self.0.functions(Global)?.into_list();
         let (mut rows, mut total) = (shim::Vec::new(Global), 0u64);
         for function in functions {
             total = total.checked_add(function.size).ok_or(Error::TooLarge)?;
@@ -257,7 +224,7 @@ impl<'a> Tables<'a> {
 
 /// An iterator over the function symbols of all sections: the answer of [`Tables::all_functions`].
 #[must_use = "iterators are lazy and do nothing unless consumed"]
-pub struct AllFunctions<'a>(all::AllFunctions<'a>);
+pub struct AllFunctions<'a>(functions_of::AllFunctions<'a>);
 
 impl<'a> Iterator for AllFunctions<'a> {
     type Item = SectionFunction<'a>;
@@ -278,8 +245,9 @@ impl Tables<'static> {
     /// That of `file`; otherwise that of [`Tables::new`], as an [`io::Error`].
     pub fn read<R: Read + Seek>(file: R, selection: Selection<'_>, table: SymbolTable) -> io::Result<Self> {
         let file = RefCell::new(Kept::new(file));
-        match read(&file, selection, table) {
-            Ok(kind) => Ok(Tables(kind)),
+        let tables = tables::read(Global, &file, table, selection.into());
+        match tables {
+            Ok(tables) => Ok(Tables(tables)),
             Err(ReadError::Unreadable) => Err(file.into_inner().into_error(ErrorKind::UnexpectedEof)),
             Err(e) => Err(Error::from(e).into()),
         }
@@ -339,11 +307,7 @@ impl<'a> Symbolizer<'a> {
     ///
     /// Those of [`Tables::functions`].
     pub fn new(tables: &'a Tables<'_>) -> Result<Self, Error> {
-        let places = match &tables.0 {
-            Kind::Section(tables) => Places::of_tables(Global, tables)?,
-            Kind::All(tables) => Places::of_all(Global, tables)?,
-        };
-        Ok(Symbolizer { places, base: 0 })
+        Ok(Symbolizer { places: Places::of_tables(Global, &tables.0)?, base: 0 })
     }
 
     /// Sets the base, which is subtracted from each address: where the address 0 of the file is in memory.
@@ -357,7 +321,7 @@ impl<'a> Symbolizer<'a> {
     ///
     /// A return address may lie at the end of its function: look up the address before it.
     pub fn find(&self, address: u64) -> Option<(FunctionSymbol<'a>, u64)> {
-        self.places.find(self.base, address)
+        self.places.find(Lookup { base: self.base, is_return: false }, address)
     }
 }
 

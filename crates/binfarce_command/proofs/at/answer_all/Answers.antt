@@ -1,4 +1,4 @@
-use Rattle.std.proofs.Common.{Err, inr}
+use Rattle.std.proofs.Common.{◌≡◌, true, Err, inr}
 use Rattle.binfarce_addresses.specs.Lines.{AreLinesAt}
 use Rattle.binfarce_tools.specs.Listing.{ListingFits}
 use Rattle.binfarce_tools.specs.ListWords as list
@@ -6,9 +6,22 @@ use Rattle.binfarce_tools.specs.Selection.{section_of}
 use Rattle.binfarce_tools.specs.Writing.{Outcome, Takes, EndsAs, written}
 use Rattle.binfarce_addresses.proofs.AddressLines.{ends_of, takes_of}
 use Rattle.binfarce_command.specs.Show.{MemoryFor, answer_for}
-use Rattle.binfarce_command.proofs.Outcomes.{still_so}
+use Rattle.binfarce_tools.specs.Tables.{AreTablesOf}
+use Rattle.binfarce_command.proofs.Outcomes.{shared_places, shared_unread, still_so}
 use Rattle.binfarce_command.proofs.Shown.{of_list}
 use Rattle.binfarce_command.proofs.at.answer_all.Goals as goal
+
+pub returns-in_err-tables-clause-shared : goal.returns-in_err-tables-clause-shared
+returns-in_err-tables-clause-shared g c = λ file is shared.
+    let symbols = c.args.symbols.now in
+    shared_unread (AreTablesOf symbols.which file (section_of symbols.selection)) (g.S.Source.may_fail c.args.source.now ≡ true) symbols.which file (section_of symbols.selection) c.in_err-tables.field-0.0 c.from_residual.result
+    shared (c.in_err-tables.ensures.answer file is) c.from_residual.ensures.1
+
+pub returns-in_err-places-clause-shared : goal.returns-in_err-places-clause-shared
+returns-in_err-places-clause-shared g c = λ file is shared.
+    let symbols = c.args.symbols.now in
+    shared_places (g.S.Source.may_fail c.args.source.now ≡ true) symbols.which file (section_of symbols.selection) (MemoryFor symbols file) c.in_err-places.field-0.0 c.from_residual-in_err-places.result
+    shared (c.in_err-places.ensures.has symbols.which file (section_of symbols.selection) (c.in_ok-tables.ensures.answer file is)) c.from_residual-in_err-places.ensures.1
 
 pub returns-in_err-places-clause-fails : goal.returns-in_err-places-clause-fails
 returns-in_err-places-clause-fails g c = still_so (g.K.Sink.has_failed c.args.out.now) c.in_err-places.field-0.0 c.from_residual-in_err-places.result c.from_residual-in_err-places.ensures.1 c.in_err-places.ensures.unwritten
